@@ -1,0 +1,175 @@
+-- Names in the tables (paper 01, "Find a name", "Enter a name"): the text, the index in rising byte order, what find and intern answer
+-- and write on a sound dictionary, and the bound that holds of them on any tables after refusals 1 and 2. Assumes nothing.
+use mathlib.Core.Path.{_≡_}
+use mathlib.Core.Bool.{Bool, true, false, cond, _&&_}
+use mathlib.Core.List.{List, [], _∷_, _++_}
+use Prim.Native.Nat.{ℕ, zero, suc, _+_, _*_, _-_, _≤_, _<_}
+use lib.ListN.{length, getD, take, drop}
+use lib.Seq.{sets}
+use lib.Dec.{eqb, leb, ltb}
+use Rattle.term.specs.Scanner.{firstKindOf}
+use Rattle.store.specs.declared.Counters.{Counters}
+use Rattle.store.specs.declared.Refusal.{Refusal}
+use Rattle.store.specs.declared.Refusal.the-variants.{Capacity, Malformed, Full, Damaged}
+use Rattle.store.specs.declared.IndexPlace.{IndexPlace}
+use Rattle.store.specs.declared.IndexPlace.the-variants.{At, Before, Torn}
+use Rattle.store.specs.declared.Lookup.{Lookup}
+use Rattle.store.specs.declared.Lookup.the-variants.{Number, Absent, Refused as NotFound}
+use Rattle.store.specs.declared.Interned.{Interned}
+use Rattle.store.specs.declared.Interned.the-variants.{Number as Id, Refused as NotInterned}
+use Rattle.store.specs.Triple.{below}
+use Rattle.store.specs.Tables.{Tables, after, fits, resourceCapacity, textCapacity, resourceWords, offsetAt, kindAt, word}
+use Rattle.store.specs.Model.{wellFormed, eqBytes, nameOf, bytesOf}
+
+-- ---- the byte order of names: by the first byte that differs, a prefix first
+
+pub data Ordering : Type 0 where
+  less equal more : Ordering
+
+unfoldable pub compare : List ℕ → List ℕ → Ordering
+compare [] [] = equal
+compare [] (y ∷ ys) = less
+compare (x ∷ xs) [] = more
+compare (x ∷ xs) (y ∷ ys) = cond (ltb x y) less (cond (ltb y x) more (compare xs ys))
+
+abbrev pub isLess : Ordering → Bool
+isLess less = true
+isLess equal = false
+isLess more = false
+
+-- ---- a sound dictionary
+
+-- every name closed by a zero byte
+unfoldable pub joined : List (List ℕ) → List ℕ
+joined [] = []
+joined (n ∷ ns) = n ++ 0 ∷ joined ns
+
+-- the index: its first R words are in 1..R, and their names rise
+pub record Indexed (name : ℕ → List ℕ) (idx : List ℕ) (r : ℕ) : Type 0 where
+  pub fit : r ≤ length idx
+  pub low : (i : ℕ) → i < r → 0 < word idx i
+  pub high : (i : ℕ) → i < r → word idx i ≤ r
+  pub rise : (i j : ℕ) → i < j → j < r → compare (name (word idx i)) (name (word idx j)) ≡ less
+
+-- the names of a dictionary: R of them, well formed, B bytes long with their zeros, at the offsets and of the kinds the records say
+pub record Named (ns : List (List ℕ)) (c : Counters) (m : Tables) : Type 0 where
+  pub size : c .resources ≡ length ns
+  pub bytes : c .text ≡ bytesOf ns
+  pub spelled : take (c .text) (m .text) ≡ joined ns
+  pub well : (i : ℕ) → i < length ns → wellFormed (getD ns i []) ≡ true
+  pub offsets : (y : ℕ) → 0 < y → y ≤ c .resources → offsetAt (m .resources) y ≡ bytesOf (take (y - 1) ns)
+  pub kinds : (y : ℕ) → 0 < y → y ≤ c .resources → kindAt (m .resources) y ≡ firstKindOf (nameOf ns y)
+  pub index : Indexed (nameOf ns) (m .index) (c .resources)
+
+-- ---- where a name stands
+
+abbrev pub upToZero : List ℕ → List ℕ
+upToZero [] = []
+upToZero (zero ∷ r) = []
+upToZero (suc b ∷ r) = suc b ∷ upToZero r
+
+-- the name of resource y, read from the text
+unfoldable pub nameAt : Tables → ℕ → List ℕ
+nameAt m y = upToZero (drop (offsetAt (m .resources) y) (m .text))
+
+-- how many of the index's first R names are less than w
+unfoldable pub rank : (ℕ → List ℕ) → List ℕ → ℕ → List ℕ → ℕ
+rank name idx r w = length (below (λ i. isLess (compare (name (word idx i)) w)) r)
+
+-- the entry at the rank has these bytes, or the name is absent and belongs there
+unfoldable pub placeAt : Counters → Tables → List ℕ → ℕ → IndexPlace
+placeAt c m w k =
+    cond (ltb k (c .resources) && eqBytes (nameAt m (word (m .index) k)) w) (At (record { 0 = word (m .index) k }) k) (Before k)
+
+unfoldable pub indexPlaceOf : Counters → Tables → List ℕ → IndexPlace
+indexPlaceOf c m w = placeAt c m w (rank (nameAt m) (m .index) (c .resources) w)
+
+-- what a search may come to on any tables: a number in 1..R, a position within the index, a damaged word
+abbrev pub PlaceWithin : ℕ → IndexPlace → Type 0
+PlaceWithin r (At n k) = (0 < n .0) × (n .0 ≤ r) × (k < r)
+PlaceWithin r (Before k) = k ≤ r
+PlaceWithin r Torn = Unit {0}
+
+-- ---- find
+
+abbrev pub foundAs : IndexPlace → Lookup
+foundAs (At n k) = Number n
+foundAs (Before k) = Absent
+foundAs Torn = NotFound Damaged
+
+-- Find: 1; 2; the number, or absent
+unfoldable pub findOf : Counters → Tables → List ℕ → Lookup
+findOf c m w = cond (fits c m) (cond (wellFormed w) (foundAs (indexPlaceOf c m w)) (NotFound Malformed)) (NotFound Capacity)
+
+-- what holds of find's answer: exact on a sound dictionary; on any tables exact in 1 and 2, then within the bound
+pub record FindAnswer (c : Counters) (m : Tables) (w : List ℕ) (a : Lookup) : Type 0 where
+  pub capacity : fits c m ≡ false → a ≡ NotFound Capacity
+  pub malformed : fits c m ≡ true → wellFormed w ≡ false → a ≡ NotFound Malformed
+  pub exact : (ns : List (List ℕ)) → Named ns c m → a ≡ findOf c m w
+  pub bounded : fits c m ≡ true → wellFormed w ≡ true → (x : IndexPlace) × (a ≡ foundAs x) × PlaceWithin (c .resources) x
+
+-- ---- intern
+
+-- refusal 3 exactly where this is false: R at capacity, or B + length + 1 over the text's capacity
+unfoldable pub roomFor : Counters → Tables → List ℕ → Bool
+roomFor c m w = ltb (c .resources) (resourceCapacity m) && leb (c .text + length w + 1) (textCapacity m)
+
+abbrev pub oneNameMore : Counters → List ℕ → Counters
+oneNameMore c w = record { resources = suc (c .resources); statements = c .statements; text = c .text + length w + 1 }
+
+-- the eight words of a new record: no statements, its offset, its kind
+abbrev pub freshRecord : ℕ → ℕ → List ℕ
+freshRecord o k = 0 ∷ 0 ∷ 0 ∷ 0 ∷ 0 ∷ 0 ∷ o ∷ k ∷ []
+
+-- v put in front of a list's first n words, the word after them dropped
+unfoldable pub bring : ℕ → ℕ → List ℕ → List ℕ
+bring v n [] = []
+bring v zero (x ∷ l) = v ∷ l
+bring v (suc n) (x ∷ l) = v ∷ bring x n l
+
+-- v put into a list at k, the n words from there moved up by one
+unfoldable pub insertAt : ℕ → ℕ → ℕ → List ℕ → List ℕ
+insertAt zero n v l = bring v n l
+insertAt (suc k) n v [] = []
+insertAt (suc k) n v (x ∷ l) = x ∷ insertAt k n v l
+
+-- one name more, at position k of the index
+abbrev pub withName : Counters → Tables → List ℕ → ℕ → Tables
+withName c m w k = record {
+  resources = sets (m .resources) (resourceWords * c .resources) (freshRecord (c .text) (firstKindOf w));
+  statements = m .statements;
+  index = insertAt k (c .resources - k) (suc (c .resources)) (m .index);
+  text = sets (m .text) (c .text) (w ++ 0 ∷ []);
+}
+
+-- by where the name stands: its number; 9; 3; or the new record's number
+unfoldable pub internAs : Counters → Tables → List ℕ → IndexPlace → Tables × Interned
+internAs c m w (At n k) = (m, Id n c)
+internAs c m w (Before k) =
+    cond (roomFor c m w) (withName c m w k, Id (record { 0 = suc (c .resources) }) (oneNameMore c w)) (m, NotInterned Full)
+internAs c m w Torn = (m, NotInterned Damaged)
+
+-- Enter: 1; 2; already there; 3; new
+unfoldable pub internOf : Counters → Tables → List ℕ → Tables × Interned
+internOf c m w =
+    cond (fits c m) (cond (wellFormed w) (internAs c m w (indexPlaceOf c m w)) (m, NotInterned Malformed)) (m, NotInterned Capacity)
+
+-- only the index, the new record and the text past B are written
+pub record InternWrites (c : Counters) (m m′ : Tables) : Type 0 where
+  pub same-statements : m′ .statements ≡ m .statements
+  pub same-resources : length (m′ .resources) ≡ length (m .resources)
+  pub same-index : length (m′ .index) ≡ length (m .index)
+  pub same-text : length (m′ .text) ≡ length (m .text)
+  pub low-resources : (i : ℕ) → i < resourceWords * c .resources → word (m′ .resources) i ≡ word (m .resources) i
+  pub high-resources : (i : ℕ) → resourceWords * suc (c .resources) ≤ i → word (m′ .resources) i ≡ word (m .resources) i
+  pub low-text : (i : ℕ) → i < c .text → word (m′ .text) i ≡ word (m .text) i
+
+-- what holds of intern's answer and the tables after it: exact on a sound dictionary; on any tables exact in 1 and 2, then within the
+-- bound; a refusal writes nothing
+pub record InternAnswer (c : Counters) (m m′ : Tables) (w : List ℕ) (a : Interned) : Type 0 where
+  pub capacity : fits c m ≡ false → after m′ a ≡ after m (NotInterned Capacity)
+  pub malformed : fits c m ≡ true → wellFormed w ≡ false → after m′ a ≡ after m (NotInterned Malformed)
+  pub exact : (ns : List (List ℕ)) → Named ns c m → after m′ a ≡ internOf c m w
+  pub bounded : fits c m ≡ true → wellFormed w ≡ true → (x : IndexPlace) × (after m′ a ≡ internAs c m w x) × PlaceWithin (c .resources) x
+  pub writes : InternWrites c m m′
+  pub refused : (q : Refusal) → a ≡ NotInterned q → m′ ≡ m

@@ -1,0 +1,11 @@
+pub mod Triple
+pub mod Tables
+pub mod Values
+pub mod Model
+pub mod Reading
+pub mod Walk
+pub mod Statement
+pub mod Scan
+pub mod Dictionary
+pub mod Soundness
+pub mod History

@@ -1,0 +1,255 @@
+-- The plain lists (paper 01, "The plain lists"): what a reader has to believe of demand 3. Two lists under the same capacities, of
+-- names and of triples with a mark, and what is left of each opening. Nothing here speaks of tables, links or counts.
+-- Assumes nothing.
+use mathlib.Core.Bool.{Bool, true, false, cond, not, _&&_, _||_}
+use mathlib.Core.List.{List, [], _∷_, _++_}
+use Prim.Native.Nat.{ℕ, zero, suc, _+_, _-_}
+use lib.ListN.{length, getD, set}
+use lib.Dec.{eqb, leb, ltb}
+use Rattle.term.specs.Scanner.{kindOf, firstKindOf}
+use Rattle.store.specs.declared.Position.{Position}
+use Rattle.store.specs.declared.Position.the-variants.{Subject, Predicate, Object}
+use Rattle.store.specs.declared.Chain.{Chain}
+use Rattle.store.specs.declared.Chain.the-variants.{All, By}
+use Rattle.store.specs.declared.Counters.{Counters}
+use Rattle.store.specs.declared.Triple.{Triple}
+use Rattle.store.specs.declared.ScanCursor.{ScanCursor}
+use Rattle.store.specs.Triple.{at, known, within, same, agrees, permitted, below, head0, prev}
+use Rattle.store.specs.Values.{Values, noTriple, refusedWith, numbered, counted, placed, stepped}
+
+-- ---- the lists
+
+-- a listed triple with its mark
+pub record Entry : Type 0 where
+  pub spo : Triple
+  pub retracted : Bool
+
+-- an opening: the pattern, the position picked, the positions in the list not yet taken, highest first
+pub record Listing : Type 0 where
+  pub pattern : Triple
+  pub chain : Chain
+  pub rest : List ℕ
+
+pub record Model : Type 0 where
+  pub names : List (List ℕ)
+  pub entries : List Entry
+  pub listings : List Listing
+
+pub record Capacities : Type 0 where
+  pub resources : ℕ
+  pub statements : ℕ
+  pub text : ℕ
+
+abbrev pub freshModel : Model
+freshModel = record { names = []; entries = []; listings = [] }
+
+-- one call; the lent form of assert and retract is answered like the form by value
+pub data Form : Type 0 where
+  byValue lent : Form
+
+pub data Call : Type 0 where
+  intern : List ℕ → Call
+  assert : Form → Triple → Call
+  retract : Form → Triple → Call
+  open′ : Triple → Call
+  next : ℕ → ℕ → Call
+
+-- ---- names
+
+-- well formed, and at most 255 bytes
+unfoldable pub wellFormed : List ℕ → Bool
+wellFormed w = ltb 0 (kindOf 255 w)
+
+unfoldable pub eqBytes : List ℕ → List ℕ → Bool
+eqBytes [] [] = true
+eqBytes [] (y ∷ ys) = false
+eqBytes (x ∷ xs) [] = false
+eqBytes (x ∷ xs) (y ∷ ys) = eqb x y && eqBytes xs ys
+
+-- the position of a listed name, or 0
+unfoldable pub lookupName : List ℕ → List (List ℕ) → ℕ
+lookupName w ns = head0 (below (λ i. eqBytes (getD ns i []) w) (length ns))
+
+-- the name with a number
+unfoldable pub nameOf : List (List ℕ) → ℕ → List ℕ
+nameOf ns y = getD ns (y - 1) []
+
+-- the names' bytes plus 1 each
+unfoldable pub bytesOf : List (List ℕ) → ℕ
+bytesOf [] = 0
+bytesOf (n ∷ ns) = length n + 1 + bytesOf ns
+
+-- R, T and B
+abbrev pub totals : Model → Counters
+totals s = record { resources = length (s .names); statements = length (s .entries); text = bytesOf (s .names) }
+
+abbrev pub withNames : Model → List (List ℕ) → Model
+withNames s ns = record { names = ns; entries = s .entries; listings = s .listings }
+
+-- the last name is the answer
+abbrev pub lastName : Model → Model × Values
+lastName s = (s, counted 0 (length (s .names)) (totals s))
+
+unfoldable pub internName : Capacities → Model → List ℕ → ℕ → Model × Values
+internName k s w zero =
+    cond (ltb (length (s .names)) (k .resources) && leb (bytesOf (s .names ++ w ∷ [])) (k .text))
+    (lastName (withNames s (s .names ++ w ∷ [])))
+    (s, refusedWith 3)
+internName k s w (suc i) = (s, counted 0 (suc i) (totals s))
+
+-- Enter: 2; a listed name answers its position; 3; else appended
+unfoldable pub internModel : Capacities → Model → List ℕ → Model × Values
+internModel k s w = cond (wellFormed w) (internName k s w (lookupName w (s .names))) (s, refusedWith 2)
+
+-- ---- triples
+
+abbrev pub entry : List Entry → ℕ → Entry
+entry l i = getD l i (record { spo = noTriple; retracted = false })
+
+-- live, and the pattern's number at each bound position
+unfoldable pub matches : Triple → Entry → Bool
+matches x e = not (e .retracted) && agrees x (e .spo)
+
+-- the position of a listed triple, or 0
+unfoldable pub lookup : Triple → List Entry → ℕ
+lookup x l = head0 (below (λ i. same x ((entry l i) .spo)) (length l))
+
+unfoldable pub mark : List Entry → ℕ → Bool → List Entry
+mark l i b = set l i (record { spo = (entry l i) .spo; retracted = b })
+
+abbrev pub withEntries : Model → List Entry → Model
+withEntries s l = record { names = s .names; entries = l; listings = s .listings }
+
+-- the last triple is the answer
+abbrev pub lastEntry : Model → Model × Values
+lastEntry s = (s, counted 1 (length (s .entries)) (totals s))
+
+unfoldable pub put : Capacities → Model → Triple → ℕ → Model × Values
+put k s x zero =
+    cond (ltb (length (s .entries)) (k .statements))
+    (lastEntry (withEntries s (s .entries ++ record { spo = x; retracted = false } ∷ [])))
+    (s, refusedWith 3)
+put k s x (suc i) =
+    cond ((entry (s .entries) i) .retracted)
+    (withEntries s (mark (s .entries) i false), counted 3 (suc i) (totals s))
+    (s, counted 2 (suc i) (totals s))
+
+-- Assert: 4; 5 by first bytes; a listed triple goes live, "already" or "revived" by its old mark; 3; else appended live, "new"
+unfoldable pub assertModel : Capacities → Model → Triple → Model × Values
+assertModel k s x =
+    cond (known (length (s .names)) x)
+    (cond (permitted (λ y. firstKindOf (nameOf (s .names) y)) x) (put k s x (lookup x (s .entries))) (s, refusedWith 5))
+    (s, refusedWith 4)
+
+unfoldable pub strike : Model → ℕ → Model × Values
+strike s zero = (s, numbered 0)
+strike s (suc i) = cond ((entry (s .entries) i) .retracted) (s, numbered 0) (withEntries s (mark (s .entries) i true), numbered (suc i))
+
+-- Retract: 4; a live triple is struck out; otherwise 0
+unfoldable pub retractModel : Model → Triple → Model × Values
+retractModel s x = cond (known (length (s .names)) x) (strike s (lookup x (s .entries))) (s, refusedWith 4)
+
+-- ---- listings
+
+-- the triple has the pattern's number at the position picked; nothing picked takes every triple
+unfoldable pub onChain : Chain → Triple → Triple → Bool
+onChain All x t = true
+onChain (By p) x t = eqb (at p t) (at p x)
+
+-- the positions, falling, of the triples, live or not, on a chain
+unfoldable pub holders : Chain → Triple → List Entry → List ℕ
+holders ch x l = below (λ i. onChain ch x ((entry l i) .spo)) (length l)
+
+-- one position more to pick from: the bound one of less cost, ties to the earlier
+unfoldable pub better : Triple → (Position → ℕ) → Position → Chain → Chain
+better x cost q All = cond (eqb (at q x) 0) All (By q)
+better x cost q (By p) = cond (eqb (at q x) 0) (By p) (cond (ltb (cost q) (cost p)) (By q) (By p))
+
+-- the bound position of least cost, ties to subject, then predicate, then object; All if nothing is bound
+unfoldable pub pick : Triple → (Position → ℕ) → Chain
+pick x cost = better x cost Object (better x cost Predicate (better x cost Subject All))
+
+-- the bound position whose number fewest triples hold there
+unfoldable pub pickModel : Triple → List Entry → Chain
+pickModel x l = pick x (λ q. length (holders (By q) x l))
+
+unfoldable pub listing : Triple → List Entry → Listing
+listing x l = record { pattern = x; chain = pickModel x l; rest = holders (pickModel x l) x l }
+
+-- a place: the pattern, the position picked, the rest's first or 0
+abbrev pub cursorOf : Listing → ScanCursor
+cursorOf g = record { pattern = g .pattern; chain = g .chain; next = record { 0 = head0 (g .rest) } }
+
+abbrev pub withListings : Model → List Listing → Model
+withListings s g = record { names = s .names; entries = s .entries; listings = g }
+
+-- Open: 4; the listing is kept under the next opening's number
+unfoldable pub openModel : Model → Triple → Model × Values
+openModel s x =
+    cond (within (length (s .names)) x)
+    (withListings s (s .listings ++ listing x (s .entries) ∷ []), placed (cursorOf (listing x (s .entries))))
+    (s, refusedWith 4)
+
+-- what taking positions off a rest comes to: found, ended or spent, with the visits made and what is left
+pub data Taken : Type 0 where
+  found : ℕ → ℕ → List ℕ → Taken
+  ended : ℕ → Taken
+  spent : ℕ → List ℕ → Taken
+
+abbrev pub oneMore : Taken → Taken
+oneMore (found n v r) = found n (suc v) r
+oneMore (ended v) = ended (suc v)
+oneMore (spent v r) = spent (suc v) r
+
+-- takes positions off the rest, one visit each, to the first that passes, the budget or the end
+unfoldable pub take-off : (ℕ → Bool) → ℕ → List ℕ → Taken
+take-off live zero [] = ended 0
+take-off live zero (x ∷ xs) = spent 0 (x ∷ xs)
+take-off live (suc b) [] = ended 0
+take-off live (suc b) (x ∷ xs) = cond (live (prev x)) (found x 1 xs) (oneMore (take-off live b xs))
+
+abbrev pub noListing : Listing
+noListing = record { pattern = noTriple; chain = All; rest = [] }
+
+abbrev pub leaving : Listing → List ℕ → Listing
+leaving g r = record { pattern = g .pattern; chain = g .chain; rest = r }
+
+abbrev pub restOf : Taken → List ℕ
+restOf (found n v r) = r
+restOf (ended v) = []
+restOf (spent v r) = r
+
+abbrev pub takenValues : Listing → Taken → Values
+takenValues g (found n v r) = stepped 1 n v (cursorOf (leaving g r))
+takenValues g (ended v) = stepped 2 0 v (cursorOf (leaving g []))
+takenValues g (spent v r) = stepped 3 0 v (cursorOf (leaving g r))
+
+unfoldable pub takeFrom : List Entry → Listing → ℕ → Taken
+takeFrom l g b = take-off (λ i. matches (g .pattern) (entry l i)) b (g .rest)
+
+unfoldable pub turn : Model → ℕ → Listing → Taken → Model × Values
+turn s j g r = (withListings s (set (s .listings) j (leaving g (restOf r))), takenValues g r)
+
+-- Next of opening j, from 0: 7; found, ended or spent
+unfoldable pub nextModel : Model → ℕ → ℕ → Model × Values
+nextModel s j b =
+    let g = getD (s .listings) j noListing in cond (eqb b 0) (s, refusedWith 7) (turn s j g (takeFrom (s .entries) g b))
+
+-- ---- a list of calls
+
+unfoldable pub callModel : Capacities → Model → Call → Model × Values
+callModel k s (intern w) = internModel k s w
+callModel k s (assert f x) = assertModel k s x
+callModel k s (retract f x) = retractModel s x
+callModel k s (open′ x) = openModel s x
+callModel k s (next j b) = nextModel s j b
+
+-- every reply, in order
+unfoldable pub modelReplies : Capacities → Model → List Call → List Values
+modelReplies k s [] = []
+modelReplies k s (a ∷ r) = (callModel k s a) .1 ∷ modelReplies k ((callModel k s a) .0) r
+
+-- the lists at the end
+unfoldable pub modelAfter : Capacities → Model → List Call → Model
+modelAfter k s [] = s
+modelAfter k s (a ∷ r) = modelAfter k ((callModel k s a) .0) r

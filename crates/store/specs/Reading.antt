@@ -1,0 +1,52 @@
+-- Read a statement, and name of a number (paper 01), on any tables. Assumes nothing.
+use mathlib.Core.Bool.{Bool, true, false, cond, _&&_}
+use mathlib.Core.List.{List, [], _∷_}
+use mathlib.Core.Option.{Option, none, some}
+use Prim.Native.Nat.{ℕ, zero, suc, _+_, _-_}
+use lib.ListN.{getD}
+use lib.Dec.{eqb, leb, ltb}
+use Rattle.store.specs.declared.Counters.{Counters}
+use Rattle.store.specs.declared.ResourceId.{ResourceId}
+use Rattle.store.specs.declared.StatementId.{StatementId}
+use Rattle.store.specs.declared.Refusal.the-variants.{Capacity, UnknownNumber, Damaged}
+use Rattle.store.specs.declared.StatementRead.{StatementRead}
+use Rattle.store.specs.declared.StatementRead.the-variants.{Is, Refused as NotRead}
+use Rattle.store.specs.declared.NameRead.{NameRead}
+use Rattle.store.specs.declared.NameRead.the-variants.{Span, Refused as NotNamed}
+use Rattle.store.specs.Triple.{known}
+use Rattle.store.specs.Tables.{Tables, fits, tripleAt, flagAt, offsetAt, word, maxName}
+
+-- a number from 1 to n
+unfoldable pub inRange : ℕ → ℕ → Bool
+inRange n x = ltb 0 x && leb x n
+
+-- Read a statement: 1; 4 if 0 or above T; 9 if a resource is outside 1..R or the flag exceeds 1
+unfoldable pub statementOf : Counters → Tables → StatementId → StatementRead
+statementOf c m n =
+    cond (fits c m)
+    (cond (inRange (c .statements) (n .0))
+    (cond (known (c .resources) (tripleAt (m .statements) (n .0 - 1)) && leb (flagAt (m .statements) (n .0 - 1)) 1)
+    (Is (tripleAt (m .statements) (n .0 - 1)) (flagAt (m .statements) (n .0 - 1)))
+    (NotRead Damaged))
+    (NotRead UnknownNumber))
+    (NotRead Capacity)
+
+-- where the first zero byte stands from o on, before e, among `left` bytes
+unfoldable pub zeroFrom : List ℕ → ℕ → ℕ → ℕ → Option ℕ
+zeroFrom t e zero o = none
+zeroFrom t e (suc left) o = elim (ltb o e)
+    [ false ↦ none | true ↦ elim (eqb (word t o) 0) [ true ↦ some o | false ↦ zeroFrom t e left (o + 1) ] ]
+
+-- the name that starts at an offset and ends before its zero byte
+abbrev pub spanTo : ℕ → Option ℕ → NameRead
+spanTo o none = NotNamed Damaged
+spanTo o (some e) = Span o (e - o)
+
+-- Name of a number: 1; 4 if 0 or above R; 9 if the offset is at or past B or no zero byte follows within 256 bytes and before B
+unfoldable pub nameSpanOf : Counters → Tables → ResourceId → NameRead
+nameSpanOf c m n =
+    cond (fits c m)
+    (cond (inRange (c .resources) (n .0))
+    (spanTo (offsetAt (m .resources) (n .0)) (zeroFrom (m .text) (c .text) (maxName + 1) (offsetAt (m .resources) (n .0))))
+    (NotNamed UnknownNumber))
+    (NotNamed Capacity)

@@ -1,0 +1,76 @@
+-- Open and next of a pattern scan, the paper's listing (paper 01, "Open a listing", "Next of a listing"), on tables that hold anything
+-- and any cursor. Assumes nothing.
+use mathlib.Core.Bool.{Bool, true, false, cond, _&&_}
+use mathlib.Core.List.{List}
+use mathlib.Core.Option.{Option, none, some}
+use Prim.Native.Nat.{ℕ, zero, suc}
+use lib.Dec.{eqb, leb, ltb}
+use Rattle.store.specs.declared.Counters.{Counters}
+use Rattle.store.specs.declared.Chain.{Chain}
+use Rattle.store.specs.declared.Chain.the-variants.{All, By}
+use Rattle.store.specs.declared.Triple.{Triple}
+use Rattle.store.specs.declared.ScanCursor.{ScanCursor}
+use Rattle.store.specs.declared.Refusal.the-variants.{Capacity, UnknownNumber, BadCursor, NoBudget, Damaged}
+use Rattle.store.specs.declared.ScanOpened.{ScanOpened}
+use Rattle.store.specs.declared.ScanOpened.the-variants.{Cursor, Refused as NotOpened}
+use Rattle.store.specs.declared.Scanned.{Scanned}
+use Rattle.store.specs.declared.Scanned.the-variants.{Found, Ended, Spent, Refused as NotScanned}
+use Rattle.store.specs.Triple.{at, all3, within}
+use Rattle.store.specs.Tables.{Tables, fits}
+use Rattle.store.specs.Model.{matches}
+use Rattle.store.specs.Walk.{entryAt, pickChain, pickable, startOf, linkOf, sits, visitable, walk, Step, found, ended, spent}
+
+-- ---- open
+
+abbrev pub cursorAt : Triple → Chain → ℕ → ScanCursor
+cursorAt x ch n = record { pattern = x; chain = ch; next = record { 0 = n } }
+
+-- Open: 1; 4 if a number exceeds R; 9 at the pick; else the pattern, the chain picked and its first record
+unfoldable pub openOf : Counters → Tables → Triple → ScanOpened
+openOf c m x =
+    cond (fits c m)
+    (cond (within (c .resources) x)
+    (cond (pickable (c .statements) (m .resources) x)
+    (Cursor (cursorAt x (pickChain (m .resources) x) (startOf (c .statements) (m .resources) (pickChain (m .resources) x) x)))
+    (NotOpened Damaged))
+    (NotOpened UnknownNumber))
+    (NotOpened Capacity)
+
+-- ---- next
+
+-- a bound position, or all records where nothing is bound
+unfoldable pub chainOk : Chain → Triple → Bool
+chainOk All x = all3 (λ p. eqb (at p x) 0)
+chainOk (By p) x = ltb 0 (at p x)
+
+-- a record other than 0 has the bound resource at the chain's position
+unfoldable pub recordOk : List ℕ → Chain → Triple → ℕ → Bool
+recordOk stm ch x zero = true
+recordOk stm ch x (suc i) = sits stm ch x i
+
+-- refusal 6 exactly where this is false
+unfoldable pub cursorOk : Counters → Tables → ScanCursor → Bool
+cursorOk c m q =
+    within (c .resources) (q .pattern)
+    && (chainOk (q .chain) (q .pattern) && (leb (q .next .0) (c .statements) && recordOk (m .statements) (q .chain) (q .pattern) (q .next .0)))
+
+-- the walk from the cursor's record, left at the first live match
+unfoldable pub walkFrom : Counters → Tables → ScanCursor → ℕ → Option Step
+walkFrom c m q b =
+    walk (linkOf (m .statements) (q .chain)) (visitable (c .resources) (m .statements) (q .chain) (q .pattern))
+    (λ i. matches (q .pattern) (entryAt (m .statements) i)) b (q .next .0)
+
+abbrev pub scannedAs : ScanCursor → Option Step → Scanned
+scannedAs q none = NotScanned Damaged
+scannedAs q (some (found n v r)) = Found (record { 0 = n }) v (cursorAt (q .pattern) (q .chain) r)
+scannedAs q (some (ended v)) = Ended v (cursorAt (q .pattern) (q .chain) 0)
+scannedAs q (some (spent v r)) = Spent v (cursorAt (q .pattern) (q .chain) r)
+
+-- Next: 1; 6; 7; 9; else found, ended or spent
+unfoldable pub nextOf : Counters → Tables → ScanCursor → ℕ → Scanned
+nextOf c m q b =
+    cond (fits c m)
+    (cond (cursorOk c m q)
+    (cond (eqb b 0) (NotScanned NoBudget) (scannedAs q (walkFrom c m q b)))
+    (NotScanned BadCursor))
+    (NotScanned Capacity)

@@ -1,0 +1,133 @@
+-- Assert and retract (paper 01), by value and on lent counters: the reply and all four tables, on tables that hold anything.
+-- Assumes nothing.
+use mathlib.Core.Bool.{Bool, true, false, cond, _&&_}
+use mathlib.Core.List.{List, [], _∷_}
+use mathlib.Core.Option.{Option, none, some}
+use Prim.Native.Nat.{ℕ, zero, suc, _+_, _*_, _-_}
+use lib.ListN.{set}
+use lib.Seq.{sets}
+use lib.Dec.{eqb, leb, ltb}
+use Rattle.store.specs.declared.Counters.{Counters}
+use Rattle.store.specs.declared.Position.{Position}
+use Rattle.store.specs.declared.Position.the-variants.{Subject, Predicate, Object}
+use Rattle.store.specs.declared.Triple.{Triple}
+use Rattle.store.specs.declared.Refusal.{Refusal}
+use Rattle.store.specs.declared.Refusal.the-variants.{Capacity, Full, UnknownNumber, KindNotPermitted, Damaged}
+use Rattle.store.specs.declared.Asserted.{Asserted}
+use Rattle.store.specs.declared.Asserted.the-variants.{New, Already, Revived, Refused as NotAsserted}
+use Rattle.store.specs.declared.Retracted.{Retracted}
+use Rattle.store.specs.declared.Retracted.the-variants.{Number as Struck, Absent as NotLive, Refused as NotRetracted}
+use Rattle.store.specs.Triple.{at, all3, known, same, permitted}
+use Rattle.store.specs.Tables.{Tables, fits, statementCapacity, statementWords, resourceWords, off, tripleAt, flagAt, firstAt, countAt, kindAt}
+use Rattle.store.specs.Walk.{pickChain, pickable, startOf, linkOf, visitable, walk, Step, foundIn}
+
+-- ---- the record with the triple, by the chain that a scan would take
+
+-- the walk up to the first record with that triple; T visits reach every record
+unfoldable pub seek : Counters → Tables → Triple → Option Step
+seek c m x =
+    let ch = pickChain (m .resources) x in
+    walk (linkOf (m .statements) ch) (visitable (c .resources) (m .statements) ch x) (λ i. same x (tripleAt (m .statements) i)) (c .statements)
+    (startOf (c .statements) (m .resources) ch x)
+
+-- its number, or 0; none is refusal 9, at the pick or on the walk
+unfoldable pub locate : Counters → Tables → Triple → Option ℕ
+locate c m x = cond (pickable (c .statements) (m .resources) x) (elim (seek c m x) [ none ↦ none | some s ↦ some (foundIn s) ]) none
+
+-- ---- what is written
+
+abbrev pub withFlag : Tables → ℕ → ℕ → Tables
+withFlag m i f = record { resources = m .resources; statements = set (m .statements) (statementWords * i + 6) f; index = m .index; text = m .text }
+
+-- the seven words of a new record: its nexts are the old firsts
+abbrev pub recordWords : Triple → List ℕ → List ℕ
+recordWords x res =
+    x .subject .0 ∷ x .predicate .0 ∷ x .object .0
+    ∷ firstAt res Subject (x .subject .0) ∷ firstAt res Predicate (x .predicate .0) ∷ firstAt res Object (x .object .0) ∷ 0 ∷ []
+
+unfoldable pub appendRecord : ℕ → Triple → List ℕ → List ℕ → List ℕ
+appendRecord t x res stm = sets stm (statementWords * t) (recordWords x res)
+
+-- at one position of the resource y the new record is the first, and one more holds it
+unfoldable pub linkFirst : Position → ℕ → ℕ → List ℕ → List ℕ
+linkFirst p t y res =
+    set (set res (resourceWords * (y - 1) + off p) (suc t)) (resourceWords * (y - 1) + (3 + off p)) (suc (countAt res p y))
+
+unfoldable pub linkRecord : ℕ → Triple → List ℕ → List ℕ
+linkRecord t x res = linkFirst Object t (x .object .0) (linkFirst Predicate t (x .predicate .0) (linkFirst Subject t (x .subject .0) res))
+
+abbrev pub appended : ℕ → Tables → Triple → Tables
+appended t m x = record {
+  resources = linkRecord t x (m .resources);
+  statements = appendRecord t x (m .resources) (m .statements);
+  index = m .index;
+  text = m .text;
+}
+
+-- ---- assert
+
+-- every kind is in 1..3
+unfoldable pub kinded : List ℕ → Triple → Bool
+kinded res x = all3 (λ p. ltb 0 (kindAt res (at p x)) && leb (kindAt res (at p x)) 3)
+
+abbrev pub oneStatementMore : Counters → Counters
+oneStatementMore c = record { resources = c .resources; statements = suc (c .statements); text = c .text }
+
+-- by the record found, or 0: "already", "revived", 3 or "new"
+unfoldable pub asserting : Counters → Tables → Triple → ℕ → Tables × Asserted
+asserting c m x zero =
+    cond (ltb (c .statements) (statementCapacity m))
+    (appended (c .statements) m x, New (record { 0 = suc (c .statements) }) (oneStatementMore c))
+    (m, NotAsserted Full)
+asserting c m x (suc i) =
+    cond (eqb (flagAt (m .statements) i) 1) (withFlag m i 0, Revived (record { 0 = suc i }) c) (m, Already (record { 0 = suc i }) c)
+
+-- Assert: 1; 4; 9 if a kind is outside 1..3; 5; 9; then by the record found
+unfoldable pub assertOf : Counters → Tables → Triple → Tables × Asserted
+assertOf c m x =
+    cond (fits c m)
+    (cond (known (c .resources) x)
+    (cond (kinded (m .resources) x)
+    (cond (permitted (kindAt (m .resources)) x)
+    (elim (locate c m x) [ none ↦ (m, NotAsserted Damaged) | some n ↦ asserting c m x n ])
+    (m, NotAsserted KindNotPermitted))
+    (m, NotAsserted Damaged))
+    (m, NotAsserted UnknownNumber))
+    (m, NotAsserted Capacity)
+
+-- ---- retract
+
+-- by the record found, or 0
+unfoldable pub retracting : Tables → ℕ → Tables × Retracted
+retracting m zero = (m, NotLive)
+retracting m (suc i) = cond (eqb (flagAt (m .statements) i) 1) (m, NotLive) (withFlag m i 1, Struck (record { 0 = suc i }))
+
+-- Retract: 1; 4; 9; then by the record found
+unfoldable pub retractOf : Counters → Tables → Triple → Tables × Retracted
+retractOf c m x =
+    cond (fits c m)
+    (cond (known (c .resources) x)
+    (elim (locate c m x) [ none ↦ (m, NotRetracted Damaged) | some n ↦ retracting m n ])
+    (m, NotRetracted UnknownNumber))
+    (m, NotRetracted Capacity)
+
+-- ---- on lent counters
+
+-- the counters from now on: as answered, and unchanged beside a refusal
+abbrev pub countersAfter : Counters → Asserted → Counters
+countersAfter c (New n d) = d
+countersAfter c (Already n d) = d
+countersAfter c (Revived n d) = d
+countersAfter c (NotAsserted r) = c
+
+-- counters, tables and reply
+pub record Lent (A : Type 0) : Type 0 where
+  pub counters : Counters
+  pub lent : Tables
+  pub reply : A
+
+unfoldable pub assertLentOf : Counters → Tables → Triple → Lent Asserted
+assertLentOf c m x = record { counters = countersAfter c ((assertOf c m x) .1); lent = (assertOf c m x) .0; reply = (assertOf c m x) .1 }
+
+unfoldable pub retractLentOf : Counters → Tables → Triple → Lent Retracted
+retractLentOf c m x = record { counters = c; lent = (retractOf c m x) .0; reply = (retractOf c m x) .1 }

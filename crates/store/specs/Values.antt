@@ -1,0 +1,120 @@
+-- The paper's number and values for each case of each reply (paper 01, "Operations and refusals"): what a promise compares. Every
+-- field that a case does not name is 0, and beside a refusal's number all are. Assumes nothing.
+use Prim.Native.Nat.{ℕ}
+use Rattle.store.specs.declared.Counters.{Counters}
+use Rattle.store.specs.declared.Triple.{Triple}
+use Rattle.store.specs.declared.Chain.{Chain}
+use Rattle.store.specs.declared.Chain.the-variants.{All}
+use Rattle.store.specs.declared.ScanCursor.{ScanCursor}
+use Rattle.store.specs.declared.Refusal.{Refusal}
+use Rattle.store.specs.declared.Refusal.the-variants.{Capacity, Malformed, Full, UnknownNumber, KindNotPermitted, BadCursor, NoBudget, BadQuery, Damaged, BadLine}
+use Rattle.store.specs.declared.StatementRead.{StatementRead}
+use Rattle.store.specs.declared.StatementRead.the-variants.{Is, Refused as NotRead}
+use Rattle.store.specs.declared.NameRead.{NameRead}
+use Rattle.store.specs.declared.NameRead.the-variants.{Span, Refused as NotNamed}
+use Rattle.store.specs.declared.Lookup.{Lookup}
+use Rattle.store.specs.declared.Lookup.the-variants.{Number, Absent, Refused as NotFound}
+use Rattle.store.specs.declared.Interned.{Interned}
+use Rattle.store.specs.declared.Interned.the-variants.{Number as Id, Refused as NotInterned}
+use Rattle.store.specs.declared.Asserted.{Asserted}
+use Rattle.store.specs.declared.Asserted.the-variants.{New, Already, Revived, Refused as NotAsserted}
+use Rattle.store.specs.declared.Retracted.{Retracted}
+use Rattle.store.specs.declared.Retracted.the-variants.{Number as Struck, Absent as NotLive, Refused as NotRetracted}
+use Rattle.store.specs.declared.ScanOpened.{ScanOpened}
+use Rattle.store.specs.declared.ScanOpened.the-variants.{Cursor, Refused as NotOpened}
+use Rattle.store.specs.declared.Scanned.{Scanned}
+use Rattle.store.specs.declared.Scanned.the-variants.{Found, Ended, Spent, Refused as NotScanned}
+use Rattle.store.specs.Triple.{triple}
+use Rattle.store.specs.Tables.{freshCounters}
+
+abbrev pub refusalNumber : Refusal → ℕ
+refusalNumber Capacity = 1
+refusalNumber Malformed = 2
+refusalNumber Full = 3
+refusalNumber UnknownNumber = 4
+refusalNumber KindNotPermitted = 5
+refusalNumber BadCursor = 6
+refusalNumber NoBudget = 7
+refusalNumber BadQuery = 8
+refusalNumber Damaged = 9
+refusalNumber BadLine = 10
+
+abbrev pub noTriple : Triple
+noTriple = triple 0 0 0
+
+abbrev pub noCursor : ScanCursor
+noCursor = record { pattern = noTriple; chain = All; next = record { 0 = 0 } }
+
+-- refusal: the paper's number, 0 where the call is answered. status: new 1, already 2, revived 3; found 1, ended 2, spent 3.
+pub record Values : Type 0 where
+  pub refusal : ℕ
+  pub status : ℕ
+  pub number : ℕ
+  pub visits : ℕ
+  pub counters : Counters
+  pub cursor : ScanCursor
+
+abbrev pub refusedWith : ℕ → Values
+refusedWith n = record { refusal = n; status = 0; number = 0; visits = 0; counters = freshCounters; cursor = noCursor }
+
+-- a number alone; a number and the counters; a cursor; what a scan answers
+abbrev pub numbered : ℕ → Values
+numbered n = record { refusal = 0; status = 0; number = n; visits = 0; counters = freshCounters; cursor = noCursor }
+
+abbrev pub counted : ℕ → ℕ → Counters → Values
+counted s n c = record { refusal = 0; status = s; number = n; visits = 0; counters = c; cursor = noCursor }
+
+abbrev pub placed : ScanCursor → Values
+placed q = record { refusal = 0; status = 0; number = 0; visits = 0; counters = freshCounters; cursor = q }
+
+abbrev pub stepped : ℕ → ℕ → ℕ → ScanCursor → Values
+stepped s n v q = record { refusal = 0; status = s; number = n; visits = v; counters = freshCounters; cursor = q }
+
+abbrev pub lookupValues : Lookup → Values
+lookupValues (Number n) = numbered (n .0)
+lookupValues Absent = numbered 0
+lookupValues (NotFound r) = refusedWith (refusalNumber r)
+
+abbrev pub internedValues : Interned → Values
+internedValues (Id n c) = counted 0 (n .0) c
+internedValues (NotInterned r) = refusedWith (refusalNumber r)
+
+abbrev pub assertedValues : Asserted → Values
+assertedValues (New n c) = counted 1 (n .0) c
+assertedValues (Already n c) = counted 2 (n .0) c
+assertedValues (Revived n c) = counted 3 (n .0) c
+assertedValues (NotAsserted r) = refusedWith (refusalNumber r)
+
+abbrev pub retractedValues : Retracted → Values
+retractedValues (Struck n) = numbered (n .0)
+retractedValues NotLive = numbered 0
+retractedValues (NotRetracted r) = refusedWith (refusalNumber r)
+
+abbrev pub openedValues : ScanOpened → Values
+openedValues (Cursor q) = placed q
+openedValues (NotOpened r) = refusedWith (refusalNumber r)
+
+abbrev pub scannedValues : Scanned → Values
+scannedValues (Found n v q) = stepped 1 (n .0) v q
+scannedValues (Ended v q) = stepped 2 0 v q
+scannedValues (Spent v q) = stepped 3 0 v q
+scannedValues (NotScanned r) = refusedWith (refusalNumber r)
+
+-- a statement read: refusal, subject, predicate, object, flag; a name read: refusal, start, length
+pub record StatementValues : Type 0 where
+  pub refusal : ℕ
+  pub spo : Triple
+  pub flag : ℕ
+
+abbrev pub statementValues : StatementRead → StatementValues
+statementValues (Is x f) = record { refusal = 0; spo = x; flag = f }
+statementValues (NotRead r) = record { refusal = refusalNumber r; spo = noTriple; flag = 0 }
+
+pub record NameValues : Type 0 where
+  pub refusal : ℕ
+  pub start : ℕ
+  pub size : ℕ
+
+abbrev pub nameValues : NameRead → NameValues
+nameValues (Span a n) = record { refusal = 0; start = a; size = n }
+nameValues (NotNamed r) = record { refusal = refusalNumber r; start = 0; size = 0 }

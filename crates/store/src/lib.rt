@@ -1,0 +1,152 @@
+// The store's types: numbers, counters, refusals, one reply for each operation, the cursor of a pattern scan.
+//
+// Every operation of the store takes the counters by value and the four lent tables; what it answers is said by the definitions in
+// `specs/`, which `specs/Values.antt` ties to the paper's numbers: the refusal's number, and zeros beside it.
+ghost use mathlib.Core.Path.{_≡_};
+ghost use Rattle.store.specs.Tables.{freshCounters};
+
+// A resource's number, from 1; 0 is null, or "any" in a pattern.
+pub struct ResourceId(pub u32);
+
+// A statement's number, from 1; 0 is null. It is never a resource's number.
+pub struct StatementId(pub u32);
+
+// How much of the lent tables is in use: resources R, statements T, text bytes B.
+pub struct Counters {
+    pub resources: u32,
+    pub statements: u32,
+    pub text: u32,
+}
+
+impl Counters {
+    pub const MAX_RESOURCES: u32 = 65535;
+
+    pub const MAX_STATEMENTS: u32 = 65535;
+
+    pub const MAX_TEXT: u32 = 1048576;
+
+    pub const MAX_NAME: u32 = 255;
+
+    // The counters of a fresh store. The tables may hold anything.
+    pub fn fresh() -> Self
+        ensures { λ r. ⌜ r ≡ freshCounters ⌝ }
+    {
+        Counters {
+            resources: 0,
+            statements: 0,
+            text: 0,
+        }
+    }
+}
+
+// A position in a statement (the paper's place). Facts about chains are stated once, over it.
+pub enum Position {
+    Subject,
+    Predicate,
+    Object,
+}
+
+// Which records a walk follows: all of them, falling from the last, or those with one resource at one position.
+pub enum Chain {
+    All,
+    By(Position),
+}
+
+// Three resource numbers: a statement's, or a pattern's with 0 for any.
+pub struct Triple {
+    pub subject: ResourceId,
+    pub predicate: ResourceId,
+    pub object: ResourceId,
+}
+
+// Where a pattern scan stands (the paper's place of a listing): the pattern, the chain picked at the opening, the next record or 0.
+pub struct ScanCursor {
+    pub pattern: Triple,
+    pub chain: Chain,
+    pub next: StatementId,
+}
+
+// Why an operation refuses; `specs/Values.antt` gives the paper's number of each.
+pub enum Refusal {
+    // 1: a counter exceeds its capacity.
+    Capacity,
+    // 2: a name is not well formed, or over 255 bytes.
+    Malformed,
+    // 3: no room for one more.
+    Full,
+    // 4: a number that names nothing.
+    UnknownNumber,
+    // 5: a literal as subject, or a predicate that is no IRI.
+    KindNotPermitted,
+    // 6: a cursor that no opening or next call of this store can have given.
+    BadCursor,
+    // 7: a budget of 0.
+    NoBudget,
+    // 8: words that are no query.
+    BadQuery,
+    // 9: a word that a step needs is out of range.
+    Damaged,
+    // 10: bytes that are no line.
+    BadLine,
+}
+
+// Read a statement: the triple, and 1 if it is retracted, else 0.
+pub enum StatementRead {
+    Is(Triple, u32),
+    Refused(Refusal),
+}
+
+// Name of a number: where its bytes start in the text, and how many they are.
+pub enum NameRead {
+    Span(u32, u32),
+    Refused(Refusal),
+}
+
+// Where a name stands in the index: under its number at a position, before a position, or the search met a damaged word.
+pub enum IndexPlace {
+    At(ResourceId, u32),
+    Before(u32),
+    Torn,
+}
+
+// Find a name.
+pub enum Lookup {
+    Number(ResourceId),
+    Absent,
+    Refused(Refusal),
+}
+
+// Enter a name: its number, and the counters from now on.
+pub enum Interned {
+    Number(ResourceId, Counters),
+    Refused(Refusal),
+}
+
+// Assert: the statement's number, and the counters from now on.
+pub enum Asserted {
+    New(StatementId, Counters),
+    Already(StatementId, Counters),
+    Revived(StatementId, Counters),
+    Refused(Refusal),
+}
+
+// Retract: the number of the statement that was live until now, if there was one.
+pub enum Retracted {
+    Number(StatementId),
+    Absent,
+    Refused(Refusal),
+}
+
+// Open a pattern scan.
+pub enum ScanOpened {
+    Cursor(ScanCursor),
+    Refused(Refusal),
+}
+
+// Next of a pattern scan: the statement found, the visits made, the cursor from now on.
+pub enum Scanned {
+    Found(StatementId, u32, ScanCursor),
+    Ended(u32, ScanCursor),
+    Spent(u32, ScanCursor),
+    Refused(Refusal),
+}
