@@ -1,0 +1,5 @@
+pub mod Grammar
+pub mod Reader
+pub mod Text
+pub mod Terms
+pub mod Claims
