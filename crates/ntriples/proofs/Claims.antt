@@ -291,7 +291,7 @@ meant m text i l r s p o e h =
       objectMeans = ap (λ (z : Span). termOf (bytesOf text z)) (sym (h .objectAt)) ∙ (ap termOf (b .object) ∙ object-is (d .isObject));
     }
 
-read-at : (m : ℕ) (text : List ℕ) (i : ℕ) (l : List ℕ) (n : ℕ) → i < length text → FirstLine (drop i text) l n
+pub read-at : (m : ℕ) (text : List ℕ) (i : ℕ) (l : List ℕ) (n : ℕ) → i < length text → FirstLine (drop i text) l n
     → readOf m text i ≡ record { line = answerOf i (lineOf m i l); next = i + n }
 unfolding readOf
 read-at m text i l n h f = let w = line-found (drop i text) l n f in rw (lt-leb (length text) i h, w .0, w .1)

@@ -77,9 +77,14 @@ opening n b f g k h =
     (λ _ j. cases P (eqb b 95) 2 _ (λ e z. g (eqb-true b 95 e) z)
     (λ _ o. cases P (eqb b 34) 3 0 (λ e z. k (eqb-true b 34 e) z) (λ _ z. never z) o) j) h
 
-opens-dark : (n b : ℕ) → opens n b ≡ true → white b ≡ false
+pub opens-dark : (n b : ℕ) → opens n b ≡ true → white b ≡ false
 unfolding white among
 opens-dark n b h = opening n b (λ e. rw e) (λ e _. rw e) (λ e _. rw e) h
+
+-- the object's place permits what any permits
+pub opens-any : (n b : ℕ) → opens n b ≡ true → opens 0 b ≡ true
+unfolding opens firstKindOf permitted
+opens-any n b h = opening n b (λ e. rw e) (λ e _. rw e) (λ e _. rw e) h
 
 pub opens-one : (b : ℕ) → opens 1 b ≡ true → b ≡ 60
 unfolding permitted
@@ -148,7 +153,7 @@ dot-ends : (isBad (stepOf Dot 32) ≡ true) × (isBad (stepOf Dot 9) ≡ true) �
 unfolding stepOf isBad firstByte labelByte letter alnum
 dot-ends = (refl, refl, refl)
 
-is-dot : (q : Scan) → isDot q ≡ true → q ≡ Dot
+pub is-dot : (q : Scan) → isDot q ≡ true → q ≡ Dot
 unfolding isDot
 is-dot Start h = never h
 is-dot IriOpen h = never h
@@ -197,16 +202,16 @@ unfolding afterOf
 after-forth i ms b l r (Trail.space e t) g = rw e (t, g)
 after-forth i ms b l r (Trail.comment t) g = rw dark-hash (t, g)
 
-gap-space : (i : ℕ) (ms : List Span) (n b : ℕ) → white b ≡ true → gapOf i ms n b ≡ Gap ms n
+pub gap-space : (i : ℕ) (ms : List Span) (n b : ℕ) → white b ≡ true → gapOf i ms n b ≡ Gap ms n
 unfolding gapOf
 gap-space i ms zero b e = rw e
 gap-space i ms (suc n) b e = rw e
 
-enter-eq : (i : ℕ) (ms : List Span) (n b : ℕ) → opens n b ≡ true → enterOf i ms n b ≡ Inside ms n (stepOf Start b) i
+pub enter-eq : (i : ℕ) (ms : List Span) (n b : ℕ) → opens n b ≡ true → enterOf i ms n b ≡ Inside ms n (stepOf Start b) i
 unfolding enterOf
 enter-eq i ms n b e = rw e
 
-gap-enter : (i : ℕ) (ms : List Span) (n b : ℕ) → opens n b ≡ true → gapOf i ms (suc n) b ≡ Inside ms n (stepOf Start b) i
+pub gap-enter : (i : ℕ) (ms : List Span) (n b : ℕ) → opens n b ≡ true → gapOf i ms (suc n) b ≡ Inside ms n (stepOf Start b) i
 unfolding gapOf
 gap-enter i ms n b e = rw (opens-dark n b e, enter-eq i ms n b e)
 
@@ -269,22 +274,22 @@ stops i n b q l parts w s (Rest.space e t) = inl (white-byte b (λ z. rw z (whol
 stops i n b q l parts w s (Rest.term {n = n′} {k = k} t u e h p rest) = inl (open-stops n′ b q w s (first-opens n′ k b l t u e h p))
 stops i n b q l parts w s (Rest.dot t) = ⊎-elim (λ z. inl z) (λ z. inr (refl, z, refl, t, refl)) (whole-ends q w .3)
 
-on-leave : (m i : ℕ) (ms : List Span) (n : ℕ) (q : Scan) (a b : ℕ) → isBad (stepOf q b) ≡ true → wholeOf q ≡ true
+pub on-leave : (m i : ℕ) (ms : List Span) (n : ℕ) (q : Scan) (a b : ℕ) → isBad (stepOf q b) ≡ true → wholeOf q ≡ true
     → advanceOf m i (Inside ms n q a) b ≡ gapOf i (ms ++ (span a i ∷ [])) n b
 unfolding advanceOf leaveOf
 on-leave m i ms n q a b e w = rw (e, w)
 
-on-go : (m i : ℕ) (ms : List Span) (n : ℕ) (q : Scan) (a b : ℕ) → isBad (stepOf q b) ≡ false → i < a + m
+pub on-go : (m i : ℕ) (ms : List Span) (n : ℕ) (q : Scan) (a b : ℕ) → isBad (stepOf q b) ≡ false → i < a + m
     → advanceOf m i (Inside ms n q a) b ≡ Inside ms n (stepOf q b) a
 unfolding advanceOf goesOnOf
 on-go m i ms n q a b e h = rw (e, lt-ltb i (a + m) h)
 
-on-dot : (m i : ℕ) (ms : List Span) (a : ℕ)
+pub on-dot : (m i : ℕ) (ms : List Span) (a : ℕ)
     → advanceOf m i (Inside ms 0 Label a) 46 ≡ pick (ltb i (a + m)) (Inside ms 0 Dot a) (After (ms ++ (span a i ∷ [])))
 unfolding advanceOf goesOnOf stepOf isBad dotted isDot labelByte firstByte alnum letter
 on-dot m i ms a = refl
 
-on-dotted : (m i : ℕ) (ms : List Span) (a b : ℕ) → isBad (stepOf Dot b) ≡ true
+pub on-dotted : (m i : ℕ) (ms : List Span) (a b : ℕ) → isBad (stepOf Dot b) ≡ true
     → advanceOf m i (Inside ms 0 Dot a) b ≡ afterOf i (ms ++ (span a (i - 1) ∷ [])) b
 unfolding advanceOf leaveOf wholeOf dotted isDot
 on-dotted m i ms a b e = rw e
@@ -336,7 +341,7 @@ dotting-forth m i ms n q a b l r d =
     let k = dotted-facts n q (d .lone) in
     rw (k .0, is-dot q (k .1), on-dotted m i ms a b (trail-stops (d .trail))) (after-forth i (ms ++ (span a (i - 1) ∷ [])) b l r (d .trail) (d .gives))
 
-opens-hash : (n b : ℕ) → opens n b ≡ true → eqb b 35 ≡ false
+pub opens-hash : (n b : ℕ) → opens n b ≡ true → eqb b 35 ≡ false
 opens-hash n b h = opening n b (λ e. rw e) (λ e _. rw e) (λ e _. rw e) h
 
 begin-enter : (m i b : ℕ) → opens 2 b ≡ true → gapOf i [] 3 b ≡ advanceOf m i Begin b

@@ -6,3 +6,6 @@ pub mod Derivation
 pub mod Lines
 pub mod Terms
 pub mod Claims
+pub mod Runs
+pub mod Halts
+pub mod Sequence

@@ -410,7 +410,7 @@ breaks-here m i (Noted ms) b h = both (BreaksAt i) (commentByte b) (Noted ms) (B
 breaks-here m i Remark b h = both (BreaksAt i) (commentByte b) Remark (Broken i) (λ _. sound i Remark refl) (λ _. here i)
 breaks-here m i (Broken k) b h = never (sym h)
 
-stays : (m i k : ℕ) (s : List ℕ) → placeOf m i (Broken k) s ≡ Broken k
+pub stays : (m i k : ℕ) (s : List ℕ) → placeOf m i (Broken k) s ≡ Broken k
 unfolding placeOf advanceOf
 stays m i k [] = refl
 stays m i k (b ∷ s) = stays m (i + 1) k s

@@ -3,3 +3,4 @@ pub mod Reader
 pub mod Text
 pub mod Terms
 pub mod Claims
+pub mod Productions
