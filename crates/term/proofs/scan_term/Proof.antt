@@ -1,43 +1,42 @@
-use lib.Seq.{take-all}
+-- The bytes up to `end`, as a part of the slice or all of it. Assumes nothing.
 use native.Mathlib.Omega.{arith}
+use lib.Seq.{take-all}
 use native.Mathlib.Numerals.{unary-clauses}
 use borrow.Author.Needs.{needs}
 use Rattle.term.proofs.scan_term.Statement.{statement}
 use Rattle.term.proofs.scan_term.Tie as tie
-use Rattle.term.proofs.scan_term.Reads as reads
-use Rattle.term.proofs.scan_term.Lts as lts
-use Rattle.term.proofs.scan_from.Reads as scan-from-reads
 
-sub-scan-from : tie.Need-sub-scan-from
-sub-scan-from c = search needs
+sub-term : tie.Need-sub-term
+sub-term c = search needs
 
-part-scan-from-start : tie.Need-part-scan-from-start
-part-scan-from-start c = search needs
+part-term-start : tie.Need-part-term-start
+part-term-start c = search needs
 
-part-scan-from-end : tie.Need-part-scan-from-end
-part-scan-from-end c = search needs
+part-term-end : tie.Need-part-term-end
+part-term-end c = search needs
 
-scan-from-requires : tie.Need-scan-from-requires
-scan-from-requires c κs = search needs
+term-requires : tie.Need-term-requires
+term-requires c κs = search needs
 
 returns : tie.Need-returns
-returns c = simp unary-clauses at (c .scan-from .ensures)
+returns c =
+    simp unary-clauses at (c .term .ensures)
 
-scan-from-requires-2 : tie.Need-scan-from-requires-2
-scan-from-requires-2 c κs = search needs
+term-requires-2 : tie.Need-term-requires-2
+term-requires-2 c κs = search needs
 
 returns-2 : tie.Need-returns-2
 returns-2 c =
-    rw (take-all (c .before .before .before .args .end) (c .before .before .before .args .bytes .now) (omega arith)) (c .scan-from2 .ensures)
+    rw (take-all (c .before .before .before .args .end) (c .before .before .before .args .bytes .now) (omega arith)) (c .term2 .ensures)
 
 pub scan-term-spec : {M : Type 1} → statement M
 scan-term-spec =
     tie.close
     (tie.spec
-    sub-scan-from
-    part-scan-from-start
-    part-scan-from-end
-    scan-from-requires
+    sub-term
+    part-term-start
+    part-term-end
+    term-requires
     returns
-    scan-from-requires-2
+    term-requires-2
     returns-2)
