@@ -1,5 +1,6 @@
 -- The kind of a name: a law for each way out. Assumes nothing.
 use mathlib.Core.Path.{sym, _∙_}
+use native.Mathlib.Omega.{arith}
 use borrow.Author.Tests.{not-true, not-false, ne-eqb}
 use Rattle.term.specs.Grammar.{nameLimit}
 use Rattle.term.specs.Scanner.{numberOf, firstKindOf}
@@ -11,7 +12,7 @@ use Rattle.term.proofs.kind_of_name.Tie as tie
 returns : tie.Need-returns
 unfolding numberOf
 returns c =
-    sym (kind-long nameLimit (c .before .before .args .name .now) (c .if1 .taken))
+    sym (kind-long nameLimit (c .before .before .args .name .now) (omega arith))
 
 term-requires : tie.Need-term-requires
 term-requires c κs = search needs
@@ -38,7 +39,7 @@ unfolding numberOf firstKindOf
 returns-4 c =
     let s = c .before .before .before .before .before .before .before .before .before .args .name .now in
     let w = sym (c .before .before .before .whole .ensures) ∙ not-false (c .before .before .before .whole .result) (c .before .before .if3 .left) in
-    let kind = kind-whole nameLimit s (c .before .before .before .before .before .before .before .if1 .left) (c .before .before .before .before .before .before .term .ensures) (c .before .before .before .before .if2 .left) w in
+    let kind = kind-whole nameLimit s (omega arith) (c .before .before .before .before .before .before .term .ensures) (c .before .before .before .before .if2 .left) w in
     sym (kind ∙ first-byte s (c .before .byte-at .ensures) ∙ rw (c .match .keys1))
 
 returns-5 : tie.Need-returns-5
@@ -46,7 +47,7 @@ unfolding numberOf firstKindOf
 returns-5 c =
     let s = c .before .before .before .before .before .before .before .before .before .args .name .now in
     let w = sym (c .before .before .before .whole .ensures) ∙ not-false (c .before .before .before .whole .result) (c .before .before .if3 .left) in
-    let kind = kind-whole nameLimit s (c .before .before .before .before .before .before .before .if1 .left) (c .before .before .before .before .before .before .term .ensures) (c .before .before .before .before .if2 .left) w in
+    let kind = kind-whole nameLimit s (omega arith) (c .before .before .before .before .before .before .term .ensures) (c .before .before .before .before .if2 .left) w in
     sym (kind ∙ first-byte s (c .before .byte-at .ensures) ∙ rw (c .match .keys2))
 
 returns-6 : tie.Need-returns-6
@@ -54,7 +55,7 @@ unfolding numberOf firstKindOf
 returns-6 c =
     let s = c .before .before .before .before .before .before .before .before .before .args .name .now in
     let w = sym (c .before .before .before .whole .ensures) ∙ not-false (c .before .before .before .whole .result) (c .before .before .if3 .left) in
-    let kind = kind-whole nameLimit s (c .before .before .before .before .before .before .before .if1 .left) (c .before .before .before .before .before .before .term .ensures) (c .before .before .before .before .if2 .left) w in
+    let kind = kind-whole nameLimit s (omega arith) (c .before .before .before .before .before .before .term .ensures) (c .before .before .before .before .if2 .left) w in
     sym (kind ∙ first-byte s (c .before .byte-at .ensures) ∙ rw (c .match .keys3))
 
 returns-7 : tie.Need-returns-7
@@ -62,7 +63,7 @@ unfolding numberOf firstKindOf
 returns-7 c =
     let s = c .before .before .before .before .before .before .before .before .before .args .name .now in
     let w = sym (c .before .before .before .whole .ensures) ∙ not-false (c .before .before .before .whole .result) (c .before .before .if3 .left) in
-    let kind = kind-whole nameLimit s (c .before .before .before .before .before .before .before .if1 .left) (c .before .before .before .before .before .before .term .ensures) (c .before .before .before .before .if2 .left) w in
+    let kind = kind-whole nameLimit s (omega arith) (c .before .before .before .before .before .before .term .ensures) (c .before .before .before .before .if2 .left) w in
     sym (kind ∙ first-byte s (c .before .byte-at .ensures) ∙ rw (
       ne-eqb (c .before .byte-at .result) 60 (c .match .rest .0 .0 .1),
       ne-eqb (c .before .byte-at .result) 95 (c .match .rest .0 .1),
