@@ -13,10 +13,12 @@ use Rattle.term.specs.Bytes.{pick, among, iriByte, textByte, pairByte, f
 use Rattle.term.specs.Grammar.{Name}
 use Rattle.term.specs.Scanner.{stepOf, runOf, wholeOf, isBad, haltOf, firstKindOf, longestOf}
 use Rattle.term.specs.Halting.{Begins, Breaks, LongestName}
-use Rattle.term.specs.Theorems.{HaltIsFirstBreak, BeginningHasOneKind, LongestIsLongest, LongestEndsByHalt, WholeAtHalt, WholeBeforeDot}
+use Rattle.term.specs.Theorems.{HaltIsFirstBreak, BeginningHasOneKind, LongestIsLongest}
+use Rattle.term.specs.Theorems.{LongestEndsByHalt, WholeAtHalt, WholeBeforeDot}
 use Rattle.term.specs.declared.Scan.{Scan}
 use Rattle.term.specs.declared.Halt.{Halt}
-use Rattle.term.specs.declared.Scan.the-variants.{Start, IriOpen, Iri, Closed, Under, Colon, Label, Dot, Dots, Text, Escape, Quote, At, Tag, Hyphen, Group, Caret, Carets, Bad}
+use Rattle.term.specs.declared.Scan.the-variants.{Start, IriOpen, Iri, Closed, Under, Colon, Label, Dot, Dots}
+use Rattle.term.specs.declared.Scan.the-variants.{Text, Escape, Quote, At, Tag, Hyphen, Group, Caret, Carets, Bad}
 use Rattle.term.proofs.Names.{Accepts, never, bad, name-back, name-forth, name-kind}
 use Rattle.term.proofs.Runs.{bad-only, run-bad, run-append, halt-first, halt-first-bad}
 
@@ -77,7 +79,9 @@ begins p e =
 
 begins-good : (p : List ℕ) (q : Scan) → runOf Start p ≡ q → isBad q ≡ true → Begins p → ⊥
 begins-good p q e b x =
-    bad (x .rest) (sym (ap wholeOf (run-append Start p (x .rest) ∙ ap (λ (z : Scan). runOf z (x .rest)) (e ∙ bad-only q b))) ∙ name-forth (x .name))
+    bad (x .rest)
+    (sym (ap wholeOf (run-append Start p (x .rest) ∙ ap (λ (z : Scan). runOf z (x .rest)) (e ∙ bad-only q b))) ∙
+    name-forth (x .name))
 
 -- a scan from q: what it reads, and why it halts
 record Halts (q : Scan) (i : ℕ) (s : List ℕ) : Type 0 where
@@ -167,7 +171,8 @@ record Found (q : Scan) (i : ℕ) (s : List ℕ) (n : ℕ) : Type 0 where
   at : n ≡ i + more
   whole : Accepts q (take more s)
 
-at-best : (q : Scan) (best i : ℕ) (s : List ℕ) (n : ℕ) (t : Bool) → wholeOf q ≡ t → n ≡ pick t i best → (n ≡ best) ⊎ Found q i s n
+at-best : (q : Scan) (best i : ℕ) (s : List ℕ) (n : ℕ) (t : Bool) → wholeOf q ≡ t → n ≡ pick t i best
+    → (n ≡ best) ⊎ Found q i s n
 unfolding runOf
 at-best q best i s n true e h = inr (record { more = 0; within = omega arith; at = omega arith; whole = e })
 at-best q best i s n false e h = inl h
@@ -185,7 +190,8 @@ found [] q best i = at-best q best i [] (pick (wholeOf q) i best) (wholeOf q) re
 found (b ∷ s) q best i =
     let n = longestOf (pick (wholeOf q) i best) (i + 1) (stepOf q b) s in
     ⊎-elim (λ (e : n ≡ pick (wholeOf q) i best). at-best q best i (b ∷ s) n (wholeOf q) refl e)
-    (λ (f : Found (stepOf q b) (i + 1) s n). inr (further q i b s n f)) (found s (stepOf q b) (pick (wholeOf q) i best) (i + 1))
+    (λ (f : Found (stepOf q b) (i + 1) s n). inr (further q i b s n f))
+    (found s (stepOf q b) (pick (wholeOf q) i best) (i + 1))
 
 pick-low : (t : Bool) (best i : ℕ) → best ≤ i → best ≤ pick t i best
 pick-low true best i h = h
@@ -217,7 +223,8 @@ unfolding runOf
 most-cons b s q best i zero f h w = let z = here (b ∷ s) q best i w in omega arith
 most-cons b s q best i (suc m) f h w = let z = f m (omega arith) w in omega arith
 
-most : (s : List ℕ) (q : Scan) (best i m : ℕ) → best ≤ i → m ≤ length s → Accepts q (take m s) → i + m ≤ longestOf best i q s
+most : (s : List ℕ) (q : Scan) (best i m : ℕ) → best ≤ i → m ≤ length s → Accepts q (take m s)
+    → i + m ≤ longestOf best i q s
 unfolding longestOf runOf
 most [] q best i m l h w =
     let z = here [] q best i (rw (take-nil m) at w) in omega arith
@@ -235,7 +242,8 @@ pub longest-is-longest : LongestIsLongest
 longest-is-longest s =
     let n = longestOf 0 0 Start s in
     record {
-      within = ⊎-elim (λ (e : n ≡ 0). omega arith) (λ (f : Found Start 0 s n). let w = f .within in let a = f .at in omega arith) (found s Start 0 0);
+      within = ⊎-elim (λ (e : n ≡ 0). omega arith)
+          (λ (f : Found Start 0 s n). let w = f .within in let a = f .at in omega arith) (found s Start 0 0);
       whole = ⊎-elim (λ (e : n ≡ 0). inl e) (λ (f : Found Start 0 s n). inr (longest-name s n f)) (found s Start 0 0);
       longest = λ m k h x. let z = most s Start 0 0 m (omega arith) h (name-forth x) in omega arith;
     }
@@ -246,18 +254,21 @@ longest-bad [] best i = refl
 longest-bad (b ∷ s) best i = longest-bad s best (i + 1)
 
 -- a scan that halts before b has found what it finds
-longest-stop : (q : Scan) (best i b : ℕ) (s : List ℕ) → isBad (stepOf q b) ≡ true → longestOf best i q (b ∷ s) ≡ pick (wholeOf q) i best
+longest-stop : (q : Scan) (best i b : ℕ) (s : List ℕ) → isBad (stepOf q b) ≡ true
+    → longestOf best i q (b ∷ s) ≡ pick (wholeOf q) i best
 unfolding longestOf
 longest-stop q best i b s e = rw (bad-only (stepOf q b) e) (longest-bad s (pick (wholeOf q) i best) (i + 1))
 
-halt-at : (q : Scan) (i b : ℕ) (s : List ℕ) → isBad (stepOf q b) ≡ false → haltOf q i (b ∷ s) .at ≡ haltOf (stepOf q b) (i + 1) s .at
+halt-at : (q : Scan) (i b : ℕ) (s : List ℕ) → isBad (stepOf q b) ≡ false
+    → haltOf q i (b ∷ s) .at ≡ haltOf (stepOf q b) (i + 1) s .at
 halt-at q i b s e = ap (λ (h : Halt). h .at) (halt-first q i b s e)
 
 halt-at-bad : (q : Scan) (i b : ℕ) (s : List ℕ) → isBad (stepOf q b) ≡ true → haltOf q i (b ∷ s) .at ≡ i
 halt-at-bad q i b s e = ap (λ (h : Halt). h .at) (halt-first-bad q i b s e)
 
 ends-cons : (q : Scan) (best i b : ℕ) (s : List ℕ) (t : Bool) → isBad (stepOf q b) ≡ t → best ≤ i
-    → longestOf best i q (b ∷ s) ≤ haltOf (stepOf q b) (i + 1) s .at → longestOf best i q (b ∷ s) ≤ haltOf q i (b ∷ s) .at
+    → longestOf best i q (b ∷ s) ≤ haltOf (stepOf q b) (i + 1) s .at → longestOf best i q (b ∷ s) ≤ haltOf q i
+    (b ∷ s) .at
 ends-cons q best i b s true e l f =
     let x = longest-stop q best i b s e in
     let y = halt-at-bad q i b s e in
@@ -270,14 +281,17 @@ unfolding longestOf haltOf
 ends [] q best i l = pick-high (wholeOf q) best i l
 ends (b ∷ s) q best i l =
     let z = pick-high (wholeOf q) best i l in
-    ends-cons q best i b s (isBad (stepOf q b)) refl l (ends s (stepOf q b) (pick (wholeOf q) i best) (i + 1) (omega arith))
+    ends-cons q best i b s (isBad (stepOf q b)) refl l
+    (ends s (stepOf q b) (pick (wholeOf q) i best) (i + 1) (omega arith))
 
 pub longest-ends : LongestEndsByHalt
 longest-ends s = ends s Start 0 0 (omega arith)
 
 -- a whole place at the halt
 whole-cons : (q : Scan) (best i b : ℕ) (s : List ℕ) (t : Bool) → isBad (stepOf q b) ≡ t
-    → (wholeOf (haltOf (stepOf q b) (i + 1) s .state) ≡ true → longestOf best i q (b ∷ s) ≡ haltOf (stepOf q b) (i + 1) s .at)
+    →
+    (wholeOf (haltOf (stepOf q b) (i + 1) s .state) ≡ true → longestOf best i q (b ∷ s) ≡ haltOf (stepOf q b) (i + 1)
+    s .at)
     → wholeOf (haltOf q i (b ∷ s) .state) ≡ true → longestOf best i q (b ∷ s) ≡ haltOf q i (b ∷ s) .at
 whole-cons q best i b s true e f w =
     let h : wholeOf q ≡ true = ap (λ (x : Halt). wholeOf (x .state)) (sym (halt-first-bad q i b s e)) ∙ w in
@@ -285,11 +299,13 @@ whole-cons q best i b s true e f w =
 whole-cons q best i b s false e f w =
     f (ap (λ (x : Halt). wholeOf (x .state)) (sym (halt-first q i b s e)) ∙ w) ∙ sym (halt-at q i b s e)
 
-whole-at : (s : List ℕ) (q : Scan) (best i : ℕ) → wholeOf (haltOf q i s .state) ≡ true → longestOf best i q s ≡ haltOf q i s .at
+whole-at : (s : List ℕ) (q : Scan) (best i : ℕ) → wholeOf (haltOf q i s .state) ≡ true
+    → longestOf best i q s ≡ haltOf q i s .at
 unfolding longestOf haltOf
 whole-at [] q best i w = rw w
 whole-at (b ∷ s) q best i w =
-    whole-cons q best i b s (isBad (stepOf q b)) refl (λ h. whole-at s (stepOf q b) (pick (wholeOf q) i best) (i + 1) h) w
+    whole-cons q best i b s (isBad (stepOf q b)) refl
+    (λ h. whole-at s (stepOf q b) (pick (wholeOf q) i best) (i + 1) h) w
 
 pub whole-at-halt : WholeAtHalt
 whole-at-halt s w = whole-at s Start 0 0 w
@@ -346,7 +362,8 @@ whole-or-off Bad b = inr refl
 
 before-dot : (q : Scan) (b : ℕ) → stepOf q b ≡ Dot → wholeOf q ≡ true
 before-dot q b e =
-    ⊎-elim (λ (w : wholeOf q ≡ true). w) (λ (w : notDot (stepOf q b) ≡ true). never (ap notDot (sym e) ∙ w)) (whole-or-off q b)
+    ⊎-elim (λ (w : wholeOf q ≡ true). w) (λ (w : notDot (stepOf q b) ≡ true). never (ap notDot (sym e) ∙ w))
+    (whole-or-off q b)
 
 dot-stop : (q : Scan) (best i : ℕ) → q ≡ Dot → (q ≡ Dot → best + 1 ≡ i) → pick (wholeOf q) i best + 1 ≡ i
 unfolding wholeOf

@@ -1,4 +1,5 @@
--- A literal is what the paper spells out, and its text and its closing quote can be read in one way only. Assumes nothing.
+-- A literal is what the paper spells out, and its text and its closing quote can be read in one way only.
+-- Assumes nothing.
 use Prim.Native.Nat.{ℕ}
 use mathlib.Core.Path.{_≡_, refl, sym, ap, _∙_}
 use mathlib.Core.List.{List, [], _∷_, _++_}
@@ -7,7 +8,7 @@ use lib.ListN.{getD}
 use native.Mathlib.Omega.{arith}
 use Rattle.term.specs.Bytes.{textByte, pairByte, among}
 use Rattle.term.specs.Grammar as g
-use Rattle.term.specs.Spelling.{Piece, AllAllowed, spelling, Spelled}
+use Rattle.term.specs.Spelling.{Piece, AllAllowed, spelling, SpelledLiteral}
 use Rattle.term.specs.Theorems.{LiteralIsSpelled, TextReadOneWay, LiteralReadOneWay}
 use Rattle.term.proofs.Names.{never}
 
@@ -35,12 +36,14 @@ Same p q s t = (p ≡ q) × (s ≡ t)
 
 -- what the texts after a first piece say of the texts with it
 abbrev Later : List Piece → List ℕ → Type 0
-Later p s = (q : List Piece) (t : List ℕ) → AllAllowed q → spelling p ++ (34 ∷ s) ≡ spelling q ++ (34 ∷ t) → Same p q s t
+Later p s =
+    (q : List Piece) (t : List ℕ) → AllAllowed q → spelling p ++ (34 ∷ s) ≡ spelling q ++ (34 ∷ t) → Same p q s t
 
 none-one-way : (q : List Piece) (s t : List ℕ) → AllAllowed q → 34 ∷ s ≡ spelling q ++ (34 ∷ t) → Same [] q s t
 none-one-way [] s t y e = (refl, tail-same 34 34 s t e)
 none-one-way (Piece.byte b ∷ q) s t y e = no-quote b (y .0) (sym (head-same 34 b s (spelling q ++ (34 ∷ t)) e))
-none-one-way (Piece.pair b ∷ q) s t y e = let z = head-same 34 92 s (b ∷ (spelling q ++ (34 ∷ t))) e in absurd (omega arith)
+none-one-way (Piece.pair b ∷ q) s t y e =
+    let z = head-same 34 92 s (b ∷ (spelling q ++ (34 ∷ t))) e in absurd (omega arith)
 
 byte-one-way : (a : ℕ) (p q : List Piece) (s t : List ℕ) → textByte a ≡ true → Later p s → AllAllowed q
     → a ∷ (spelling p ++ (34 ∷ s)) ≡ spelling q ++ (34 ∷ t) → Same (Piece.byte a ∷ p) q s t
@@ -88,10 +91,24 @@ record Parts (s : List ℕ) : Type 0 where
 parts : {s : List ℕ} → g.TextRest s → Parts s
 parts (g.TextRest.byte {b = b} e r) =
     let p = parts r in
-    record { text = Piece.byte b ∷ p .text; suffix = p .suffix; fine = (e, p .fine); ends = p .ends; spells = rw (← p .spells) }
+    record {
+      text = Piece.byte b ∷ p .text;
+      suffix = p .suffix;
+      fine = (e, p .fine);
+      ends = p .ends;
+      spells = rw
+          (← p .spells);
+    }
 parts (g.TextRest.pair {b = b} e r) =
     let p = parts r in
-    record { text = Piece.pair b ∷ p .text; suffix = p .suffix; fine = (e, p .fine); ends = p .ends; spells = rw (← p .spells) }
+    record {
+      text = Piece.pair b ∷ p .text;
+      suffix = p .suffix;
+      fine = (e, p .fine);
+      ends = p .ends;
+      spells = rw
+          (← p .spells);
+    }
 parts (g.TextRest.close {s = s} x) = record { text = []; suffix = s; fine = tt; ends = x; spells = refl }
 
 rest : (p : List Piece) (s : List ℕ) → AllAllowed p → g.Suffix s → g.TextRest (spelling p ++ (34 ∷ s))
@@ -99,7 +116,7 @@ rest [] s x e = g.TextRest.close e
 rest (Piece.byte b ∷ p) s x e = g.TextRest.byte (x .0) (rest p s (x .1) e)
 rest (Piece.pair b ∷ p) s x e = g.TextRest.pair (x .0) (rest p s (x .1) e)
 
-spelled : {l : List ℕ} → g.Literal l → Spelled l
+spelled : {l : List ℕ} → g.Literal l → SpelledLiteral l
 spelled (g.Literal.open′ r) =
     let p = parts r in
     record { text = p .text; suffix = p .suffix; fine = p .fine; ends = p .ends; spells = rw (← p .spells) }

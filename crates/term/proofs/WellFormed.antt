@@ -10,7 +10,8 @@ use native.Mathlib.Omega.{arith}
 use Rattle.term.specs.Bytes.{pick, clean}
 use Rattle.term.specs.Grammar as g
 use Rattle.term.specs.Scanner.{stepOf, runOf, wholeOf, firstKindOf, kindOf, numberOf, refusalOf}
-use Rattle.term.specs.Theorems.{KindIsWellFormed, RefusedIsMalformed, KindAtMostThree, NameIsClean, NameHasTwoBytes}
+use Rattle.term.specs.Theorems.{KindIsWellFormed, RefusedIsMalformed, KindAtMostThree}
+use Rattle.term.specs.Theorems.{NameIsClean, NameHasTwoBytes}
 use Rattle.term.specs.declared.Scan.{Scan}
 use Rattle.term.specs.declared.Scan.the-variants.{Start, IriOpen, Under, Text, Bad}
 use Rattle.term.specs.declared.NameKind.{NameKind}
@@ -64,7 +65,8 @@ first-most (b ∷ s) =
 pub at-most-three : KindAtMostThree
 unfolding kindOf
 at-most-three limit s =
-    pick-most (leb (length s) limit) _ 0 (pick-most (wholeOf (runOf Start s)) _ 0 (first-most s) (omega arith)) (omega arith)
+    pick-most (leb (length s) limit) _ 0 (pick-most (wholeOf (runOf Start s)) _ 0 (first-most s) (omega arith))
+    (omega arith)
 
 -- what a kind is found of is accepted
 accepted : (limit : ℕ) (s : List ℕ) → (kindOf limit s ≡ 0 → ⊥) → Accepts Start s

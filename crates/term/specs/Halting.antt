@@ -15,8 +15,8 @@ pub record Begins (p : List ℕ) : Type 0 where
   pub rest : List ℕ
   pub name : Name kind (p ++ rest)
 
--- A scan of s, whose first byte has the offset i, halts at h: some name begins with the bytes before, the place is where
--- those bytes lead, and no name begins with one byte more.
+-- A scan of s, whose first byte has the offset i, halts at h: some name begins with the bytes before, they lead to the
+-- place, and no name begins with one byte more.
 pub record Breaks (i : ℕ) (s : List ℕ) (h : Halt) : Type 0 where
   pub front : List ℕ
   pub back : List ℕ

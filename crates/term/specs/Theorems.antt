@@ -1,5 +1,5 @@
--- What is proved of names (scope paper, "Names"): the statements. Their proofs are in `proofs/Names.antt` (grammar and kind),
--- `proofs/Literals.antt` and `proofs/Halts.antt`. Assumes nothing.
+-- What is proved of names (scope paper, "Names"): the statements. The proofs are in `proofs/Names.antt`,
+-- `WellFormed.antt`, `Spellings.antt`, `Literals.antt` and `Halts.antt`. Assumes nothing.
 use Prim.Native.Nat.{ℕ, _+_, _≤_}
 use mathlib.Core.Path.{_≡_}
 use mathlib.Core.List.{List, [], _∷_, _++_}
@@ -7,9 +7,9 @@ use mathlib.Core.Bool.{true}
 use mathlib.Core.Logic.{_↔_}
 use lib.ListN.{length}
 use Rattle.term.specs.Bytes.{clean}
-use Rattle.term.specs.Grammar.{Name, Literal, WellFormed, nameLimit}
+use Rattle.term.specs.Grammar.{Iri, Blank, Suffix, Literal, Name, WellFormed, nameLimit}
 use Rattle.term.specs.Scanner.{runOf, wholeOf, firstKindOf, kindOf, haltOf, longestOf, numberOf, refusalOf}
-use Rattle.term.specs.Spelling.{Piece, AllAllowed, spelling, Spelled}
+use Rattle.term.specs.Spelling.{SpelledIri, SpelledBlank, SpelledTag, Piece, AllAllowed, spelling, SpelledLiteral}
 use Rattle.term.specs.Halting.{Begins, Breaks, LongestName}
 use Rattle.term.specs.declared.NameKind.{NameKind}
 use Rattle.term.specs.declared.Scan.the-variants.{Start, Dot}
@@ -46,18 +46,27 @@ NameIsClean = (limit : ℕ) (s : List ℕ) → (kindOf limit s ≡ 0 → ⊥) �
 abbrev pub NameHasTwoBytes : Type 0
 NameHasTwoBytes = (limit : ℕ) (s : List ℕ) → (kindOf limit s ≡ 0 → ⊥) → 2 ≤ length s
 
--- A literal is what the paper spells out.
-abbrev pub LiteralIsSpelled : Type 0
-LiteralIsSpelled = (l : List ℕ) → Literal l ↔ Spelled l
+-- IRIs, blank nodes, language tags and literals are what the paper spells out.
+abbrev pub IriIsSpelled : Type 0
+IriIsSpelled = (l : List ℕ) → Iri l ↔ SpelledIri l
 
--- Its pairs and its closing quote are read the only way possible, whatever follows.
+abbrev pub BlankIsSpelled : Type 0
+BlankIsSpelled = (l : List ℕ) → Blank l ↔ SpelledBlank l
+
+abbrev pub TagIsSpelled : Type 0
+TagIsSpelled = (l : List ℕ) → Suffix (64 ∷ l) ↔ SpelledTag l
+
+abbrev pub LiteralIsSpelled : Type 0
+LiteralIsSpelled = (l : List ℕ) → Literal l ↔ SpelledLiteral l
+
+-- A literal's pairs and its closing quote are read the only way possible, whatever follows.
 abbrev pub TextReadOneWay : Type 0
 TextReadOneWay =
     (p q : List Piece) (s t : List ℕ) → AllAllowed p → AllAllowed q
     → spelling p ++ (34 ∷ s) ≡ spelling q ++ (34 ∷ t) → (p ≡ q) × (s ≡ t)
 
 abbrev pub LiteralReadOneWay : Type 0
-LiteralReadOneWay = (l : List ℕ) (x y : Spelled l) → (x .text ≡ y .text) × (x .suffix ≡ y .suffix)
+LiteralReadOneWay = (l : List ℕ) (x y : SpelledLiteral l) → (x .text ≡ y .text) × (x .suffix ≡ y .suffix)
 
 -- A scan halts before the first byte that continues no name. Where it has read a byte, that byte gives the kind.
 abbrev pub HaltIsFirstBreak : Type 0
@@ -66,7 +75,7 @@ HaltIsFirstBreak = (i : ℕ) (s : List ℕ) → Breaks i s (haltOf Start i s)
 abbrev pub BeginningHasOneKind : Type 0
 BeginningHasOneKind = (b : ℕ) (p : List ℕ) (x : Begins (b ∷ p)) → x .kind ≡ firstKindOf (b ∷ p)
 
--- The longest name before the halt; it ends there if the place is whole, and one byte before if the place is a lone dot.
+-- The longest name before the halt ends there if the place is whole, and one byte before if the place is a lone dot.
 abbrev pub LongestIsLongest : Type 0
 LongestIsLongest = (s : List ℕ) → LongestName s (longestOf 0 0 Start s)
 
