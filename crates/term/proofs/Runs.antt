@@ -11,7 +11,8 @@ use Rattle.term.specs.Bytes.{pick}
 use Rattle.term.specs.Scanner.{stepOf, runOf, isBad, haltOf, wholeOf, firstKindOf, kindOf}
 use Rattle.term.specs.declared.Scan.{Scan}
 use Rattle.term.specs.declared.Halt.{Halt}
-use Rattle.term.specs.declared.Scan.the-variants.{Start, IriOpen, Iri, Closed, Under, Colon, Label, Dot, Dots, Text, Escape, Quote, At, Tag, Hyphen, Group, Caret, Carets, Bad}
+use Rattle.term.specs.declared.Scan.the-variants.{Start, IriOpen, Iri, Closed, Under, Colon, Label, Dot, Dots}
+use Rattle.term.specs.declared.Scan.the-variants.{Text, Escape, Quote, At, Tag, Hyphen, Group, Caret, Carets, Bad}
 use Rattle.term.proofs.Names.{never}
 
 pub bad-only : (q : Scan) → isBad q ≡ true → q ≡ Bad
@@ -48,15 +49,18 @@ run-append q [] t = refl
 run-append q (b ∷ s) t = run-append (stepOf q b) s t
 
 -- the first byte of a scan, in the two cases
-pub halt-first-bad : (q : Scan) (i b : ℕ) (s : List ℕ) → isBad (stepOf q b) ≡ true → haltOf q i (b ∷ s) ≡ record { state = q; at = i }
+pub halt-first-bad : (q : Scan) (i b : ℕ) (s : List ℕ) → isBad (stepOf q b) ≡ true
+    → haltOf q i (b ∷ s) ≡ record { state = q; at = i }
 unfolding haltOf
 halt-first-bad q i b s e = rw (haltOf, e)
 
-pub halt-first : (q : Scan) (i b : ℕ) (s : List ℕ) → isBad (stepOf q b) ≡ false → haltOf q i (b ∷ s) ≡ haltOf (stepOf q b) (i + 1) s
+pub halt-first : (q : Scan) (i b : ℕ) (s : List ℕ) → isBad (stepOf q b) ≡ false
+    → haltOf q i (b ∷ s) ≡ haltOf (stepOf q b) (i + 1) s
 unfolding haltOf
 halt-first q i b s e = rw (haltOf, e)
 
-at-first : (q : Scan) (i b : ℕ) (s : List ℕ) → isBad (stepOf q b) ≡ false → haltOf q i (b ∷ s) .at ≡ haltOf (stepOf q b) (i + 1) s .at
+at-first : (q : Scan) (i b : ℕ) (s : List ℕ) → isBad (stepOf q b) ≡ false
+    → haltOf q i (b ∷ s) .at ≡ haltOf (stepOf q b) (i + 1) s .at
 at-first q i b s e = ap (λ (h : Halt). h .at) (halt-first q i b s e)
 
 at-first-bad : (q : Scan) (i b : ℕ) (s : List ℕ) → isBad (stepOf q b) ≡ true → haltOf q i (b ∷ s) .at ≡ i
@@ -76,7 +80,8 @@ halt-short (b ∷ s) q i h = short-cons b s q i (isBad (stepOf q b)) refl (λ w.
 
 -- a scan that halts at the end stands where the run does
 long-cons : (b : ℕ) (s : List ℕ) (q : Scan) (i : ℕ) (t : Bool) → isBad (stepOf q b) ≡ t
-    → (i + 1 + length s ≤ haltOf (stepOf q b) (i + 1) s .at → runOf (stepOf q b) s ≡ haltOf (stepOf q b) (i + 1) s .state)
+    →
+    (i + 1 + length s ≤ haltOf (stepOf q b) (i + 1) s .at → runOf (stepOf q b) s ≡ haltOf (stepOf q b) (i + 1) s .state)
     → i + length (b ∷ s) ≤ haltOf q i (b ∷ s) .at → runOf (stepOf q b) s ≡ haltOf q i (b ∷ s) .state
 long-cons b s q i true e f h = let p = at-first-bad q i b s e in absurd (omega arith)
 long-cons b s q i false e f h =
@@ -92,7 +97,8 @@ pub kind-long : (limit : ℕ) (s : List ℕ) → limit < length s → kindOf lim
 unfolding kindOf
 kind-long limit s h = rw (lt-leb (length s) limit h)
 
-kind-bad : (limit : ℕ) (s : List ℕ) (t : Bool) → wholeOf (runOf Start s) ≡ false → pick t (pick (wholeOf (runOf Start s)) (firstKindOf s) 0) 0 ≡ 0
+kind-bad : (limit : ℕ) (s : List ℕ) (t : Bool) → wholeOf (runOf Start s) ≡ false
+    → pick t (pick (wholeOf (runOf Start s)) (firstKindOf s) 0) 0 ≡ 0
 kind-bad limit s true e = rw e
 kind-bad limit s false e = refl
 
@@ -106,11 +112,13 @@ stands : (s : List ℕ) {h : Halt} → h ≡ haltOf Start 0 s → length s ≤ h
 stands s e l =
     let p = ap (λ (x : Halt). x .at) e in halt-long s Start 0 (omega arith) ∙ sym (ap (λ (x : Halt). x .state) e)
 
-pub kind-part : (limit : ℕ) (s : List ℕ) {h : Halt} → h ≡ haltOf Start 0 s → length s ≤ h .at → wholeOf (h .state) ≡ false → kindOf limit s ≡ 0
+pub kind-part : (limit : ℕ) (s : List ℕ) {h : Halt} → h ≡ haltOf Start 0 s → length s ≤ h .at
+    → wholeOf (h .state) ≡ false → kindOf limit s ≡ 0
 unfolding kindOf
 kind-part limit s e l w = kind-bad limit s (leb (length s) limit) (ap wholeOf (stands s e l) ∙ w)
 
-pub kind-whole : (limit : ℕ) (s : List ℕ) {h : Halt} → length s ≤ limit → h ≡ haltOf Start 0 s → length s ≤ h .at → wholeOf (h .state) ≡ true
+pub kind-whole : (limit : ℕ) (s : List ℕ) {h : Halt} → length s ≤ limit → h ≡ haltOf Start 0 s → length s ≤ h .at
+    → wholeOf (h .state) ≡ true
     → kindOf limit s ≡ firstKindOf s
 unfolding kindOf
 kind-whole limit s n e l w = rw (le-leb (length s) limit n, ap wholeOf (stands s e l) ∙ w)

@@ -1,5 +1,5 @@
-// The productions of a name (scope paper, "Names"), a function each. Each takes up the scan at the offset `at`, where the
-// bytes before have brought it to a place, and says where the scan halts: every contract is "the definition from here".
+// The productions of a name (scope paper, "Names"), a function each. Each takes up the scan at the offset `at`, where
+// the bytes before have brought it to a place, and says where it halts: every contract is "the definition from here".
 ghost use mathlib.Core.Path.{_≡_};
 ghost use lib.ListN.{drop};
 ghost use Rattle.term.specs.Scanner.{haltOf, labelPlaceOf};
@@ -30,7 +30,8 @@ pub fn term(bytes: &[u8], at: usize) -> Halt
     }
 }
 
-// An IRI after its `<`: one byte or more, then `>`.
+// An IRI after its `<`: one byte or more, then `>`. The class is tested at this one place, so that its match is compiled
+// into the loop.
 pub fn iri(bytes: &[u8], at: usize) -> Halt
     ensures { λ r. ⌜ r ≡ haltOf IriOpen at (drop at (now (bytes .entry))) ⌝ }
 {

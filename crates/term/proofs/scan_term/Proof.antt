@@ -27,7 +27,8 @@ term-requires-2 c κs = search needs
 
 returns-2 : tie.Need-returns-2
 returns-2 c =
-    rw (take-all (c .before .before .before .args .end) (c .before .before .before .args .bytes .now) (omega arith)) (c .term2 .ensures)
+    rw (take-all (c .before .before .before .args .end) (c .before .before .before .args .bytes .now) (omega arith))
+    (c .term2 .ensures)
 
 pub scan-term-spec : {M : Type 1} → statement M
 scan-term-spec =

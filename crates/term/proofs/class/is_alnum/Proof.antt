@@ -1,4 +1,5 @@
--- The class is a match on byte ranges: in each arm the definition is constant, which computing it there shows. Assumes nothing.
+-- The class is a match on byte ranges: in each arm the definition is constant, which computing it shows.
+-- Assumes nothing.
 use mathlib.Core.Path.{sym}
 use mathlib.Core.List.{[], _∷_}
 use native.Mathlib.Omega.{arith}
@@ -15,12 +16,16 @@ returns c =
 returns-2 : tie.Need-returns-2
 unfolding alnum letter
 returns-2 c =
-    sym (at-range eqBool same-bool alnum _ 65 25 [] (c .before .before .before .before .args .b) tt (omega arith) (omega arith) tt)
+    sym
+    (at-range eqBool same-bool alnum _ 65 25 [] (c .before .before .before .before .args .b) tt (omega arith)
+    (omega arith) tt)
 
 returns-3 : tie.Need-returns-3
 unfolding alnum letter
 returns-3 c =
-    sym (at-range eqBool same-bool alnum _ 97 25 [] (c .before .before .before .before .before .before .args .b) tt (omega arith) (omega arith) tt)
+    sym
+    (at-range eqBool same-bool alnum _ 97 25 [] (c .before .before .before .before .before .before .args .b) tt
+    (omega arith) (omega arith) tt)
 
 returns-4 : tie.Need-returns-4
 unfolding alnum letter
@@ -30,17 +35,22 @@ returns-4 c =
 returns-5 : tie.Need-returns-5
 unfolding alnum letter
 returns-5 c =
-    sym (at-range eqBool same-bool alnum _ 58 6 [] (c .before .before .before .args .b) tt (omega arith) (omega arith) tt)
+    sym
+    (at-range eqBool same-bool alnum _ 58 6 [] (c .before .before .before .args .b) tt (omega arith) (omega arith) tt)
 
 returns-6 : tie.Need-returns-6
 unfolding alnum letter
 returns-6 c =
-    sym (at-range eqBool same-bool alnum _ 91 5 [] (c .before .before .before .before .before .args .b) tt (omega arith) (omega arith) tt)
+    sym
+    (at-range eqBool same-bool alnum _ 91 5 [] (c .before .before .before .before .before .args .b) tt (omega arith)
+    (omega arith) tt)
 
 returns-7 : tie.Need-returns-7
 unfolding alnum letter
 returns-7 c =
-    sym (at-range eqBool same-bool alnum _ 123 132 [] (c .before .before .before .before .before .before .args .b) tt (omega arith) (omega arith) tt)
+    sym
+    (at-range eqBool same-bool alnum _ 123 132 [] (c .before .before .before .before .before .before .args .b) tt
+    (omega arith) (omega arith) tt)
 
 pub is-alnum-spec : {M : Type 1} → statement M
 is-alnum-spec = tie.close (tie.spec returns returns-2 returns-3 returns-4 returns-5 returns-6 returns-7)

@@ -1,4 +1,5 @@
--- The class is a match on byte ranges: in each arm the definition is constant, which computing it there shows. Assumes nothing.
+-- The class is a match on byte ranges: in each arm the definition is constant, which computing it shows.
+-- Assumes nothing.
 use mathlib.Core.Path.{sym}
 use mathlib.Core.List.{[], _∷_}
 use native.Mathlib.Omega.{arith}
@@ -22,19 +23,25 @@ returns-2 c =
 returns-3 : tie.Need-returns-3
 unfolding labelOrDot labelByte firstByte alnum letter
 returns-3 c =
-    sym (at-range eqBool same-bool labelOrDot _ 58 6 ((95 ∷ []) ∷ []) (c .before .before .before .before .before .before .args .b)
+    sym
+    (at-range eqBool same-bool labelOrDot _ 58 6 ((95 ∷ []) ∷ [])
+    (c .before .before .before .before .before .before .args .b)
     tt (omega arith) (omega arith) (c .before .before .before .before .before .match .rest))
 
 returns-4 : tie.Need-returns-4
 unfolding labelOrDot labelByte firstByte alnum letter
 returns-4 c =
-    sym (at-range eqBool same-bool labelOrDot _ 91 5 ((95 ∷ []) ∷ []) (c .before .before .before .before .before .before .before .before .args .b)
+    sym
+    (at-range eqBool same-bool labelOrDot _ 91 5 ((95 ∷ []) ∷ [])
+    (c .before .before .before .before .before .before .before .before .args .b)
     tt (omega arith) (omega arith) (c .before .before .before .before .before .before .before .match .rest))
 
 returns-5 : tie.Need-returns-5
 unfolding labelOrDot labelByte firstByte alnum letter
 returns-5 c =
-    sym (at-range eqBool same-bool labelOrDot _ 123 132 ((95 ∷ []) ∷ []) (c .before .before .before .before .before .before .before .before .before .args .b)
+    sym
+    (at-range eqBool same-bool labelOrDot _ 123 132 ((95 ∷ []) ∷ [])
+    (c .before .before .before .before .before .before .before .before .before .args .b)
     tt (omega arith) (omega arith) (c .before .before .before .before .before .before .before .before .match .rest))
 
 returns-6 : tie.Need-returns-6
@@ -51,20 +58,27 @@ returns-7 c =
 returns-8 : tie.Need-returns-8
 unfolding labelOrDot labelByte firstByte alnum letter
 returns-8 c =
-    sym (at-range eqBool same-bool labelOrDot _ 48 9 ((95 ∷ []) ∷ []) (c .before .before .before .before .before .args .b)
+    sym
+    (at-range eqBool same-bool labelOrDot _ 48 9 ((95 ∷ []) ∷ []) (c .before .before .before .before .before .args .b)
     tt (omega arith) (omega arith) (c .before .before .before .before .match .rest))
 
 returns-9 : tie.Need-returns-9
 unfolding labelOrDot labelByte firstByte alnum letter
 returns-9 c =
-    sym (at-range eqBool same-bool labelOrDot _ 65 25 ((95 ∷ []) ∷ []) (c .before .before .before .before .before .before .before .args .b)
+    sym
+    (at-range eqBool same-bool labelOrDot _ 65 25 ((95 ∷ []) ∷ [])
+    (c .before .before .before .before .before .before .before .args .b)
     tt (omega arith) (omega arith) (c .before .before .before .before .before .before .match .rest))
 
 returns-10 : tie.Need-returns-10
 unfolding labelOrDot labelByte firstByte alnum letter
 returns-10 c =
-    sym (at-range eqBool same-bool labelOrDot _ 97 25 ((95 ∷ []) ∷ []) (c .before .before .before .before .before .before .before .before .before .args .b)
+    sym
+    (at-range eqBool same-bool labelOrDot _ 97 25 ((95 ∷ []) ∷ [])
+    (c .before .before .before .before .before .before .before .before .before .args .b)
     tt (omega arith) (omega arith) (c .before .before .before .before .before .before .before .before .match .rest))
 
 pub is-label-byte-spec : {M : Type 1} → statement M
-is-label-byte-spec = tie.close (tie.spec returns returns-2 returns-3 returns-4 returns-5 returns-6 returns-7 returns-8 returns-9 returns-10)
+is-label-byte-spec =
+    tie.close (tie.spec returns returns-2 returns-3 returns-4 returns-5 returns-6 returns-7 returns-8 returns-9
+    returns-10)

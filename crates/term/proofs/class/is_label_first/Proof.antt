@@ -1,4 +1,5 @@
--- The class is a match on byte ranges: in each arm the definition is constant, which computing it there shows. Assumes nothing.
+-- The class is a match on byte ranges: in each arm the definition is constant, which computing it shows.
+-- Assumes nothing.
 use mathlib.Core.Path.{sym}
 use mathlib.Core.List.{[], _∷_}
 use native.Mathlib.Omega.{arith}
@@ -22,13 +23,17 @@ returns-2 c =
 returns-3 : tie.Need-returns-3
 unfolding firstByte alnum letter
 returns-3 c =
-    sym (at-range eqBool same-bool firstByte _ 91 5 ((95 ∷ []) ∷ []) (c .before .before .before .before .before .before .args .b)
+    sym
+    (at-range eqBool same-bool firstByte _ 91 5 ((95 ∷ []) ∷ [])
+    (c .before .before .before .before .before .before .args .b)
     tt (omega arith) (omega arith) (c .before .before .before .before .before .match .rest))
 
 returns-4 : tie.Need-returns-4
 unfolding firstByte alnum letter
 returns-4 c =
-    sym (at-range eqBool same-bool firstByte _ 123 132 ((95 ∷ []) ∷ []) (c .before .before .before .before .before .before .before .args .b)
+    sym
+    (at-range eqBool same-bool firstByte _ 123 132 ((95 ∷ []) ∷ [])
+    (c .before .before .before .before .before .before .before .args .b)
     tt (omega arith) (omega arith) (c .before .before .before .before .before .before .match .rest))
 
 returns-5 : tie.Need-returns-5
@@ -45,13 +50,16 @@ returns-6 c =
 returns-7 : tie.Need-returns-7
 unfolding firstByte alnum letter
 returns-7 c =
-    sym (at-range eqBool same-bool firstByte _ 65 25 ((95 ∷ []) ∷ []) (c .before .before .before .before .before .args .b)
+    sym
+    (at-range eqBool same-bool firstByte _ 65 25 ((95 ∷ []) ∷ []) (c .before .before .before .before .before .args .b)
     tt (omega arith) (omega arith) (c .before .before .before .before .match .rest))
 
 returns-8 : tie.Need-returns-8
 unfolding firstByte alnum letter
 returns-8 c =
-    sym (at-range eqBool same-bool firstByte _ 97 25 ((95 ∷ []) ∷ []) (c .before .before .before .before .before .before .before .args .b)
+    sym
+    (at-range eqBool same-bool firstByte _ 97 25 ((95 ∷ []) ∷ [])
+    (c .before .before .before .before .before .before .before .args .b)
     tt (omega arith) (omega arith) (c .before .before .before .before .before .before .match .rest))
 
 pub is-label-first-spec : {M : Type 1} → statement M

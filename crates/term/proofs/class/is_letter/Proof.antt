@@ -1,4 +1,5 @@
--- The class is a match on byte ranges: in each arm the definition is constant, which computing it there shows. Assumes nothing.
+-- The class is a match on byte ranges: in each arm the definition is constant, which computing it shows.
+-- Assumes nothing.
 use mathlib.Core.Path.{sym}
 use mathlib.Core.List.{[], _∷_}
 use native.Mathlib.Omega.{arith}
@@ -15,7 +16,9 @@ returns c =
 returns-2 : tie.Need-returns-2
 unfolding letter
 returns-2 c =
-    sym (at-range eqBool same-bool letter _ 97 25 [] (c .before .before .before .before .args .b) tt (omega arith) (omega arith) tt)
+    sym
+    (at-range eqBool same-bool letter _ 97 25 [] (c .before .before .before .before .args .b) tt (omega arith)
+    (omega arith) tt)
 
 returns-3 : tie.Need-returns-3
 unfolding letter
@@ -25,12 +28,15 @@ returns-3 c =
 returns-4 : tie.Need-returns-4
 unfolding letter
 returns-4 c =
-    sym (at-range eqBool same-bool letter _ 91 5 [] (c .before .before .before .args .b) tt (omega arith) (omega arith) tt)
+    sym
+    (at-range eqBool same-bool letter _ 91 5 [] (c .before .before .before .args .b) tt (omega arith) (omega arith) tt)
 
 returns-5 : tie.Need-returns-5
 unfolding letter
 returns-5 c =
-    sym (at-range eqBool same-bool letter _ 123 132 [] (c .before .before .before .before .args .b) tt (omega arith) (omega arith) tt)
+    sym
+    (at-range eqBool same-bool letter _ 123 132 [] (c .before .before .before .before .args .b) tt (omega arith)
+    (omega arith) tt)
 
 pub is-letter-spec : {M : Type 1} → statement M
 is-letter-spec = tie.close (tie.spec returns returns-2 returns-3 returns-4 returns-5)

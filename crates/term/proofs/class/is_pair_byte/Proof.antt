@@ -1,4 +1,5 @@
--- The class is a match on byte ranges: in each arm the definition is constant, which computing it there shows. Assumes nothing.
+-- The class is a match on byte ranges: in each arm the definition is constant, which computing it shows.
+-- Assumes nothing.
 use mathlib.Core.Path.{sym}
 use mathlib.Core.List.{[], _∷_}
 use native.Mathlib.Omega.{arith}
@@ -10,7 +11,8 @@ use Rattle.term.proofs.class.is_pair_byte.Tie as tie
 returns : tie.Need-returns
 unfolding pairByte among
 returns c =
-    sym (at-keys eqBool same-bool pairByte _ (34 ∷ (92 ∷ (110 ∷ (114 ∷ [])))) (c .before .args .b) tt (c .match .keys1))
+    sym
+    (at-keys eqBool same-bool pairByte _ (34 ∷ (92 ∷ (110 ∷ (114 ∷ [])))) (c .before .args .b) tt (c .match .keys1))
 
 returns-2 : tie.Need-returns-2
 unfolding pairByte among

@@ -1,4 +1,5 @@
--- The class is a match on byte ranges: in each arm the definition is constant, which computing it there shows. Assumes nothing.
+-- The class is a match on byte ranges: in each arm the definition is constant, which computing it shows.
+-- Assumes nothing.
 use mathlib.Core.Path.{sym}
 use mathlib.Core.List.{[], _∷_}
 use native.Mathlib.Omega.{arith}

@@ -12,11 +12,21 @@ returns c = rw (ne-eqb (c .before .args .last) 46 (c .if1 .taken))
 
 returns-2 : tie.Need-returns-2
 unfolding labelPlaceOf
-returns-2 c = rw (eq-eqb (c .before .before .args .last) 46 (c .before .if1 .left), ne-eqb (c .before .before .args .before) 46 (c .if2 .taken))
+returns-2 c =
+    rw (
+      eq-eqb (c .before .before .args .last) 46 (c .before .if1 .left),
+      ne-eqb (c .before .before .args .before) 46
+          (c .if2 .taken),
+    )
 
 returns-3 : tie.Need-returns-3
 unfolding labelPlaceOf
-returns-3 c = rw (eq-eqb (c .before .before .args .last) 46 (c .before .if1 .left), eq-eqb (c .before .before .args .before) 46 (c .if2 .left))
+returns-3 c =
+    rw (
+      eq-eqb (c .before .before .args .last) 46 (c .before .if1 .left),
+      eq-eqb (c .before .before .args .before) 46
+          (c .if2 .left),
+    )
 
 pub label-place-spec : {M : Type 1} → statement M
 label-place-spec = tie.close (tie.spec returns returns-2 returns-3)

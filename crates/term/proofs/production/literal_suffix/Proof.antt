@@ -13,7 +13,9 @@ byte-at-requires c κs = search needs
 
 add-language-tag : tie.Need-add-language-tag
 add-language-tag c =
-    let h = inside-byte (c .before .before .before .args .bytes .now) (c .before .before .before .args .at) 64 (omega arith) (sym (c .before .byte-at .ensures) ∙ c .match .keys1) in
+    let h =
+    inside-byte (c .before .before .before .args .bytes .now) (c .before .before .before .args .at) 64
+    (omega arith) (sym (c .before .byte-at .ensures) ∙ c .match .keys1) in
     omega arith
 
 language-tag-requires : tie.Need-language-tag-requires
@@ -21,7 +23,9 @@ language-tag-requires c κs = search needs
 
 add-datatype : tie.Need-add-datatype
 add-datatype c =
-    let h = inside-byte (c .before .before .before .args .bytes .now) (c .before .before .before .args .at) 94 (omega arith) (sym (c .before .byte-at .ensures) ∙ c .match .keys2) in
+    let h =
+    inside-byte (c .before .before .before .args .bytes .now) (c .before .before .before .args .at) 94
+    (omega arith) (sym (c .before .byte-at .ensures) ∙ c .match .keys2) in
     omega arith
 
 datatype-requires : tie.Need-datatype-requires
@@ -31,20 +35,26 @@ returns : tie.Need-returns
 unfolding stepOf isBad
 returns c =
     let g = sym (c .before .before .byte-at .ensures) ∙ c .before .match .keys1 in
-    c .language-tag .ensures ∙ sym (halt-go (c .before .before .before .before .args .bytes .now) Quote At (c .before .before .before .before .args .at) (rw g) refl)
+    c .language-tag .ensures ∙ sym
+    (halt-go (c .before .before .before .before .args .bytes .now) Quote At
+    (c .before .before .before .before .args .at) (rw g) refl)
 
 returns-2 : tie.Need-returns-2
 unfolding stepOf isBad
 returns-2 c =
     let g = sym (c .before .before .byte-at .ensures) ∙ c .before .match .keys2 in
-    c .datatype .ensures ∙ sym (halt-go (c .before .before .before .before .args .bytes .now) Quote Caret (c .before .before .before .before .args .at) (rw g) refl)
+    c .datatype .ensures ∙ sym
+    (halt-go (c .before .before .before .before .args .bytes .now) Quote Caret
+    (c .before .before .before .before .args .at) (rw g) refl)
 
 returns-3 : tie.Need-returns-3
 unfolding stepOf
 returns-3 c =
     let tag = unlike 64 (c .before .byte-at .ensures) (c .match .rest .0 .1) in
     let datatype = unlike 94 (c .before .byte-at .ensures) (c .match .rest .1) in
-    sym (halt-stop (c .before .before .before .args .bytes .now) Quote (c .before .before .before .args .at) (rw (tag, datatype)))
+    sym
+    (halt-stop (c .before .before .before .args .bytes .now) Quote (c .before .before .before .args .at)
+    (rw (tag, datatype)))
 
 pub literal-suffix-spec : {M : Type 1} → statement M
 literal-suffix-spec =
