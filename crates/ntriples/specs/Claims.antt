@@ -9,7 +9,7 @@ use Rattle.term.specs.Scanner.{kindOf}
 use Rattle.ntriples.specs.declared.Span.{Span}
 use Rattle.ntriples.specs.declared.Line.the-variants as answer
 use Rattle.ntriples.specs.Grammar.{Trail, Triple, subjectSpan, predicateSpan, objectSpan, Within, Longest}
-use Rattle.ntriples.specs.Text.{FirstLine, bytesOf, readOf}
+use Rattle.ntriples.specs.Text.{FirstLine, bytesOf, valuesOf, readOf}
 use Rattle.ntriples.specs.Terms.{termOf, subjectTerm, predicateTerm, objectTerm}
 
 -- The line l, whose first byte has position i, has a derivation with the parts s, p, o and terms of at most m bytes.
@@ -46,7 +46,9 @@ pub record LineAnswered (m : ℕ) (text : List ℕ) (i : ℕ) (l : List ℕ) (n 
   pub triple : (s p o : Span) → (readOf m text i .line ≡ answer.Triple s p o) ↔ Derived m i l s p o
   -- nothing exactly on a blank line or a comment line
   pub nothing : (readOf m text i .line ≡ answer.Nothing) ↔ Trail l
-  -- 10 exactly if no derivation exists, with the length of the longest prefix that some line continues
+  -- 10 exactly if no derivation exists
+  pub ten : (valuesOf (readOf m text i .line) .refusal ≡ 10) ↔ Underivable m l
+  -- its offset is the length of the longest prefix that some line continues
   pub refused : (k : ℕ) → (readOf m text i .line ≡ answer.Refused k) ↔ (Underivable m l × Longest m l k)
   pub notEnd : readOf m text i .line ≡ answer.End → ⊥
   pub enterable : (s p o : Span) → readOf m text i .line ≡ answer.Triple s p o → Enterable m text s p o

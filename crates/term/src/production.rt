@@ -34,15 +34,15 @@ pub fn term(bytes: &[u8], at: usize) -> Halt
 pub fn iri(bytes: &[u8], at: usize) -> Halt
     ensures { λ r. ⌜ r ≡ haltOf IriOpen at (drop at (now (bytes .entry))) ⌝ }
 {
-    if !is_iri_byte(byte_at(bytes, at)) {
+    let mut i = at;
+    while is_iri_byte(byte_at(bytes, i)) {
+        i += 1;
+    }
+    if i == at {
         return Halt {
             state: Scan::IriOpen,
             at: at,
         };
-    }
-    let mut i = at + 1;
-    while is_iri_byte(byte_at(bytes, i)) {
-        i += 1;
     }
     if byte_at(bytes, i) == b'>' {
         return Halt {

@@ -1,7 +1,8 @@
 -- The kind of a name: a law for each way out. Assumes nothing.
 use mathlib.Core.Path.{sym, _∙_}
 use borrow.Author.Tests.{not-true, not-false, ne-eqb}
-use Rattle.term.specs.Scanner.{numberOf, firstKindOf, nameLimit}
+use Rattle.term.specs.Grammar.{nameLimit}
+use Rattle.term.specs.Scanner.{numberOf, firstKindOf}
 use Rattle.term.proofs.Runs.{kind-long, kind-short, kind-part, kind-whole, first-byte}
 use borrow.Author.Needs.{needs}
 use Rattle.term.proofs.kind_of_name.Statement.{statement}

@@ -1,0 +1,104 @@
+// Runs the spellings of `stdin` (scope paper, "Names"), one a line: the case's name, a space, and the bytes to test, where
+// `%` and two hexadecimal digits stand for one byte. It writes a line for each: the case's number and name, what
+// `kind_of_name` answers (`kind` and its number, or `refused 2`), and the offset at which `scan_term` halts.
+ghost use Prim.Native.Nat.{_≤_};
+ghost use lib.ListN.{length};
+ghost use Rattle.io.specs.Counts.{Counts};
+use libc::STDIN_FILENO;
+use libc::STDOUT_FILENO;
+use term::NameKind;
+use term::class::byte_at;
+
+fn main() {
+    let mut text = io::large_buffer();
+    let n = io::read_full(STDIN_FILENO, &mut text);
+    run(&text[..n]);
+}
+
+// Every line of the text.
+fn run(text: &[u8]) {
+    let mut number: u64 = 1;
+    let mut at = 0;
+    while at < text.len() {
+        let end = field_end(text, at, b'\n');
+        run_case(number, &text[at..end]);
+        number += 1;
+        at = end + 1;
+    }
+}
+
+// The offset of the next `stop` from `at` on, or the text's end.
+fn field_end(text: &[u8], at: usize, stop: u8) -> usize
+    requires { ⌜ at ≤ length (now text) ⌝ }
+    ensures { λ r. ⌜ (at ≤ r) × (r ≤ length (now (text .entry))) ⌝ }
+{
+    let mut i = at;
+    while i < text.len() {
+        if text[i] == stop {
+            return i;
+        }
+        i += 1;
+    }
+    i
+}
+
+// One line.
+fn run_case(number: u64, line: &[u8]) {
+    let gap = field_end(line, 0, b' ');
+    io::print_decimal(STDOUT_FILENO, number);
+    io::write_all(STDOUT_FILENO, b" ");
+    io::write_all(STDOUT_FILENO, &line[0..gap]);
+    let mut name = io::buffer();
+    if gap < line.len() {
+        let n = decode(&line[gap + 1..], &mut name);
+        answer(&name[..n]);
+    }
+}
+
+fn answer(name: &[u8]) {
+    match term::kind_of_name(name) {
+        NameKind::Iri => io::write_all(STDOUT_FILENO, b" kind 1"),
+        NameKind::Blank => io::write_all(STDOUT_FILENO, b" kind 2"),
+        NameKind::Literal => io::write_all(STDOUT_FILENO, b" kind 3"),
+        NameKind::Malformed => io::write_all(STDOUT_FILENO, b" refused 2"),
+    }
+    ;
+    let halt = term::scan_term(name, 0, name.len());
+    io::write_all(STDOUT_FILENO, b" at ");
+    io::print_decimal(STDOUT_FILENO, halt.at as u64);
+    io::write_all(STDOUT_FILENO, b"\n");
+}
+
+// The bytes that a spelling stands for, as many as there is room for.
+fn decode(spelling: &[u8], out: &mut [u8]) -> usize
+    ensures { λ r. ⌜ Counts r (now (out .exit)) ⌝ }
+{
+    let mut i = 0;
+    let mut n = 0;
+    while i < spelling.len() {
+        if n >= out.len() {
+            return n;
+        }
+        if spelling[i] != b'%' {
+            out[n] = spelling[i];
+            n += 1;
+            i += 1;
+            continue;
+        }
+        out[n] = hex(byte_at(spelling, i + 1)) * 16 + hex(byte_at(spelling, i + 2));
+        n += 1;
+        i += 3;
+    }
+    n
+}
+
+// The value of a hexadecimal digit.
+fn hex(b: u8) -> u8
+    ensures { λ r. ⌜ r ≤ 15 ⌝ }
+{
+    match b {
+        b'0'..=b'9' => b - b'0',
+        b'a'..=b'f' => b - b'a' + 10,
+        _ => 0,
+    }
+}
