@@ -34,7 +34,7 @@ use Rattle.ntriples.specs.Grammar.{
   Longest,
 }
 use Rattle.ntriples.specs.Reader.{Outcome, Empty, Terms, Fails, Begin, placeOf, lineOf}
-use Rattle.ntriples.specs.Text.{FirstLine, bytesOf, firstLineOf, takenOf, answerOf, readOf}
+use Rattle.ntriples.specs.Text.{FirstLine, bytesOf, firstLineOf, takenOf, answerOf, valuesOf, readOf}
 use Rattle.ntriples.specs.Terms.{termOf}
 use Rattle.ntriples.specs.Claims.{
   Derived,
@@ -230,6 +230,18 @@ refused-reads m i l k r (Read.nothing t) u = absurd (u .0 .notNothing t)
 refused-reads m i l k r (Read.triple d w) u = absurd (u .0 .noTriple d w)
 refused-reads m i l k r (Read.refused j v x) u = ap answer.Refused (back-off i j ∙ longest-one m l j k x (u .1))
 
+ten-by : (m i : ℕ) (l : List ℕ) (r : Outcome) → Read m i l r → valuesOf (answerOf i r) .refusal ≡ 10 → Underivable m l
+unfolding answerOf valuesOf
+ten-by m i l r (Read.nothing t) e = absurd (omega arith)
+ten-by m i l r (Read.triple d w) e = absurd (omega arith)
+ten-by m i l r (Read.refused k u x) e = u
+
+ten-reads : (m i : ℕ) (l : List ℕ) (r : Outcome) → Read m i l r → Underivable m l → valuesOf (answerOf i r) .refusal ≡ 10
+unfolding answerOf valuesOf
+ten-reads m i l r (Read.nothing t) u = absurd (u .notNothing t)
+ten-reads m i l r (Read.triple d w) u = absurd (u .noTriple d w)
+ten-reads m i l r (Read.refused k v x) u = refl
+
 no-end : (m i : ℕ) (l : List ℕ) (r : Outcome) → Read m i l r → answerOf i r ≡ answer.End → ⊥
 unfolding answerOf
 no-end m i l r (Read.nothing t) e = let z : _≡_ {A = ℕ} 0 1 = cc in omega arith
@@ -309,6 +321,7 @@ line-answered m text i l n h k f =
       moves = rw e;
       triple = λ s p o. (derived s p o, λ d. rw e (derived-reads m i l s p o h d));
       nothing = (λ q. nothing-by m i l (lineOf m i l) v (rw e at q), λ t. rw e (nothing-reads m i l h t));
+      ten = (λ q. ten-by m i l (lineOf m i l) v (rw e at q), λ u. rw e (ten-reads m i l (lineOf m i l) v u));
       refused = λ j. (
         λ q. refused-by m i l j (lineOf m i l) v (rw e at q),
         λ u. rw e (refused-reads m i l j (lineOf m i l) v u),

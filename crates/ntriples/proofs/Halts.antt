@@ -10,7 +10,7 @@ use lib.ListN.{length, getD}
 use lib.Seq.{slice}
 use native.Mathlib.Omega.{arith}
 use native.Mathlib.Numerals.{add-one}
-use borrow.Author.Tests.{ltb-true, ltb-false, leb-false, le-ltb, lt-leb}
+use borrow.Author.Tests.{ltb-true, ltb-false, eqb-true, eqb-false, eq-eqb, lt-ltb, le-ltb}
 use Rattle.term.specs.Bytes.{pick}
 use Rattle.term.specs.Scanner.{stepOf, wholeOf, isBad, haltOf}
 use Rattle.term.specs.declared.Scan.{Scan}
@@ -66,7 +66,7 @@ use Rattle.ntriples.specs.Reader.{
   placeOf,
   endOf,
 }
-use Rattle.ntriples.specs.Productions.{TermAt, onward, beyondOf, cutOf, TermEnds, ObjectEnds}
+use Rattle.ntriples.specs.Productions.{TermAt, onward, cutOf, TermEnds, ObjectEnds}
 use Rattle.ntriples.proofs.Residual.{to-dot, dotted-facts}
 use Rattle.ntriples.proofs.Forth.{opens-alive, on-go, on-leave, gap-enter, is-dot}
 use Rattle.ntriples.proofs.Reading.{stays}
@@ -75,6 +75,9 @@ use Rattle.ntriples.proofs.Runs.{slice-next, slice-none, onward-next, o
 pub decide : (x : Bool) → (x ≡ true) ⊎ (x ≡ false)
 decide true = inl refl
 decide false = inr refl
+
+pub strictly : (r stop : ℕ) → r ≤ stop → (r ≡ stop → ⊥) → r < stop
+strictly r stop h n = omega arith
 
 -- where the scan of a term that began at a halts, if it stands at q at the position i and may go to `cut`
 pub record Halted (text : List ℕ) (stop cut a i : ℕ) (q : Scan) (h : Halt) : Type 0 where
@@ -146,9 +149,13 @@ unfolding advanceOf
 gap-inside text stop a ms n h k o =
     onward-next text stop a (Gap ms (suc n)) h k ∙ ap (onward text stop (a + 1)) (gap-enter a ms n (getD text a 0) o)
 
-cut-facts : (a stop : ℕ) → (cutOf a stop ≤ stop) × (cutOf a stop ≤ a + 255) × (a < stop → a < cutOf a stop)
-    × ((i : ℕ) → i < stop → i < a + 255 → i < cutOf a stop)
-unfolding cutOf
+-- where the scan would stop if it might take 255 bytes only
+nearCut : ℕ → ℕ → ℕ
+nearCut a stop = pick (ltb (a + 255) stop) (a + 255) stop
+
+cut-facts : (a stop : ℕ) → (nearCut a stop ≤ stop) × (nearCut a stop ≤ a + 255) × (a < stop → a < nearCut a stop)
+    × ((i : ℕ) → i < stop → i < a + 255 → i < nearCut a stop)
+unfolding nearCut
 cut-facts a stop =
     ⊎-elim
     (λ e. let z = ltb-true (a + 255) stop e in
@@ -157,8 +164,28 @@ cut-facts a stop =
     rw e (omega arith, omega arith, λ h. omega arith, λ i h k. omega arith))
     (decide (ltb (a + 255) stop))
 
+-- the two: the same at a line's end within 255 bytes, else one byte apart
+cut-end : (a stop : ℕ) → ltb (a + 255) stop ≡ false → (nearCut a stop ≡ stop) × (cutOf a stop ≡ stop)
+unfolding nearCut cutOf
+cut-end a stop e =
+    let z = ltb-false (a + 255) stop e in (rw e, rw (le-ltb (a + 256) stop (omega arith)))
+
+cut-far : (a stop : ℕ) → ltb (a + 255) stop ≡ true → (nearCut a stop ≡ a + 255) × (cutOf a stop ≡ a + 255 + 1)
+unfolding nearCut cutOf
+cut-far a stop e =
+    let z = ltb-true (a + 255) stop e in (
+      rw e,
+      ⊎-elim (λ f. rw f (omega arith)) (λ f. let y = ltb-false (a + 256) stop f in rw f (omega arith)) (decide (ltb (a + 256) stop)),
+    )
+
+pub cut-near : (a stop : ℕ) → stop ≤ a + 255 → cutOf a stop ≡ stop
+cut-near a stop h = cut-end a stop (le-ltb (a + 255) stop h) .1
+
+pub cut-long : (a stop : ℕ) → a + 255 < stop → cutOf a stop ≡ a + 255 + 1
+cut-long a stop h = cut-far a stop (lt-ltb (a + 255) stop h) .1
+
 term-built : (text : List ℕ) (stop a : ℕ) (h : Halt) → a < stop → stop ≤ length text
-    → Halted text stop (cutOf a stop) a (a + 1) (stepOf Start (getD text a 0)) h → TermHalted text stop a h
+    → Halted text stop (nearCut a stop) a (a + 1) (stepOf Start (getD text a 0)) h → TermHalted text stop a h
 term-built text stop a h l k w =
     let f = cut-facts a stop in
     let f0 = f .0 in
@@ -173,11 +200,11 @@ term-built text stop a h l k w =
       same = λ ms n o. gap-inside text stop a ms n l k o ∙ w .same ms n;
     }
 
-pub term-halted : (text : List ℕ) (stop a n : ℕ) → a < stop → stop ≤ length text → opens n (getD text a 0) ≡ true
-    → TermHalted text stop a (haltOf Start a (slice a (cutOf a stop) text))
+term-halted : (text : List ℕ) (stop a n : ℕ) → a < stop → stop ≤ length text → opens n (getD text a 0) ≡ true
+    → TermHalted text stop a (haltOf Start a (slice a (nearCut a stop) text))
 term-halted text stop a n h k o =
     let f = cut-facts a stop in
-    let c = cutOf a stop in
+    let c = nearCut a stop in
     let f0 = f .0 in
     let f1 = f .1 in
     let f2 = f .2 h in
@@ -185,49 +212,11 @@ term-halted text stop a n h k o =
     let w = halted (c - (a + 1)) text stop c a (a + 1) q (omega arith) f0 k f1 in
     rw (halt-next text a c Start f2 (omega arith) (opens-alive n (getD text a 0) o)) (term-built text stop a _ h k w)
 
-pub scan-halted : (text : List ℕ) (stop a cut : ℕ) (h : Halt) → TermAt text a stop → cut ≡ cutOf a stop → h ≡ haltOf Start a (slice a cut text)
-    → TermHalted text stop a h
-scan-halted text stop a cut h t e f = rw (f, e) (term-halted text stop a 0 (t .before) (t .inText) (t .opening))
-
--- The scan has come to the line's end, or to a byte that does not continue the term.
-beyond-far : (text : List ℕ) (stop a i : ℕ) (q : Scan) → leb stop i ≡ false → ltb i (a + 255) ≡ false
-    → beyondOf text a i stop q ≡ stepOf q (getD text i 0)
-unfolding beyondOf
-beyond-far text stop a i q e f = rw (e, f)
-
-beyond-near : (text : List ℕ) (stop a i : ℕ) (q : Scan) → leb stop i ≡ false → ltb i (a + 255) ≡ true → beyondOf text a i stop q ≡ Bad
-unfolding beyondOf
-beyond-near text stop a i q e f = rw (e, f)
-
-beyond-end : (text : List ℕ) (stop a i : ℕ) (q : Scan) → leb stop i ≡ true → beyondOf text a i stop q ≡ Bad
-unfolding beyondOf
-beyond-end text stop a i q e = rw e
-
-ends-here : (text : List ℕ) (stop a i : ℕ) (q : Scan) → (i < stop → i < a + 255 → isBad (stepOf q (getD text i 0)) ≡ true)
-    → isBad (beyondOf text a i stop q) ≡ true → i < stop → isBad (stepOf q (getD text i 0)) ≡ true
-ends-here text stop a i q s b h =
-    ⊎-elim (λ e. s h (ltb-true i (a + 255) e)) (λ e. rw (beyond-far text stop a i q (lt-leb stop i h) e) at b)
-    (decide (ltb i (a + 255)))
-
--- Or the term has 255 bytes and goes on.
+-- The term has 255 bytes and goes on.
 record Over (text : List ℕ) (stop a i : ℕ) (q : Scan) : Type 0 where
   before : i < stop
   far : a + 255 ≤ i
   goes : isBad (stepOf q (getD text i 0)) ≡ false
-  next : beyondOf text a i stop q ≡ stepOf q (getD text i 0)
-
-not-bad : {C : Type 0} (q : Scan) → isBad q ≡ false → q ≡ Bad → C
-unfolding isBad
-not-bad q h e = never (sym (rw e at h))
-
-goes-over : (text : List ℕ) (stop a i : ℕ) (q : Scan) → isBad (beyondOf text a i stop q) ≡ false → Over text stop a i q
-goes-over text stop a i q b =
-    ⊎-elim (λ e. not-bad (beyondOf text a i stop q) b (beyond-end text stop a i q e))
-    (λ e. ⊎-elim (λ f. not-bad (beyondOf text a i stop q) b (beyond-near text stop a i q e f))
-    (λ f. let z = beyond-far text stop a i q e f in
-    record { before = leb-false stop i e; far = ltb-false i (a + 255) f; goes = rw z at b; next = z })
-    (decide (ltb i (a + 255))))
-    (decide (leb stop i))
 
 pub onward-broken : (text : List ℕ) (stop i k : ℕ) → onward text stop i (Broken k) ≡ Fails k
 unfolding onward endOf
@@ -309,77 +298,200 @@ end-dot text stop a i ms q l k d b =
     (λ h. let e : stop ≡ i = omega arith in
     at-end text stop i (Inside ms 0 q a) (Terms r) h (rw (lone-dot q d, e)) ∙ sym (at-end text stop i (After r) (Terms r) h refl))
 
--- WHAT THE CODE CITES: how the term that halts at h ends
-pub term-over : (text : List ℕ) (stop a n : ℕ) (h : Halt) → TermHalted text stop a h → stop ≤ length text → 1 ≤ n
-    → opens n (getD text a 0) ≡ true → isBad (beyondOf text a (h .at) stop (h .state)) ≡ false → TermEnds text stop n a (term.Broken (h .at))
-term-over text stop a n h t k j o b =
-    let l = t .low in
-    (omega arith, λ ms. t .same ms n o ∙ end-over text stop a (h .at) ms n (h .state) k (goes-over text stop a (h .at) (h .state) b) (later-dotless n _ j))
+-- A scan over one byte more: it takes that byte, or halts where it halted.
+more : List ℕ → ℕ → Halt → Halt
+more text c h =
+    pick (eqb (h .at) c) (pick (isBad (stepOf (h .state) (getD text c 0))) h record { state = stepOf (h .state) (getD text c 0); at = c + 1 }) h
 
-pub term-whole : (text : List ℕ) (stop a n : ℕ) (h : Halt) → TermHalted text stop a h → stop ≤ length text
-    → opens n (getD text a 0) ≡ true → isBad (beyondOf text a (h .at) stop (h .state)) ≡ true → wholeOf (h .state) ≡ true
-    → TermEnds text stop n a (term.Whole (h .at))
-term-whole text stop a n h t k o b w =
-    let l = t .low in (
+more-bad : (text : List ℕ) (c i : ℕ) (q : Scan) → isBad (stepOf q (getD text i 0)) ≡ true
+    → more text c record { state = q; at = i } ≡ record { state = q; at = i }
+unfolding more
+more-bad text c i q z =
+    ⊎-elim (λ e. let y = eqb-true i c e in rw (e, ← y, z)) (λ e. rw e) (decide (eqb i c))
+
+more-here : (text : List ℕ) (c : ℕ) (q : Scan) → isBad (stepOf q (getD text c 0)) ≡ false
+    → more text c record { state = q; at = c } ≡ record { state = stepOf q (getD text c 0); at = c + 1 }
+unfolding more
+more-here text c q z = rw (eq-eqb c c refl, z)
+
+halt-more : (k : ℕ) (text : List ℕ) (c i : ℕ) (q : Scan) → i + k ≡ c → c < length text
+    → haltOf q i (slice i (c + 1) text) ≡ more text c (haltOf q i (slice i c text))
+halt-more zero text c i q e t =
+    let y : i ≡ c = omega arith in
+    let lt : i < c + 1 = omega arith in
+    let le : c + 1 ≤ length text = omega arith in
+    let none : c ≤ i = omega arith in
+    let end : c + 1 ≤ i + 1 = omega arith in
+    ⊎-elim
+    (λ z. halt-bad text i (c + 1) q lt le z ∙ (sym (more-bad text c i q z) ∙ ap (more text c) (sym (halt-none text i c q none))))
+    (λ z. halt-next text i (c + 1) q lt le z
+    ∙ (halt-none text (i + 1) (c + 1) (stepOf q (getD text i 0)) end
+    ∙ (rw y (sym (more-here text c q (rw y at z))) ∙ ap (more text c) (sym (halt-none text i c q none)))))
+    (decide (isBad (stepOf q (getD text i 0))))
+halt-more (suc k) text c i q e t =
+    let lt : i < c + 1 = omega arith in
+    let le : c + 1 ≤ length text = omega arith in
+    let lt′ : i < c = omega arith in
+    let le′ : c ≤ length text = omega arith in
+    ⊎-elim
+    (λ z. halt-bad text i (c + 1) q lt le z ∙ (sym (more-bad text c i q z) ∙ ap (more text c) (sym (halt-bad text i c q lt′ le′ z))))
+    (λ z. halt-next text i (c + 1) q lt le z
+    ∙ (halt-more k text c (i + 1) (stepOf q (getD text i 0)) (omega arith) t ∙ ap (more text c) (sym (halt-next text i c q lt′ le′ z))))
+    (decide (isBad (stepOf q (getD text i 0))))
+
+more-away : (text : List ℕ) (c : ℕ) (h : Halt) → eqb (h .at) c ≡ false → more text c h ≡ h
+unfolding more
+more-away text c h e = rw e
+
+more-stuck : (text : List ℕ) (c : ℕ) (h : Halt) → eqb (h .at) c ≡ true → isBad (stepOf (h .state) (getD text c 0)) ≡ true → more text c h ≡ h
+unfolding more
+more-stuck text c h e z = rw (e, z)
+
+more-goes : (text : List ℕ) (c : ℕ) (h : Halt) → eqb (h .at) c ≡ true → isBad (stepOf (h .state) (getD text c 0)) ≡ false
+    → more text c h ≡ record { state = stepOf (h .state) (getD text c 0); at = c + 1 }
+unfolding more
+more-goes text c h e z = rw (e, z)
+
+-- the term goes on with byte 256: where the scan stood before it
+pub record GoesOn (text : List ℕ) (stop a : ℕ) (h : Halt) : Type 0 where
+  place : Scan
+  halted : TermHalted text stop a record { state = place; at = a + 255 }
+  over : Over text stop a (a + 255) place
+  next : stepOf place (getD text (a + 255) 0) ≡ h .state
+
+-- What a scan over up to 256 bytes tells: within 255 bytes, the term ends there; else it goes on.
+pub record TermScanned (text : List ℕ) (stop a : ℕ) (h : Halt) : Type 0 where
+  pub low : a < h .at
+  pub high : h .at ≤ stop
+  pub near : h .at ≤ a + 255 → TermHalted text stop a h
+  pub ends : h .at ≤ a + 255 → h .at < stop → isBad (stepOf (h .state) (getD text (h .at) 0)) ≡ true
+  pub far : a + 255 < h .at → GoesOn text stop a h
+
+scanned-near : (text : List ℕ) (stop a : ℕ) (h : Halt) → TermHalted text stop a h
+    → (h .at < stop → isBad (stepOf (h .state) (getD text (h .at) 0)) ≡ true) → TermScanned text stop a h
+scanned-near text stop a h t b =
+    let n = t .near in
+    record { low = t .low; high = t .high; near = λ _. t; ends = λ _ k. b k; far = λ k. absurd (omega arith) }
+
+halted-at : (text : List ℕ) (stop a i j : ℕ) (q : Scan) → i ≡ j → TermHalted text stop a record { state = q; at = i }
+    → TermHalted text stop a record { state = q; at = j }
+halted-at text stop a i j q e t = rw e at t
+
+scanned-far : (text : List ℕ) (stop a : ℕ) (h : Halt) → a + 255 < stop → h .at ≡ a + 255 → TermHalted text stop a h
+    → isBad (stepOf (h .state) (getD text (a + 255) 0)) ≡ false
+    → TermScanned text stop a record { state = stepOf (h .state) (getD text (a + 255) 0); at = a + 255 + 1 }
+scanned-far text stop a h k e t z =
+    record {
+      low = omega arith;
+      high = omega arith;
+      near = λ l. absurd (omega arith);
+      ends = λ l. absurd (omega arith);
+      far = λ _. record {
+        place = h .state;
+        halted = halted-at text stop a (h .at) (a + 255) (h .state) e t;
+        over = record { before = k; far = omega arith; goes = z };
+        next = refl;
+      };
+    }
+
+scanned-more : (text : List ℕ) (stop a : ℕ) (h : Halt) → a + 255 < stop → TermHalted text stop a h
+    → TermScanned text stop a (more text (a + 255) h)
+scanned-more text stop a h k t =
+    let n = t .near in
+    ⊎-elim
+    (λ e. let y = eqb-true (h .at) (a + 255) e in
+    ⊎-elim
+    (λ z. rw (more-stuck text (a + 255) h e z) (scanned-near text stop a h t (λ _. rw y z)))
+    (λ z. rw (more-goes text (a + 255) h e z) (scanned-far text stop a h k y t z))
+    (decide (isBad (stepOf (h .state) (getD text (a + 255) 0)))))
+    (λ e. let y = eqb-false (h .at) (a + 255) e in
+    let l : h .at < a + 255 = strictly (h .at) (a + 255) n y in
+    rw (more-away text (a + 255) h e) (scanned-near text stop a h t (λ u. t .stuck u l)))
+    (decide (eqb (h .at) (a + 255)))
+
+scanned : (text : List ℕ) (stop a : ℕ) → TermAt text a stop → TermScanned text stop a (haltOf Start a (slice a (cutOf a stop) text))
+scanned text stop a t =
+    let w = term-halted text stop a 0 (t .before) (t .inText) (t .opening) in
+    ⊎-elim
+    (λ e. let y = ltb-true (a + 255) stop e in
+    let k = t .inText in
+    let f = cut-far a stop e in
+    rw (f .1, halt-more 255 text (a + 255) a Start refl (omega arith)) (scanned-more text stop a _ y (rw (f .0) at w)))
+    (λ e. let y = ltb-false (a + 255) stop e in
+    let f = cut-end a stop e in
+    rw (f .1) (scanned-end text stop a _ y (rw (f .0) at w)))
+    (decide (ltb (a + 255) stop))
+  where
+    scanned-end : (text : List ℕ) (stop a : ℕ) (h : Halt) → stop ≤ a + 255 → TermHalted text stop a h → TermScanned text stop a h
+    scanned-end text stop a h y t = scanned-near text stop a h t (λ u. t .stuck u (omega arith))
+
+-- What the code cites: the scan, and how the term ends where it halts.
+pub term-scanned : (text : List ℕ) (stop a cut : ℕ) (h : Halt) → TermAt text a stop → cut ≡ cutOf a stop
+    → h ≡ haltOf Start a (slice a cut text) → TermScanned text stop a h
+term-scanned text stop a cut h t e f = rw (f, e) (scanned text stop a t)
+
+pub term-over : (text : List ℕ) (stop a n : ℕ) (h : Halt) → TermScanned text stop a h → stop ≤ length text → 1 ≤ n
+    → opens n (getD text a 0) ≡ true → a + 255 < h .at → TermEnds text stop n a (term.Broken (a + 255))
+term-over text stop a n h t k j o l =
+    let g = t .far l in
+    (omega arith, λ ms. g .halted .same ms n o ∙ end-over text stop a (a + 255) ms n (g .place) k (g .over) (later-dotless n _ j))
+
+pub term-whole : (text : List ℕ) (stop a n : ℕ) (h : Halt) → TermScanned text stop a h → stop ≤ length text
+    → opens n (getD text a 0) ≡ true → h .at ≤ a + 255 → wholeOf (h .state) ≡ true → TermEnds text stop n a (term.Whole (h .at))
+term-whole text stop a n h t k o l w =
+    let x = t .low in (
       omega arith,
       t .high,
-      λ ms. t .same ms n o
-          ∙ end-whole text stop a (h .at) ms n (h .state) (t .high) k w (ends-here text stop a (h .at) (h .state) (t .stuck) b),
+      λ ms. t .near l .same ms n o ∙ end-whole text stop a (h .at) ms n (h .state) (t .high) k w (t .ends l),
     )
 
-pub term-broken : (text : List ℕ) (stop a n : ℕ) (h : Halt) → TermHalted text stop a h → stop ≤ length text → 1 ≤ n
-    → opens n (getD text a 0) ≡ true → isBad (beyondOf text a (h .at) stop (h .state)) ≡ true → wholeOf (h .state) ≡ false
-    → TermEnds text stop n a (term.Broken (h .at))
-term-broken text stop a n h t k j o b w =
-    let l = t .low in (
+pub term-broken : (text : List ℕ) (stop a n : ℕ) (h : Halt) → TermScanned text stop a h → stop ≤ length text → 1 ≤ n
+    → opens n (getD text a 0) ≡ true → h .at ≤ a + 255 → wholeOf (h .state) ≡ false → TermEnds text stop n a (term.Broken (h .at))
+term-broken text stop a n h t k j o l w =
+    let x = t .low in (
       omega arith,
-      λ ms. t .same ms n o
-          ∙ end-fails text stop a (h .at) ms n (h .state) (t .high) k w (later-dotless n (h .state) j)
-          (ends-here text stop a (h .at) (h .state) (t .stuck) b),
+      λ ms. t .near l .same ms n o
+          ∙ end-fails text stop a (h .at) ms n (h .state) (t .high) k w (later-dotless n (h .state) j) (t .ends l),
     )
 
-pub object-over-dot : (text : List ℕ) (stop a : ℕ) (h : Halt) → TermHalted text stop a h → stop ≤ length text
-    → opens 0 (getD text a 0) ≡ true → isBad (beyondOf text a (h .at) stop (h .state)) ≡ false
-    → isDot (beyondOf text a (h .at) stop (h .state)) ≡ true → ObjectEnds text stop a (object.Dotted (h .at))
-object-over-dot text stop a h t k o b d =
-    let l = t .low in
-    let v = goes-over text stop a (h .at) (h .state) b in
-    let u = v .before in
-    (omega arith, omega arith, λ ms. t .same ms 0 o ∙ over-dot text stop a (h .at) ms (h .state) k v (rw (v .next) at d))
+pub object-over-dot : (text : List ℕ) (stop a : ℕ) (h : Halt) → TermScanned text stop a h → stop ≤ length text
+    → opens 0 (getD text a 0) ≡ true → a + 255 < h .at → isDot (h .state) ≡ true → ObjectEnds text stop a (object.Dotted (a + 255))
+object-over-dot text stop a h t k o l d =
+    let g = t .far l in
+    let x = g .over .before in (
+      omega arith,
+      omega arith,
+      λ ms. g .halted .same ms 0 o ∙ over-dot text stop a (a + 255) ms (g .place) k (g .over) (rw (g .next) d),
+    )
 
-pub object-over : (text : List ℕ) (stop a : ℕ) (h : Halt) → TermHalted text stop a h → stop ≤ length text
-    → opens 0 (getD text a 0) ≡ true → isBad (beyondOf text a (h .at) stop (h .state)) ≡ false
-    → isDot (beyondOf text a (h .at) stop (h .state)) ≡ false → ObjectEnds text stop a (object.Broken (h .at))
-object-over text stop a h t k o b d =
-    let l = t .low in
-    let v = goes-over text stop a (h .at) (h .state) b in
-    (omega arith, λ ms. t .same ms 0 o ∙ end-over text stop a (h .at) ms 0 (h .state) k v (dotless 0 _ (rw (v .next) at d)))
+pub object-over : (text : List ℕ) (stop a : ℕ) (h : Halt) → TermScanned text stop a h → stop ≤ length text
+    → opens 0 (getD text a 0) ≡ true → a + 255 < h .at → isDot (h .state) ≡ false → ObjectEnds text stop a (object.Broken (a + 255))
+object-over text stop a h t k o l d =
+    let g = t .far l in (
+      omega arith,
+      λ ms. g .halted .same ms 0 o ∙ end-over text stop a (a + 255) ms 0 (g .place) k (g .over) (dotless 0 _ (rw (g .next) d)),
+    )
 
-pub object-whole : (text : List ℕ) (stop a : ℕ) (h : Halt) → TermHalted text stop a h → stop ≤ length text
-    → opens 0 (getD text a 0) ≡ true → isBad (beyondOf text a (h .at) stop (h .state)) ≡ true → wholeOf (h .state) ≡ true
-    → ObjectEnds text stop a (object.Whole (h .at))
-object-whole text stop a h t k o b w = term-whole text stop a 0 h t k o b w
+pub object-whole : (text : List ℕ) (stop a : ℕ) (h : Halt) → TermScanned text stop a h → stop ≤ length text
+    → opens 0 (getD text a 0) ≡ true → h .at ≤ a + 255 → wholeOf (h .state) ≡ true → ObjectEnds text stop a (object.Whole (h .at))
+object-whole text stop a h t k o l w = term-whole text stop a 0 h t k o l w
 
-pub object-dot : (text : List ℕ) (stop a : ℕ) (h : Halt) → TermHalted text stop a h → stop ≤ length text
-    → opens 0 (getD text a 0) ≡ true → isBad (beyondOf text a (h .at) stop (h .state)) ≡ true → isDot (h .state) ≡ true
-    → ObjectEnds text stop a (object.Dotted (h .at - 1))
-object-dot text stop a h t k o b d =
-    let l = t .low in
+pub object-dot : (text : List ℕ) (stop a : ℕ) (h : Halt) → TermScanned text stop a h → stop ≤ length text
+    → opens 0 (getD text a 0) ≡ true → h .at ≤ a + 255 → isDot (h .state) ≡ true → ObjectEnds text stop a (object.Dotted (h .at - 1))
+object-dot text stop a h t k o l d =
+    let x = t .low in
     let u = t .high in
     let e : h .at - 1 + 1 ≡ h .at = omega arith in (
       omega arith,
       omega arith,
-      λ ms. t .same ms 0 o
-          ∙ rw e (end-dot text stop a (h .at) ms (h .state) (t .high) k d (ends-here text stop a (h .at) (h .state) (t .stuck) b)),
+      λ ms. t .near l .same ms 0 o ∙ rw e (end-dot text stop a (h .at) ms (h .state) (t .high) k d (t .ends l)),
     )
 
-pub object-broken : (text : List ℕ) (stop a : ℕ) (h : Halt) → TermHalted text stop a h → stop ≤ length text
-    → opens 0 (getD text a 0) ≡ true → isBad (beyondOf text a (h .at) stop (h .state)) ≡ true → wholeOf (h .state) ≡ false
-    → isDot (h .state) ≡ false → ObjectEnds text stop a (object.Broken (h .at))
-object-broken text stop a h t k o b w d =
-    let l = t .low in (
+pub object-broken : (text : List ℕ) (stop a : ℕ) (h : Halt) → TermScanned text stop a h → stop ≤ length text
+    → opens 0 (getD text a 0) ≡ true → h .at ≤ a + 255 → wholeOf (h .state) ≡ false → isDot (h .state) ≡ false
+    → ObjectEnds text stop a (object.Broken (h .at))
+object-broken text stop a h t k o l w d =
+    let x = t .low in (
       omega arith,
-      λ ms. t .same ms 0 o
-          ∙ end-fails text stop a (h .at) ms 0 (h .state) (t .high) k w (dotless 0 (h .state) d)
-          (ends-here text stop a (h .at) (h .state) (t .stuck) b),
+      λ ms. t .near l .same ms 0 o ∙ end-fails text stop a (h .at) ms 0 (h .state) (t .high) k w (dotless 0 (h .state) d) (t .ends l),
     )

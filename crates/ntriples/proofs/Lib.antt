@@ -9,3 +9,4 @@ pub mod Claims
 pub mod Runs
 pub mod Halts
 pub mod Sequence
+pub mod Examples

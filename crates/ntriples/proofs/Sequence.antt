@@ -42,7 +42,7 @@ use Rattle.ntriples.specs.Reader.{
 use Rattle.ntriples.specs.Text.{Unbroken, endsInCr, FirstLine, answerOf, readOf}
 use Rattle.ntriples.specs.Productions.{Dark, RunEnd, runEnd, onward, TermEnds, ObjectEnds, crDropped, EolAt}
 use Rattle.ntriples.proofs.Forth.{gap-space}
-use Rattle.ntriples.proofs.Halts.{decide, step-to, at-end, onward-broken}
+use Rattle.ntriples.proofs.Halts.{decide, strictly, step-to, at-end, onward-broken}
 use Rattle.ntriples.proofs.Runs.{slice-next, slice-none, run-turn, run-out, run-end, onward-next, onward-end}
 use Rattle.ntriples.proofs.Claims.{read-at}
 
@@ -91,9 +91,6 @@ remark-stays i b e = rw e
 breaks : (text : List ℕ) (stop i : ℕ) (p : Place) → i < stop → stop ≤ length text → advanceOf 255 i p (getD text i 0) ≡ Broken i
     → onward text stop i p ≡ Fails i
 breaks text stop i p h t e = step-to text stop i p (Broken i) h t e ∙ onward-broken text stop (i + 1) i
-
-strictly : (r stop : ℕ) → r ≤ stop → (r ≡ stop → ⊥) → r < stop
-strictly r stop h n = omega arith
 
 -- COMMENTS
 pub remark-end : (text : List ℕ) (stop i r : ℕ) → i ≤ stop → stop ≤ length text → RunEnd commentByte text i stop r → stop ≤ r

@@ -1,11 +1,14 @@
--- The term of a name by one pass over its bytes is the term of its derivation. Assumes nothing.
+-- The term of a name by one pass over its bytes is the term of its derivation, and two names have two terms.
+-- Assumes nothing.
 use Prim.Native.Nat.{ℕ, zero, suc, _+_}
 use mathlib.Core.Path.{_≡_, refl, sym, _∙_, ap}
 use mathlib.Core.List.{List, [], _∷_, _++_}
 use mathlib.Core.Bool.{Bool, true, false}
 use lib.Dec.{eqb}
 use lib.ListN.{drop}
-use Rattle.term.specs.Bytes.{pick, among, textByte}
+use native.Mathlib.Omega.{arith}
+use borrow.Author.Tests.{eqb-true}
+use Rattle.term.specs.Bytes.{pick, among, textByte, pairByte}
 use Rattle.term.specs.Grammar as g
 use Rattle.term.proofs.Names.{never}
 use Rattle.ntriples.specs.Grammar.{Subject, Predicate, Object}
@@ -33,6 +36,7 @@ use Rattle.ntriples.specs.Terms.{
   literalWith,
   termOf,
 }
+use Rattle.ntriples.specs.Claims.{WritesString, DistinctTerms}
 use Rattle.ntriples.proofs.Residual.{cases}
 
 inner-is : {s : List ℕ} (r : g.IriRest s) → inner s ≡ iriRest r
@@ -95,3 +99,186 @@ pub object-is : {t : List ℕ} (h : Object t) → termOf t ≡ objectTerm h
 object-is (Object.iri h) = iri-is h
 object-is (Object.blank h) = blank-is h
 object-is (Object.literal h) = literal-is h
+
+-- TWO NAMES, TWO TERMS. An IRI and a blank node are spelled by their terms.
+iri-rest-spelled : {s : List ℕ} (r : g.IriRest s) → s ≡ iriRest r ++ (62 ∷ [])
+iri-rest-spelled (g.IriRest.byte {b = b} e r) = ap (λ (z : List ℕ). b ∷ z) (iri-rest-spelled r)
+iri-rest-spelled g.IriRest.close = refl
+
+iri-spelled : {s : List ℕ} (h : g.Iri s) → s ≡ 60 ∷ (iriOf h ++ (62 ∷ []))
+iri-spelled (g.Iri.open′ {b = b} e r) = ap (λ (z : List ℕ). 60 ∷ (b ∷ z)) (iri-rest-spelled r)
+
+blank-spelled : {s : List ℕ} (h : g.Blank s) → s ≡ 95 ∷ (58 ∷ labelOf h)
+blank-spelled (g.Blank.single e) = refl
+blank-spelled (g.Blank.longer e r) = refl
+
+-- the four pairs stand for four bytes that are no text by themselves
+pair-cases : {C : Type 0} (b : ℕ) → (b ≡ 34 → C) → (b ≡ 92 → C) → (b ≡ 110 → C) → (b ≡ 114 → C) → pairByte b ≡ true → C
+unfolding pairByte among
+pair-cases b f₁ f₂ f₃ f₄ h =
+    let P : Bool → Type 0 = λ x. x ≡ true in
+    cases P (eqb b 34) true _ (λ e _. f₁ (eqb-true b 34 e))
+    (λ _ k. cases P (eqb b 92) true _ (λ e _. f₂ (eqb-true b 92 e))
+    (λ _ j. cases P (eqb b 110) true _ (λ e _. f₃ (eqb-true b 110 e))
+    (λ _ i. cases P (eqb b 114) true false (λ e _. f₄ (eqb-true b 114 e)) (λ _ z. never z) i) j) k) h
+
+escaped : ℕ → ℕ
+escaped v = pick (eqb v 10) 110 (pick (eqb v 13) 114 v)
+
+escaped-back : (b : ℕ) → pairByte b ≡ true → escaped (unescaped b) ≡ b
+unfolding escaped
+escaped-back b h = pair-cases b (λ e. rw e) (λ e. rw e) (λ e. rw e) (λ e. rw e) h
+
+same-pair : (b c : ℕ) → pairByte b ≡ true → pairByte c ≡ true → unescaped b ≡ unescaped c → b ≡ c
+same-pair b c h k e = sym (escaped-back b h) ∙ (ap escaped e ∙ escaped-back c k)
+
+pair-odd : (c : ℕ) → pairByte c ≡ true → textByte (unescaped c) ≡ false
+unfolding textByte among
+pair-odd c h = pair-cases c (λ e. rw e) (λ e. rw e) (λ e. rw e) (λ e. rw e) h
+
+byte-no-pair : {C : Type 0} (b c : ℕ) → textByte b ≡ true → pairByte c ≡ true → b ≡ unescaped c → C
+byte-no-pair b c h k e = never (sym (pair-odd c k) ∙ rw (← e) h)
+
+no-cons : {C : Type 0} (b : ℕ) (s : List ℕ) → b ∷ s ≡ [] → C
+no-cons b s e = let z : _≡_ {A = ℕ} 0 1 = cc in absurd (omega arith)
+
+first-of : (b c : ℕ) (s t : List ℕ) → b ∷ s ≡ c ∷ t → b ≡ c
+first-of b c s t e = cc
+
+rest-of : (b c : ℕ) (s t : List ℕ) → b ∷ s ≡ c ∷ t → s ≡ t
+rest-of b c s t e = cc
+
+datatype-of : (x y d e : List ℕ) → literal x d ≡ literal y e → d ≡ e
+datatype-of x y d e h = cc
+
+tag-of : (x y d e : List ℕ) → tagged x d ≡ tagged y e → d ≡ e
+tag-of x y d e h = cc
+
+tag-no-type : {C : Type 0} (x y d e : List ℕ) → literal x d ≡ tagged y e → C
+tag-no-type x y d e h = let z : _≡_ {A = ℕ} 0 1 = cc in absurd (omega arith)
+
+writes-later : (b : ℕ) (s : List ℕ) → (WritesString (b ∷ s) → ⊥) → WritesString s → ⊥
+writes-later b s h w = h (b ∷ w .0, ap (λ (z : List ℕ). b ∷ z) (w .1))
+
+-- a datatype that is xsd:string is written out
+typed-writes : {s : List ℕ} (i : g.Iri s) → iriOf i ≡ xsdString → WritesString (94 ∷ (94 ∷ s))
+typed-writes {s} i e = ([], ap (λ (z : List ℕ). 94 ∷ (94 ∷ z)) (iri-spelled i ∙ ap (λ (z : List ℕ). 60 ∷ (z ++ (62 ∷ []))) e))
+
+same-iri : {s t : List ℕ} (h : g.Iri s) (k : g.Iri t) → iriOf h ≡ iriOf k → s ≡ t
+same-iri h k e = iri-spelled h ∙ (ap (λ (z : List ℕ). 60 ∷ (z ++ (62 ∷ []))) e ∙ sym (iri-spelled k))
+
+same-suffix : {s t : List ℕ} (x y : List ℕ) (h : g.Suffix s) (k : g.Suffix t) → (WritesString s → ⊥) → (WritesString t → ⊥)
+    → suffixed x h ≡ suffixed y k → s ≡ t
+same-suffix x y g.Suffix.none g.Suffix.none u v e = refl
+same-suffix x y g.Suffix.none (g.Suffix.tag f r) u v e = tag-no-type x y _ _ e
+same-suffix x y g.Suffix.none (g.Suffix.datatype i) u v e = absurd (v (typed-writes i (sym (datatype-of x y _ _ e))))
+same-suffix x y (g.Suffix.tag f r) g.Suffix.none u v e = tag-no-type y x _ _ (sym e)
+same-suffix x y (g.Suffix.tag f r) (g.Suffix.tag f′ r′) u v e = ap (λ (z : List ℕ). 64 ∷ z) (tag-of x y _ _ e)
+same-suffix x y (g.Suffix.tag f r) (g.Suffix.datatype i) u v e = tag-no-type y x _ _ (sym e)
+same-suffix x y (g.Suffix.datatype i) g.Suffix.none u v e = absurd (u (typed-writes i (datatype-of x y _ _ e)))
+same-suffix x y (g.Suffix.datatype i) (g.Suffix.tag f r) u v e = tag-no-type x y _ _ e
+same-suffix x y (g.Suffix.datatype i) (g.Suffix.datatype j) u v e =
+    ap (λ (z : List ℕ). 94 ∷ (94 ∷ z)) (same-iri i j (datatype-of x y _ _ e))
+
+cons-same : (b c : ℕ) (s t : List ℕ) → b ≡ c → s ≡ t → b ∷ s ≡ c ∷ t
+cons-same b c s t e f = cc
+
+same-text : {s t : List ℕ} (x y : List ℕ) (h : g.TextRest s) (k : g.TextRest t) → (WritesString s → ⊥) → (WritesString t → ⊥)
+    → lexicalOf h ≡ lexicalOf k → textOf x h ≡ textOf y k → s ≡ t
+same-text x y (g.TextRest.byte {b = b} {s = s} p h) (g.TextRest.byte {b = c} {s = t} q k) u v e f =
+    cons-same b c s t (first-of _ _ _ _ e)
+    (same-text x y h k (writes-later b s u) (writes-later c t v) (rest-of _ _ _ _ e) f)
+same-text x y (g.TextRest.byte {b = b} p h) (g.TextRest.pair {b = c} q k) u v e f = byte-no-pair b c p q (first-of _ _ _ _ e)
+same-text x y (g.TextRest.byte {b = b} p h) (g.TextRest.close k) u v e f = no-cons _ _ e
+same-text x y (g.TextRest.pair {b = b} p h) (g.TextRest.byte {b = c} q k) u v e f = byte-no-pair c b q p (sym (first-of _ _ _ _ e))
+same-text x y (g.TextRest.pair {b = b} {s = s} p h) (g.TextRest.pair {b = c} {s = t} q k) u v e f =
+    ap (λ (z : List ℕ). 92 ∷ z)
+    (cons-same b c s t (same-pair b c p q (first-of _ _ _ _ e))
+    (same-text x y h k (writes-later b s (writes-later 92 (b ∷ s) u)) (writes-later c t (writes-later 92 (c ∷ t) v)) (rest-of _ _ _ _ e) f))
+same-text x y (g.TextRest.pair p h) (g.TextRest.close k) u v e f = no-cons _ _ e
+same-text x y (g.TextRest.close h) (g.TextRest.byte q k) u v e f = no-cons _ _ (sym e)
+same-text x y (g.TextRest.close h) (g.TextRest.pair q k) u v e f = no-cons _ _ (sym e)
+same-text x y (g.TextRest.close {s = s} h) (g.TextRest.close {s = t} k) u v e f =
+    ap (λ (z : List ℕ). 34 ∷ z) (same-suffix x y h k (writes-later 34 s u) (writes-later 34 t v) f)
+
+-- the lexical form of a literal's term
+lexicalIn : Term → List ℕ
+lexicalIn (iri x) = []
+lexicalIn (blank x) = []
+lexicalIn (literal x d) = x
+lexicalIn (tagged x d) = x
+
+suffix-lexical : {s : List ℕ} (x : List ℕ) (h : g.Suffix s) → lexicalIn (suffixed x h) ≡ x
+unfolding lexicalIn
+suffix-lexical x g.Suffix.none = refl
+suffix-lexical x (g.Suffix.tag e r) = refl
+suffix-lexical x (g.Suffix.datatype i) = refl
+
+text-lexical : {s : List ℕ} (x : List ℕ) (h : g.TextRest s) → lexicalIn (textOf x h) ≡ x
+text-lexical x (g.TextRest.byte e r) = text-lexical x r
+text-lexical x (g.TextRest.pair e r) = text-lexical x r
+text-lexical x (g.TextRest.close r) = suffix-lexical x r
+
+same-literal : {s t : List ℕ} (h : g.Literal s) (k : g.Literal t) → (WritesString s → ⊥) → (WritesString t → ⊥)
+    → literalOf h ≡ literalOf k → s ≡ t
+same-literal (g.Literal.open′ {s = s} h) (g.Literal.open′ {s = t} k) u v e =
+    let x = sym (text-lexical (lexicalOf h) h) ∙ (ap lexicalIn e ∙ text-lexical (lexicalOf k) k) in
+    ap (λ (z : List ℕ). 34 ∷ z) (same-text (lexicalOf h) (lexicalOf k) h k (writes-later 34 s u) (writes-later 34 t v) x e)
+
+-- the kind of a term
+sortOf : Term → ℕ
+sortOf (iri x) = 1
+sortOf (blank x) = 2
+sortOf (literal x d) = 3
+sortOf (tagged x d) = 3
+
+suffix-sort : {s : List ℕ} (x : List ℕ) (h : g.Suffix s) → sortOf (suffixed x h) ≡ 3
+unfolding sortOf
+suffix-sort x g.Suffix.none = refl
+suffix-sort x (g.Suffix.tag e r) = refl
+suffix-sort x (g.Suffix.datatype i) = refl
+
+text-sort : {s : List ℕ} (x : List ℕ) (h : g.TextRest s) → sortOf (textOf x h) ≡ 3
+text-sort x (g.TextRest.byte e r) = text-sort x r
+text-sort x (g.TextRest.pair e r) = text-sort x r
+text-sort x (g.TextRest.close r) = suffix-sort x r
+
+literal-sort : {s : List ℕ} (h : g.Literal s) → sortOf (literalOf h) ≡ 3
+literal-sort (g.Literal.open′ h) = text-sort (lexicalOf h) h
+
+nameTerm : {k : ℕ} {s : List ℕ} → g.Name k s → Term
+nameTerm (g.Name.iri h) = iri (iriOf h)
+nameTerm (g.Name.blank h) = blank (labelOf h)
+nameTerm (g.Name.literal h) = literalOf h
+
+name-is : {k : ℕ} {s : List ℕ} (h : g.Name k s) → termOf s ≡ nameTerm h
+unfolding nameTerm
+name-is (g.Name.iri h) = iri-is h
+name-is (g.Name.blank h) = blank-is h
+name-is (g.Name.literal h) = literal-is h
+
+iri-of : (x y : List ℕ) → iri x ≡ iri y → x ≡ y
+iri-of x y e = cc
+
+blank-of : (x y : List ℕ) → blank x ≡ blank y → x ≡ y
+blank-of x y e = cc
+
+unlike : {C : Type 0} (a b : Term) (n m : ℕ) → sortOf a ≡ n → sortOf b ≡ m → (n ≡ m → ⊥) → a ≡ b → C
+unlike a b n m p q d e = absurd (d (sym p ∙ (ap sortOf e ∙ q)))
+
+same-name : {k j : ℕ} {s t : List ℕ} (h : g.Name k s) (i : g.Name j t) → (WritesString s → ⊥) → (WritesString t → ⊥)
+    → nameTerm h ≡ nameTerm i → s ≡ t
+unfolding nameTerm sortOf
+same-name (g.Name.iri h) (g.Name.iri i) u v e = same-iri h i (iri-of _ _ e)
+same-name (g.Name.iri h) (g.Name.blank i) u v e = unlike _ _ 1 2 refl refl (λ z. omega arith) e
+same-name (g.Name.iri h) (g.Name.literal i) u v e = unlike _ _ 1 3 refl (literal-sort i) (λ z. omega arith) e
+same-name (g.Name.blank h) (g.Name.iri i) u v e = unlike _ _ 2 1 refl refl (λ z. omega arith) e
+same-name (g.Name.blank h) (g.Name.blank i) u v e =
+    blank-spelled h ∙ (ap (λ (z : List ℕ). 95 ∷ (58 ∷ z)) (blank-of _ _ e) ∙ sym (blank-spelled i))
+same-name (g.Name.blank h) (g.Name.literal i) u v e = unlike _ _ 2 3 refl (literal-sort i) (λ z. omega arith) e
+same-name (g.Name.literal h) (g.Name.iri i) u v e = unlike _ _ 3 1 (literal-sort h) refl (λ z. omega arith) e
+same-name (g.Name.literal h) (g.Name.blank i) u v e = unlike _ _ 3 2 (literal-sort h) refl (λ z. omega arith) e
+same-name (g.Name.literal h) (g.Name.literal i) u v e = same-literal h i u v e
+
+pub distinct-terms : DistinctTerms
+distinct-terms k j a b h i u v e = same-name h i u v (sym (name-is h) ∙ (e ∙ name-is i))

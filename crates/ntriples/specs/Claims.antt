@@ -5,12 +5,13 @@ use mathlib.Core.Path.{_≡_}
 use mathlib.Core.List.{List, [], _∷_, _++_}
 use mathlib.Core.Logic.{_⊎_, _↔_}
 use lib.ListN.{length, drop}
+use Rattle.term.specs.Grammar.{Name}
 use Rattle.term.specs.Scanner.{kindOf}
 use Rattle.ntriples.specs.declared.Span.{Span}
 use Rattle.ntriples.specs.declared.Line.the-variants as answer
 use Rattle.ntriples.specs.Grammar.{Trail, Triple, subjectSpan, predicateSpan, objectSpan, Within, Longest}
-use Rattle.ntriples.specs.Text.{FirstLine, bytesOf, readOf}
-use Rattle.ntriples.specs.Terms.{termOf, subjectTerm, predicateTerm, objectTerm}
+use Rattle.ntriples.specs.Text.{FirstLine, bytesOf, valuesOf, readOf}
+use Rattle.ntriples.specs.Terms.{xsdString, termOf, subjectTerm, predicateTerm, objectTerm}
 
 -- The line l, whose first byte has position i, has a derivation with the parts s, p, o and terms of at most m bytes.
 pub record Derived (m i : ℕ) (l : List ℕ) (s p o : Span) : Type 0 where
@@ -46,7 +47,9 @@ pub record LineAnswered (m : ℕ) (text : List ℕ) (i : ℕ) (l : List ℕ) (n 
   pub triple : (s p o : Span) → (readOf m text i .line ≡ answer.Triple s p o) ↔ Derived m i l s p o
   -- nothing exactly on a blank line or a comment line
   pub nothing : (readOf m text i .line ≡ answer.Nothing) ↔ Trail l
-  -- 10 exactly if no derivation exists, with the length of the longest prefix that some line continues
+  -- 10 exactly if no derivation exists
+  pub ten : (valuesOf (readOf m text i .line) .refusal ≡ 10) ↔ Underivable m l
+  -- its offset is the length of the longest prefix that some line continues
   pub refused : (k : ℕ) → (readOf m text i .line ≡ answer.Refused k) ↔ (Underivable m l × Longest m l k)
   pub notEnd : readOf m text i .line ≡ answer.End → ⊥
   pub enterable : (s p o : Span) → readOf m text i .line ≡ answer.Triple s p o → Enterable m text s p o
@@ -79,3 +82,13 @@ pub record SameStrings {l : List ℕ} (d e : Triple l) : Type 0 where
 
 abbrev pub OneDerivation : Type 0
 OneDerivation = (l : List ℕ) (d : Triple l) → ((e : Triple l) → SameStrings d e) × (Trail l → ⊥)
+
+-- Two names have two terms, as the paper tells names apart by their bytes. The one exception within the paper's spelling is a
+-- literal that writes the datatype xsd:string, which has the term of the same literal without it. (RDF 1.1 also lets a store
+-- take language tags without their case; here a tag is as it is written.)
+abbrev pub WritesString : List ℕ → Type 0
+WritesString s = (x : List ℕ) × (s ≡ x ++ (94 ∷ (94 ∷ (60 ∷ (xsdString ++ (62 ∷ []))))))
+
+abbrev pub DistinctTerms : Type 0
+DistinctTerms =
+    (k j : ℕ) (a b : List ℕ) → Name k a → Name j b → (WritesString a → ⊥) → (WritesString b → ⊥) → termOf a ≡ termOf b → a ≡ b

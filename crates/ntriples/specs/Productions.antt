@@ -9,9 +9,6 @@ use lib.Dec.{leb, ltb, eqb}
 use lib.ListN.{length, getD}
 use lib.Seq.{slice}
 use Rattle.term.specs.Bytes.{pick}
-use Rattle.term.specs.Scanner.{stepOf}
-use Rattle.term.specs.declared.Scan.{Scan}
-use Rattle.term.specs.declared.Scan.the-variants.{Bad}
 use Rattle.ntriples.specs.declared.Span.{Span}
 use Rattle.ntriples.specs.declared.TermEnd.{TermEnd}
 use Rattle.ntriples.specs.declared.TermEnd.the-variants as term
@@ -89,13 +86,9 @@ ObjectEnds text stop a (object.Dotted e) =
     × ((ms : List Span) → onward text stop a (Gap ms 1) ≡ onward text stop (e + 1) (After (ms ++ (span a e ∷ []))))
 ObjectEnds text stop a (object.Broken k) = (a ≤ k) × ((ms : List Span) → onward text stop a (Gap ms 1) ≡ Fails k)
 
--- the scan of a term that began at a with its byte 256, where the scan q has come to that byte of the line; else Bad
-unfoldable pub beyondOf : List ℕ → ℕ → ℕ → ℕ → Scan → Scan
-beyondOf text a i stop q = pick (leb stop i) Bad (pick (ltb i (a + 255)) Bad (stepOf q (getD text i 0)))
-
--- how far a scan of the term that begins at a may go
+-- how far the scan of the term that begins at a goes: to the line's end or over 256 bytes
 unfoldable pub cutOf : ℕ → ℕ → ℕ
-cutOf a stop = pick (ltb (a + 255) stop) (a + 255) stop
+cutOf a stop = pick (ltb (a + 256) stop) (a + 256) stop
 
 -- where the line that begins at i ends, if its LF stands at e: one CR before the LF is dropped
 unfoldable pub crDropped : List ℕ → ℕ → ℕ → ℕ

@@ -11,6 +11,7 @@ use Rattle.ntriples.specs.declared.Span.{Span}
 use Rattle.ntriples.specs.declared.Line.{Line}
 use Rattle.ntriples.specs.declared.Line.the-variants.{End, Nothing, Triple, Refused}
 use Rattle.ntriples.specs.declared.LineRead.{LineRead}
+use Rattle.ntriples.specs.Grammar.{span}
 use Rattle.ntriples.specs.Reader.{Outcome, Empty, Terms, Fails, lineOf}
 
 -- no byte of l is LF
@@ -63,6 +64,21 @@ answerOf i (Terms (s ∷ (p ∷ []))) = Nothing
 answerOf i (Terms (s ∷ (p ∷ (o ∷ [])))) = Triple s p o
 answerOf i (Terms (s ∷ (p ∷ (o ∷ (q ∷ ms))))) = Nothing
 answerOf i (Fails k) = Refused (k - i)
+
+-- The paper's number and values for each answer: the refusal, or 0 where there is none, its offset in the line, and the three
+-- parts, empty where there is none.
+pub record Values : Type 0 where
+  pub refusal : ℕ
+  pub offset : ℕ
+  pub subject : Span
+  pub predicate : Span
+  pub object : Span
+
+unfoldable pub valuesOf : Line → Values
+valuesOf End = record { refusal = 0; offset = 0; subject = span 0 0; predicate = span 0 0; object = span 0 0 }
+valuesOf Nothing = record { refusal = 0; offset = 0; subject = span 0 0; predicate = span 0 0; object = span 0 0 }
+valuesOf (Triple s p o) = record { refusal = 0; offset = 0; subject = s; predicate = p; object = o }
+valuesOf (Refused k) = record { refusal = 10; offset = k; subject = span 0 0; predicate = span 0 0; object = span 0 0 }
 
 -- reading a line: the answer, and the position after
 unfoldable pub readOf : ℕ → List ℕ → ℕ → LineRead

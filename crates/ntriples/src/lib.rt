@@ -13,7 +13,7 @@ ghost use lib.ListN.{length};
 ghost use Rattle.ntriples.specs.Grammar.{white, commentByte};
 ghost use Rattle.ntriples.specs.Reader.{isDot, opens, Begin, Gap, After, Remark};
 ghost use Rattle.ntriples.specs.Text.{answerOf, readOf};
-ghost use Rattle.ntriples.specs.Productions.{Inline, OnLine, TermAt, Dark, Reached, RunEnd, onward, TermEnds, EarlierEnds, ObjectEnds, beyondOf, cutOf, crDropped, EolAt};
+ghost use Rattle.ntriples.specs.Productions.{Inline, OnLine, TermAt, Dark, Reached, RunEnd, onward, TermEnds, EarlierEnds, ObjectEnds, cutOf, crDropped, EolAt};
 use term::Scan;
 
 // A part of the text: the position of its first byte, and the position after its last.
@@ -128,7 +128,8 @@ fn is_dot(q: Scan) -> bool
     }
 }
 
-// How far the scan of a term that begins at `a` may go: to the line's end, and over at most 255 bytes.
+// How far the scan of a term that begins at `a` goes: to the line's end, and to byte 256 of the term, the first that is too
+// many. A scan that takes it shows that the term goes on there.
 fn cut(a: usize, stop: usize) -> usize
     requires { ⌜ a ≤ stop ⌝ }
     ensures { λ r. ⌜ r ≡ cutOf a stop ⌝ }
@@ -136,21 +137,7 @@ fn cut(a: usize, stop: usize) -> usize
     if stop - a <= term::NAME_LIMIT {
         return stop;
     }
-    a + term::NAME_LIMIT
-}
-
-// The scan with byte 256 of the term that begins at `a`, where the scan `q` has come to that byte of the line; else Bad.
-fn beyond(text: &[u8], a: usize, i: usize, stop: usize, q: Scan) -> Scan
-    requires { ⌜ OnLine (now text) a i stop ⌝ }
-    ensures { λ r. ⌜ r ≡ beyondOf (now (text .entry)) a i stop q ⌝ }
-{
-    if i == stop {
-        return Scan::Bad;
-    }
-    if i - a < term::NAME_LIMIT {
-        return Scan::Bad;
-    }
-    term::step(q, text[i])
+    a + term::NAME_LIMIT + 1
 }
 
 // The end of the subject or the predicate that begins at `a`.
@@ -161,8 +148,8 @@ fn term_end(text: &[u8], a: usize, stop: usize) -> TermEnd
     let h = term::scan_term(text, a, cut(a, stop));
     let q = h.state;
     let i = h.at;
-    if !term::is_bad(beyond(text, a, i, stop, q)) {
-        return TermEnd::Broken(i);
+    if i - a > term::NAME_LIMIT {
+        return TermEnd::Broken(a + term::NAME_LIMIT);
     }
     if term::whole(q) {
         return TermEnd::Whole(i);
@@ -170,7 +157,8 @@ fn term_end(text: &[u8], a: usize, stop: usize) -> TermEnd
     TermEnd::Broken(i)
 }
 
-// The end of the object that begins at `a`. A dot after a blank node's label is the line's if no byte of a label follows.
+// The end of the object that begins at `a`. A lone dot after a blank node's label is the line's if no byte of a label
+// follows it, or if it is byte 256.
 fn object_end(text: &[u8], a: usize, stop: usize) -> ObjectEnd
     requires { ⌜ TermAt (now text) a stop ⌝ }
     ensures { λ r. ⌜ ObjectEnds (now (text .entry)) stop a r ⌝ }
@@ -178,12 +166,11 @@ fn object_end(text: &[u8], a: usize, stop: usize) -> ObjectEnd
     let h = term::scan_term(text, a, cut(a, stop));
     let q = h.state;
     let i = h.at;
-    let t = beyond(text, a, i, stop, q);
-    if !term::is_bad(t) {
-        if is_dot(t) {
-            return ObjectEnd::Dotted(i);
+    if i - a > term::NAME_LIMIT {
+        if is_dot(q) {
+            return ObjectEnd::Dotted(a + term::NAME_LIMIT);
         }
-        return ObjectEnd::Broken(i);
+        return ObjectEnd::Broken(a + term::NAME_LIMIT);
     }
     if term::whole(q) {
         return ObjectEnd::Whole(i);

@@ -1,8 +1,7 @@
-use Prim.Native.Nat.{_+_, _-_, _≤_, _<_}
+use Prim.Native.Nat.{_+_, _≤_, _<_}
 use mathlib.Core.Path.{_≡_, refl, sym, _∙_, ap}
 use native.Mathlib.Omega.{arith}
-use borrow.Author.Tests.{lt-ltb, le-ltb}
-use Rattle.ntriples.specs.Productions.{cutOf}
+use Rattle.ntriples.proofs.Halts.{cut-near, cut-long}
 use borrow.Author.Needs.{needs}
 use Rattle.ntriples.proofs.cut.Statement.{statement}
 use Rattle.ntriples.proofs.cut.Tie as tie
@@ -13,15 +12,16 @@ sub-if1 : tie.Need-sub-if1
 sub-if1 c = search needs
 
 returns : tie.Need-returns
-unfolding cutOf
-returns c = let a = c .before .args in rw (le-ltb (a .a + 255) (a .stop) (let t = c .if1 .taken in let p = c .before .pre in omega arith))
+returns c = let t = c .if1 .taken in let p = c .before .pre in sym (cut-near (c .before .args .a) (c .before .args .stop) (omega arith))
 
 add-result : tie.Need-add-result
 add-result c = search needs
 
+add-result-2 : tie.Need-add-result-2
+add-result-2 c = search needs
+
 returns-2 : tie.Need-returns-2
-unfolding cutOf
-returns-2 c = let a = c .before .args in rw (lt-ltb (a .a + 255) (a .stop) (let t = c .if1 .left in omega arith))
+returns-2 c = let t = c .if1 .left in sym (cut-long (c .before .args .a) (c .before .args .stop) (omega arith))
 
 pub cut-spec : {M : Type 1} → statement M
-cut-spec = tie.close (tie.spec sub-if1 returns add-result returns-2)
+cut-spec = tie.close (tie.spec sub-if1 returns add-result add-result-2 returns-2)
