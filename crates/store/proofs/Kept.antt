@@ -75,8 +75,10 @@ module _ (s : Model) (D : Tidy s) where
     kinds = λ i h.
         let x = (entry (s .entries) i) .spo in
         let k = D .inside i h in
-        rw (name-old (s .names) w (x .subject .0) (known-low _ x k Subject) (known-high _ x k Subject),
-          name-old (s .names) w (x .predicate .0) (known-low _ x k Predicate) (known-high _ x k Predicate))
+        rw (
+          name-old (s .names) w (x .subject .0) (known-low _ x k Subject) (known-high _ x k Subject),
+          name-old (s .names) w (x .predicate .0) (known-low _ x k Predicate) (known-high _ x k Predicate),
+        )
         (D .kinds i h);
     once = D .once;
   }
