@@ -12,7 +12,8 @@ use Rattle.store.specs.declared.Refusal.the-variants.{Capacity, Full, Un
 use Rattle.store.specs.declared.Asserted.{Asserted}
 use Rattle.store.specs.declared.Asserted.the-variants.{New, Already, Revived, Refused as NotAsserted}
 use Rattle.store.specs.declared.Retracted.{Retracted}
-use Rattle.store.specs.declared.Retracted.the-variants.{Number as Struck, Absent as NotLive, Refused as NotRetracted}
+use Rattle.store.specs.declared.Retracted.the-variants.{Number as Struck, Absent as NotLive}
+use Rattle.store.specs.declared.Retracted.the-variants.{Refused as NotRetracted}
 use Rattle.store.specs.Triple.{known, permitted}
 use Rattle.store.specs.Tables.{Tables, fits, statementCapacity, flagAt, kindAt}
 use Rattle.store.specs.Statement.{locate, kinded, asserting, assertOf, retracting, retractOf}

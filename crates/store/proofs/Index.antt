@@ -11,7 +11,8 @@ use Rattle.store.specs.Tables.{word}
 use Rattle.store.specs.Dictionary.{Ordering, less, equal, more, compare, isLess, Indexed, rank, bring, insertAt}
 use Rattle.store.proofs.Tests.{decide, three}
 use Rattle.store.proofs.Falling.{length-le, Closed, rank-below, rank-above, rank-unique}
-use Rattle.store.proofs.Order.{flip, compare-refl, compare-flip, compare-equal, compare-trans, is-less, less-not-equal}
+use Rattle.store.proofs.Order.{flip, compare-refl, compare-flip, compare-equal, compare-trans, is-less}
+use Rattle.store.proofs.Order.{less-not-equal}
 use Rattle.store.proofs.Pigeonhole.{Hit, Distinct, pigeonhole1}
 
 -- ---- words after an insertion

@@ -17,7 +17,8 @@ use Rattle.store.specs.declared.Interned.{Interned}
 use Rattle.store.specs.declared.Interned.the-variants.{Number as Id, Refused as NotInterned}
 use Rattle.store.specs.Tables.{Tables, fits, word, resourceWords}
 use Rattle.store.specs.Model.{wellFormed}
-use Rattle.store.specs.Dictionary.{roomFor, withName, internAs, internOf, InternWrites, indexPlaceOf, freshRecord, PlaceWithin, rank, placeAt, nameAt}
+use Rattle.store.specs.Dictionary.{roomFor, withName, internAs, internOf, InternWrites, indexPlaceOf, freshRecord}
+use Rattle.store.specs.Dictionary.{PlaceWithin, rank, placeAt, nameAt}
 use Rattle.store.proofs.Tests.{decide}
 use Rattle.store.proofs.Words.{grow-length, grow-before, grow-after, getD-sets-before}
 use Rattle.store.proofs.Index.{insert-length}

@@ -16,7 +16,10 @@ use Rattle.store.specs.declared.Position.the-variants.{Subject, Predicat
 use Rattle.store.specs.declared.Triple.{Triple}
 use Rattle.store.specs.Triple.{at, known, within, same, permitted, below, head0}
 use Rattle.store.specs.Tables.{Tables, fits, resourceCapacity, statementCapacity, textCapacity, tripleAt, kindAt}
-use Rattle.store.specs.Model.{Entry, Listing, Model, Capacities, Call, intern, assert, retract, open′, next, wellFormed, lookupName, nameOf, bytesOf, internName, internModel, entry, lookup, mark, put, assertModel, strike, retractModel, openModel, turn, nextModel, freshModel, callModel, modelAfter}
+use Rattle.store.specs.Model.{Entry, Listing, Model, Capacities, Call, intern, assert, retract, open′, next}
+use Rattle.store.specs.Model.{wellFormed, lookupName, nameOf, bytesOf, internName, internModel, entry, lookup}
+use Rattle.store.specs.Model.{mark, put, assertModel, strike, retractModel, openModel, turn, nextModel}
+use Rattle.store.specs.Model.{freshModel, callModel, modelAfter}
 use Rattle.store.specs.Soundness.{Sound}
 use Rattle.store.specs.History.{Store}
 use Rattle.store.proofs.Tests.{decide, upto, known-low, known-high, known-more, same-self}

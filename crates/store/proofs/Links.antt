@@ -18,7 +18,10 @@ use Rattle.store.specs.Dictionary.{freshRecord}
 use Rattle.store.specs.Soundness.{holding, Linked}
 use Rattle.store.proofs.Tests.{decide, off-lt, upto}
 use Rattle.store.proofs.Falling.{below-cong, below-none, head-suc, length-suc}
-use Rattle.store.proofs.Words.{append-length, append-term-old, append-next-old, append-flag-old, append-term, append-next, append-flag, linked-length, linked-first, linked-count, flag-term, flag-next, flag-same, flag-other, zero-first, zero-count, grow-length, grow-old, grow-new}
+use Rattle.store.proofs.Words.{append-length, append-term-old, append-next-old, append-flag-old, append-term}
+use Rattle.store.proofs.Words.{append-next, append-flag, linked-length, linked-first, linked-count, flag-term}
+use Rattle.store.proofs.Words.{flag-next, flag-same, flag-other, zero-first, zero-count, grow-length, grow-old}
+use Rattle.store.proofs.Words.{grow-new}
 
 -- a new record at the head of its three chains
 module _ (r t : ℕ) (x : Triple) (res stm : List ℕ) (L : Linked r t res stm) (room : statementWords * suc t ≤ length stm)

@@ -18,8 +18,10 @@ use Rattle.store.specs.declared.IndexPlace.the-variants.{At, Before, Tor
 use Rattle.store.specs.Triple.{below, head0}
 use Rattle.store.specs.Tables.{Tables, word, resourceWords, resourceCapacity, textCapacity, offsetAt, kindAt}
 use Rattle.store.specs.Values.{Values, counted, internedValues}
-use Rattle.store.specs.Model.{Model, Capacities, wellFormed, eqBytes, lookupName, nameOf, bytesOf, totals, withNames, internName, internModel}
-use Rattle.store.specs.Dictionary.{compare, equal, isLess, Indexed, Named, nameAt, rank, placeAt, indexPlaceOf, roomFor, oneNameMore, freshRecord, insertAt, withName, internAs, internOf}
+use Rattle.store.specs.Model.{Model, Capacities, wellFormed, eqBytes, lookupName, nameOf, bytesOf, totals}
+use Rattle.store.specs.Model.{withNames, internName, internModel}
+use Rattle.store.specs.Dictionary.{compare, equal, isLess, Indexed, Named, nameAt, rank, placeAt, indexPlaceOf}
+use Rattle.store.specs.Dictionary.{roomFor, oneNameMore, freshRecord, insertAt, withName, internAs, internOf}
 use Rattle.store.specs.History.{Store, store, internedCounters}
 use Rattle.store.proofs.Tests.{decide, upto-one, and-l, and-r, and-of}
 use Rattle.store.proofs.Falling.{below-cong, head-le, head-passes, head-pos}

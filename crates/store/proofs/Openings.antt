@@ -15,9 +15,14 @@ use Rattle.store.specs.declared.Chain.the-variants.{All, By}
 use Rattle.store.specs.declared.Triple.{Triple}
 use Rattle.store.specs.Triple.{at, within, below, prev}
 use Rattle.store.specs.Values.{Values, placed, refusedWith, stepped}
-use Rattle.store.specs.Model.{Entry, Listing, Model, Capacities, Taken, found as took, ended as emptied, spent as stopped, Call, open′, next, freshModel, entry, matches, onChain, holders, pick, pickModel, listing, cursorOf, noListing, leaving, take-off, takenValues, takeFrom, turn, openModel, nextModel, callModel, modelReplies, modelAfter}
+use Rattle.store.specs.Model.{Entry, Listing, Model, Capacities, Taken, found as took, ended as emptied}
+use Rattle.store.specs.Model.{spent as stopped, Call, open′, next, freshModel, entry, matches, onChain, holders}
+use Rattle.store.specs.Model.{pick, pickModel, listing, cursorOf, noListing, leaving, take-off, takenValues}
+use Rattle.store.specs.Model.{takeFrom, turn, openModel, nextModel, callModel, modelReplies, modelAfter}
 use Rattle.store.specs.History.{Store, freshStore, capacitiesOf, callStore, storeReplies, storeAfter}
-use Rattle.store.specs.Claims.{Opening, storeThen, opened, Accepted, openingNumber, chainThen, storeNow, visitsOf, visitsSoFar, restNow, reached, liveNow, nextNow, Latest, NoneOf, Exhausts, Shortest, unbound, bound, statementsIn, Finds, EndsOrSpends, VisitsAddUp}
+use Rattle.store.specs.Claims.{Opening, storeThen, opened, Accepted, openingNumber, chainThen, storeNow, visitsOf}
+use Rattle.store.specs.Claims.{visitsSoFar, restNow, reached, liveNow, nextNow, Latest, NoneOf, Exhausts}
+use Rattle.store.specs.Claims.{Shortest, unbound, bound, statementsIn, Finds, EndsOrSpends, VisitsAddUp}
 use Rattle.store.proofs.Tests.{decide, off-lt}
 use Rattle.store.proofs.Falling.{Falling, below-falling, all-pass}
 use Rattle.store.proofs.Picking.{Picked, pick-picks}

@@ -15,8 +15,10 @@ use Rattle.store.specs.declared.Triple.{Triple}
 use Rattle.store.specs.Triple.{at, all3, known, within, same, agrees, permitted, below}
 use Rattle.store.specs.Tables.{off}
 use Rattle.store.specs.Model.{Entry, matches, pick}
-use Rattle.store.specs.Claims.{KnownMeans, WithinMeans, SameMeans, MatchesMeans, PermittedMeans, BelowMeans, LeastBound, PicksLeast}
-use Rattle.store.proofs.Tests.{decide, off-lt, and-l, and-r, and-of, all3-at, all3-of, known-low, known-high, known-of, within-high, within-of, same-is, same-self}
+use Rattle.store.specs.Claims.{KnownMeans, WithinMeans, SameMeans, MatchesMeans, PermittedMeans, BelowMeans}
+use Rattle.store.specs.Claims.{LeastBound, PicksLeast}
+use Rattle.store.proofs.Tests.{decide, off-lt, and-l, and-r, and-of, all3-at, all3-of, known-low, known-high}
+use Rattle.store.proofs.Tests.{known-of, within-high, within-of, same-is, same-self}
 use Rattle.store.proofs.Falling.{below-in, below-out}
 use Rattle.store.proofs.Picking.{Picked, pick-picks}
 

@@ -12,13 +12,15 @@ use Rattle.store.specs.declared.Interned.the-variants.{Number as Id, Ref
 use Rattle.store.specs.declared.Asserted.{Asserted}
 use Rattle.store.specs.declared.Asserted.the-variants.{New, Already, Revived, Refused as NotAsserted}
 use Rattle.store.specs.declared.Retracted.{Retracted}
-use Rattle.store.specs.declared.Retracted.the-variants.{Number as Struck, Absent as NotLive, Refused as NotRetracted}
+use Rattle.store.specs.declared.Retracted.the-variants.{Number as Struck, Absent as NotLive}
+use Rattle.store.specs.declared.Retracted.the-variants.{Refused as NotRetracted}
 use Rattle.store.specs.declared.ScanOpened.{ScanOpened}
 use Rattle.store.specs.declared.ScanOpened.the-variants.{Cursor, Refused as NotOpened}
 use Rattle.store.specs.declared.Scanned.{Scanned}
 use Rattle.store.specs.declared.Scanned.the-variants.{Found, Ended, Spent, Refused as NotScanned}
 use Rattle.store.specs.Tables.{Tables}
-use Rattle.store.specs.Values.{Values, noCursor, refusedWith, internedValues, assertedValues, retractedValues, openedValues, scannedValues}
+use Rattle.store.specs.Values.{Values, noCursor, refusedWith, internedValues, assertedValues, retractedValues}
+use Rattle.store.specs.Values.{openedValues, scannedValues}
 use Rattle.store.specs.Model.{Form, byValue, lent, Call, intern, assert, retract, open′, next}
 use Rattle.store.specs.Statement.{assertOf, retractOf, countersAfter, assertLentOf, retractLentOf}
 use Rattle.store.specs.Scan.{openOf, nextOf}

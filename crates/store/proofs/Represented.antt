@@ -18,9 +18,11 @@ use Rattle.store.specs.declared.Chain.{Chain}
 use Rattle.store.specs.declared.Chain.the-variants.{All, By}
 use Rattle.store.specs.declared.Triple.{Triple}
 use Rattle.store.specs.Triple.{at, all3, known, same, below, head0}
-use Rattle.store.specs.Tables.{Tables, fits, resourceCapacity, statementCapacity, textCapacity, termAt, flagAt, tripleAt, countAt}
+use Rattle.store.specs.Tables.{Tables, fits, resourceCapacity, statementCapacity, textCapacity, termAt, flagAt}
+use Rattle.store.specs.Tables.{tripleAt, countAt}
 use Rattle.store.specs.Values.{Values}
-use Rattle.store.specs.Model.{Entry, Listing, Model, Capacities, entry, lookup, mark, onChain, holders, pick, pickModel, cursorOf, noListing, totals, take-off}
+use Rattle.store.specs.Model.{Entry, Listing, Model, Capacities, entry, lookup, mark, onChain, holders, pick}
+use Rattle.store.specs.Model.{pickModel, cursorOf, noListing, totals, take-off}
 use Rattle.store.specs.Walk.{entryAt, pickChain, pickable, startOf, linkOf, visitable, walk, Step, foundIn}
 use Rattle.store.specs.Statement.{seek, locate}
 use Rattle.store.specs.Scan.{chainOk}
@@ -31,7 +33,8 @@ use Rattle.store.proofs.Tests.{decide, and-l, and-r, and-of, all3-at, k
 use Rattle.store.proofs.Falling.{below-cong, head-le}
 use Rattle.store.proofs.Walks.{asStep, tookIn, found-as, hit-chain}
 use Rattle.store.proofs.Picking.{Bound, pick-cong}
-use Rattle.store.proofs.Chains.{onWords, pickChain-bound, chain-holding, chain-start, walk-linked, pickable-linked}
+use Rattle.store.proofs.Chains.{onWords, pickChain-bound, chain-holding, chain-start, walk-linked}
+use Rattle.store.proofs.Chains.{pickable-linked}
 
 -- the test of a chain, over the plain list
 abbrev pub onList : List Entry → Chain → Triple → ℕ → Bool

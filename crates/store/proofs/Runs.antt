@@ -11,14 +11,21 @@ use Rattle.store.specs.declared.Chain.the-variants.{All, By}
 use Rattle.store.specs.declared.Position.the-variants.{Subject, Predicate, Object}
 use Rattle.store.specs.declared.Counters.{Counters}
 use Rattle.store.specs.Triple.{triple, known, within, same, agrees, permitted, below}
-use Rattle.store.specs.Tables.{Tables, tables, fits, termAt, nextAt, flagAt, tripleAt, firstAt, countAt, offsetAt, kindAt}
+use Rattle.store.specs.Tables.{Tables, tables, fits, termAt, nextAt, flagAt, tripleAt, firstAt, countAt, offsetAt}
+use Rattle.store.specs.Tables.{kindAt}
 use Rattle.store.specs.Values.{Values, refusedWith, numbered, counted, placed, stepped}
-use Rattle.store.specs.Model.{Call, intern, assert, retract, open′, next, byValue, lent, freshModel, wellFormed, eqBytes, lookupName, nameOf, bytesOf, internName, internModel, matches, lookup, mark, put, assertModel, strike, retractModel, onChain, holders, better, pick, pickModel, listing, openModel, take-off, takeFrom, turn, nextModel, callModel, modelReplies}
+use Rattle.store.specs.Model.{Call, intern, assert, retract, open′, next, byValue, lent, freshModel, wellFormed}
+use Rattle.store.specs.Model.{eqBytes, lookupName, nameOf, bytesOf, internName, internModel, matches, lookup}
+use Rattle.store.specs.Model.{mark, put, assertModel, strike, retractModel, onChain, holders, better, pick}
+use Rattle.store.specs.Model.{pickModel, listing, openModel, take-off, takeFrom, turn, nextModel, callModel}
+use Rattle.store.specs.Model.{modelReplies}
 use Rattle.store.specs.Reading.{inRange}
 use Rattle.store.specs.Walk.{entryAt, pickChain, pickable, startOf, linkOf, sits, visitable, walk}
-use Rattle.store.specs.Statement.{seek, locate, appendRecord, linkFirst, linkRecord, kinded, asserting, assertOf, retracting, retractOf, assertLentOf, retractLentOf}
+use Rattle.store.specs.Statement.{seek, locate, appendRecord, linkFirst, linkRecord, kinded, asserting, assertOf}
+use Rattle.store.specs.Statement.{retracting, retractOf, assertLentOf, retractLentOf}
 use Rattle.store.specs.Scan.{cursorAt, openOf, chainOk, recordOk, cursorOk, walkFrom, nextOf}
-use Rattle.store.specs.Dictionary.{compare, nameAt, rank, placeAt, indexPlaceOf, roomFor, bring, insertAt, internAs, internOf}
+use Rattle.store.specs.Dictionary.{compare, nameAt, rank, placeAt, indexPlaceOf, roomFor, bring, insertAt}
+use Rattle.store.specs.Dictionary.{internAs, internOf}
 use Rattle.store.specs.History.{freshStore, capacitiesOf, callStore, storeReplies}
 
 -- <r:21> <p:trips> <b:4> <b:7> "A"

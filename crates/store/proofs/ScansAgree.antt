@@ -18,7 +18,10 @@ use Rattle.store.specs.declared.Scanned.{Scanned}
 use Rattle.store.specs.Triple.{at, within, below, head0}
 use Rattle.store.specs.Tables.{Tables}
 use Rattle.store.specs.Values.{Values, noCursor, placed, openedValues, scannedValues}
-use Rattle.store.specs.Model.{Entry, Listing, Model, Capacities, Taken, found as took, ended as emptied, spent as stopped, entry, matches, holders, pickModel, listing, cursorOf, withListings, openModel, take-off, noListing, leaving, restOf, takenValues, takeFrom, turn, nextModel}
+use Rattle.store.specs.Model.{Entry, Listing, Model, Capacities, Taken, found as took, ended as emptied}
+use Rattle.store.specs.Model.{spent as stopped, entry, matches, holders, pickModel, listing, cursorOf}
+use Rattle.store.specs.Model.{withListings, openModel, take-off, noListing, leaving, restOf, takenValues}
+use Rattle.store.specs.Model.{takeFrom, turn, nextModel}
 use Rattle.store.specs.Walk.{entryAt, pickChain, startOf}
 use Rattle.store.specs.Scan.{cursorAt, openOf, chainOk, recordOk, cursorOk, walkFrom, scannedAs, nextOf}
 use Rattle.store.specs.History.{Store, store, openedCursors, movedCursors}
@@ -27,7 +30,8 @@ use Rattle.store.proofs.Falling.{head-le, head-passes}
 use Rattle.store.proofs.Walks.{asStep, Part, rest-chain, take-cong}
 use Rattle.store.proofs.Picking.{pick-ok}
 use Rattle.store.proofs.Chains.{onWords, pickChain-bound, chain-sits, chain-start, walk-linked, pickable-linked}
-use Rattle.store.proofs.Represented.{onList, Good, Agreeing, Same, same-cond, fits-agrees, chain-agrees, holders-agree, pick-agrees, good-none}
+use Rattle.store.proofs.Represented.{onList, Good, Agreeing, Same, same-cond, fits-agrees, chain-agrees}
+use Rattle.store.proofs.Represented.{holders-agree, pick-agrees, good-none}
 
 -- ---- lists of openings
 

@@ -18,19 +18,26 @@ use Rattle.store.specs.declared.Triple.{Triple}
 use Rattle.store.specs.declared.Asserted.{Asserted}
 use Rattle.store.specs.declared.Retracted.{Retracted}
 use Rattle.store.specs.Triple.{at, all3, known, permitted}
-use Rattle.store.specs.Tables.{Tables, statementCapacity, statementWords, resourceWords, termAt, flagAt, tripleAt, offsetAt, kindAt}
+use Rattle.store.specs.Tables.{Tables, statementCapacity, statementWords, resourceWords, termAt, flagAt, tripleAt}
+use Rattle.store.specs.Tables.{offsetAt, kindAt}
 use Rattle.store.specs.Values.{Values, counted, assertedValues, retractedValues}
-use Rattle.store.specs.Model.{Entry, Model, Capacities, entry, lookup, mark, nameOf, totals, withEntries, put, assertModel, strike, retractModel}
+use Rattle.store.specs.Model.{Entry, Model, Capacities, entry, lookup, mark, nameOf, totals, withEntries, put}
+use Rattle.store.specs.Model.{assertModel, strike, retractModel}
 use Rattle.store.specs.Walk.{entryAt}
-use Rattle.store.specs.Statement.{withFlag, appendRecord, linkRecord, appended, kinded, oneStatementMore, asserting, assertOf, retracting, retractOf, countersAfter}
+use Rattle.store.specs.Statement.{withFlag, appendRecord, linkRecord, appended, kinded, oneStatementMore}
+use Rattle.store.specs.Statement.{asserting, assertOf, retracting, retractOf, countersAfter}
 use Rattle.store.specs.Dictionary.{Named}
 use Rattle.store.specs.History.{Store, store}
 use Rattle.store.proofs.Tests.{decide, upto, and-of, all3-of, known-low, known-high}
-use Rattle.store.proofs.Words.{triple-of, triple-same, append-length, append-term-old, append-flag-old, append-term, append-flag, linked-length, linked-offset, linked-kind, flag-term, flag-same, flag-other, triple-at}
+use Rattle.store.proofs.Words.{triple-of, triple-same, append-length, append-term-old, append-flag-old}
+use Rattle.store.proofs.Words.{append-term, append-flag, linked-length, linked-offset, linked-kind, flag-term}
+use Rattle.store.proofs.Words.{flag-same, flag-other, triple-at}
 use Rattle.store.proofs.Links.{append-linked, flag-linked}
 use Rattle.store.proofs.Form.{form-kind, kind-high}
 use Rattle.store.proofs.Text.{length-snoc}
-use Rattle.store.proofs.Represented.{Agreeing, Same, same-cond, fits-agrees, totals-agree, mark-agrees, lookup-le, locate-agrees, mark-length, mark-same, mark-other, mark-spo, good-grow}
+use Rattle.store.proofs.Represented.{Agreeing, Same, same-cond, fits-agrees, totals-agree, mark-agrees}
+use Rattle.store.proofs.Represented.{lookup-le, locate-agrees, mark-length, mark-same, mark-other, mark-spo}
+use Rattle.store.proofs.Represented.{good-grow}
 
 -- an entry by its words
 pub entry-of : (stm : List ℕ) (i : ℕ) (x : Triple) (b : Bool) → ((p : Position) → termAt stm p i ≡ at p x) → eqb (flagAt stm i) 1 ≡ b

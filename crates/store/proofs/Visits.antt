@@ -14,7 +14,11 @@ use Rattle.term.specs.Scanner.{firstKindOf}
 use Rattle.store.specs.declared.Triple.{Triple}
 use Rattle.store.specs.Triple.{known, within, permitted}
 use Rattle.store.specs.Values.{Values, refusedWith}
-use Rattle.store.specs.Model.{Model, Listing, Capacities, Taken, found as took, ended as emptied, spent as stopped, Call, intern, assert, retract, open′, next, noListing, leaving, restOf, takenValues, wellFormed, lookupName, nameOf, bytesOf, internName, internModel, entry, lookup, put, assertModel, strike, retractModel, listing, openModel, takeFrom, turn, nextModel, callModel, modelReplies, modelAfter}
+use Rattle.store.specs.Model.{Model, Listing, Capacities, Taken, found as took, ended as emptied}
+use Rattle.store.specs.Model.{spent as stopped, Call, intern, assert, retract, open′, next, noListing, leaving}
+use Rattle.store.specs.Model.{restOf, takenValues, wellFormed, lookupName, nameOf, bytesOf, internName}
+use Rattle.store.specs.Model.{internModel, entry, lookup, put, assertModel, strike, retractModel, listing}
+use Rattle.store.specs.Model.{openModel, takeFrom, turn, nextModel, callModel, modelReplies, modelAfter}
 use Rattle.store.specs.Claims.{readsOn, visitsOf}
 use Rattle.store.proofs.Tests.{decide, cond-all}
 use Rattle.store.proofs.Walks.{visitsIn, visits-rest}

@@ -15,7 +15,8 @@ use Rattle.store.specs.declared.Position.{Position}
 use Rattle.store.specs.declared.Position.the-variants.{Subject, Predicate, Object}
 use Rattle.store.specs.declared.Triple.{Triple}
 use Rattle.store.specs.Triple.{at, triple}
-use Rattle.store.specs.Tables.{word, off, statementWords, resourceWords, termAt, nextAt, flagAt, tripleAt, firstAt, countAt, offsetAt, kindAt}
+use Rattle.store.specs.Tables.{word, off, statementWords, resourceWords, termAt, nextAt, flagAt, tripleAt}
+use Rattle.store.specs.Tables.{firstAt, countAt, offsetAt, kindAt}
 use Rattle.store.specs.Statement.{recordWords, appendRecord, linkFirst, linkRecord}
 use Rattle.store.specs.Dictionary.{freshRecord}
 use Rattle.store.proofs.Tests.{decide, off-lt}

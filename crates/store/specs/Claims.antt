@@ -18,7 +18,8 @@ use Rattle.store.specs.declared.Lookup.the-variants.{Number}
 use Rattle.store.specs.Triple.{at, known, within, same, agrees, permitted, below, prev}
 use Rattle.store.specs.Tables.{Tables, off, freshCounters}
 use Rattle.store.specs.Values.{Values, refusedWith}
-use Rattle.store.specs.Model.{Entry, Model, Call, intern, assert, retract, open′, next, freshModel, totals, entry, matches, holders, pick, cursorOf, modelReplies, modelAfter}
+use Rattle.store.specs.Model.{Entry, Model, Call, intern, assert, retract, open′, next, freshModel, totals, entry}
+use Rattle.store.specs.Model.{matches, holders, pick, cursorOf, modelReplies, modelAfter}
 use Rattle.store.specs.Walk.{entryAt}
 use Rattle.store.specs.Reading.{nameSpanOf}
 use Rattle.store.specs.Dictionary.{nameAt, findOf}
