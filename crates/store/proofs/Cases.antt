@@ -55,7 +55,8 @@ module _ (c : Counters) (m : Tables) (x : Triple) where
       retract-located n f = rw (retractOf, a, b, f)
 
       module _ (d : kinded (m .resources) x ≡ true) where
-        pub assert-unpermitted : permitted (kindAt (m .resources)) x ≡ false → assertOf c m x ≡ (m, NotAsserted KindNotPermitted)
+        pub assert-unpermitted : permitted (kindAt (m .resources)) x ≡ false
+            → assertOf c m x ≡ (m, NotAsserted KindNotPermitted)
         unfolding assertOf
         assert-unpermitted e = rw (assertOf, a, b, d, e)
 
@@ -78,15 +79,18 @@ QuietRetract m z = (q : Refusal) → z .1 ≡ NotRetracted q → z .0 ≡ m
 
 asserting-quiet : (c : Counters) (m : Tables) (x : Triple) (n : ℕ) → QuietAssert m (asserting c m x n)
 unfolding asserting
-asserting-quiet c m x zero q = decide (ltb (c .statements) (statementCapacity m)) (λ e. rw e (λ h. cc)) (λ e. rw e (λ h. refl))
-asserting-quiet c m x (suc i) q = decide (eqb (flagAt (m .statements) i) 1) (λ e. rw e (λ h. cc)) (λ e. rw e (λ h. refl))
+asserting-quiet c m x zero q =
+    decide (ltb (c .statements) (statementCapacity m)) (λ e. rw e (λ h. cc)) (λ e. rw e (λ h. refl))
+asserting-quiet c m x (suc i) q =
+    decide (eqb (flagAt (m .statements) i) 1) (λ e. rw e (λ h. cc)) (λ e. rw e (λ h. refl))
 
 retracting-quiet : (m : Tables) (n : ℕ) → QuietRetract m (retracting m n)
 unfolding retracting
 retracting-quiet m zero q = λ h. refl
 retracting-quiet m (suc i) q = decide (eqb (flagAt (m .statements) i) 1) (λ e. rw e (λ h. refl)) (λ e. rw e (λ h. cc))
 
-pub assert-refused : (c : Counters) (m : Tables) (x : Triple) (q : Refusal) → (assertOf c m x) .1 ≡ NotAsserted q → (assertOf c m x) .0 ≡ m
+pub assert-refused : (c : Counters) (m : Tables) (x : Triple) (q : Refusal) → (assertOf c m x) .1 ≡ NotAsserted q
+    → (assertOf c m x) .0 ≡ m
 assert-refused c m x =
     decide (fits c m)
     (λ a. decide (known (c .resources) x)
@@ -100,7 +104,8 @@ assert-refused c m x =
     (λ b. rw (assert-unknown c m x a b) (λ q h. refl)))
     (λ a. rw (assert-capacity c m x a) (λ q h. refl))
 
-pub retract-refused : (c : Counters) (m : Tables) (x : Triple) (q : Refusal) → (retractOf c m x) .1 ≡ NotRetracted q → (retractOf c m x) .0 ≡ m
+pub retract-refused : (c : Counters) (m : Tables) (x : Triple) (q : Refusal) → (retractOf c m x) .1 ≡ NotRetracted q
+    → (retractOf c m x) .0 ≡ m
 retract-refused c m x =
     decide (fits c m)
     (λ a. decide (known (c .resources) x)

@@ -1,4 +1,5 @@
--- What the store needs of well-formed names: no zero byte, a kind from 1 to 3 by the first byte, at most 255 bytes. Assumes nothing.
+-- What the store needs of well-formed names: no zero byte, a kind from 1 to 3 by the first byte, at most 255 bytes.
+-- Assumes nothing.
 use mathlib.Core.Path.{_≡_, refl, sym, ap, _∙_}
 use mathlib.Core.Bool.{Bool, true, false}
 use mathlib.Core.List.{List, [], _∷_}

@@ -1,5 +1,5 @@
--- The lists read off a store: of a store that agrees with plain lists they are these lists; of a sound store they agree with it.
--- Assumes nothing.
+-- The lists read off a store: of a store that agrees with plain lists they are these lists; of a sound store they agree
+-- with it. Assumes nothing.
 use mathlib.Core.Path.{_≡_, refl, sym, ap, ap₂, _∙_, subst}
 use mathlib.Core.Logic.{_≢_}
 use mathlib.Core.Bool.{Bool, true, false, _&&_}
@@ -39,7 +39,8 @@ unfolding entriesUpTo
 entries-at stm zero i h = absurd (omega arith)
 entries-at stm (suc n) i h =
     upto (λ i. entry (entriesUpTo stm n ++ entryAt stm n ∷ []) i ≡ entryAt stm i) n
-    (λ i q. let q′ : i < length (entriesUpTo stm n) = omega (arith, entries-length stm n) in rw List·getD-append (entries-at stm n i q))
+    (λ i q. let q′ : i < length (entriesUpTo stm n) = omega (arith, entries-length stm n) in
+    rw List·getD-append (entries-at stm n i q))
     (last (entriesUpTo stm n) (entries-length stm n)) i h
   where
     last : (l : List Entry) → length l ≡ n → entry (l ++ entryAt stm n ∷ []) n ≡ entryAt stm n
@@ -57,7 +58,8 @@ unfolding namesUpTo
 names-at m zero i h = absurd (omega arith)
 names-at m (suc n) i h =
     upto (λ i. getD (namesUpTo m n ++ nameAt m (suc n) ∷ []) i [] ≡ nameAt m (suc i)) n
-    (λ i q. let q′ : i < length (namesUpTo m n) = omega (arith, names-length m n) in rw List·getD-append (names-at m n i q))
+    (λ i q. let q′ : i < length (namesUpTo m n) = omega (arith, names-length m n) in
+    rw List·getD-append (names-at m n i q))
     (last (namesUpTo m n) (names-length m n)) i h
   where
     last : (l : List (List ℕ)) → length l ≡ n → getD (l ++ nameAt m (suc n) ∷ []) n [] ≡ nameAt m (suc n)
@@ -79,7 +81,8 @@ pub agreeing-statements : (k : Capacities) (c : Store) (s : Model) → Agreeing 
 agreeing-statements k c s R =
     ext-getD (record { spo = noTriple; retracted = false }) (statementsIn c) (s .entries)
     (entries-length (c .tables .statements) (c .counters .statements) ∙ R .size)
-    (λ i h. let q : i < c .counters .statements = omega (arith, entries-length (c .tables .statements) (c .counters .statements)) in
+    (λ i h. let q : i < c .counters .statements = omega
+    (arith, entries-length (c .tables .statements) (c .counters .statements)) in
     entries-at (c .tables .statements) (c .counters .statements) i q ∙ sym (R .reads i q))
 
 pub agreeing-holds : (k : Capacities) (c : Store) (s : Model) → Agreeing k c s → Tidy s → Holds c s
@@ -109,12 +112,14 @@ module _ (c : Counters) (m : Tables) (S : Sound c m) where
     room-statements = refl;
     room-text = refl;
     in-resources = leb-true (c .resources) (resourceCapacity m) (and-l _ _ bits);
-    in-statements = leb-true (c .statements) (statementCapacity m) (and-l _ _ (and-r (leb (c .resources) (resourceCapacity m)) _ bits));
+    in-statements = leb-true (c .statements) (statementCapacity m) (and-l _ _
+        (and-r (leb (c .resources) (resourceCapacity m)) _ bits));
     in-text = leb-true (c .text) (textCapacity m)
         (and-r (leb (c .statements) (statementCapacity m)) _ (and-r (leb (c .resources) (resourceCapacity m)) _ bits));
   }
     where
-      bits : leb (c .resources) (resourceCapacity m) && (leb (c .statements) (statementCapacity m) && leb (c .text) (textCapacity m)) ≡ true
+      bits : leb (c .resources) (resourceCapacity m)
+          && (leb (c .statements) (statementCapacity m) && leb (c .text) (textCapacity m)) ≡ true
       bits = unfold fits in (S .capacity)
 
   spo-at : (i : ℕ) → i < c .statements → (entry (statementsIn here) i) .spo ≡ tripleAt (m .statements) i
@@ -131,7 +136,8 @@ module _ (c : Counters) (m : Tables) (S : Sound c m) where
         kinds = λ i h.
             let q : i < c .statements = omega arith in
             rw (spo-at i q)
-            (sym (permitted-agrees (capacitiesOf m) here (listsOf here) sound-agrees (tripleAt (m .statements) i) (entry-known _ _ _ _ (S .linked) i q))
+            (sym (permitted-agrees (capacitiesOf m) here (listsOf here) sound-agrees (tripleAt (m .statements) i)
+            (entry-known _ _ _ _ (S .linked) i q))
             ∙ S .kinds i q);
         once = λ i j h g.
             let q : j < c .statements = omega arith in

@@ -1,19 +1,21 @@
--- One opening in a run of the store: what a next of it answers is what taking positions off its rest comes to, and the rest is the
--- chain at the opening without as many as were visited. So Finds, EndsOrSpends and VisitsAddUp. Assumes nothing.
+-- One opening in a run of the store: what a next of it answers is what taking positions off its rest comes to, and the
+-- rest is the chain at the opening without as many as were visited. So Finds, EndsOrSpends and VisitsAddUp. Assumes
+-- nothing.
 use mathlib.Core.Path.{_≡_, refl, sym, ap, ap₂, _∙_, subst}
-use mathlib.Core.Logic.{_≢_, _↔_}
-use mathlib.Core.Bool.{Bool, true, false, cond, true≢false}
-use mathlib.Core.List.{List, [], _∷_, _++_, map}
-use Prim.Native.Nat.{ℕ, zero, suc, _+_, _≤_, _<_}
+use mathlib.Core.Logic.{_≢_, _↔_, ⊎-elim}
+use mathlib.Core.Bool.{Bool, true, false, cond, not, true≢false}
+use mathlib.Core.List.{List, [], _∷_, _++_, map, List·Memᴰ}
+use Prim.Native.Nat.{ℕ, zero, suc, _+_, _-_, _≤_, _<_}
 use native.Mathlib.Omega.{arith}
 use lib.ListN.{length, getD, take, drop, length-append}
 use lib.Seq.{getD-append-seam}
 use lib.Dec.{eqb}
+use borrow.Author.Tests.{eq-eqb}
 use Rattle.store.specs.declared.Position.{Position}
 use Rattle.store.specs.declared.Chain.{Chain}
 use Rattle.store.specs.declared.Chain.the-variants.{All, By}
 use Rattle.store.specs.declared.Triple.{Triple}
-use Rattle.store.specs.Triple.{at, within, below, prev}
+use Rattle.store.specs.Triple.{at, within, agrees, below, prev}
 use Rattle.store.specs.Values.{Values, placed, refusedWith, stepped}
 use Rattle.store.specs.Model.{Entry, Listing, Model, Capacities, Taken, found as took, ended as emptied}
 use Rattle.store.specs.Model.{spent as stopped, Call, open′, next, freshModel, entry, matches, onChain, holders}
@@ -23,14 +25,17 @@ use Rattle.store.specs.History.{Store, freshStore, capacitiesOf, callSto
 use Rattle.store.specs.Claims.{Opening, storeThen, opened, Accepted, openingNumber, chainThen, storeNow, visitsOf}
 use Rattle.store.specs.Claims.{visitsSoFar, restNow, reached, liveNow, nextNow, Latest, NoneOf, Exhausts}
 use Rattle.store.specs.Claims.{Shortest, unbound, bound, statementsIn, Finds, EndsOrSpends, VisitsAddUp}
-use Rattle.store.proofs.Tests.{decide, off-lt}
-use Rattle.store.proofs.Falling.{Falling, below-falling, all-pass}
-use Rattle.store.proofs.Picking.{Picked, pick-picks}
+use Rattle.store.specs.Claims.{takenSoFar, NoneIsMissed}
+use Rattle.store.proofs.Tests.{decide, off-lt, and-r}
+use Rattle.store.proofs.Falling.{Falling, below-falling, below-in, all-pass}
+use Rattle.store.proofs.Picking.{Picked, pick-picks, Bound, pick-bound}
 use Rattle.store.proofs.Represented.{Agreeing, Same}
 use Rattle.store.proofs.Histories.{call-agrees, history-agrees, fresh-agrees}
-use Rattle.store.proofs.Taking.{Outcome, hits, ends, stops, outcome, falling-drop}
+use Rattle.store.proofs.Taking.{Outcome, hits, ends, stops, outcome, falling-drop, mem-split}
 use Rattle.store.proofs.Visits.{openingOf, opening-after, visits-add}
 use Rattle.store.proofs.Held.{agreeing-statements}
+use Rattle.store.proofs.Entries.{Grown, grown-trans, grown-call, grown-history}
+use Rattle.store.proofs.Pins.{agrees-at}
 
 length-map : {A B : Type 0} (f : A → B) (l : List A) → length (map f l) ≡ length l
 length-map f [] = refl
@@ -47,7 +52,8 @@ open-lists : (s : Model) (x : Triple) → within (length (s .names)) x ≡ true
 unfolding openModel
 open-lists s x e = rw e
 
-open-values : (s : Model) (x : Triple) → within (length (s .names)) x ≡ true → (openModel s x) .1 ≡ placed (cursorOf (listing x (s .entries)))
+open-values : (s : Model) (x : Triple) → within (length (s .names)) x ≡ true
+    → (openModel s x) .1 ≡ placed (cursorOf (listing x (s .entries)))
 unfolding openModel
 open-values s x e = rw e
 
@@ -68,6 +74,21 @@ take-from l x h r b = refl
 rest-of : (x : Triple) (l : List Entry) → (listing x l) .rest ≡ holders (pickModel x l) x l
 unfolding listing
 rest-of x l = refl
+
+-- a match is on the picked chain
+matches-agrees : (x : Triple) (e : Entry) → matches x e ≡ true → agrees x (e .spo) ≡ true
+unfolding matches
+matches-agrees x e h = and-r (not (e .retracted)) _ h
+
+agrees-on : (ch : Chain) (x t : Triple) → Bound ch x → agrees x t ≡ true → onChain ch x t ≡ true
+unfolding onChain
+agrees-on All x t b h = refl
+agrees-on (By p) x t b h = eq-eqb (at p t) (at p x) (agrees-at x t h p b)
+
+in-listing : (x : Triple) (l : List Entry) (i : ℕ) → i < length l → agrees x ((entry l i) .spo) ≡ true
+    → List·Memᴰ (suc i) ((listing x l) .rest)
+unfolding listing holders pickModel
+in-listing x l i h e = below-in _ (length l) i h (agrees-on _ x ((entry l i) .spo) (pick-bound x _) e)
 
 holders-falling : (ch : Chain) (x : Triple) (l : List Entry) → Falling (holders ch x l)
 unfolding holders
@@ -131,6 +152,9 @@ module _ (o : Opening) (acc : Accepted o) where
   R2 : Agreeing k (storeNow o) s2
   R2 = history-agrees k ((opened o) .0) s1 R1 (o .since) .1
 
+  grown-now : Grown (s0 .entries) (s2 .entries)
+  grown-now = grown-trans _ _ _ (grown-call k s0 (open′ x)) (grown-history k s1 (o .since))
+
   visits-same : visitsSoFar o ≡ visitsOf j (o .since) (modelReplies k s1 (o .since))
   visits-same = ap (visitsOf (openingNumber o) (o .since)) (history-agrees k ((opened o) .0) s1 R1 (o .since) .0)
 
@@ -167,13 +191,18 @@ module _ (o : Opening) (acc : Accepted o) where
     answer : (z : Taken) → take-off liveAt b (restNow o) ≡ z → nextNow o b ≡ takenValues (openingOf s2 j) z
     answer z q = next-is b h ∙ ap (takenValues (openingOf s2 j)) q
 
-    finds-by : (n : ℕ) → Outcome liveAt b (restNow o) → ((nextNow o b) .status ≡ 1) × ((nextNow o b) .number ≡ n) ↔ Latest (liveNow o) (reached o b) n
+    finds-by : (n : ℕ) → Outcome liveAt b (restNow o) → ((nextNow o b) .status ≡ 1) × ((nextNow o b) .number ≡ n)
+        ↔ Latest (liveNow o) (reached o b) n
     finds-by n (hits i v r q L) =
         let e = answer (took i v r) q in (
           λ z. subst (Latest (liveNow o) (reached o b)) (sym (ap (λ (v : Values). v .number) e) ∙ z .1) L,
           λ K. (
             ap (λ (v : Values). v .status) e,
-            ap (λ (v : Values). v .number) e ∙ omega (arith, K .latest i (L .among) (L .passes), L .latest n (K .among) (K .passes)),
+            ap (λ (v : Values). v .number) e ∙ omega (
+              arith,
+              K .latest i (L .among) (L .passes),
+              L .latest n (K .among) (K .passes),
+            ),
           ),
         )
     finds-by n (ends q none l) =
@@ -211,18 +240,52 @@ module _ (o : Opening) (acc : Accepted o) where
           spent-visits = λ z. ap (λ (v : Values). v .visits) a;
         }
 
+  -- ---- no match is missed
+
+  on-chain : (n : ℕ) → 0 < n → n ≤ (storeThen o) .counters .statements → liveNow o n ≡ true → List·Memᴰ n (chainThen o)
+  on-chain n lo hi e =
+      let i = n - 1 in
+      let d : suc i ≡ n = omega arith in
+      let q : i < length (s0 .entries) = omega (arith, R0 .size) in
+      let m : matches x (entry (s2 .entries) i) ≡ true =
+      sym (ap₂ (λ (l : List Entry) (z : ℕ). matches x (entry l z)) (agreeing-statements k (storeNow o) s2 R2)
+      (prev-is n)) ∙ e in
+      let a : agrees x ((entry (s0 .entries) i) .spo) ≡ true =
+      ap (agrees x) (sym (grown-now .stays i q)) ∙ matches-agrees x (entry (s2 .entries) i) m in
+      rw chain-is (subst (λ (z : ℕ). List·Memᴰ z ((listing x (s0 .entries)) .rest)) d
+      (in-listing x (s0 .entries) i q a))
+    where
+      prev-is : (n : ℕ) → prev n ≡ n - 1
+      prev-is zero = omega arith
+      prev-is (suc n) = omega arith
+
+  missed-none : (n : ℕ) → 0 < n → n ≤ (storeThen o) .counters .statements → liveNow o n ≡ true
+      → ((i : ℕ) → List·Memᴰ i (takenSoFar o) → n < i) → List·Memᴰ n (restNow o)
+  missed-none n lo hi e h =
+      ⊎-elim (λ m. absurd (omega (arith, h n m))) (λ m. m)
+      (mem-split (visitsSoFar o) (chainThen o) n (on-chain n lo hi e))
+
   -- ---- the visits
 
   -- the visits so far and the rest make up the chain at the opening
   pub visits-and-rest : visitsSoFar o + length (restNow o) ≡ length (chainThen o)
   visits-and-rest =
       let sum = visits-add k s1 j (o .since) j-open in
-      omega (arith, sum, visits-same, ap (λ (g : Listing). length (g .rest)) at-now, ap (λ (g : Listing). length (g .rest)) at-opening, ap length chain-is)
+      omega (
+        arith,
+        sum,
+        visits-same,
+        ap (λ (g : Listing). length (g .rest)) at-now,
+        ap (λ (g : Listing). length (g .rest)) at-opening,
+        ap length chain-is,
+      )
 
-  chain-length : length (chainThen o) ≡ length (holders (pickModel (o .pattern) (statementsIn (storeThen o))) (o .pattern) (statementsIn (storeThen o)))
+  chain-length : length (chainThen o) ≡ length (holders (pickModel (o .pattern) (statementsIn (storeThen o)))
+      (o .pattern) (statementsIn (storeThen o)))
   chain-length =
       ap length (chain-is ∙ rest-of (o .pattern) (s0 .entries))
-      ∙ ap (λ (l : List Entry). length (holders (pickModel (o .pattern) l) (o .pattern) l)) (sym (agreeing-statements k (storeThen o) s0 R0))
+      ∙ ap (λ (l : List Entry). length (holders (pickModel (o .pattern) l) (o .pattern) l))
+      (sym (agreeing-statements k (storeThen o) s0 R0))
 
 -- the picked chain is the shortest bound one
 all-length : (x : Triple) (l : List Entry) → length (holders All x l) ≡ length l
@@ -231,7 +294,8 @@ all-length x l = all-pass _ (length l) (λ i h. refl)
 
 pub picked-shortest : (x : Triple) (l : List Entry) (v : ℕ) → v ≡ length (holders (pickModel x l) x l) → Shortest x l v
 unfolding pickModel
-picked-shortest x l v e = go (pick x (λ q. length (holders (By q) x l))) (pick-picks x (λ q. length (holders (By q) x l))) e
+picked-shortest x l v e =
+    go (pick x (λ q. length (holders (By q) x l))) (pick-picks x (λ q. length (holders (By q) x l))) e
   where
     go : (ch : Chain) → Picked x (λ q. length (holders (By q) x l)) 3 ch → v ≡ length (holders ch x l) → Shortest x l v
     go All h d = unbound (λ q. h q (off-lt q)) (d ∙ all-length x l)
@@ -241,6 +305,9 @@ picked-shortest x l v e = go (pick x (λ q. length (holders (By q) x l))) (pick-
 
 pub finds : Finds
 finds o acc b h n = finds-by o acc b h n (outcome-now o acc b)
+
+pub none-is-missed : NoneIsMissed
+none-is-missed o acc = missed-none o acc
 
 pub ends-or-spends : EndsOrSpends
 ends-or-spends o acc b h = exhausts-by o acc b h (outcome-now o acc b)

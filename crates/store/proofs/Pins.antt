@@ -1,5 +1,5 @@
--- What stands on both sides of the claim about histories, said another way: tests of triples, matching, permitted kinds, falling
--- positions, the pick. Assumes nothing.
+-- What stands on both sides of the claim about histories, said another way: tests of triples, matching, permitted
+-- kinds, falling positions, the pick. Assumes nothing.
 use mathlib.Core.Path.{_≡_, refl, sym, ap, _∙_}
 use mathlib.Core.Logic.{_≢_, _↔_}
 use mathlib.Core.Bool.{Bool, true, false, cond, not, _&&_, _||_, true≢false, false≢true}
@@ -16,10 +16,11 @@ use Rattle.store.specs.Triple.{at, all3, known, within, same, agrees, pe
 use Rattle.store.specs.Tables.{off}
 use Rattle.store.specs.Model.{Entry, matches, pick}
 use Rattle.store.specs.Claims.{KnownMeans, WithinMeans, SameMeans, MatchesMeans, PermittedMeans, BelowMeans}
+use Rattle.store.specs.Claims.{FirstIsHighest}
 use Rattle.store.specs.Claims.{LeastBound, PicksLeast}
 use Rattle.store.proofs.Tests.{decide, off-lt, and-l, and-r, and-of, all3-at, all3-of, known-low, known-high}
 use Rattle.store.proofs.Tests.{known-of, within-high, within-of, same-is, same-self}
-use Rattle.store.proofs.Falling.{below-in, below-out}
+use Rattle.store.proofs.Falling.{below-in, below-out, head-most}
 use Rattle.store.proofs.Picking.{Picked, pick-picks}
 
 pub known-means : KnownMeans
@@ -78,6 +79,10 @@ below-means f n i = (
       (omega (arith, r .2, e), ap f e ∙ r .3),
   λ h. below-in f n i (h .0) (h .1),
 )
+
+pub first-is-highest : FirstIsHighest
+first-is-highest f n i m =
+    let r = below-out f n i m in omega (arith, r .1, head-most f n (r .0) (r .2) (r .3))
 
 -- ---- the pick
 

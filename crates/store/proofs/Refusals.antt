@@ -1,4 +1,5 @@
--- A refused call leaves the whole store as it was, and its reply is the refusal's number and zeros, on any store. Assumes nothing.
+-- A refused call leaves the whole store as it was, and its reply is the refusal's number and zeros, on any store.
+-- Assumes nothing.
 use mathlib.Core.Path.{_≡_, refl, sym, ap, ap₂, _∙_}
 use mathlib.Core.Logic.{_≢_}
 use mathlib.Core.List.{List}
@@ -39,19 +40,22 @@ module _ (s : Store) where
 
   -- ---- the store, by the reply
 
-  interned-stays : (m′ : Tables) (a : Interned) → ((q : Refusal) → a ≡ NotInterned q → m′ ≡ m) → (internedValues a) .refusal ≢ 0
+  interned-stays : (m′ : Tables) (a : Interned) → ((q : Refusal) → a ≡ NotInterned q → m′ ≡ m)
+      → (internedValues a) .refusal ≢ 0
       → store (internedCounters c a) m′ (s .cursors) ≡ s
   interned-stays m′ (Id n d) quiet h = absurd (h refl)
   interned-stays m′ (NotInterned q) quiet h = ap (λ (z : Tables). store c z (s .cursors)) (quiet q refl)
 
-  asserted-stays : (m′ : Tables) (a : Asserted) → ((q : Refusal) → a ≡ NotAsserted q → m′ ≡ m) → (assertedValues a) .refusal ≢ 0
+  asserted-stays : (m′ : Tables) (a : Asserted) → ((q : Refusal) → a ≡ NotAsserted q → m′ ≡ m)
+      → (assertedValues a) .refusal ≢ 0
       → store (countersAfter c a) m′ (s .cursors) ≡ s
   asserted-stays m′ (New n d) quiet h = absurd (h refl)
   asserted-stays m′ (Already n d) quiet h = absurd (h refl)
   asserted-stays m′ (Revived n d) quiet h = absurd (h refl)
   asserted-stays m′ (NotAsserted q) quiet h = ap (λ (z : Tables). store c z (s .cursors)) (quiet q refl)
 
-  retracted-stays : (m′ : Tables) (a : Retracted) → ((q : Refusal) → a ≡ NotRetracted q → m′ ≡ m) → (retractedValues a) .refusal ≢ 0
+  retracted-stays : (m′ : Tables) (a : Retracted) → ((q : Refusal) → a ≡ NotRetracted q → m′ ≡ m)
+      → (retractedValues a) .refusal ≢ 0
       → store c m′ (s .cursors) ≡ s
   retracted-stays m′ (Struck n) quiet h = absurd (h refl)
   retracted-stays m′ NotLive quiet h = absurd (h refl)
@@ -69,26 +73,31 @@ module _ (s : Store) where
 
 -- ---- the reply
 
-interned-bare : (a : Interned) → (internedValues a) .refusal ≢ 0 → internedValues a ≡ refusedWith ((internedValues a) .refusal)
+interned-bare : (a : Interned) → (internedValues a) .refusal ≢ 0
+    → internedValues a ≡ refusedWith ((internedValues a) .refusal)
 interned-bare (Id n d) h = absurd (h refl)
 interned-bare (NotInterned q) h = refl
 
-asserted-bare : (a : Asserted) → (assertedValues a) .refusal ≢ 0 → assertedValues a ≡ refusedWith ((assertedValues a) .refusal)
+asserted-bare : (a : Asserted) → (assertedValues a) .refusal ≢ 0
+    → assertedValues a ≡ refusedWith ((assertedValues a) .refusal)
 asserted-bare (New n d) h = absurd (h refl)
 asserted-bare (Already n d) h = absurd (h refl)
 asserted-bare (Revived n d) h = absurd (h refl)
 asserted-bare (NotAsserted q) h = refl
 
-retracted-bare : (a : Retracted) → (retractedValues a) .refusal ≢ 0 → retractedValues a ≡ refusedWith ((retractedValues a) .refusal)
+retracted-bare : (a : Retracted) → (retractedValues a) .refusal ≢ 0
+    → retractedValues a ≡ refusedWith ((retractedValues a) .refusal)
 retracted-bare (Struck n) h = absurd (h refl)
 retracted-bare NotLive h = absurd (h refl)
 retracted-bare (NotRetracted q) h = refl
 
-opened-bare : (a : ScanOpened) → (openedValues a) .refusal ≢ 0 → openedValues a ≡ refusedWith ((openedValues a) .refusal)
+opened-bare : (a : ScanOpened) → (openedValues a) .refusal ≢ 0
+    → openedValues a ≡ refusedWith ((openedValues a) .refusal)
 opened-bare (Cursor q) h = absurd (h refl)
 opened-bare (NotOpened q) h = refl
 
-scanned-bare : (a : Scanned) → (scannedValues a) .refusal ≢ 0 → scannedValues a ≡ refusedWith ((scannedValues a) .refusal)
+scanned-bare : (a : Scanned) → (scannedValues a) .refusal ≢ 0
+    → scannedValues a ≡ refusedWith ((scannedValues a) .refusal)
 scanned-bare (Found n v q) h = absurd (h refl)
 scanned-bare (Ended v q) h = absurd (h refl)
 scanned-bare (Spent v q) h = absurd (h refl)
@@ -104,7 +113,8 @@ refusals-change-nothing s (assert lent x) = asserted-stays s _ _ (assert-refused
 refusals-change-nothing s (retract byValue x) = retracted-stays s _ _ (retract-refused (s .counters) (s .tables) x)
 refusals-change-nothing s (retract lent x) = retracted-stays s _ _ (retract-refused (s .counters) (s .tables) x)
 refusals-change-nothing s (open′ x) = opened-stays s (openOf (s .counters) (s .tables) x)
-refusals-change-nothing s (next j b) = scanned-stays s j (nextOf (s .counters) (s .tables) (getD (s .cursors) j noCursor) b)
+refusals-change-nothing s (next j b) =
+    scanned-stays s j (nextOf (s .counters) (s .tables) (getD (s .cursors) j noCursor) b)
 
 pub refusals-are-bare : RefusalsAreBare
 unfolding callStore assertLentOf retractLentOf

@@ -1,5 +1,5 @@
--- On a sound store numbers and names go both ways: name of a number answers the span of its bytes, find answers its number, and
--- distinct numbers have distinct names. Assumes nothing.
+-- On a sound store numbers and names go both ways: name of a number answers the span of its bytes, find answers its
+-- number, and distinct numbers have distinct names. Assumes nothing.
 use mathlib.Core.Path.{_≡_, refl, sym, ap, ap₂, _∙_, subst}
 use mathlib.Core.Logic.{_≢_}
 use mathlib.Core.Bool.{Bool, true, false, cond, _&&_}
@@ -48,11 +48,13 @@ pub zero-found : (t : List ℕ) (e left o : ℕ) → o < e → word t o ≡ 0 �
 unfolding zeroFrom
 zero-found t e left o h z = rw (zeroFrom, lt-ltb o e h, eq-eqb (word t o) 0 z)
 
-pub zero-later : (t : List ℕ) (e left o : ℕ) → o < e → word t o ≢ 0 → zeroFrom t e (suc left) o ≡ zeroFrom t e left (o + 1)
+pub zero-later : (t : List ℕ) (e left o : ℕ) → o < e → word t o ≢ 0
+    → zeroFrom t e (suc left) o ≡ zeroFrom t e left (o + 1)
 unfolding zeroFrom
 zero-later t e left o h z = rw (zeroFrom, lt-ltb o e h, ne-eqb (word t o) 0 z)
 
-pub zero-closes : (n : List ℕ) (t : List ℕ) (r : List ℕ) (e left o : ℕ) → clean n ≡ true → drop o t ≡ n ++ 0 ∷ r → length n < left
+pub zero-closes : (n : List ℕ) (t : List ℕ) (r : List ℕ) (e left o : ℕ) → clean n ≡ true → drop o t ≡ n ++ 0 ∷ r
+    → length n < left
     → o + length n < e → zeroFrom t e left o ≡ some (o + length n)
 zero-closes [] t r e zero o c d s h = absurd (omega arith)
 zero-closes [] t r e (suc left) o c d s h =
@@ -76,7 +78,8 @@ module _ (c : Counters) (m : Tables) (S : Sound c m) where
 
   -- the bytes at a name's offset
   bytes-at : (y : ℕ) → 0 < y → y ≤ c .resources
-      → drop (offsetAt (m .resources) y) (m .text) ≡ nameOf ns y ++ 0 ∷ (joined (drop (suc (y - 1)) ns) ++ drop (c .text) (m .text))
+      → drop (offsetAt (m .resources) y) (m .text)
+      ≡ nameOf ns y ++ 0 ∷ (joined (drop (suc (y - 1)) ns) ++ drop (c .text) (m .text))
   unfolding nameOf
   bytes-at y a b = rw (N .offsets y a b) (text-at ns (m .text) (c .text) (y - 1) (N .spelled) (omega (arith, N .size)))
 
@@ -96,7 +99,8 @@ module _ (c : Counters) (m : Tables) (S : Sound c m) where
       let o = offsetAt (m .resources) (y .0) in
       let l = length (nameOf ns (y .0)) in
       let z : zeroFrom (m .text) (c .text) (maxName + 1) o ≡ some (o + l) =
-      zero-closes (nameOf ns (y .0)) (m .text) _ (c .text) (maxName + 1) o (form-clean _ (name-formed (y .0) a b)) (bytes-at (y .0) a b)
+      zero-closes (nameOf ns (y .0)) (m .text) _ (c .text) (maxName + 1) o (form-clean _ (name-formed (y .0) a b))
+      (bytes-at (y .0) a b)
       (omega (arith, form-short _ (name-formed (y .0) a b))) (name-ends (y .0) a b) in
       let d : o + l - o ≡ l = omega arith in
       rw (S .capacity, lt-ltb 0 (y .0) a, le-leb (y .0) (c .resources) b, z, d)
@@ -110,14 +114,16 @@ module _ (c : Counters) (m : Tables) (S : Sound c m) where
     bytes = rw (bytes-at (y .0) a b) (take-append-seam (nameOf ns (y .0)) _);
   }
 
-  pub distinct-names : (y z : ℕ) → 0 < y → y ≤ c .resources → 0 < z → z ≤ c .resources → nameOf ns y ≡ nameOf ns z → y ≡ z
+  pub distinct-names : (y z : ℕ) → 0 < y → y ≤ c .resources → 0 < z → z ≤ c .resources → nameOf ns y ≡ nameOf ns z
+      → y ≡ z
   distinct-names = names-distinct (nameOf ns) (m .index) (c .resources) (N .index)
 
   -- a name is listed under its number
   pub lookup-name : (y : ℕ) → 0 < y → y ≤ c .resources → lookupName (nameOf ns y) ns ≡ y
   unfolding lookupName nameOf
   lookup-name y a b =
-      head-unique (λ i. eqBytes (getD ns i []) (getD ns (y - 1) [])) (length ns) (y - 1) (omega (arith, N .size)) (eqBytes-refl (getD ns (y - 1) []))
+      head-unique (λ i. eqBytes (getD ns i []) (getD ns (y - 1) [])) (length ns) (y - 1) (omega (arith, N .size))
+      (eqBytes-refl (getD ns (y - 1) []))
       (λ j h g. eqBytes-not (getD ns j []) (getD ns (y - 1) []) (λ e. apart j h g e))
       ∙ omega arith
     where
@@ -128,7 +134,8 @@ module _ (c : Counters) (m : Tables) (S : Sound c m) where
           omega (arith, distinct-names (suc j) y (omega arith) (omega (arith, N .size)) a b (unfold nameOf in d))
 
   -- find, by the list
-  find-listed : (w : List ℕ) (i : ℕ) → wellFormed w ≡ true → lookupName w ns ≡ suc i → findOf c m w ≡ Number (record { 0 = suc i })
+  find-listed : (w : List ℕ) (i : ℕ) → wellFormed w ≡ true → lookupName w ns ≡ suc i
+      → findOf c m w ≡ Number (record { 0 = suc i })
   unfolding findOf
   find-listed w i f e = rw (S .capacity, f, place-listed ns c m N w i e)
 
@@ -150,7 +157,8 @@ module _ (c : Counters) (m : Tables) (S : Sound c m) where
   number-is : (y z : ResourceId) → Number y ≡ Number z → y ≡ z
   number-is y z e = cc
 
-  found-number : (w : List ℕ) (y : ResourceId) → findOf c m w ≡ Number y → (0 < y .0) × (y .0 ≤ c .resources) × (nameOf ns (y .0) ≡ w)
+  found-number : (w : List ℕ) (y : ResourceId) → findOf c m w ≡ Number y
+      → (0 < y .0) × (y .0 ≤ c .resources) × (nameOf ns (y .0) ≡ w)
   found-number w y e =
       decide (wellFormed w)
       (λ f. go f (lookupName w ns) refl)
@@ -159,7 +167,8 @@ module _ (c : Counters) (m : Tables) (S : Sound c m) where
       name-of : (i : ℕ) → nameOf ns (suc i) ≡ getD ns i []
       name-of i = unfold nameOf in (let s : suc i - 1 ≡ i = omega arith in rw s)
 
-      go : wellFormed w ≡ true → (n : ℕ) → lookupName w ns ≡ n → (0 < y .0) × (y .0 ≤ c .resources) × (nameOf ns (y .0) ≡ w)
+      go : wellFormed w ≡ true → (n : ℕ) → lookupName w ns ≡ n
+          → (0 < y .0) × (y .0 ≤ c .resources) × (nameOf ns (y .0) ≡ w)
       go f zero q = let d = find-unlisted w f q in absurd (let z : _≡_ {A = ℕ} 0 1 = cc in omega arith)
       go f (suc i) q =
           let d : y ≡ record { 0 = suc i } = number-is y (record { 0 = suc i }) (sym e ∙ find-listed w i f q) in
@@ -183,7 +192,8 @@ module _ (c : Counters) (m : Tables) (S : Sound c m) where
       bits : inRange (c .resources) (y .0) ≡ true → ltb 0 (y .0) && leb (y .0) (c .resources) ≡ true
       bits d = unfold inRange in d
 
-  named-is : (y : ResourceId) (w : List ℕ) → NamedAs c m y w → (0 < y .0) × (y .0 ≤ c .resources) × (nameOf ns (y .0) ≡ w)
+  named-is : (y : ResourceId) (w : List ℕ) → NamedAs c m y w
+      → (0 < y .0) × (y .0 ≤ c .resources) × (nameOf ns (y .0) ≡ w)
   named-is y w W =
       let r = in-range y (W .start) (W .size) (W .answer) in
       let T = named-as y (r .0) (r .1) in
@@ -199,5 +209,6 @@ round-trips c m S = record {
   distinct = λ y z w A B.
       let a = named-is c m S y w A in
       let b = named-is c m S z w B in
-      ap (λ (n : ℕ). record { 0 = n }) (distinct-names c m S (y .0) (z .0) (a .0) (a .1) (b .0) (b .1) (a .2 ∙ sym (b .2)));
+      ap (λ (n : ℕ). record { 0 = n }) (distinct-names c m S (y .0) (z .0) (a .0) (a .1) (b .0) (b .1)
+      (a .2 ∙ sym (b .2)));
 }

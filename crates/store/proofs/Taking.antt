@@ -1,5 +1,5 @@
--- What taking positions off a falling rest comes to: the latest live one that the budget reaches, else ended or spent by the rest's
--- length; what is left is the rest without as many as were visited. Assumes nothing.
+-- What taking positions off a falling rest comes to: the latest live one that the budget reaches, else ended or spent
+-- by the rest's length; what is left is the rest without as many as were visited. Assumes nothing.
 use mathlib.Core.Path.{_≡_, refl, sym, ap, _∙_}
 use mathlib.Core.Bool.{Bool, true, false, true≢false}
 use mathlib.Core.List.{List, [], _∷_, List·Memᴰ, List·Memᴰ·head, List·Memᴰ·tail, List·Memᴰ·not-nil}
@@ -15,7 +15,8 @@ use Rattle.store.proofs.Tests.{decide}
 use Rattle.store.proofs.Falling.{Falling}
 use Rattle.store.proofs.Walks.{visitsIn, rest-more, visits-more, take-hit, take-miss}
 
-pub rest-drop : (live : ℕ → Bool) (b : ℕ) (l : List ℕ) → restOf (take-off live b l) ≡ drop (visitsIn (take-off live b l)) l
+pub rest-drop : (live : ℕ → Bool) (b : ℕ) (l : List ℕ)
+    → restOf (take-off live b l) ≡ drop (visitsIn (take-off live b l)) l
 unfolding take-off
 rest-drop live zero [] = refl
 rest-drop live zero (x ∷ xs) = refl
@@ -30,12 +31,23 @@ rest-drop live (suc b) (x ∷ xs) =
 pub mem-take : (b : ℕ) (l : List ℕ) (i : ℕ) → List·Memᴰ i (take b l) → List·Memᴰ i l
 mem-take zero l i m = absurd (List·Memᴰ·not-nil m)
 mem-take (suc b) [] i m = m
-mem-take (suc b) (x ∷ xs) i m = ⊎-elim (λ e. List·Memᴰ·head e) (λ r. List·Memᴰ·tail (mem-take b xs i r)) (List·Memᴰ·cases-cons m)
+mem-take (suc b) (x ∷ xs) i m =
+    ⊎-elim (λ e. List·Memᴰ·head e) (λ r. List·Memᴰ·tail (mem-take b xs i r)) (List·Memᴰ·cases-cons m)
+
+-- what is in a list is among its first v or in what is left
+pub mem-split : (v : ℕ) (l : List ℕ) (i : ℕ) → List·Memᴰ i l → List·Memᴰ i (take v l) ⊎ List·Memᴰ i (drop v l)
+mem-split zero l i m = inr m
+mem-split (suc v) [] i m = inr m
+mem-split (suc v) (x ∷ xs) i m =
+    ⊎-elim (λ e. inl (List·Memᴰ·head e))
+    (λ r. ⊎-elim (λ q. inl (List·Memᴰ·tail q)) (λ q. inr q) (mem-split v xs i r))
+    (List·Memᴰ·cases-cons m)
 
 pub falling-below : (x : ℕ) (xs : List ℕ) → Falling (x ∷ xs) → (i : ℕ) → List·Memᴰ i xs → i < x
 falling-below x [] f i m = absurd (List·Memᴰ·not-nil m)
 falling-below x (y ∷ ys) f i m =
-    ⊎-elim (λ e. omega (arith, e, f .0)) (λ r. omega (arith, falling-below y ys (f .1) i r, f .0)) (List·Memᴰ·cases-cons m)
+    ⊎-elim (λ e. omega (arith, e, f .0)) (λ r. omega (arith, falling-below y ys (f .1) i r, f .0))
+    (List·Memᴰ·cases-cons m)
 
 pub falling-drop : (v : ℕ) (l : List ℕ) → Falling l → Falling (drop v l)
 falling-drop zero l f = f
@@ -44,13 +56,13 @@ falling-drop (suc v) (x ∷ xs) f = falling-drop v xs (f .1)
 
 -- ---- the three outcomes
 
-abbrev at : (ℕ → Bool) → ℕ → Bool
-at live n = live (prev n)
-
 pub data Outcome (live : ℕ → Bool) (b : ℕ) (l : List ℕ) : Type 0 where
-  hits : (n v : ℕ) (r : List ℕ) → take-off live b l ≡ took n v r → Latest (λ n. live (prev n)) (take b l) n → Outcome live b l
-  ends : take-off live b l ≡ emptied (length l) → NoneOf (λ n. live (prev n)) (take b l) → length l ≤ b → Outcome live b l
-  stops : take-off live b l ≡ stopped b (drop b l) → NoneOf (λ n. live (prev n)) (take b l) → b < length l → Outcome live b l
+  hits : (n v : ℕ) (r : List ℕ) → take-off live b l ≡ took n v r → Latest (λ n. live (prev n)) (take b l) n
+      → Outcome live b l
+  ends : take-off live b l ≡ emptied (length l) → NoneOf (λ n. live (prev n)) (take b l) → length l ≤ b
+      → Outcome live b l
+  stops : take-off live b l ≡ stopped b (drop b l) → NoneOf (λ n. live (prev n)) (take b l) → b < length l
+      → Outcome live b l
 
 module _ (live : ℕ → Bool) (b x : ℕ) (xs : List ℕ) (f : Falling (x ∷ xs)) where
   first-hit : live (prev x) ≡ true → Latest (λ n. live (prev n)) (x ∷ take b xs) x
@@ -58,7 +70,8 @@ module _ (live : ℕ → Bool) (b x : ℕ) (xs : List ℕ) (f : Falling (x ∷ x
     among = List·Memᴰ·head refl;
     passes = e;
     latest = λ i m t.
-        ⊎-elim (λ q. omega (arith, q)) (λ r. omega (arith, falling-below x xs f i (mem-take b xs i r))) (List·Memᴰ·cases-cons m);
+        ⊎-elim (λ q. omega (arith, q)) (λ r. omega (arith, falling-below x xs f i (mem-take b xs i r)))
+        (List·Memᴰ·cases-cons m);
   }
 
   module _ (e : live (prev x) ≡ false) where

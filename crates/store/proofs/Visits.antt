@@ -1,5 +1,5 @@
--- One opening of the plain lists over a list of calls: its pattern and chain stay, its rest loses as many as the replies report visits.
--- Assumes nothing.
+-- One opening of the plain lists over a list of calls: its pattern and chain stay, its rest loses as many as the
+-- replies report visits. Assumes nothing.
 use mathlib.Core.Path.{_≡_, refl, sym, ap, ap₂, _∙_}
 use mathlib.Core.Logic.{_≢_}
 use mathlib.Core.Bool.{Bool, true, false, cond, _&&_}
@@ -32,7 +32,8 @@ taken-visits g (took n v r) = refl
 taken-visits g (emptied v) = refl
 taken-visits g (stopped v r) = refl
 
-take-rest : (s : Model) (g : Listing) (b : ℕ) → restOf (takeFrom (s .entries) g b) ≡ drop (visitsIn (takeFrom (s .entries) g b)) (g .rest)
+take-rest : (s : Model) (g : Listing) (b : ℕ) → restOf (takeFrom (s .entries) g b)
+    ≡ drop (visitsIn (takeFrom (s .entries) g b)) (g .rest)
 unfolding takeFrom
 take-rest s g b = rest-drop _ b (g .rest)
 
@@ -49,7 +50,8 @@ Alone s o = (o .0) .listings ≡ s .listings
 name-alone : (k : Capacities) (s : Model) (w : List ℕ) (t : ℕ) → Alone s (internName k s w t)
 unfolding internName
 name-alone k s w zero =
-    decide (ltb (length (s .names)) (k .resources) && leb (bytesOf (s .names ++ w ∷ [])) (k .text)) (λ e. rw e) (λ e. rw e)
+    decide (ltb (length (s .names)) (k .resources) && leb (bytesOf (s .names ++ w ∷ [])) (k .text)) (λ e. rw e)
+    (λ e. rw e)
 name-alone k s w (suc i) = refl
 
 intern-alone : (k : Capacities) (s : Model) (w : List ℕ) → Alone s (internModel k s w)
@@ -77,12 +79,14 @@ strike-alone s (suc i) = decide ((entry (s .entries) i) .retracted) (λ e. rw e)
 
 retract-alone : (s : Model) (x : Triple) → Alone s (retractModel s x)
 unfolding retractModel
-retract-alone s x = decide (known (length (s .names)) x) (λ e. rw e (strike-alone s (lookup x (s .entries)))) (λ e. rw e)
+retract-alone s x =
+    decide (known (length (s .names)) x) (λ e. rw e (strike-alone s (lookup x (s .entries)))) (λ e. rw e)
 
 -- ---- one call
 
 pub record Kept (j : ℕ) (a : Call) (s : Model) (o : Model × Values) : Type 0 where
-  pub now : openingOf (o .0) j ≡ leaving (openingOf s j) (drop (cond (readsOn j a) ((o .1) .visits) 0) ((openingOf s j) .rest))
+  pub now : openingOf (o .0) j ≡ leaving (openingOf s j) (drop (cond (readsOn j a) ((o .1) .visits) 0)
+      ((openingOf s j) .rest))
   pub sum : cond (readsOn j a) ((o .1) .visits) 0 + length ((openingOf (o .0) j) .rest) ≡ length ((openingOf s j) .rest)
   pub stays : j < length ((o .0) .listings)
 
@@ -114,7 +118,11 @@ module _ (k : Capacities) (s : Model) (j : ℕ) (h : j < length (s .listings)) w
       record {
         now = rw e (getD-set-other (s .listings) i j (leaving g (restOf z)) noListing n);
         sum = rw e
-            (omega (arith, ap (λ (y : Listing). length (y .rest)) (getD-set-other (s .listings) i j (leaving g (restOf z)) noListing n)));
+            (omega (
+              arith,
+              ap (λ (y : Listing). length (y .rest))
+                  (getD-set-other (s .listings) i j (leaving g (restOf z)) noListing n),
+            ));
         stays = rw length-set h;
       })
     where
@@ -130,28 +138,36 @@ module _ (k : Capacities) (s : Model) (j : ℕ) (h : j < length (s .listings)) w
       decide (within (length (s .names)) x)
       (λ e. rw e (record {
         now = List·getD-append (s .listings) (listing x (s .entries) ∷ []) noListing j h;
-        sum = omega (arith, ap (λ (y : Listing). length (y .rest)) (List·getD-append (s .listings) (listing x (s .entries) ∷ []) noListing j h));
+        sum = omega (
+          arith,
+          ap (λ (y : Listing). length (y .rest))
+              (List·getD-append (s .listings) (listing x (s .entries) ∷ []) noListing j h),
+        );
         stays = rw length-append (omega arith);
       }))
       (λ e. rw e (kept-alone (open′ x) (s, refusedWith 4) refl refl))
   kept (next i b) =
       decide (eqb b 0)
       (λ e. rw e (record {
-        now = cond-all (λ (n : ℕ). openingOf s j ≡ leaving (openingOf s j) (drop n ((openingOf s j) .rest))) (eqb i j) 0 0 refl refl;
-        sum = cond-all (λ (n : ℕ). n + length ((openingOf s j) .rest) ≡ length ((openingOf s j) .rest)) (eqb i j) 0 0 (omega arith) (omega arith);
+        now = cond-all (λ (n : ℕ). openingOf s j ≡ leaving (openingOf s j) (drop n ((openingOf s j) .rest)))
+            (eqb i j) 0 0 refl refl;
+        sum = cond-all (λ (n : ℕ). n + length ((openingOf s j) .rest) ≡ length ((openingOf s j) .rest)) (eqb i j) 0 0
+            (omega arith) (omega arith);
         stays = h;
       }))
       (λ e. rw e (kept-turn i b (openingOf s i) refl))
 
 -- ---- a list of calls
 
-pub opening-stays : (k : Capacities) (s : Model) (j : ℕ) (a : List Call) → j < length (s .listings) → j < length ((modelAfter k s a) .listings)
+pub opening-stays : (k : Capacities) (s : Model) (j : ℕ) (a : List Call) → j < length (s .listings)
+    → j < length ((modelAfter k s a) .listings)
 unfolding modelAfter
 opening-stays k s j [] h = h
 opening-stays k s j (a ∷ r) h = opening-stays k ((callModel k s a) .0) j r (kept k s j h a .stays)
 
 pub opening-after : (k : Capacities) (s : Model) (j : ℕ) (a : List Call) → j < length (s .listings)
-    → openingOf (modelAfter k s a) j ≡ leaving (openingOf s j) (drop (visitsOf j a (modelReplies k s a)) ((openingOf s j) .rest))
+    → openingOf (modelAfter k s a) j ≡ leaving (openingOf s j) (drop (visitsOf j a (modelReplies k s a))
+    ((openingOf s j) .rest))
 unfolding visitsOf modelReplies modelAfter
 opening-after k s j [] h = refl
 opening-after k s j (a ∷ r) h =
@@ -164,7 +180,8 @@ opening-after k s j (a ∷ r) h =
 
 -- the visits reported and the rest left make up the rest there was
 pub visits-add : (k : Capacities) (s : Model) (j : ℕ) (a : List Call) → j < length (s .listings)
-    → visitsOf j a (modelReplies k s a) + length ((openingOf (modelAfter k s a) j) .rest) ≡ length ((openingOf s j) .rest)
+    → visitsOf j a (modelReplies k s a) + length ((openingOf (modelAfter k s a) j) .rest)
+    ≡ length ((openingOf s j) .rest)
 unfolding visitsOf modelReplies modelAfter
 visits-add k s j [] h = omega arith
 visits-add k s j (a ∷ r) h =

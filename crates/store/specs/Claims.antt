@@ -1,4 +1,4 @@
--- What is claimed of the definitions (demand 3 and what goes with it), as types; `proofs/Theorems.antt` and `proofs/Pins.antt` have a
+-- What is claimed of the definitions (demand 3 and what goes with it), as types; `proofs/Theorems.antt` has a
 -- declaration of each. Assumes nothing.
 use mathlib.Core.Path.{_≡_}
 use mathlib.Core.Logic.{_≢_, _↔_}
@@ -15,7 +15,7 @@ use Rattle.store.specs.declared.Triple.{Triple}
 use Rattle.store.specs.declared.ResourceId.{ResourceId}
 use Rattle.store.specs.declared.NameRead.the-variants.{Span}
 use Rattle.store.specs.declared.Lookup.the-variants.{Number}
-use Rattle.store.specs.Triple.{at, known, within, same, agrees, permitted, below, prev}
+use Rattle.store.specs.Triple.{at, known, within, same, agrees, permitted, below, head0, prev}
 use Rattle.store.specs.Tables.{Tables, off, freshCounters}
 use Rattle.store.specs.Values.{Values, refusedWith}
 use Rattle.store.specs.Model.{Entry, Model, Call, intern, assert, retract, open′, next, freshModel, totals, entry}
@@ -58,14 +58,17 @@ pub record Holds (s : Store) (l : Model) : Type 0 where
 
 -- ---- histories
 
--- On four tables that hold anything, from fresh counters, every list of calls, refused ones included, is answered one by one as by two
--- plain lists of the same capacities: numbers, statuses, visits, counters, cursors, refusals.
+-- On four tables that hold anything, from fresh counters, every list of calls, refused ones included, is answered one
+-- by one as by two plain lists of the same capacities: numbers, statuses, visits, counters, cursors, refusals.
 abbrev pub HistoriesAgree : Type 0
-HistoriesAgree = (m : Tables) (calls : List Call) → storeReplies (freshStore m) calls ≡ modelReplies (capacitiesOf m) freshModel calls
+HistoriesAgree = (m : Tables) (calls : List Call)
+    → storeReplies (freshStore m) calls ≡ modelReplies (capacitiesOf m) freshModel calls
 
--- After any list of calls, so after each call of one, the store is sound and holds exactly the plain lists' names, triples and marks.
+-- After any list of calls, so after each call of one, the store is sound and holds exactly the plain lists' names,
+-- triples and marks.
 abbrev pub HistoriesStaySound : Type 0
-HistoriesStaySound = (m : Tables) (calls : List Call) → Holds (storeAfter (freshStore m) calls) (modelAfter (capacitiesOf m) freshModel calls)
+HistoriesStaySound = (m : Tables) (calls : List Call)
+    → Holds (storeAfter (freshStore m) calls) (modelAfter (capacitiesOf m) freshModel calls)
 
 -- Both claims from any sound store with no listing open, against the lists read off its tables.
 abbrev pub SoundStoresAgree : Type 0
@@ -83,7 +86,8 @@ RefusalsChangeNothing = (s : Store) (a : Call) → (callStore s a) .1 .refusal �
 
 -- ---- one opening in a run
 
--- A run from fresh counters over tables that hold anything: the calls before an opening, its pattern, the calls after it.
+-- A run from fresh counters over tables that hold anything: the calls before an opening, its pattern, the calls after
+-- it.
 pub record Opening : Type 0 where
   pub over : Tables
   pub before : List Call
@@ -130,7 +134,11 @@ visitsOf j (a ∷ as′) (r ∷ rs) = cond (readsOn j a) (r .visits) 0 + visitsO
 abbrev pub visitsSoFar : Opening → ℕ
 visitsSoFar o = visitsOf (openingNumber o) (o .since) (storeReplies ((opened o) .0) (o .since))
 
--- A visit takes the latest record not yet taken, and a record is passed once it or one below it is taken: these are not passed.
+-- Each visit takes the latest record of the chain not yet taken. A record is passed once the listing took it or one
+-- below it; the rest is the records of the chain that are not passed.
+abbrev pub takenSoFar : Opening → List ℕ
+takenSoFar o = take (visitsSoFar o) (chainThen o)
+
 abbrev pub restNow : Opening → List ℕ
 restNow o = drop (visitsSoFar o) (chainThen o)
 
@@ -155,14 +163,20 @@ pub record Latest (test : ℕ → Bool) (l : List ℕ) (n : ℕ) : Type 0 where
 abbrev pub NoneOf : (ℕ → Bool) → List ℕ → Type 0
 NoneOf test l = (i : ℕ) → List·Memᴰ i l → test i ≡ false
 
--- A listing read on and not refused finds a record exactly when its budget reaches a live match, as of that call, among the records
--- there at its opening and not yet passed, and gives the latest of these.
+-- A listing read on and not refused finds a record exactly when its budget reaches a live match, as of that call, among
+-- the records there at its opening and not yet passed, and gives the latest of these.
 abbrev pub Finds : Type 0
 Finds = (o : Opening) → Accepted o → (b : ℕ) → (nextNow o b) .refusal ≡ 0 → (n : ℕ)
     → ((nextNow o b) .status ≡ 1) × ((nextNow o b) .number ≡ n) ↔ Latest (liveNow o) (reached o b) n
 
--- Where it reaches none it answers ended exactly if the rest is within the budget, with the rest's length as visits, and spent exactly
--- if a record remains, with the budget as visits.
+-- No match is missed: a record there at the opening that is a live match now is in the rest, or it or one below it was
+-- taken.
+abbrev pub NoneIsMissed : Type 0
+NoneIsMissed = (o : Opening) → Accepted o → (n : ℕ) → 0 < n → n ≤ (storeThen o) .counters .statements
+    → liveNow o n ≡ true → ((i : ℕ) → List·Memᴰ i (takenSoFar o) → n < i) → List·Memᴰ n (restNow o)
+
+-- Where it reaches none it answers ended exactly if the rest is within the budget, with the rest's length as visits,
+-- and spent exactly if a record remains, with the budget as visits.
 pub record Exhausts (o : Opening) (b : ℕ) : Type 0 where
   pub ended : (nextNow o b) .status ≡ 2 ↔ NoneOf (liveNow o) (reached o b) × (length (restNow o) ≤ b)
   pub ended-visits : (nextNow o b) .status ≡ 2 → (nextNow o b) .visits ≡ length (restNow o)
@@ -178,8 +192,8 @@ pub data Shortest (x : Triple) (l : List Entry) (v : ℕ) : Type 0 where
   bound : (p : Position) → 0 < at p x → v ≡ length (holders (By p) x l)
       → ((q : Position) → 0 < at q x → v ≤ length (holders (By q) x l)) → Shortest x l v
 
--- A listing that has answered ended visited as many records as its shortest bound chain held at the opening, or all then there if
--- nothing is bound; the visits reported add up to that.
+-- A listing that has answered ended visited as many records as its shortest bound chain held at the opening, or all
+-- then there if nothing is bound; the visits reported add up to that.
 abbrev pub VisitsAddUp : Type 0
 VisitsAddUp = (o : Opening) → Accepted o → (b : ℕ) → (nextNow o b) .refusal ≡ 0 → (nextNow o b) .status ≡ 2
     → Shortest (o .pattern) (statementsIn (storeThen o)) (visitsSoFar o + (nextNow o b) .visits)
@@ -195,7 +209,8 @@ pub record NamedAs (c : Counters) (m : Tables) (y : ResourceId) (w : List ℕ) :
 
 pub record BothWays (c : Counters) (m : Tables) : Type 0 where
   -- number to name to number
-  pub there : (y : ResourceId) → 0 < y .0 → y .0 ≤ c .resources → (w : List ℕ) × NamedAs c m y w × (findOf c m w ≡ Number y)
+  pub there : (y : ResourceId) → 0 < y .0 → y .0 ≤ c .resources
+      → (w : List ℕ) × NamedAs c m y w × (findOf c m w ≡ Number y)
   -- name to number to name
   pub back : (w : List ℕ) (y : ResourceId) → findOf c m w ≡ Number y → NamedAs c m y w
   -- distinct numbers have distinct names
@@ -207,13 +222,15 @@ RoundTrips = (c : Counters) (m : Tables) → Sound c m → BothWays c m
 
 -- ---- what stands on both sides of the claim
 
--- a number in 1..n at each position; none above n; the same triple
+-- a number in 1..n at each position
 abbrev pub KnownMeans : Type 0
 KnownMeans = (n : ℕ) (x : Triple) → known n x ≡ true ↔ ((p : Position) → (0 < at p x) × (at p x ≤ n))
 
+-- no number above n
 abbrev pub WithinMeans : Type 0
 WithinMeans = (n : ℕ) (x : Triple) → within n x ≡ true ↔ ((p : Position) → at p x ≤ n)
 
+-- the same triple
 abbrev pub SameMeans : Type 0
 SameMeans = (x t : Triple) → same x t ≡ true ↔ t ≡ x
 
@@ -227,19 +244,26 @@ abbrev pub PermittedMeans : Type 0
 PermittedMeans = (kind : ℕ → ℕ) (x : Triple)
     → permitted kind x ≡ true ↔ (kind (x .subject .0) ≢ 3) × (kind (x .predicate .0) ≡ 1)
 
--- the positions are exactly those of the entries that pass, and the first that a list of them gives is the highest
+-- the positions are exactly those of the entries that pass, from 1
 abbrev pub BelowMeans : Type 0
 BelowMeans = (f : ℕ → Bool) (n i : ℕ) → List·Memᴰ (suc i) (below f n) ↔ (i < n) × (f i ≡ true)
 
--- the picked position is bound and of least cost, and every earlier bound one costs more; all records only if nothing is bound
+-- and the first of them is the highest
+abbrev pub FirstIsHighest : Type 0
+FirstIsHighest = (f : ℕ → Bool) (n i : ℕ) → List·Memᴰ i (below f n) → i ≤ head0 (below f n)
+
+-- the picked position is bound and of least cost, and every earlier bound one costs more; all records only if nothing
+-- is bound
 abbrev pub LeastBound : Triple → (Position → ℕ) → Chain → Type 0
 LeastBound x cost All = (q : Position) → at q x ≡ 0
 LeastBound x cost (By p) =
-    (0 < at p x) × ((q : Position) → 0 < at q x → cost p ≤ cost q) × ((q : Position) → 0 < at q x → off q < off p → cost p < cost q)
+    (0 < at p x) × ((q : Position) → 0 < at q x → cost p ≤ cost q)
+    × ((q : Position) → 0 < at q x → off q < off p → cost p < cost q)
 
 abbrev pub PicksLeast : Type 0
 PicksLeast = (x : Triple) (cost : Position → ℕ) → LeastBound x cost (pick x cost)
 
 -- a refused call's reply is the refusal's number and zeros
 abbrev pub RefusalsAreBare : Type 0
-RefusalsAreBare = (s : Store) (a : Call) → (callStore s a) .1 .refusal ≢ 0 → (callStore s a) .1 ≡ refusedWith ((callStore s a) .1 .refusal)
+RefusalsAreBare = (s : Store) (a : Call) → (callStore s a) .1 .refusal ≢ 0
+    → (callStore s a) .1 ≡ refusedWith ((callStore s a) .1 .refusal)
