@@ -20,6 +20,7 @@ use Rattle.store.specs.Tables.{Tables, word, resourceWords, resourceCapa
 use Rattle.store.specs.Values.{Values, counted, internedValues}
 use Rattle.store.specs.Model.{Model, Capacities, wellFormed, eqBytes, lookupName, nameOf, bytesOf, totals}
 use Rattle.store.specs.Model.{withNames, internName, internModel}
+use Rattle.store.specs.Dictionary.{PlaceWithin}
 use Rattle.store.specs.Dictionary.{compare, equal, isLess, Indexed, Named, nameAt, rank, placeAt, indexPlaceOf}
 use Rattle.store.specs.Dictionary.{roomFor, oneNameMore, freshRecord, insertAt, withName, internAs, internOf}
 use Rattle.store.specs.History.{Store, store, internedCounters}
@@ -112,6 +113,15 @@ module _ (ns : List (List ℕ)) (c : Counters) (m : Tables) (N : Named ns c m) w
     pub place-unlisted : lookupName w ns ≡ 0 → indexPlaceOf c m w ≡ Before kk
     unfolding indexPlaceOf placeAt
     place-unlisted e = rw (rank-at w, miss-test e)
+
+    -- what a search comes to on a sound dictionary is within the bound
+    pub place-bounded : PlaceWithin (c .resources) (indexPlaceOf c m w)
+    place-bounded = go (lookupName w ns) refl
+      where
+        go : (n : ℕ) → lookupName w ns ≡ n → PlaceWithin (c .resources) (indexPlaceOf c m w)
+        go zero e = rw (place-unlisted e) (rank-le (nameOf ns) (m .index) (c .resources) w)
+        go (suc i) e =
+            rw (place-listed i e) (omega arith, omega (arith, N .size, listed i e .0), listed-at i e .0)
 
 -- ---- one name more
 

@@ -12,6 +12,8 @@ use Rattle.store.specs.declared.Position.the-variants.{Subject, Predicat
 use Rattle.store.specs.declared.Triple.{Triple}
 use Rattle.store.specs.Triple.{at, triple, all3, known, within, same, permitted}
 use Rattle.store.specs.Tables.{off}
+-- Every law stands on this file, and so on the closed runs: a definition that changes an answer is refused there first.
+use Rattle.store.proofs.Runs as runs
 
 -- a case split on a test, with the equation
 pub decide {ℓ} : {P : Type ℓ} (b : Bool) → (b ≡ true → P) → (b ≡ false → P) → P
