@@ -1,0 +1,75 @@
+-- Refusal 1, test by test: a counter over its capacity, or all within; and what counters within capacity say of the tables' lengths.
+-- Assumes nothing.
+use mathlib.Core.Path.{_≡_, refl, sym, ap, _∙_}
+use mathlib.Core.Bool.{Bool, true, false, _&&_, false≢true}
+use Prim.Native.Nat.{ℕ, _+_, _*_, _/_, _≤_, _<_, min}
+use native.Mathlib.Omega.{arith}
+use lib.ListN.{length}
+use lib.Dec.{leb}
+use borrow.Author.Tests.{leb-true, leb-false, le-leb, lt-leb}
+use Rattle.store.specs.declared.Counters.{Counters}
+use Rattle.store.specs.Tables.{Tables, fits, resourceCapacity, statementCapacity, textCapacity, maxResources, maxStatements, maxText, resourceWords, statementWords}
+
+-- ---- both halves of a test
+
+and-l : (a b : Bool) → a && b ≡ true → a ≡ true
+and-l true b e = refl
+and-l false b e = e
+
+and-r : (a b : Bool) → a && b ≡ true → b ≡ true
+and-r true b e = e
+and-r false b e = absurd (false≢true e)
+
+-- ---- refusal 1
+
+module _ (c : Counters) (m : Tables) where
+  pub over-resources : resourceCapacity m < c .resources → fits c m ≡ false
+  unfolding fits
+  over-resources h = rw (lt-leb (c .resources) (resourceCapacity m) h)
+
+  pub over-statements : c .resources ≤ resourceCapacity m → statementCapacity m < c .statements → fits c m ≡ false
+  unfolding fits
+  over-statements a h = rw (le-leb (c .resources) (resourceCapacity m) a, lt-leb (c .statements) (statementCapacity m) h)
+
+  pub by-text : c .resources ≤ resourceCapacity m → c .statements ≤ statementCapacity m → fits c m ≡ leb (c .text) (textCapacity m)
+  unfolding fits
+  by-text a b = rw (le-leb (c .resources) (resourceCapacity m) a, le-leb (c .statements) (statementCapacity m) b)
+
+  pub over-text : c .resources ≤ resourceCapacity m → c .statements ≤ statementCapacity m → textCapacity m < c .text → fits c m ≡ false
+  over-text a b h = by-text a b ∙ lt-leb (c .text) (textCapacity m) h
+
+  -- where the text's limit is kept, its length decides
+  pub text-decides : c .resources ≤ resourceCapacity m → c .statements ≤ statementCapacity m → c .text ≤ maxText
+      → leb (c .text) (length (m .text)) ≡ fits c m
+  text-decides a b h = decide (leb (c .text) (length (m .text))) refl ∙ sym (by-text a b)
+    where
+      decide : (t : Bool) → leb (c .text) (length (m .text)) ≡ t → leb (c .text) (length (m .text)) ≡ leb (c .text) (textCapacity m)
+      decide true e = e ∙ sym (le-leb (c .text) (textCapacity m) (let q = leb-true (c .text) (length (m .text)) e in omega arith))
+      decide false e = e ∙ sym (lt-leb (c .text) (textCapacity m) (let q = leb-false (c .text) (length (m .text)) e in omega arith))
+
+  -- counters within capacity: the records and bytes in use lie in the tables
+  pub record Room : Type 0 where
+    pub few-resources : c .resources ≤ maxResources
+    pub few-statements : c .statements ≤ maxStatements
+    pub few-bytes : c .text ≤ maxText
+    pub in-resources : resourceWords * c .resources ≤ length (m .resources)
+    pub in-statements : statementWords * c .statements ≤ length (m .statements)
+    pub in-index : c .resources ≤ length (m .index)
+    pub in-text : c .text ≤ length (m .text)
+
+  pub fits-room : fits c m ≡ true → Room
+  unfolding fits
+  fits-room e =
+      let a = leb-true (c .resources) (resourceCapacity m) (and-l _ _ e) in
+      let f = and-r (leb (c .resources) (resourceCapacity m)) _ e in
+      let b = leb-true (c .statements) (statementCapacity m) (and-l _ _ f) in
+      let d = leb-true (c .text) (textCapacity m) (and-r (leb (c .statements) (statementCapacity m)) _ f) in
+      record {
+        few-resources = omega arith;
+        few-statements = omega arith;
+        few-bytes = omega arith;
+        in-resources = omega arith;
+        in-statements = omega arith;
+        in-index = omega arith;
+        in-text = omega arith;
+      }

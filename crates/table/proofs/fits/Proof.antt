@@ -1,0 +1,53 @@
+use native.Mathlib.Omega.{arith}
+use mathlib.Core.Path.{sym, _∙_}
+use borrow.Author.Needs.{needs}
+use Rattle.table.proofs.Capacity.{over-resources, over-statements, by-text, over-text, text-decides}
+use Rattle.table.proofs.fits.Statement.{statement}
+use Rattle.table.proofs.fits.Tie as tie
+use Rattle.table.proofs.fits.Reads as reads
+use Rattle.table.proofs.fits.Lts as lts
+
+cast-r : tie.Need-cast-r
+cast-r c = search needs
+
+cast-t : tie.Need-cast-t
+cast-t c = search needs
+
+cast-b : tie.Need-cast-b
+cast-b c = search needs
+
+returns : tie.Need-returns
+returns c = sym (over-resources _ _ (omega arith))
+
+returns-2 : tie.Need-returns-2
+returns-2 c = sym (over-resources _ _ (omega arith))
+
+returns-3 : tie.Need-returns-3
+returns-3 c = sym (over-resources _ _ (omega arith))
+
+returns-4 : tie.Need-returns-4
+returns-4 c = sym (over-statements _ _ (omega arith) (omega arith))
+
+returns-5 : tie.Need-returns-5
+returns-5 c = sym (over-statements _ _ (omega arith) (omega arith))
+
+returns-6 : tie.Need-returns-6
+returns-6 c = sym (over-text _ _ (omega arith) (omega arith) (omega arith))
+
+returns-7 : tie.Need-returns-7
+returns-7 c = text-decides _ _ (omega arith) (omega arith) (omega arith)
+
+pub fits-spec : {M : Type 1} → statement M
+fits-spec =
+    tie.close
+    (tie.spec
+    cast-r
+    cast-t
+    cast-b
+    returns
+    returns-2
+    returns-3
+    returns-4
+    returns-5
+    returns-6
+    returns-7)

@@ -1,0 +1,28 @@
+use borrow.Author.Needs.{needs}
+use Rattle.store.specs.Tables.{offsetAt}
+use Rattle.table.proofs.inner.offset_at.Statement.{statement}
+use Rattle.table.proofs.inner.offset_at.Tie as tie
+use Rattle.table.proofs.inner.offset_at.Reads as reads
+use Rattle.table.proofs.inner.offset_at.Lts as lts
+
+sub-i : tie.Need-sub-i
+sub-i c = search needs
+
+mul-i : tie.Need-mul-i
+mul-i c = search needs
+
+add-i : tie.Need-add-i
+add-i c = search needs
+
+mul-result : tie.Need-mul-result
+mul-result c = search needs
+
+shared-slice-read-result : tie.Need-shared-slice-read-result
+shared-slice-read-result c = search needs
+
+returns : tie.Need-returns
+unfolding offsetAt
+returns c = search needs
+
+pub offset-at-spec : {M : Type 1} → statement M
+offset-at-spec = tie.close (tie.spec sub-i mul-i add-i mul-result shared-slice-read-result returns)

@@ -1,0 +1,24 @@
+use borrow.Author.Needs.{needs}
+use Rattle.store.specs.Tables.{tripleAt}
+use Rattle.table.proofs.inner.triple_at.Statement.{statement}
+use Rattle.table.proofs.inner.triple_at.Tie as tie
+use Rattle.table.proofs.inner.triple_at.Reads as reads
+use Rattle.table.proofs.inner.triple_at.Lts as lts
+use Rattle.table.proofs.inner.term_at.Reads as term-at-reads
+
+term-at-requires : tie.Need-term-at-requires
+term-at-requires c κs = search needs
+
+term-at-requires-2 : tie.Need-term-at-requires-2
+term-at-requires-2 c κs = search needs
+
+term-at-requires-3 : tie.Need-term-at-requires-3
+term-at-requires-3 c κs = search needs
+
+returns : tie.Need-returns
+unfolding tripleAt
+returns c = cc
+
+pub triple-at-spec : {M : Type 1} → statement M
+triple-at-spec =
+    tie.close (tie.spec term-at-requires term-at-requires-2 term-at-requires-3 returns)

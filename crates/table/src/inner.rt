@@ -1,0 +1,94 @@
+// Words of a record at a position in general. Each function asks that its record lies in the table; the operations see to it.
+use store::Position;
+use store::ResourceId;
+use store::Triple;
+ghost use mathlib.Core.Path.{_≡_};
+ghost use Prim.Native.Nat.{ℕ, _-_, _<_};
+ghost use Rattle.store.specs.Tables.{off, termAt, nextAt, flagAt, tripleAt, firstAt, countAt, offsetAt, kindAt};
+ghost use Rattle.table.specs.Held.{StatementHeld, ResourceHeld};
+
+// A position's word within a group of three.
+pub fn offset(p: Position) -> usize
+    ensures { λ r. ⌜ (r ≡ off p) × (r < 3) ⌝ }
+{
+    match p {
+        Position::Subject => 0,
+        Position::Predicate => 1,
+        Position::Object => 2,
+    }
+}
+
+// The resource of statement n at a position.
+pub fn term_at(statements: &[u32], n: u32, p: Position) -> u32
+    requires { ⌜ StatementHeld (now statements) n ⌝ }
+    ensures { λ r. ⌜ r ≡ termAt (now (statements .entry)) p (n - 1) ⌝ }
+{
+    let i = crate::STATEMENT_WORDS * (n as usize - 1) + offset(p);
+    statements[i]
+}
+
+// The next statement after n with the same resource at a position.
+pub fn next_at(statements: &[u32], n: u32, p: Position) -> u32
+    requires { ⌜ StatementHeld (now statements) n ⌝ }
+    ensures { λ r. ⌜ r ≡ nextAt (now (statements .entry)) p (n - 1) ⌝ }
+{
+    let i = crate::STATEMENT_WORDS * (n as usize - 1) + (crate::NEXT + offset(p));
+    statements[i]
+}
+
+// The flag of statement n.
+pub fn flag_at(statements: &[u32], n: u32) -> u32
+    requires { ⌜ StatementHeld (now statements) n ⌝ }
+    ensures { λ r. ⌜ r ≡ flagAt (now (statements .entry)) (n - 1) ⌝ }
+{
+    let i = crate::STATEMENT_WORDS * (n as usize - 1) + crate::FLAG;
+    statements[i]
+}
+
+// The three resources of statement n.
+pub fn triple_at(statements: &[u32], n: u32) -> Triple
+    requires { ⌜ StatementHeld (now statements) n ⌝ }
+    ensures { λ r. ⌜ r ≡ tripleAt (now (statements .entry)) (n - 1) ⌝ }
+{
+    Triple {
+        subject: ResourceId(term_at(statements, n, Position::Subject)),
+        predicate: ResourceId(term_at(statements, n, Position::Predicate)),
+        object: ResourceId(term_at(statements, n, Position::Object)),
+    }
+}
+
+// The first statement with resource y at a position.
+pub fn first_at(resources: &[u32], y: u32, p: Position) -> u32
+    requires { ⌜ ResourceHeld (now resources) y ⌝ }
+    ensures { λ r. ⌜ r ≡ firstAt (now (resources .entry)) p y ⌝ }
+{
+    let i = crate::RESOURCE_WORDS * (y as usize - 1) + offset(p);
+    resources[i]
+}
+
+// How many statements hold resource y at a position.
+pub fn count_at(resources: &[u32], y: u32, p: Position) -> u32
+    requires { ⌜ ResourceHeld (now resources) y ⌝ }
+    ensures { λ r. ⌜ r ≡ countAt (now (resources .entry)) p y ⌝ }
+{
+    let i = crate::RESOURCE_WORDS * (y as usize - 1) + (crate::COUNT + offset(p));
+    resources[i]
+}
+
+// Where the name of resource y starts in the text.
+pub fn offset_at(resources: &[u32], y: u32) -> u32
+    requires { ⌜ ResourceHeld (now resources) y ⌝ }
+    ensures { λ r. ⌜ r ≡ offsetAt (now (resources .entry)) y ⌝ }
+{
+    let i = crate::RESOURCE_WORDS * (y as usize - 1) + crate::OFFSET;
+    resources[i]
+}
+
+// The kind of resource y.
+pub fn kind_at(resources: &[u32], y: u32) -> u32
+    requires { ⌜ ResourceHeld (now resources) y ⌝ }
+    ensures { λ r. ⌜ r ≡ kindAt (now (resources .entry)) y ⌝ }
+{
+    let i = crate::RESOURCE_WORDS * (y as usize - 1) + crate::KIND;
+    resources[i]
+}
