@@ -1,5 +1,5 @@
--- Closed runs: the paper's examples and longer histories, each call beside its answer, computed over the plain lists and
--- over the tables. They pin what stands on both sides of the claim about histories. Assumes nothing.
+-- Closed runs: the paper's examples and longer histories, each call beside its answer, computed over the plain lists
+-- and over the tables. They pin what stands on both sides of the claim about histories. Assumes nothing.
 use mathlib.Core.Path.{_≡_, refl}
 use mathlib.Core.List.{List, [], _∷_, _++_, map}
 use Prim.Native.Nat.{ℕ}
@@ -119,8 +119,8 @@ paper = (intern r21, counted 0 1 (tot 1 0 7))
     ∷ []
 
 -- Room for four names, three statements and fifteen bytes: 3 for the text, for the names, for the statements; what is
--- known still answers. Counts with a retracted record tie, and the tie goes to the earlier position; a listing half read
--- goes on after retractions and revivals; a budget that ends on the last record ends the listing.
+-- known still answers. Counts with a retracted record tie, and the tie goes to the earlier position; a listing half
+-- read goes on after retractions and revivals; a budget that ends on the last record ends the listing.
 tight : History
 tight = (intern ia, counted 0 1 (tot 1 0 4))
     ∷ (intern ip, counted 0 2 (tot 2 0 8))

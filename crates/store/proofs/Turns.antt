@@ -57,7 +57,8 @@ module _ (link : ℕ → ℕ) (ok hit : ℕ → Bool) where
   turn-hit zero n v h g e f = absurd (g refl)
   turn-hit (suc left) zero v h g e f = absurd (h refl)
   turn-hit (suc left) (suc i) v h g e f =
-      let d : suc i - 1 ≡ i = omega arith in rw d (ap (addVisits v) (walk-hit link ok hit left i (rw d at e) (rw d at f)))
+      let d : suc i - 1 ≡ i = omega arith in rw d (ap (addVisits v)
+      (walk-hit link ok hit left i (rw d at e) (rw d at f)))
 
   -- another record: the next turn
   pub turn-miss : (left n v : ℕ) → n ≢ 0 → left ≢ 0 → ok (n - 1) ≡ true → hit (n - 1) ≡ false
@@ -68,4 +69,5 @@ module _ (link : ℕ → ℕ) (ok hit : ℕ → Bool) where
       let d : suc i - 1 ≡ i = omega arith in
       let b : suc left - 1 ≡ left = omega arith in
       rw (d, b)
-      (ap (addVisits v) (walk-miss link ok hit left i (rw d at e) (rw d at f)) ∙ add-one v (walk link ok hit left (link i)))
+      (ap (addVisits v) (walk-miss link ok hit left i (rw d at e) (rw d at f))
+      ∙ add-one v (walk link ok hit left (link i)))
