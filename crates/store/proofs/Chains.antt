@@ -1,5 +1,5 @@
--- What follows from linked tables (`Linked`), for a chain in general: the pick is never refused 9, a walk along a chain never meets a
--- damaged record and comes to what taking positions off the chain comes to. Assumes nothing.
+-- What follows from linked tables (`Linked`), for a chain in general: the pick is never refused 9, a walk along a chain
+-- never meets a damaged record and comes to what taking positions off the chain comes to. Assumes nothing.
 use mathlib.Core.Path.{_≡_, refl, sym, ap, _∙_}
 use mathlib.Core.Logic.{_≢_}
 use mathlib.Core.Bool.{Bool, true, false, cond, _&&_, _||_}
@@ -33,14 +33,17 @@ pickChain-bound res x = pick-bound x (λ q. countAt res q (at q x))
 abbrev pub onWords : List ℕ → Chain → Triple → ℕ → Bool
 onWords stm ch x i = onChain ch x (tripleAt stm i)
 
-pub words-holding : (stm : List ℕ) (p : Position) (x : Triple) (i : ℕ) → onWords stm (By p) x i ≡ holding stm p (at p x) i
+pub words-holding : (stm : List ℕ) (p : Position) (x : Triple) (i : ℕ)
+    → onWords stm (By p) x i ≡ holding stm p (at p x) i
 unfolding onChain holding
 words-holding stm p x i = rw (triple-at stm p i)
 
-pub chain-holding : (stm : List ℕ) (p : Position) (x : Triple) (n : ℕ) → below (onWords stm (By p) x) n ≡ below (holding stm p (at p x)) n
+pub chain-holding : (stm : List ℕ) (p : Position) (x : Triple) (n : ℕ)
+    → below (onWords stm (By p) x) n ≡ below (holding stm p (at p x)) n
 chain-holding stm p x n = below-cong _ _ n (λ i h. words-holding stm p x i)
 
-words-term : (stm : List ℕ) (p : Position) (x : Triple) (i : ℕ) → onWords stm (By p) x i ≡ true → termAt stm p i ≡ at p x
+words-term : (stm : List ℕ) (p : Position) (x : Triple) (i : ℕ) → onWords stm (By p) x i ≡ true
+    → termAt stm p i ≡ at p x
 unfolding onChain
 words-term stm p x i e = sym (triple-at stm p i) ∙ eqb-true _ _ e
 
@@ -51,7 +54,9 @@ chain-sits stm (By p) x i e = eq-eqb (termAt stm p i) (at p x) (words-term stm p
 
 module _ (r t : ℕ) (res stm : List ℕ) (L : Linked r t res stm) where
   pub entry-known : (i : ℕ) → i < t → known r (tripleAt stm i) ≡ true
-  entry-known i h = known-of r (tripleAt stm i) (λ p. rw (triple-at stm p i) (L .low p i h)) (λ p. rw (triple-at stm p i) (L .high p i h))
+  entry-known i h =
+      known-of r (tripleAt stm i)
+      (λ p. rw (triple-at stm p i) (L .low p i h)) (λ p. rw (triple-at stm p i) (L .high p i h))
 
   -- the next of a record on a chain is the chain's next
   pub chain-links : (ch : Chain) (x : Triple) → Links (onWords stm ch x) (linkOf stm ch) t
@@ -74,7 +79,8 @@ module _ (r t : ℕ) (res stm : List ℕ) (L : Linked r t res stm) where
   chain-start All x b h = sym (head-all t)
   chain-start (By p) x b h = L .first p (at p x) b (h p) ∙ ap head0 (sym (chain-holding stm p x t))
 
-  pub chain-count : (p : Position) (x : Triple) → 0 < at p x → at p x ≤ r → countAt res p (at p x) ≡ length (below (onWords stm (By p) x) t)
+  pub chain-count : (p : Position) (x : Triple) → 0 < at p x → at p x ≤ r
+      → countAt res p (at p x) ≡ length (below (onWords stm (By p) x) t)
   chain-count p x b h = L .count p (at p x) b h ∙ ap length (sym (chain-holding stm p x t))
 
   -- a walk with a budget along any chain, from any record on it
@@ -94,4 +100,5 @@ module _ (r t : ℕ) (res stm : List ℕ) (L : Linked r t res stm) where
       (λ e. rw e)
       (λ e. let n : at p x ≢ 0 = eqb-false (at p x) 0 e in
       rw (e, L .count p (at p x) (omega arith) (h p), L .first p (at p x) (omega arith) (h p))
-      (and-of _ _ (le-leb _ t (length-le (holding stm p (at p x)) t)) (le-leb _ t (head-le (holding stm p (at p x)) t)))))
+      (and-of _ _ (le-leb _ t (length-le (holding stm p (at p x)) t))
+      (le-leb _ t (head-le (holding stm p (at p x)) t)))))

@@ -1,7 +1,9 @@
--- The falling positions of the entries that pass a test (`below`): exactly these, each below the one before; head and length. Assumes nothing.
+-- The falling positions of the entries that pass a test (`below`): exactly these, each below the one before; head and
+-- length. Assumes nothing.
 use mathlib.Core.Path.{_≡_, refl, sym, ap, _∙_}
 use mathlib.Core.Bool.{Bool, true, false, cond, true≢false}
-use mathlib.Core.List.{List, [], _∷_, _++_, List·Memᴰ, List·Memᴰ·head, List·Memᴰ·tail, List·Memᴰ·not-nil, List·Memᴰ·cases-cons}
+use mathlib.Core.List.{List, [], _∷_, _++_, List·Memᴰ, List·Memᴰ·head, List·Memᴰ·tail, List·Memᴰ·not-nil}
+use mathlib.Core.List.{List·Memᴰ·cases-cons}
 use mathlib.Core.Logic.{_≢_, _⊎_, inl, inr}
 use lib.Dec.{eqb}
 use borrow.Author.Tests.{eqb-true, eqb-false}
@@ -72,7 +74,8 @@ pub head-pos : (f : ℕ → Bool) (n i : ℕ) → i < n → f i ≡ true → 0 <
 head-pos f n i h e = omega (arith, head-most f n i h e)
 
 -- what is the highest that passes is the head
-pub head-unique : (f : ℕ → Bool) (n i : ℕ) → i < n → f i ≡ true → ((j : ℕ) → i < j → j < n → f j ≡ false) → head0 (below f n) ≡ suc i
+pub head-unique : (f : ℕ → Bool) (n i : ℕ) → i < n → f i ≡ true → ((j : ℕ) → i < j → j < n → f j ≡ false)
+    → head0 (below f n) ≡ suc i
 unfolding below
 head-unique f zero i h e g = absurd (omega arith)
 head-unique f (suc n) i h e g =
@@ -86,7 +89,8 @@ head-zero f n h = ap head0 (below-none f n h)
 
 -- ---- the length
 
-pub length-suc : (f : ℕ → Bool) (n : ℕ) → length (below f (suc n)) ≡ cond (f n) (suc (length (below f n))) (length (below f n))
+pub length-suc : (f : ℕ → Bool) (n : ℕ)
+    → length (below f (suc n)) ≡ cond (f n) (suc (length (below f n))) (length (below f n))
 length-suc f n = decide (f n) (λ e. rw (below-yes f n e, e)) (λ e. rw (below-no f n e, e))
 
 pub length-le : (f : ℕ → Bool) (n : ℕ) → length (below f n) ≤ n
@@ -173,6 +177,7 @@ below-out f (suc n) x m =
     wider : Passing f n x → Passing f (suc n) x
     wider r = (r .0, r .1, omega (arith, r .2), r .3)
 
-    go : f n ≡ true → (x ≡ suc n) ⊎ List·Memᴰ x (below f n) → (List·Memᴰ x (below f n) → Passing f n x) → Passing f (suc n) x
+    go : f n ≡ true → (x ≡ suc n) ⊎ List·Memᴰ x (below f n) → (List·Memᴰ x (below f n) → Passing f n x)
+        → Passing f (suc n) x
     go d (inl e) ih = (n, e, omega arith, d)
     go d (inr r) ih = wider (ih r)

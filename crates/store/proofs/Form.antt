@@ -1,4 +1,5 @@
--- What the store needs of well-formed names: no zero byte, a kind from 1 to 3 by the first byte, at most 255 bytes. Assumes nothing.
+-- What the store needs of well-formed names: no zero byte, a kind from 1 to 3 by the first byte, at most 255 bytes.
+-- Assumes nothing.
 use mathlib.Core.Path.{_≡_, refl, sym, ap, _∙_}
 use mathlib.Core.Bool.{Bool, true, false}
 use mathlib.Core.List.{List, [], _∷_}
@@ -10,7 +11,8 @@ use borrow.Author.Tests.{leb-true, ltb-true, ltb-false}
 use Rattle.term.specs.Bytes.{pick, among, letter, alnum, iriByte, textByte, pairByte, firstByte, labelByte}
 use Rattle.term.specs.Scanner.{stepOf, runOf, wholeOf, firstKindOf, kindOf}
 use Rattle.term.specs.declared.Scan.{Scan}
-use Rattle.term.specs.declared.Scan.the-variants.{Start, IriOpen, Iri, Closed, Under, Colon, Label, Dot, Dots, Text, Escape, Quote, At, Tag, Hyphen, Group, Caret, Carets, Bad}
+use Rattle.term.specs.declared.Scan.the-variants.{Start, IriOpen, Iri, Closed, Under, Colon, Label, Dot, Dots, Text}
+use Rattle.term.specs.declared.Scan.the-variants.{Escape, Quote, At, Tag, Hyphen, Group, Caret, Carets, Bad}
 use Rattle.store.specs.Model.{wellFormed}
 use Rattle.store.proofs.Tests.{decide}
 

@@ -1,12 +1,13 @@
--- Whole lists of calls: from states that agree every reply is the same and the states at the end agree; fresh counters over any
--- tables agree with empty lists. Assumes nothing.
+-- Whole lists of calls: from states that agree every reply is the same and the states at the end agree; fresh counters
+-- over any tables agree with empty lists. Assumes nothing.
 use mathlib.Core.Path.{_≡_, refl, sym, ap, ap₂, _∙_}
 use mathlib.Core.List.{List, [], _∷_}
 use Prim.Native.Nat.{ℕ, zero, suc, _≤_, _<_}
 use native.Mathlib.Omega.{arith}
 use Rattle.store.specs.Triple.{below}
 use Rattle.store.specs.Tables.{Tables}
-use Rattle.store.specs.Model.{Model, Capacities, Form, byValue, lent, Call, intern, assert, retract, open′, next, bytesOf, freshModel, callModel, modelReplies, modelAfter}
+use Rattle.store.specs.Model.{Model, Capacities, Form, byValue, lent, Call, intern, assert, retract, open′, next}
+use Rattle.store.specs.Model.{bytesOf, freshModel, callModel, modelReplies, modelAfter}
 use Rattle.store.specs.Statement.{assertLentOf, retractLentOf}
 use Rattle.store.specs.Dictionary.{joined}
 use Rattle.store.specs.History.{Store, freshStore, capacitiesOf, callStore, storeReplies, storeAfter}
@@ -15,7 +16,8 @@ use Rattle.store.proofs.StatementsAgree.{assert-agrees, retract-agrees}
 use Rattle.store.proofs.ScansAgree.{open-agrees, next-agrees}
 use Rattle.store.proofs.NamesAgree.{intern-agrees}
 
-pub call-agrees : (k : Capacities) (c : Store) (s : Model) → Agreeing k c s → (a : Call) → Same k (callStore c a) (callModel k s a)
+pub call-agrees : (k : Capacities) (c : Store) (s : Model) → Agreeing k c s → (a : Call)
+    → Same k (callStore c a) (callModel k s a)
 unfolding callStore callModel assertLentOf retractLentOf
 call-agrees k c s R (intern w) = intern-agrees k c s R w
 call-agrees k c s R (assert byValue x) = assert-agrees k c s R x

@@ -11,7 +11,8 @@ use Rattle.store.specs.Tables.{word}
 use Rattle.store.specs.Dictionary.{Ordering, less, equal, more, compare, isLess, Indexed, rank, bring, insertAt}
 use Rattle.store.proofs.Tests.{decide, three}
 use Rattle.store.proofs.Falling.{length-le, Closed, rank-below, rank-above, rank-unique}
-use Rattle.store.proofs.Order.{flip, compare-refl, compare-flip, compare-equal, compare-trans, is-less, less-not-equal}
+use Rattle.store.proofs.Order.{flip, compare-refl, compare-flip, compare-equal, compare-trans, is-less}
+use Rattle.store.proofs.Order.{less-not-equal}
 use Rattle.store.proofs.Pigeonhole.{Hit, Distinct, pigeonhole1}
 
 -- ---- words after an insertion
@@ -62,7 +63,8 @@ insert-here zero n v l h = bring-at v n l h
 insert-here (suc k) n v [] h = absurd (omega arith)
 insert-here (suc k) n v (x ∷ l) h = insert-here k n v l (omega arith)
 
-pub insert-moved : (k n v i : ℕ) (l : List ℕ) → k ≤ i → i < k + n → k + n < length l → word (insertAt k n v l) (suc i) ≡ word l i
+pub insert-moved : (k n v i : ℕ) (l : List ℕ) → k ≤ i → i < k + n → k + n < length l
+    → word (insertAt k n v l) (suc i) ≡ word l i
 unfolding insertAt
 insert-moved zero n v i l h g q = bring-up v n i l (omega arith) (omega arith)
 insert-moved (suc k) n v i [] h g q = absurd (omega arith)
@@ -120,7 +122,8 @@ module _ (name : ℕ → List ℕ) (idx : List ℕ) (r : ℕ) (X : Indexed name 
     k = rank name idx r w
 
     closed : Closed (λ i. isLess (compare (name (word idx i)) w)) r
-    closed i j h g e = ap isLess (compare-trans (name (word idx i)) (name (word idx j)) w (X .rise i j h g) (is-less _ e))
+    closed i j h g e =
+        ap isLess (compare-trans (name (word idx i)) (name (word idx j)) w (X .rise i j h g) (is-less _ e))
 
     pub rank-before : (i : ℕ) → i < k → compare (name (word idx i)) w ≡ less
     unfolding rank
@@ -131,14 +134,16 @@ module _ (name : ℕ → List ℕ) (idx : List ℕ) (r : ℕ) (X : Indexed name 
     rank-not-before i h g = rank-above _ r closed i h g
 
     -- after a miss at the rank: the rest are greater
-    pub rank-after : (i : ℕ) → k ≤ i → i < r → (k < r → compare (name (word idx k)) w ≢ equal) → compare w (name (word idx i)) ≡ less
+    pub rank-after : (i : ℕ) → k ≤ i → i < r → (k < r → compare (name (word idx k)) w ≢ equal)
+        → compare w (name (word idx i)) ≡ less
     rank-after i h g ne =
         three k i
         (λ q. compare-trans w (name (word idx k)) (name (word idx i)) (at-rank (omega arith)) (X .rise k i q g))
         (λ q. rw q at (at-rank (omega arith)))
         (λ q. absurd (omega arith))
       where
-        go : (o : Ordering) → compare (name (word idx k)) w ≡ o → isLess o ≡ false → compare w (name (word idx k)) ≡ less
+        go : (o : Ordering) → compare (name (word idx k)) w ≡ o → isLess o ≡ false
+            → compare w (name (word idx k)) ≡ less
         go less e l = cc
         go equal e l = absurd (ne (omega arith) e)
         go more e l = compare-flip (name (word idx k)) w ∙ ap flip e
@@ -204,8 +209,10 @@ module _ (name name′ : ℕ → List ℕ) (idx : List ℕ) (r : ℕ) (w : List 
   rise′ i j h g (lower a e) (lower b f) =
       rw (e, f, old-at i (omega (arith, rank-le name idx r w)), old-at j (omega (arith, rank-le name idx r w)))
       (X .rise i j h (omega (arith, rank-le name idx r w)))
-  rise′ i j h g (lower a e) (here b f) = rw (e, f, new, old-at i (omega (arith, rank-le name idx r w))) (rank-before name idx r X w i a)
-  rise′ i j h g (lower a e) (upper n b c d f) = rw (e, f, old-at i (omega arith), old-at n d) (X .rise i n (omega arith) d)
+  rise′ i j h g (lower a e) (here b f) =
+      rw (e, f, new, old-at i (omega (arith, rank-le name idx r w))) (rank-before name idx r X w i a)
+  rise′ i j h g (lower a e) (upper n b c d f) =
+      rw (e, f, old-at i (omega arith), old-at n d) (X .rise i n (omega arith) d)
   rise′ i j h g (here a e) (lower b f) = absurd (omega arith)
   rise′ i j h g (here a e) (here b f) = absurd (omega arith)
   rise′ i j h g (here a e) (upper n b c d f) = rw (e, f, new, old-at n d) (rank-after name idx r X w n c d miss)
@@ -215,7 +222,8 @@ module _ (name name′ : ℕ → List ℕ) (idx : List ℕ) (r : ℕ) (w : List 
 
   low′ : (i : ℕ) → From idx grown kk r i → (0 < word grown i) × (word grown i ≤ suc r)
   low′ i (lower a e) =
-      let q : i < r = omega (arith, rank-le name idx r w) in (omega (arith, e, X .low i q), omega (arith, e, X .high i q))
+      let q : i < r = omega (arith, rank-le name idx r w) in
+      (omega (arith, e, X .low i q), omega (arith, e, X .high i q))
   low′ i (here a e) = (omega (arith, e), omega (arith, e))
   low′ i (upper m a b c e) = (omega (arith, e, X .low m c), omega (arith, e, X .high m c))
 

@@ -1,5 +1,5 @@
--- What intern writes on any tables, by where its search ended: only the index, the new record and the text past B; a refusal writes
--- nothing (paper 01, the checklist's first point). Assumes nothing.
+-- What intern writes on any tables, by where its search ended: only the index, the new record and the text past B; a
+-- refusal writes nothing (paper 01, the checklist's first point). Assumes nothing.
 use mathlib.Core.Path.{_≡_, refl, sym, ap, _∙_}
 use mathlib.Core.Bool.{Bool, true, false, cond, _&&_}
 use mathlib.Core.List.{List, [], _∷_, _++_}
@@ -17,7 +17,8 @@ use Rattle.store.specs.declared.Interned.{Interned}
 use Rattle.store.specs.declared.Interned.the-variants.{Number as Id, Refused as NotInterned}
 use Rattle.store.specs.Tables.{Tables, fits, word, resourceWords}
 use Rattle.store.specs.Model.{wellFormed}
-use Rattle.store.specs.Dictionary.{roomFor, withName, internAs, internOf, InternWrites, indexPlaceOf, freshRecord, PlaceWithin, rank, placeAt, nameAt}
+use Rattle.store.specs.Dictionary.{roomFor, withName, internAs, internOf, InternWrites, indexPlaceOf, freshRecord}
+use Rattle.store.specs.Dictionary.{PlaceWithin, rank, placeAt, nameAt}
 use Rattle.store.proofs.Tests.{decide}
 use Rattle.store.proofs.Words.{grow-length, grow-before, grow-after, getD-sets-before}
 use Rattle.store.proofs.Index.{insert-length}
@@ -45,13 +46,16 @@ name-writes c m w k = record {
   low-text = λ i h. getD-sets-before (w ++ 0 ∷ []) (m .text) (c .text) i 0 h;
 }
 
-pub intern-as-writes : (c : Counters) (m : Tables) (w : List ℕ) (x : IndexPlace) → InternWrites c m ((internAs c m w x) .0)
+pub intern-as-writes : (c : Counters) (m : Tables) (w : List ℕ) (x : IndexPlace)
+    → InternWrites c m ((internAs c m w x) .0)
 unfolding internAs
 intern-as-writes c m w (At n k) = writes-nothing c m
-intern-as-writes c m w (Before k) = decide (roomFor c m w) (λ e. rw e (name-writes c m w k)) (λ e. rw e (writes-nothing c m))
+intern-as-writes c m w (Before k) =
+    decide (roomFor c m w) (λ e. rw e (name-writes c m w k)) (λ e. rw e (writes-nothing c m))
 intern-as-writes c m w Torn = writes-nothing c m
 
-pub intern-as-refused : (c : Counters) (m : Tables) (w : List ℕ) (x : IndexPlace) (q : Refusal) → (internAs c m w x) .1 ≡ NotInterned q
+pub intern-as-refused : (c : Counters) (m : Tables) (w : List ℕ) (x : IndexPlace) (q : Refusal)
+    → (internAs c m w x) .1 ≡ NotInterned q
     → (internAs c m w x) .0 ≡ m
 unfolding internAs
 intern-as-refused c m w (At n k) q = λ e. refl
@@ -62,12 +66,15 @@ pub intern-writes : (c : Counters) (m : Tables) (w : List ℕ) → InternWrites 
 unfolding internOf
 intern-writes c m w =
     decide (fits c m)
-    (λ a. rw a (decide (wellFormed w) (λ b. rw b (intern-as-writes c m w (indexPlaceOf c m w))) (λ b. rw b (writes-nothing c m))))
+    (λ a. rw a (decide (wellFormed w) (λ b. rw b (intern-as-writes c m w (indexPlaceOf c m w)))
+    (λ b. rw b (writes-nothing c m))))
     (λ a. rw a (writes-nothing c m))
 
-pub intern-refused : (c : Counters) (m : Tables) (w : List ℕ) (q : Refusal) → (internOf c m w) .1 ≡ NotInterned q → (internOf c m w) .0 ≡ m
+pub intern-refused : (c : Counters) (m : Tables) (w : List ℕ) (q : Refusal) → (internOf c m w) .1 ≡ NotInterned q
+    → (internOf c m w) .0 ≡ m
 unfolding internOf
 intern-refused c m w q =
     decide (fits c m)
-    (λ a. rw a (decide (wellFormed w) (λ b. rw b (intern-as-refused c m w (indexPlaceOf c m w) q)) (λ b. rw b (λ e. refl))))
+    (λ a. rw a (decide (wellFormed w) (λ b. rw b (intern-as-refused c m w (indexPlaceOf c m w) q))
+    (λ b. rw b (λ e. refl))))
     (λ a. rw a (λ e. refl))

@@ -1,5 +1,5 @@
--- What the plain lists keep: known numbers, permitted kinds, no triple twice; so after any list of calls the store is sound. The plain
--- lists read off a sound store agree with it. Assumes nothing.
+-- What the plain lists keep: known numbers, permitted kinds, no triple twice; so a store that agrees with them is
+-- sound after any list of calls. Assumes nothing.
 use mathlib.Core.Path.{_≡_, refl, sym, ap, ap₂, _∙_}
 use mathlib.Core.Logic.{_≢_}
 use mathlib.Core.Bool.{Bool, true, false, cond, _&&_}
@@ -16,7 +16,10 @@ use Rattle.store.specs.declared.Position.the-variants.{Subject, Predicat
 use Rattle.store.specs.declared.Triple.{Triple}
 use Rattle.store.specs.Triple.{at, known, within, same, permitted, below, head0}
 use Rattle.store.specs.Tables.{Tables, fits, resourceCapacity, statementCapacity, textCapacity, tripleAt, kindAt}
-use Rattle.store.specs.Model.{Entry, Listing, Model, Capacities, Call, intern, assert, retract, open′, next, wellFormed, lookupName, nameOf, bytesOf, internName, internModel, entry, lookup, mark, put, assertModel, strike, retractModel, openModel, turn, nextModel, freshModel, callModel, modelAfter}
+use Rattle.store.specs.Model.{Entry, Listing, Model, Capacities, Call, intern, assert, retract, open′, next}
+use Rattle.store.specs.Model.{wellFormed, lookupName, nameOf, bytesOf, internName, internModel, entry, lookup}
+use Rattle.store.specs.Model.{mark, put, assertModel, strike, retractModel, openModel, turn, nextModel}
+use Rattle.store.specs.Model.{freshModel, callModel, modelAfter}
 use Rattle.store.specs.Soundness.{Sound}
 use Rattle.store.specs.History.{Store}
 use Rattle.store.proofs.Tests.{decide, upto, known-low, known-high, known-more, same-self}
@@ -36,32 +39,38 @@ pub record Tidy (s : Model) : Type 0 where
 -- a triple that is not found is not there
 absent : (x : Triple) (l : List Entry) → lookup x l ≡ 0 → (i : ℕ) → i < length l → (entry l i) .spo ≢ x
 unfolding lookup
-absent x l e i h d = omega (arith, head-pos (λ i. same x ((entry l i) .spo)) (length l) i h (same-self x ((entry l i) .spo) d), e)
+absent x l e i h d =
+    omega (arith, head-pos (λ i. same x ((entry l i) .spo)) (length l) i h (same-self x ((entry l i) .spo) d), e)
 
 abbrev more : Model → Triple → List Entry
 more s x = s .entries ++ record { spo = x; retracted = false } ∷ []
 
 module _ (s : Model) (D : Tidy s) where
-  tidy-append : (x : Triple) → known (length (s .names)) x ≡ true → permitted (kindIn s) x ≡ true → lookup x (s .entries) ≡ 0
+  tidy-append : (x : Triple) → known (length (s .names)) x ≡ true → permitted (kindIn s) x ≡ true
+      → lookup x (s .entries) ≡ 0
       → Tidy (record { names = s .names; entries = more s x; listings = s .listings })
   tidy-append x k a e = record {
     inside = λ i h. upto (λ i. known (length (s .names)) ((entry (more s x) i) .spo) ≡ true) (length (s .entries))
         (λ i q. rw List·getD-append (D .inside i q)) (rw getD-append-seam k) i (omega (arith, simp length-append at h));
     kinds = λ i h. upto (λ i. permitted (kindIn s) ((entry (more s x) i) .spo) ≡ true) (length (s .entries))
         (λ i q. rw List·getD-append (D .kinds i q)) (rw getD-append-seam a) i (omega (arith, simp length-append at h));
-    once = λ i j h g. upto (λ j. (i : ℕ) → i < j → (entry (more s x) i) .spo ≢ (entry (more s x) j) .spo) (length (s .entries))
+    once = λ i j h g. upto (λ j. (i : ℕ) → i < j → (entry (more s x) i) .spo ≢ (entry (more s x) j) .spo)
+        (length (s .entries))
         (λ j q i h. let q′ : i < length (s .entries) = omega arith in
         rw (List·getD-append (s .entries) _ _ i q′, List·getD-append (s .entries) _ _ j q) (D .once i j h q))
         (λ i h. rw (List·getD-append (s .entries) _ _ i h, getD-append-seam) (absent x (s .entries) e i h))
         j (omega (arith, simp length-append at g)) i h;
   }
 
-  tidy-mark : (i : ℕ) (b : Bool) → Tidy (record { names = s .names; entries = mark (s .entries) i b; listings = s .listings })
+  tidy-mark : (i : ℕ) (b : Bool)
+      → Tidy (record { names = s .names; entries = mark (s .entries) i b; listings = s .listings })
   tidy-mark i b =
       let n = mark-length (s .entries) i b in
       record {
-        inside = λ j h. let h′ : j < length (s .entries) = omega arith in rw (mark-spo (s .entries) i j b h′) (D .inside j h′);
-        kinds = λ j h. let h′ : j < length (s .entries) = omega arith in rw (mark-spo (s .entries) i j b h′) (D .kinds j h′);
+        inside = λ j h.
+            let h′ : j < length (s .entries) = omega arith in rw (mark-spo (s .entries) i j b h′) (D .inside j h′);
+        kinds = λ j h.
+            let h′ : j < length (s .entries) = omega arith in rw (mark-spo (s .entries) i j b h′) (D .kinds j h′);
         once = λ j m h g.
             let g′ : m < length (s .entries) = omega arith in
             let h′ : j < length (s .entries) = omega arith in
@@ -75,8 +84,10 @@ module _ (s : Model) (D : Tidy s) where
     kinds = λ i h.
         let x = (entry (s .entries) i) .spo in
         let k = D .inside i h in
-        rw (name-old (s .names) w (x .subject .0) (known-low _ x k Subject) (known-high _ x k Subject),
-          name-old (s .names) w (x .predicate .0) (known-low _ x k Predicate) (known-high _ x k Predicate))
+        rw (
+          name-old (s .names) w (x .subject .0) (known-low _ x k Subject) (known-high _ x k Subject),
+          name-old (s .names) w (x .predicate .0) (known-low _ x k Predicate) (known-high _ x k Predicate),
+        )
         (D .kinds i h);
     once = D .once;
   }
@@ -90,22 +101,27 @@ module _ (s : Model) (D : Tidy s) where
     where
       go : (t : ℕ) → Tidy ((internName k s w t) .0)
       go zero = unfold internName in
-          (decide (ltb (length (s .names)) (k .resources) && leb (bytesOf (s .names ++ w ∷ [])) (k .text)) (λ e. rw e (tidy-name w)) (λ e. rw e D))
+          (decide (ltb (length (s .names)) (k .resources) && leb (bytesOf (s .names ++ w ∷ [])) (k .text))
+          (λ e. rw e (tidy-name w)) (λ e. rw e D))
       go (suc i) = unfold internName in D
   tidy-call k (assert f x) =
       decide (known (length (s .names)) x)
       (λ e. rw e (decide (permitted (kindIn s) x) (λ d. rw d (go e d (lookup x (s .entries)) refl)) (λ d. rw d D)))
       (λ e. rw e D)
     where
-      go : known (length (s .names)) x ≡ true → permitted (kindIn s) x ≡ true → (t : ℕ) → lookup x (s .entries) ≡ t → Tidy ((put k s x t) .0)
-      go e d zero q = unfold put in (decide (ltb (length (s .entries)) (k .statements)) (λ f. rw f (tidy-append x e d q)) (λ f. rw f D))
-      go e d (suc i) q = unfold put in (decide ((entry (s .entries) i) .retracted) (λ f. rw f (tidy-mark i false)) (λ f. rw f D))
+      go : known (length (s .names)) x ≡ true → permitted (kindIn s) x ≡ true → (t : ℕ) → lookup x (s .entries) ≡ t
+          → Tidy ((put k s x t) .0)
+      go e d zero q = unfold put in (decide (ltb (length (s .entries)) (k .statements))
+          (λ f. rw f (tidy-append x e d q)) (λ f. rw f D))
+      go e d (suc i) q =
+          unfold put in (decide ((entry (s .entries) i) .retracted) (λ f. rw f (tidy-mark i false)) (λ f. rw f D))
   tidy-call k (retract f x) =
       decide (known (length (s .names)) x) (λ e. rw e (go (lookup x (s .entries)))) (λ e. rw e D)
     where
       go : (t : ℕ) → Tidy ((strike s t) .0)
       go zero = unfold strike in D
-      go (suc i) = unfold strike in (decide ((entry (s .entries) i) .retracted) (λ f. rw f D) (λ f. rw f (tidy-mark i true)))
+      go (suc i) =
+          unfold strike in (decide ((entry (s .entries) i) .retracted) (λ f. rw f D) (λ f. rw f (tidy-mark i true)))
   tidy-call k (open′ x) = decide (within (length (s .names)) x) (λ e. rw e (tidy-listings _)) (λ e. rw e D)
   tidy-call k (next j b) = decide (eqb b 0) (λ e. rw e D) (λ e. rw e (tidy-listings _))
 
@@ -115,11 +131,16 @@ tidy-history k s D [] = D
 tidy-history k s D (a ∷ r) = tidy-history k ((callModel k s a) .0) (tidy-call s D k a) r
 
 pub tidy-fresh : Tidy freshModel
-tidy-fresh = record { inside = λ i h. absurd (omega arith); kinds = λ i h. absurd (omega arith); once = λ i j h g. absurd (omega arith) }
+tidy-fresh = record {
+  inside = λ i h. absurd (omega arith);
+  kinds = λ i h. absurd (omega arith);
+  once = λ i j h g. absurd (omega arith);
+}
 
 -- ---- a store that agrees with tidy lists is sound
 
-pub agreeing-sound : (k : Capacities) (c : Store) (s : Model) → Agreeing k c s → Tidy s → Sound (c .counters) (c .tables)
+pub agreeing-sound : (k : Capacities) (c : Store) (s : Model) → Agreeing k c s → Tidy s
+    → Sound (c .counters) (c .tables)
 agreeing-sound k c s R D = record {
   capacity = fits-agrees k c s R;
   linked = R .linked;
@@ -127,7 +148,8 @@ agreeing-sound k c s R D = record {
       let q : i < length (s .entries) = omega (arith, R .size) in
       rw (← spo-agrees k c s R i h)
       (permitted-agrees k c s R ((entry (s .entries) i) .spo) (rw (R .named .size) (D .inside i q)) ∙ D .kinds i q);
-  once = λ i j h g. rw (← spo-agrees k c s R i (omega arith), ← spo-agrees k c s R j g) (D .once i j h (omega (arith, R .size)));
+  once = λ i j h g. rw (← spo-agrees k c s R i (omega arith), ← spo-agrees k c s R j g)
+      (D .once i j h (omega (arith, R .size)));
   names = s .names;
   named = R .named;
 }

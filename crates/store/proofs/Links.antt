@@ -18,7 +18,10 @@ use Rattle.store.specs.Dictionary.{freshRecord}
 use Rattle.store.specs.Soundness.{holding, Linked}
 use Rattle.store.proofs.Tests.{decide, off-lt, upto}
 use Rattle.store.proofs.Falling.{below-cong, below-none, head-suc, length-suc}
-use Rattle.store.proofs.Words.{append-length, append-term-old, append-next-old, append-flag-old, append-term, append-next, append-flag, linked-length, linked-first, linked-count, flag-term, flag-next, flag-same, flag-other, zero-first, zero-count, grow-length, grow-old, grow-new}
+use Rattle.store.proofs.Words.{append-length, append-term-old, append-next-old, append-flag-old, append-term}
+use Rattle.store.proofs.Words.{append-next, append-flag, linked-length, linked-first, linked-count, flag-term}
+use Rattle.store.proofs.Words.{flag-next, flag-same, flag-other, zero-first, zero-count, grow-length, grow-old}
+use Rattle.store.proofs.Words.{grow-new}
 
 -- a new record at the head of its three chains
 module _ (r t : ℕ) (x : Triple) (res stm : List ℕ) (L : Linked r t res stm) (room : statementWords * suc t ≤ length stm)
@@ -41,17 +44,36 @@ module _ (r t : ℕ) (x : Triple) (res stm : List ℕ) (L : Linked r t res stm) 
   append-linked = record {
     fit-resources = rw (linked-length t x res) (L .fit-resources);
     fit-statements = rw (append-length t x res stm) room;
-    low = λ p. upto _ t (λ i h. rw (append-term-old t x res stm p i h) (L .low p i h)) (rw (append-term t x res stm room p) (pos p));
-    high = λ p. upto _ t (λ i h. rw (append-term-old t x res stm p i h) (L .high p i h)) (rw (append-term t x res stm room p) (known p));
-    flag = upto _ t (λ i h. rw (append-flag-old t x res stm i h) (L .flag i h)) (rw (append-flag t x res stm room) (omega arith));
+    low = λ p. upto _ t (λ i h. rw (append-term-old t x res stm p i h) (L .low p i h))
+        (rw (append-term t x res stm room p) (pos p));
+    high = λ p. upto _ t (λ i h. rw (append-term-old t x res stm p i h) (L .high p i h))
+        (rw (append-term t x res stm room p) (known p));
+    flag = upto _ t (λ i h. rw (append-flag-old t x res stm i h) (L .flag i h))
+        (rw (append-flag t x res stm room) (omega arith));
     next = λ p. upto _ t
-        (λ i h. rw (append-next-old t x res stm p i h, append-term-old t x res stm p i h, old-chain p (termAt stm p i) i (omega arith))
+        (λ i h. rw (
+          append-next-old t x res stm p i h,
+          append-term-old t x res stm p i h,
+          old-chain p (termAt stm p i) i (omega arith),
+        )
         (L .next p i h))
         (rw (append-next t x res stm room p, append-term t x res stm room p, old-chain p (at p x) t (omega arith))
         (L .first p (at p x) (pos p) (known p)));
-    first = λ p y h q. rw (linked-first t x res pos room-linked p y h, head-suc, last-holds p y, old-chain p y t (omega arith), L .first p y h q);
+    first = λ p y h q. rw (
+      linked-first t x res pos room-linked p y h,
+      head-suc,
+      last-holds p y,
+      old-chain p y t (omega arith),
+      L .first p y h q,
+    );
     count = λ p y h q.
-        rw (linked-count t x res pos room-linked p y h, length-suc, last-holds p y, old-chain p y t (omega arith), L .count p y h q);
+        rw (
+          linked-count t x res pos room-linked p y h,
+          length-suc,
+          last-holds p y,
+          old-chain p y t (omega arith),
+          L .count p y h q,
+        );
   }
 
 -- a flag set to 0 or 1
@@ -79,7 +101,8 @@ module _ (stm : List ℕ) (i v : ℕ) where
   }
 
 -- a new resource record: no statement holds it
-module _ (r t : ℕ) (res stm : List ℕ) (L : Linked r t res stm) (room : resourceWords * suc r ≤ length res) (o d : ℕ) where
+module _ (r t : ℕ) (res stm : List ℕ) (L : Linked r t res stm) (room : resourceWords * suc r ≤ length res)
+    (o d : ℕ) where
   nobody : (p : Position) → below (holding stm p (suc r)) t ≡ []
   unfolding holding
   nobody p = below-none _ t (λ i q. ne-eqb (termAt stm p i) (suc r) (omega (arith, L .high p i q)))
@@ -95,12 +118,14 @@ module _ (r t : ℕ) (res stm : List ℕ) (L : Linked r t res stm) (room : resou
     next = L .next;
     first = λ p y h q.
         decide (eqb y (suc r))
-        (λ e. rw (eqb-true y (suc r) e, grow-new r res o d room (off p) (omega (arith, off-lt p)), nobody p) (zero-first o d p))
+        (λ e. rw (eqb-true y (suc r) e, grow-new r res o d room (off p) (omega (arith, off-lt p)), nobody p)
+        (zero-first o d p))
         (λ e. let n : y ≢ suc r = eqb-false y (suc r) e in
         rw (grow-old r res o d (off p) y (omega (arith, off-lt p)) h (omega arith)) (L .first p y h (omega arith)));
     count = λ p y h q.
         decide (eqb y (suc r))
-        (λ e. rw (eqb-true y (suc r) e, grow-new r res o d room (3 + off p) (omega (arith, off-lt p)), nobody p) (zero-count o d p))
+        (λ e. rw (eqb-true y (suc r) e, grow-new r res o d room (3 + off p) (omega (arith, off-lt p)), nobody p)
+        (zero-count o d p))
         (λ e. let n : y ≢ suc r = eqb-false y (suc r) e in
         rw (grow-old r res o d (3 + off p) y (omega (arith, off-lt p)) h (omega arith)) (L .count p y h (omega arith)));
   }

@@ -1,5 +1,5 @@
--- Names on states that agree: what the text and the index say is what the list says; intern gives the same values, and the states
--- after it agree. Assumes nothing.
+-- Names on states that agree: what the text and the index say is what the list says; intern gives the same values, and
+-- the states after it agree. Assumes nothing.
 use mathlib.Core.Path.{_≡_, refl, sym, ap, ap₂, _∙_}
 use mathlib.Core.Logic.{_≢_}
 use mathlib.Core.Bool.{Bool, true, false, cond, _&&_}
@@ -18,8 +18,11 @@ use Rattle.store.specs.declared.IndexPlace.the-variants.{At, Before, Tor
 use Rattle.store.specs.Triple.{below, head0}
 use Rattle.store.specs.Tables.{Tables, word, resourceWords, resourceCapacity, textCapacity, offsetAt, kindAt}
 use Rattle.store.specs.Values.{Values, counted, internedValues}
-use Rattle.store.specs.Model.{Model, Capacities, wellFormed, eqBytes, lookupName, nameOf, bytesOf, totals, withNames, internName, internModel}
-use Rattle.store.specs.Dictionary.{compare, equal, isLess, Indexed, Named, nameAt, rank, placeAt, indexPlaceOf, roomFor, oneNameMore, freshRecord, insertAt, withName, internAs, internOf}
+use Rattle.store.specs.Model.{Model, Capacities, wellFormed, eqBytes, lookupName, nameOf, bytesOf, totals}
+use Rattle.store.specs.Model.{withNames, internName, internModel}
+use Rattle.store.specs.Dictionary.{PlaceWithin}
+use Rattle.store.specs.Dictionary.{compare, equal, isLess, Indexed, Named, nameAt, rank, placeAt, indexPlaceOf}
+use Rattle.store.specs.Dictionary.{roomFor, oneNameMore, freshRecord, insertAt, withName, internAs, internOf}
 use Rattle.store.specs.History.{Store, store, internedCounters}
 use Rattle.store.proofs.Tests.{decide, upto-one, and-l, and-r, and-of}
 use Rattle.store.proofs.Falling.{below-cong, head-le, head-passes, head-pos}
@@ -38,14 +41,17 @@ module _ (ns : List (List ℕ)) (c : Counters) (m : Tables) (N : Named ns c m) w
   unfolding nameAt nameOf
   name-at y h q =
       let g : y - 1 < length ns = omega (arith, N .size) in
-      rw (N .offsets y h q) (name-read ns (m .text) (c .text) (y - 1) (N .spelled) g (form-clean (getD ns (y - 1) []) (N .well (y - 1) g)))
+      rw (N .offsets y h q) (name-read ns (m .text) (c .text) (y - 1) (N .spelled) g
+      (form-clean (getD ns (y - 1) []) (N .well (y - 1) g)))
 
   pub name-indexed : (i : ℕ) → i < c .resources → nameAt m (word (m .index) i) ≡ nameOf ns (word (m .index) i)
   name-indexed i h = name-at (word (m .index) i) (N .index .low i h) (N .index .high i h)
 
-  pub rank-at : (w : List ℕ) → rank (nameAt m) (m .index) (c .resources) w ≡ rank (nameOf ns) (m .index) (c .resources) w
+  pub rank-at : (w : List ℕ)
+      → rank (nameAt m) (m .index) (c .resources) w ≡ rank (nameOf ns) (m .index) (c .resources) w
   unfolding rank
-  rank-at w = ap length (below-cong _ _ (c .resources) (λ i h. ap (λ (z : List ℕ). isLess (compare z w)) (name-indexed i h)))
+  rank-at w = ap length (below-cong _ _ (c .resources)
+      (λ i h. ap (λ (z : List ℕ). isLess (compare z w)) (name-indexed i h)))
 
   module _ (w : List ℕ) where
     abbrev kk : ℕ
@@ -65,21 +71,28 @@ module _ (ns : List (List ℕ)) (c : Counters) (m : Tables) (N : Named ns c m) w
     -- a listed name stands at its rank
     pub listed-at : (i : ℕ) → lookupName w ns ≡ suc i → (kk < c .resources) × (word (m .index) kk ≡ suc i)
     listed-at i e =
-        at-rank-is (nameOf ns) (m .index) (c .resources) (N .index) w (suc i) (omega arith) (omega (arith, N .size, listed i e .0)) (name-is i e)
+        at-rank-is (nameOf ns) (m .index) (c .resources) (N .index) w (suc i) (omega arith)
+        (omega (arith, N .size, listed i e .0)) (name-is i e)
 
     -- a name that is not listed is no number's
     pub unlisted : lookupName w ns ≡ 0 → (y : ℕ) → 0 < y → y ≤ c .resources → nameOf ns y ≡ w → ⊥
     unfolding lookupName nameOf
     unlisted e y h q d =
-        omega (arith, head-pos (λ i. eqBytes (getD ns i []) w) (length ns) (y - 1) (omega (arith, N .size)) (rw d (eqBytes-refl w)), e)
+        omega (
+          arith,
+          head-pos (λ i. eqBytes (getD ns i []) w) (length ns) (y - 1) (omega (arith, N .size)) (rw d (eqBytes-refl w)),
+          e,
+        )
 
     pub missed : lookupName w ns ≡ 0 → kk < c .resources → compare (nameOf ns (word (m .index) kk)) w ≢ equal
     missed e h d = unlisted e (word (m .index) kk) (N .index .low kk h) (N .index .high kk h) (compare-equal _ w d)
 
-    hit-test : (i : ℕ) → lookupName w ns ≡ suc i → ltb kk (c .resources) && eqBytes (nameAt m (word (m .index) kk)) w ≡ true
+    hit-test : (i : ℕ) → lookupName w ns ≡ suc i → ltb kk (c .resources) && eqBytes (nameAt m (word (m .index) kk)) w
+        ≡ true
     hit-test i e =
         and-of _ _ (lt-ltb kk (c .resources) (listed-at i e .0))
-        (rw (listed-at i e .1, name-at (suc i) (omega arith) (omega (arith, N .size, listed i e .0)), name-is i e) (eqBytes-refl w))
+        (rw (listed-at i e .1, name-at (suc i) (omega arith) (omega (arith, N .size, listed i e .0)), name-is i e)
+        (eqBytes-refl w))
 
     miss-test : lookupName w ns ≡ 0 → ltb kk (c .resources) && eqBytes (nameAt m (word (m .index) kk)) w ≡ false
     miss-test e =
@@ -88,7 +101,8 @@ module _ (ns : List (List ℕ)) (c : Counters) (m : Tables) (N : Named ns c m) w
         let lo = N .index .low kk h in
         let hi = N .index .high kk h in
         rw (d, name-indexed kk h)
-        (decide (eqBytes (nameOf ns (word (m .index) kk)) w) (λ q. absurd (unlisted e _ lo hi (eqBytes-is _ w q))) (λ q. q)))
+        (decide (eqBytes (nameOf ns (word (m .index) kk)) w) (λ q. absurd (unlisted e _ lo hi (eqBytes-is _ w q)))
+        (λ q. q)))
         (λ d. rw d)
 
     -- where a name stands, by the list
@@ -100,10 +114,20 @@ module _ (ns : List (List ℕ)) (c : Counters) (m : Tables) (N : Named ns c m) w
     unfolding indexPlaceOf placeAt
     place-unlisted e = rw (rank-at w, miss-test e)
 
+    -- what a search comes to on a sound dictionary is within the bound
+    pub place-bounded : PlaceWithin (c .resources) (indexPlaceOf c m w)
+    place-bounded = go (lookupName w ns) refl
+      where
+        go : (n : ℕ) → lookupName w ns ≡ n → PlaceWithin (c .resources) (indexPlaceOf c m w)
+        go zero e = rw (place-unlisted e) (rank-le (nameOf ns) (m .index) (c .resources) w)
+        go (suc i) e =
+            rw (place-listed i e) (omega arith, omega (arith, N .size, listed i e .0), listed-at i e .0)
+
 -- ---- one name more
 
 module _ (ns : List (List ℕ)) (c : Counters) (m : Tables) (N : Named ns c m) (w : List ℕ) (wf : wellFormed w ≡ true)
-    (e : lookupName w ns ≡ 0) (gr : c .resources < resourceCapacity m) (gb : c .text + length w + 1 ≤ textCapacity m) where
+    (e : lookupName w ns ≡ 0) (gr : c .resources < resourceCapacity m)
+    (gb : c .text + length w + 1 ≤ textCapacity m) where
   abbrev kk′ : ℕ
   kk′ = rank (nameOf ns) (m .index) (c .resources) w
 
@@ -119,11 +143,15 @@ module _ (ns : List (List ℕ)) (c : Counters) (m : Tables) (N : Named ns c m) (
         spelled = text-grows ns (m .text) w (c .text) (N .spelled) (omega arith);
         well = snoc-all (λ n. wellFormed n ≡ true) ns w (N .well) wf;
         offsets = upto-one _ (c .resources)
-            (λ y h q. gw 6 y (omega arith) h q ∙ N .offsets y h q ∙ ap bytesOf (sym (take-append-le (y - 1) ns (w ∷ []) (omega (arith, N .size)))))
-            (gn 6 (omega arith) ∙ N .bytes ∙ ap bytesOf (sym (take-at ns (w ∷ []) (suc (c .resources) - 1) (omega (arith, N .size)))));
+            (λ y h q. gw 6 y (omega arith) h q ∙ N .offsets y h q
+            ∙ ap bytesOf (sym (take-append-le (y - 1) ns (w ∷ []) (omega (arith, N .size)))))
+            (gn 6 (omega arith) ∙ N .bytes ∙ ap bytesOf (sym
+            (take-at ns (w ∷ []) (suc (c .resources) - 1) (omega (arith, N .size)))));
         kinds = upto-one _ (c .resources)
-            (λ y h q. gw 7 y (omega arith) h q ∙ N .kinds y h q ∙ ap firstKindOf (sym (name-old ns w y h (omega (arith, N .size)))))
-            (gn 7 (omega arith) ∙ ap firstKindOf (sym (ap (λ (z : ℕ). nameOf (ns ++ w ∷ []) (suc z)) (N .size) ∙ name-new ns w)));
+            (λ y h q. gw 7 y (omega arith) h q ∙ N .kinds y h q
+            ∙ ap firstKindOf (sym (name-old ns w y h (omega (arith, N .size)))))
+            (gn 7 (omega arith)
+            ∙ ap firstKindOf (sym (ap (λ (z : ℕ). nameOf (ns ++ w ∷ []) (suc z)) (N .size) ∙ name-new ns w)));
         index = index-grows (nameOf ns) (nameOf (ns ++ w ∷ [])) (m .index) (c .resources) w (N .index) (omega arith)
             (λ y h q. name-old ns w y h (omega (arith, N .size))) (rw (N .size) (name-new ns w)) (missed ns c m N w e);
       }
@@ -143,18 +171,22 @@ module _ (k : Capacities) (c : Store) (s : Model) (R : Agreeing k c s) (w : List
   abbrev at-rank : ℕ
   at-rank = rank (nameOf (s .names)) (m .index) (n .resources) w
 
-  grown-agrees : lookupName w (s .names) ≡ 0 → n .resources < resourceCapacity m → n .text + length w + 1 ≤ textCapacity m
+  grown-agrees : lookupName w (s .names) ≡ 0 → n .resources < resourceCapacity m
+      → n .text + length w + 1 ≤ textCapacity m
       → Agreeing k (store (oneNameMore n w) (withName n m w at-rank) (c .cursors)) (withNames s (s .names ++ w ∷ []))
   grown-agrees e gr gb = record {
     named = named-grows (s .names) n m (R .named) w wf e gr gb;
     size = R .size;
-    linked = grow-linked (n .resources) (n .statements) (m .resources) (m .statements) (R .linked) (omega arith) (n .text) (firstKindOf w);
+    linked = grow-linked (n .resources) (n .statements) (m .resources) (m .statements) (R .linked) (omega arith)
+        (n .text) (firstKindOf w);
     reads = R .reads;
     cursors = R .cursors;
     good = λ j. good-grow (length (s .names)) (length (s .names ++ w ∷ [])) (s .entries) (s .entries) _
         (omega (arith, length-snoc (s .names) w)) (omega arith) (λ i q. refl) (R .good j);
-    room-resources = rw (grow-length (n .resources) (m .resources) (n .text) (firstKindOf w), insert-length at-rank (n .resources - at-rank) (suc (n .resources)) (m .index))
-        (R .room-resources);
+    room-resources = rw (
+      grow-length (n .resources) (m .resources) (n .text) (firstKindOf w),
+      insert-length at-rank (n .resources - at-rank) (suc (n .resources)) (m .index),
+    ) (R .room-resources);
     room-statements = R .room-statements;
     room-text = rw (length-sets (m .text) (n .text) (w ++ 0 ∷ [])) (R .room-text);
     in-resources = rw (R .room-resources) gr;
@@ -162,7 +194,8 @@ module _ (k : Capacities) (c : Store) (s : Model) (R : Agreeing k c s) (w : List
     in-text = rw (R .room-text) gb;
   }
 
-  new-values : Agreeing k (store (oneNameMore n w) (withName n m w at-rank) (c .cursors)) (withNames s (s .names ++ w ∷ []))
+  new-values : Agreeing k (store (oneNameMore n w) (withName n m w at-rank) (c .cursors))
+      (withNames s (s .names ++ w ∷ []))
       → counted 0 (suc (n .resources)) (oneNameMore n w)
       ≡ counted 0 (length (s .names ++ w ∷ [])) (totals (withNames s (s .names ++ w ∷ [])))
   new-values z = ap₂ (counted 0) (z .named .size) (totals-agree k _ _ z)
@@ -171,11 +204,14 @@ module _ (k : Capacities) (c : Store) (s : Model) (R : Agreeing k c s) (w : List
   unfolding roomFor
   room-agrees =
       ap₂ _&&_ (ap₂ ltb (R .named .size) (sym (R .room-resources)))
-      (ap₂ leb (ap (λ (z : ℕ). z + length w + 1) (R .named .bytes) ∙ sym (bytes-snoc (s .names) w)) (sym (R .room-text)))
+      (ap₂ leb (ap (λ (z : ℕ). z + length w + 1) (R .named .bytes) ∙ sym (bytes-snoc (s .names) w))
+      (sym (R .room-text)))
 
-  name-agrees : (i : ℕ) → lookupName w (s .names) ≡ i → Same k (interned c (internAs n m w (indexPlaceOf n m w))) (internName k s w i)
+  name-agrees : (i : ℕ) → lookupName w (s .names) ≡ i
+      → Same k (interned c (internAs n m w (indexPlaceOf n m w))) (internName k s w i)
   unfolding internAs internName
-  name-agrees (suc i) e = rw (place-listed (s .names) n m (R .named) w i e) (ap (counted 0 (suc i)) (totals-agree k c s R), R)
+  name-agrees (suc i) e =
+      rw (place-listed (s .names) n m (R .named) w i e) (ap (counted 0 (suc i)) (totals-agree k c s R), R)
   name-agrees zero e =
       rw (place-unlisted (s .names) n m (R .named) w e)
       (same-cond k (interned c) (roomFor n m w) _ _ _ _ _ room-agrees
@@ -186,7 +222,8 @@ module _ (k : Capacities) (c : Store) (s : Model) (R : Agreeing k c s) (w : List
       room-r d = unfold roomFor in (ltb-true (n .resources) (resourceCapacity m) (and-l _ _ d))
 
       room-b : roomFor n m w ≡ true → n .text + length w + 1 ≤ textCapacity m
-      room-b d = unfold roomFor in (leb-true (n .text + length w + 1) (textCapacity m) (and-r (ltb (n .resources) (resourceCapacity m)) _ d))
+      room-b d = unfold roomFor in (leb-true (n .text + length w + 1) (textCapacity m)
+          (and-r (ltb (n .resources) (resourceCapacity m)) _ d))
 
 pub intern-agrees : (k : Capacities) (c : Store) (s : Model) → Agreeing k c s → (w : List ℕ)
     → Same k (interned c (internOf (c .counters) (c .tables) w)) (internModel k s w)

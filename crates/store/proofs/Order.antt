@@ -1,4 +1,5 @@
--- The byte order of names (`compare`): reflexive, total, antisymmetric, transitive; equal names are equal lists. Assumes nothing.
+-- The byte order of names (`compare`): reflexive, total, antisymmetric, transitive; equal names are equal lists.
+-- Assumes nothing.
 use mathlib.Core.Path.{_≡_, refl, sym, ap, ap₂, _∙_}
 use mathlib.Core.Logic.{_≢_}
 use mathlib.Core.Bool.{Bool, true, false, cond, _&&_, false≢true}

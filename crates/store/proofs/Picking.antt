@@ -1,5 +1,5 @@
--- The pick (`pick`, paper 01, "Open a listing"): it depends on the costs of bound positions alone; what it gives is bound, of least
--- cost, and of those the first; all records exactly where nothing is bound. Assumes nothing.
+-- The pick (`pick`, paper 01, "Open a listing"): it depends on the costs of bound positions alone; what it gives is
+-- bound, of least cost, and of those the first; all records exactly where nothing is bound. Assumes nothing.
 use mathlib.Core.Path.{_≡_, refl, sym, ap, _∙_}
 use mathlib.Core.Logic.{_≢_}
 use mathlib.Core.Bool.{Bool, true, false, cond, _&&_}
@@ -45,7 +45,8 @@ pick-bound x c = better-bound x c Object _ (better-bound x c Predicate _ (better
 abbrev Agree : Triple → (Position → ℕ) → (Position → ℕ) → Type 0
 Agree x c d = (q : Position) → 0 < at q x → c q ≡ d q
 
-better-cong : (x : Triple) (c d : Position → ℕ) (q : Position) (ch : Chain) → Agree x c d → Bound ch x → better x c q ch ≡ better x d q ch
+better-cong : (x : Triple) (c d : Position → ℕ) (q : Position) (ch : Chain) → Agree x c d → Bound ch x
+    → better x c q ch ≡ better x d q ch
 unfolding better
 better-cong x c d q All h b = refl
 better-cong x c d q (By p) h b =
@@ -76,13 +77,15 @@ Picked x c n All = (q : Position) → off q < n → at q x ≡ 0
 Picked x c n (By p) = (off p < n) × Best x c p n
 
 -- the positions before q, or q itself
-last-or : (P : Position → Type 0) (q : Position) → ((r : Position) → off r < off q → P r) → P q → (r : Position) → off r < suc (off q) → P r
+last-or : (P : Position → Type 0) (q : Position) → ((r : Position) → off r < off q → P r) → P q → (r : Position)
+    → off r < suc (off q) → P r
 last-or P q old new r h =
     decide (eqb (off q) (off r))
     (λ e. rw (off-inj q r (eqb-true (off q) (off r) e)) at new)
     (λ e. let ne : off q ≢ off r = eqb-false (off q) (off r) e in old r (omega arith))
 
-better-picked : (x : Triple) (c : Position → ℕ) (q : Position) (ch : Chain) → Picked x c (off q) ch → Picked x c (suc (off q)) (better x c q ch)
+better-picked : (x : Triple) (c : Position → ℕ) (q : Position) (ch : Chain) → Picked x c (off q) ch
+    → Picked x c (suc (off q)) (better x c q ch)
 unfolding better
 better-picked x c q All h =
     decide (eqb (at q x) 0)
@@ -93,7 +96,8 @@ better-picked x c q All h =
       record {
         bound = omega arith;
         least = last-or (λ r. 0 < at r x → c q ≤ c r) q (λ r a b. absurd (omega (arith, h r a))) (λ b. omega arith);
-        first = last-or (λ r. 0 < at r x → off r < off q → c q < c r) q (λ r a b d. absurd (omega (arith, h r a))) (λ b d. absurd (omega arith));
+        first = last-or (λ r. 0 < at r x → off r < off q → c q < c r) q (λ r a b d. absurd (omega (arith, h r a)))
+            (λ b d. absurd (omega arith));
       },
     ))
 better-picked x c q (By p) h =
@@ -115,7 +119,8 @@ better-picked x c q (By p) h =
       record {
         bound = omega arith;
         least = last-or (λ r. 0 < at r x → c q ≤ c r) q (λ r a b. omega (arith, h .1 .least r a b)) (λ b. omega arith);
-        first = last-or (λ r. 0 < at r x → off r < off q → c q < c r) q (λ r a b g. omega (arith, h .1 .least r a b)) (λ b g. absurd (omega arith));
+        first = last-or (λ r. 0 < at r x → off r < off q → c q < c r) q (λ r a b g. omega (arith, h .1 .least r a b))
+            (λ b g. absurd (omega arith));
       },
     ))
     (λ d. let l = ltb-false (c q) (c p) d in
@@ -124,14 +129,16 @@ better-picked x c q (By p) h =
       record {
         bound = h .1 .bound;
         least = last-or (λ r. 0 < at r x → c p ≤ c r) q (h .1 .least) (λ b. omega arith);
-        first = last-or (λ r. 0 < at r x → off r < off p → c p < c r) q (h .1 .first) (λ b g. absurd (omega (arith, h .0)));
+        first = last-or (λ r. 0 < at r x → off r < off p → c p < c r) q (h .1 .first)
+            (λ b g. absurd (omega (arith, h .0)));
       },
     ))))
 
 pub pick-picks : (x : Triple) (c : Position → ℕ) → Picked x c 3 (pick x c)
 unfolding pick
 pick-picks x c =
-    better-picked x c Object _ (better-picked x c Predicate _ (better-picked x c Subject All (λ q h. absurd (omega arith))))
+    better-picked x c Object _ (better-picked x c Predicate _
+    (better-picked x c Subject All (λ q h. absurd (omega arith))))
 
 -- a picked chain passes the cursor's test
 pub pick-ok : (x : Triple) (c : Position → ℕ) → chainOk (pick x c) x ≡ true

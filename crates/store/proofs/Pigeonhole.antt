@@ -46,7 +46,8 @@ module _ (f : ℕ → ℕ) (n : ℕ) where
     swap-distinct i j h g e = at? i
         (λ p. at? j
         (λ q. d i j (omega arith) (omega arith) (p ∙ sym q))
-        (λ q. let z = d n j (omega arith) (omega arith) (sym (swap-at i p) ∙ e ∙ swap-else j q) in absurd (omega arith)))
+        (λ q. let z = d n j (omega arith) (omega arith) (sym (swap-at i p) ∙ e ∙ swap-else j q) in
+        absurd (omega arith)))
         (λ p. at? j
         (λ q. let z = d i n (omega arith) (omega arith) (sym (swap-else i p) ∙ e ∙ swap-at j q) in absurd (omega arith))
         (λ q. d i j (omega arith) (omega arith) (sym (swap-else i p) ∙ e ∙ swap-else j q)))
@@ -61,7 +62,8 @@ module _ (f : ℕ → ℕ) (n : ℕ) where
         let r = c (f n) (omega (arith, b n (omega arith))) in
         at? (r .0)
         (λ p. (r .0, omega (arith, r .1), p ∙ sym y=n))
-        (λ p. let z = d (r .0) n (omega (arith, r .1)) (omega arith) (sym (swap-else (r .0) p) ∙ r .2) in absurd (omega (arith, r .1))))
+        (λ p. let z = d (r .0) n (omega (arith, r .1)) (omega arith) (sym (swap-else (r .0) p) ∙ r .2) in
+        absurd (omega (arith, r .1))))
         (λ q. let y≠n : y ≢ n = eqb-false y n q in
         let r = c y (omega arith) in
         at? (r .0)
@@ -70,10 +72,13 @@ module _ (f : ℕ → ℕ) (n : ℕ) where
 
 pub pigeonhole : (f : ℕ → ℕ) (n : ℕ) → Below f n → Distinct f n → (y : ℕ) → y < n → Hit f n y
 pigeonhole f zero b d y h = absurd (omega arith)
-pigeonhole f (suc n) b d y h = cover f n b d (λ z q. pigeonhole (swap f n) n (swap-below f n b d) (swap-distinct f n b d) z q) y h
+pigeonhole f (suc n) b d y h =
+    cover f n b d (λ z q. pigeonhole (swap f n) n (swap-below f n b d) (swap-distinct f n b d) z q) y h
 
 -- numbered from 1: n distinct numbers in 1..n are all of them
-pub pigeonhole1 : (g : ℕ → ℕ) (n : ℕ) → ((i : ℕ) → i < n → 0 < g i) → ((i : ℕ) → i < n → g i ≤ n) → Distinct g n → (y : ℕ) → 0 < y → y ≤ n → Hit g n y
+pub pigeonhole1 : (g : ℕ → ℕ) (n : ℕ) → ((i : ℕ) → i < n → 0 < g i) → ((i : ℕ) → i < n → g i ≤ n) → Distinct g n
+    → (y : ℕ) → 0 < y → y ≤ n → Hit g n y
 pigeonhole1 g n lo hi d y a b =
-    let r = pigeonhole (λ i. g i - 1) n (λ i h. omega (arith, lo i h, hi i h)) (λ i j h k e. d i j h k (omega (arith, lo i h, lo j k, e))) (y - 1) (omega arith) in
+    let r = pigeonhole (λ i. g i - 1) n (λ i h. omega (arith, lo i h, hi i h))
+    (λ i j h k e. d i j h k (omega (arith, lo i h, lo j k, e))) (y - 1) (omega arith) in
     (r .0, r .1, omega (arith, r .2, lo (r .0) (r .1)))

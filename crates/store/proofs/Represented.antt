@@ -1,5 +1,5 @@
--- States that agree: a store over tables that hold what plain lists say, cursors and openings one by one, and what the definitions
--- come to on such a store. Assumes nothing.
+-- States that agree: a store over tables that hold what plain lists say, cursors and openings one by one, and what the
+-- definitions come to on such a store. Assumes nothing.
 use mathlib.Core.Path.{_≡_, refl, sym, ap, ap₂, _∙_}
 use mathlib.Core.Logic.{_≢_}
 use mathlib.Core.Bool.{Bool, true, false, cond, _&&_}
@@ -18,9 +18,11 @@ use Rattle.store.specs.declared.Chain.{Chain}
 use Rattle.store.specs.declared.Chain.the-variants.{All, By}
 use Rattle.store.specs.declared.Triple.{Triple}
 use Rattle.store.specs.Triple.{at, all3, known, same, below, head0}
-use Rattle.store.specs.Tables.{Tables, fits, resourceCapacity, statementCapacity, textCapacity, termAt, flagAt, tripleAt, countAt}
+use Rattle.store.specs.Tables.{Tables, fits, resourceCapacity, statementCapacity, textCapacity, termAt, flagAt}
+use Rattle.store.specs.Tables.{tripleAt, countAt}
 use Rattle.store.specs.Values.{Values}
-use Rattle.store.specs.Model.{Entry, Listing, Model, Capacities, entry, lookup, mark, onChain, holders, pick, pickModel, cursorOf, noListing, totals, take-off}
+use Rattle.store.specs.Model.{Entry, Listing, Model, Capacities, entry, lookup, mark, onChain, holders, pick}
+use Rattle.store.specs.Model.{pickModel, cursorOf, noListing, totals, take-off}
 use Rattle.store.specs.Walk.{entryAt, pickChain, pickable, startOf, linkOf, visitable, walk, Step, foundIn}
 use Rattle.store.specs.Statement.{seek, locate}
 use Rattle.store.specs.Scan.{chainOk}
@@ -31,7 +33,8 @@ use Rattle.store.proofs.Tests.{decide, and-l, and-r, and-of, all3-at, k
 use Rattle.store.proofs.Falling.{below-cong, head-le}
 use Rattle.store.proofs.Walks.{asStep, tookIn, found-as, hit-chain}
 use Rattle.store.proofs.Picking.{Bound, pick-cong}
-use Rattle.store.proofs.Chains.{onWords, pickChain-bound, chain-holding, chain-start, walk-linked, pickable-linked}
+use Rattle.store.proofs.Chains.{onWords, pickChain-bound, chain-holding, chain-start, walk-linked}
+use Rattle.store.proofs.Chains.{pickable-linked}
 
 -- the test of a chain, over the plain list
 abbrev pub onList : List Entry → Chain → Triple → ℕ → Bool
@@ -66,14 +69,16 @@ abbrev pub Same : Capacities → Store × Values → Model × Values → Type 0
 Same k a b = (a .1 ≡ b .1) × Agreeing k (a .0) (b .0)
 
 -- tests that agree, case by case; f makes an operation's reply a state and its values
-pub same-cond : {A : Type 0} (k : Capacities) (f : A → Store × Values) (b b′ : Bool) (x y : A) (x′ y′ : Model × Values) → b ≡ b′
+pub same-cond : {A : Type 0} (k : Capacities) (f : A → Store × Values) (b b′ : Bool) (x y : A) (x′ y′ : Model × Values)
+    → b ≡ b′
     → (b ≡ true → Same k (f x) x′) → (b ≡ false → Same k (f y) y′) → Same k (f (cond b x y)) (cond b′ x′ y′)
 same-cond k f true b′ x y x′ y′ e h g = rw (← e) (h refl)
 same-cond k f false b′ x y x′ y′ e h g = rw (← e) (g refl)
 
 -- ---- what the definitions come to
 
-pub located : (c : Counters) (m : Tables) (x : Triple) (z : Step) → pickable (c .statements) (m .resources) x ≡ true → seek c m x ≡ some z
+pub located : (c : Counters) (m : Tables) (x : Triple) (z : Step) → pickable (c .statements) (m .resources) x ≡ true
+    → seek c m x ≡ some z
     → locate c m x ≡ some (foundIn z)
 unfolding locate
 located c m x z a b = rw (locate, a, b)
@@ -100,13 +105,15 @@ module _ (k : Capacities) (c : Store) (s : Model) (R : Agreeing k c s) where
   unfolding fits
   fits-agrees =
       and-of _ _ (le-leb r _ (rw (← R .room-resources) (R .in-resources)))
-      (and-of _ _ (le-leb t _ (rw (← R .room-statements) (R .in-statements))) (le-leb (c .counters .text) _ (rw (← R .room-text) (R .in-text))))
+      (and-of _ _ (le-leb t _ (rw (← R .room-statements) (R .in-statements)))
+      (le-leb (c .counters .text) _ (rw (← R .room-text) (R .in-text))))
 
   pub totals-agree : c .counters ≡ totals s
   totals-agree =
       ap (λ (n : ℕ). record { resources = n; statements = t; text = c .counters .text }) (R .named .size)
       ∙ ap (λ (n : ℕ). record { resources = length (s .names); statements = n; text = c .counters .text }) (R .size)
-      ∙ ap (λ (n : ℕ). record { resources = length (s .names); statements = length (s .entries); text = n }) (R .named .bytes)
+      ∙ ap (λ (n : ℕ). record { resources = length (s .names); statements = length (s .entries); text = n })
+      (R .named .bytes)
 
   pub spo-agrees : (i : ℕ) → i < t → (entry (s .entries) i) .spo ≡ tripleAt stm i
   unfolding entryAt
@@ -116,7 +123,8 @@ module _ (k : Capacities) (c : Store) (s : Model) (R : Agreeing k c s) where
   unfolding entryAt
   mark-agrees i h = ap (λ (e : Entry). e .retracted) (sym (R .reads i h))
 
-  pub chain-agrees : (ch : Chain) (x : Triple) (n : ℕ) → n ≤ t → below (onList (s .entries) ch x) n ≡ below (onWords stm ch x) n
+  pub chain-agrees : (ch : Chain) (x : Triple) (n : ℕ) → n ≤ t
+      → below (onList (s .entries) ch x) n ≡ below (onWords stm ch x) n
   chain-agrees ch x n h = below-cong _ _ n (λ i q. ap (onChain ch x) (spo-agrees i (omega arith)))
 
   pub holders-agree : (ch : Chain) (x : Triple) → holders ch x (s .entries) ≡ below (onWords stm ch x) t
@@ -146,7 +154,8 @@ module _ (k : Capacities) (c : Store) (s : Model) (R : Agreeing k c s) where
       rw (chain-start _ _ _ _ (R .linked) (pickChain res x) x (pickChain-bound res x) h)
       (walk-linked _ _ _ _ (R .linked) (pickChain res x) x (λ i. same x (tripleAt stm i)) t t (omega arith))
 
-  pub locate-agrees : (x : Triple) → known r x ≡ true → locate (c .counters) (c .tables) x ≡ some (lookup x (s .entries))
+  pub locate-agrees : (x : Triple) → known r x ≡ true
+      → locate (c .counters) (c .tables) x ≡ some (lookup x (s .entries))
   locate-agrees x e =
       let h = known-high r x e in
       located (c .counters) (c .tables) x _ (pickable-linked _ _ _ _ (R .linked) x h) (seek-takes x h)
@@ -162,7 +171,8 @@ pub mark-length : (l : List Entry) (i : ℕ) (b : Bool) → length (mark l i b) 
 unfolding mark
 mark-length l i b = simp length-set
 
-pub mark-same : (l : List Entry) (i : ℕ) (b : Bool) → i < length l → entry (mark l i b) i ≡ record { spo = (entry l i) .spo; retracted = b }
+pub mark-same : (l : List Entry) (i : ℕ) (b : Bool) → i < length l
+    → entry (mark l i b) i ≡ record { spo = (entry l i) .spo; retracted = b }
 unfolding mark
 mark-same l i b h = rw getD-set-same
 
@@ -186,7 +196,8 @@ good-grow r r′ l l′ g a b h G = record {
   picked = G .picked;
   top = G .top;
   top-le = omega (arith, G .top-le);
-  rest-is = G .rest-is ∙ below-cong _ _ (G .top) (λ i q. ap (onChain (g .chain) (g .pattern)) (sym (h i (omega (arith, G .top-le)))));
+  rest-is = G .rest-is ∙ below-cong _ _ (G .top) (λ i q. ap (onChain (g .chain) (g .pattern))
+      (sym (h i (omega (arith, G .top-le)))));
 }
 
 pub good-none : (r : ℕ) (l : List Entry) → Good r l noListing

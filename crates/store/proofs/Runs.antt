@@ -1,4 +1,5 @@
--- Closed runs: the paper's examples and a longer history, computed over the plain lists and over the tables. Assumes nothing.
+-- Closed runs: the paper's examples and longer histories, each call beside its answer, computed over the plain lists
+-- and over the tables. They pin what stands on both sides of the claim about histories. Assumes nothing.
 use mathlib.Core.Path.{_≡_, refl}
 use mathlib.Core.List.{List, [], _∷_, _++_, map}
 use Prim.Native.Nat.{ℕ}
@@ -11,15 +12,36 @@ use Rattle.store.specs.declared.Chain.the-variants.{All, By}
 use Rattle.store.specs.declared.Position.the-variants.{Subject, Predicate, Object}
 use Rattle.store.specs.declared.Counters.{Counters}
 use Rattle.store.specs.Triple.{triple, known, within, same, agrees, permitted, below}
-use Rattle.store.specs.Tables.{Tables, tables, fits, termAt, nextAt, flagAt, tripleAt, firstAt, countAt, offsetAt, kindAt}
+use Rattle.store.specs.Tables.{Tables, tables, fits, termAt, nextAt, flagAt, tripleAt, firstAt, countAt, offsetAt}
+use Rattle.store.specs.Tables.{kindAt}
 use Rattle.store.specs.Values.{Values, refusedWith, numbered, counted, placed, stepped}
-use Rattle.store.specs.Model.{Call, intern, assert, retract, open′, next, byValue, lent, freshModel, wellFormed, eqBytes, lookupName, nameOf, bytesOf, internName, internModel, matches, lookup, mark, put, assertModel, strike, retractModel, onChain, holders, better, pick, pickModel, listing, openModel, take-off, takeFrom, turn, nextModel, callModel, modelReplies}
-use Rattle.store.specs.Reading.{inRange}
+use Rattle.store.specs.Model.{Call, intern, assert, retract, open′, next, byValue, lent, Capacities, freshModel}
+use Rattle.store.specs.Model.{wellFormed, eqBytes, lookupName, nameOf, bytesOf, internName, internModel, matches}
+use Rattle.store.specs.Model.{lookup, mark, put, assertModel, strike, retractModel, onChain, holders, better}
+use Rattle.store.specs.Model.{pick}
+use Rattle.store.specs.Model.{pickModel, listing, openModel, take-off, takeFrom, turn, nextModel, callModel}
+use Rattle.store.specs.Model.{modelReplies}
 use Rattle.store.specs.Walk.{entryAt, pickChain, pickable, startOf, linkOf, sits, visitable, walk}
-use Rattle.store.specs.Statement.{seek, locate, appendRecord, linkFirst, linkRecord, kinded, asserting, assertOf, retracting, retractOf, assertLentOf, retractLentOf}
+use Rattle.store.specs.Statement.{seek, locate, appendRecord, linkFirst, linkRecord, kinded, asserting, assertOf}
+use Rattle.store.specs.Statement.{retracting, retractOf, assertLentOf, retractLentOf}
 use Rattle.store.specs.Scan.{cursorAt, openOf, chainOk, recordOk, cursorOk, walkFrom, nextOf}
-use Rattle.store.specs.Dictionary.{compare, nameAt, rank, placeAt, indexPlaceOf, roomFor, bring, insertAt, internAs, internOf}
-use Rattle.store.specs.History.{freshStore, capacitiesOf, callStore, storeReplies}
+use Rattle.store.specs.Dictionary.{compare, nameAt, rank, placeAt, indexPlaceOf, roomFor, bring, insertAt}
+use Rattle.store.specs.Dictionary.{internAs, internOf}
+use Rattle.store.specs.History.{freshStore, capacitiesOf, callStore, storeReplies, storeAfter}
+
+-- ---- histories: each call beside its answer
+
+abbrev History : Type 0
+History = List (Call × Values)
+
+abbrev callsIn : History → List Call
+callsIn h = map (λ z. z .0) h
+
+abbrev answersIn : History → List Values
+answersIn h = map (λ z. z .1) h
+
+abbrev tot : ℕ → ℕ → ℕ → Counters
+tot r t b = record { resources = r; statements = t; text = b }
 
 -- <r:21> <p:trips> <b:4> <b:7> "A"
 r21 : List ℕ
@@ -37,31 +59,158 @@ b7 = 60 ∷ 98 ∷ 58 ∷ 55 ∷ 62 ∷ []
 litA : List ℕ
 litA = 34 ∷ 65 ∷ 34 ∷ []
 
-abbrev tot : ℕ → ℕ → ℕ → Counters
-tot r t b = record { resources = r; statements = t; text = b }
+-- <a> <b> <c> <p> ""
+ia : List ℕ
+ia = 60 ∷ 97 ∷ 62 ∷ []
 
-calls : List Call
-calls = intern r21 ∷ intern trips ∷ intern b4 ∷ intern r21 ∷ intern b7 ∷ intern litA ∷ intern []
-    ∷ assert byValue (triple 5 2 3) ∷ assert lent (triple 6 1 1) ∷ assert byValue (triple 1 2 3) ∷ assert lent (triple 1 2 4) ∷ assert lent (triple 1 2 3)
-    ∷ open′ (triple 1 0 0) ∷ next 0 5 ∷ next 0 5 ∷ next 0 5
-    ∷ open′ (triple 1 2 3) ∷ next 1 5 ∷ next 1 5
-    ∷ open′ (triple 7 0 0) ∷ open′ (triple 0 0 0) ∷ next 2 1 ∷ next 2 4294967295 ∷ next 2 1
-    ∷ retract lent (triple 1 2 3) ∷ open′ (triple 0 0 3) ∷ next 3 9 ∷ retract byValue (triple 1 2 3) ∷ assert byValue (triple 1 2 3)
-    ∷ retract byValue (triple 1 2 4) ∷ open′ (triple 1 2 0) ∷ next 4 1 ∷ next 4 0 ∷ next 4 1 ∷ next 4 1 ∷ []
+ib : List ℕ
+ib = 60 ∷ 98 ∷ 62 ∷ []
 
-answers : List Values
-answers = counted 0 1 (tot 1 0 7) ∷ counted 0 2 (tot 2 0 17) ∷ counted 0 3 (tot 3 0 23) ∷ counted 0 1 (tot 3 0 23) ∷ counted 0 4 (tot 4 0 29) ∷ counted 0 5 (tot 5 0 33) ∷ refusedWith 2
-    ∷ refusedWith 5 ∷ refusedWith 4 ∷ counted 1 1 (tot 5 1 33) ∷ counted 1 2 (tot 5 2 33) ∷ counted 2 1 (tot 5 2 33)
-    ∷ placed (cursorAt (triple 1 0 0) (By Subject) 2) ∷ stepped 1 2 1 (cursorAt (triple 1 0 0) (By Subject) 1) ∷ stepped 1 1 1 (cursorAt (triple 1 0 0) (By Subject) 0) ∷ stepped 2 0 0 (cursorAt (triple 1 0 0) (By Subject) 0)
-    ∷ placed (cursorAt (triple 1 2 3) (By Object) 1) ∷ stepped 1 1 1 (cursorAt (triple 1 2 3) (By Object) 0) ∷ stepped 2 0 0 (cursorAt (triple 1 2 3) (By Object) 0)
-    ∷ refusedWith 4 ∷ placed (cursorAt (triple 0 0 0) All 2) ∷ stepped 1 2 1 (cursorAt (triple 0 0 0) All 1) ∷ stepped 1 1 1 (cursorAt (triple 0 0 0) All 0) ∷ stepped 2 0 0 (cursorAt (triple 0 0 0) All 0)
-    ∷ numbered 1 ∷ placed (cursorAt (triple 0 0 3) (By Object) 1) ∷ stepped 2 0 1 (cursorAt (triple 0 0 3) (By Object) 0) ∷ numbered 0 ∷ counted 3 1 (tot 5 2 33)
-    ∷ numbered 2 ∷ placed (cursorAt (triple 1 2 0) (By Subject) 2) ∷ stepped 3 0 1 (cursorAt (triple 1 2 0) (By Subject) 1) ∷ refusedWith 7 ∷ stepped 1 1 1 (cursorAt (triple 1 2 0) (By Subject) 0) ∷ stepped 2 0 0 (cursorAt (triple 1 2 0) (By Subject) 0) ∷ []
+ic : List ℕ
+ic = 60 ∷ 99 ∷ 62 ∷ []
 
-model-run : modelReplies (record { resources = 8; statements = 10; text = 100 }) freshModel calls ≡ answers
-unfolding r21 trips b4 b7 litA calls answers kindOf firstKindOf runOf stepOf wholeOf among letter alnum iriByte textByte pairByte firstByte labelByte known within same agrees permitted below wellFormed eqBytes lookupName nameOf bytesOf internName internModel matches lookup mark put assertModel strike retractModel onChain holders better pick pickModel listing openModel take-off takeFrom turn nextModel callModel modelReplies
-model-run = refl
+ip : List ℕ
+ip = 60 ∷ 112 ∷ 62 ∷ []
 
-store-run : storeReplies (freshStore (tables (replicate 64 7) (replicate 70 9) (replicate 8 3) (replicate 100 1))) calls ≡ answers
-unfolding r21 trips b4 b7 litA calls answers kindOf firstKindOf runOf stepOf wholeOf among letter alnum iriByte textByte pairByte firstByte labelByte known within same agrees permitted below wellFormed eqBytes matches better pick fits termAt nextAt flagAt tripleAt firstAt countAt offsetAt kindAt entryAt pickChain pickable startOf linkOf sits visitable walk seek locate appendRecord linkFirst linkRecord kinded asserting assertOf retracting retractOf assertLentOf retractLentOf openOf chainOk recordOk cursorOk walkFrom nextOf compare nameAt rank placeAt indexPlaceOf roomFor bring insertAt internAs internOf callStore storeReplies
-store-run = refl
+empty : List ℕ
+empty = 34 ∷ 34 ∷ []
+
+-- The paper's example: its names, its two statements, its listings, retraction and revival; with refusals 2, 4, 5 and 7
+-- and both forms of assert and retract between.
+paper : History
+paper = (intern r21, counted 0 1 (tot 1 0 7))
+    ∷ (intern trips, counted 0 2 (tot 2 0 17))
+    ∷ (intern b4, counted 0 3 (tot 3 0 23))
+    ∷ (intern r21, counted 0 1 (tot 3 0 23))
+    ∷ (intern b7, counted 0 4 (tot 4 0 29))
+    ∷ (intern litA, counted 0 5 (tot 5 0 33))
+    ∷ (intern [], refusedWith 2)
+    ∷ (assert byValue (triple 5 2 3), refusedWith 5)
+    ∷ (assert byValue (triple 1 5 3), refusedWith 5)
+    ∷ (assert lent (triple 6 1 1), refusedWith 4)
+    ∷ (assert lent (triple 1 2 0), refusedWith 4)
+    ∷ (assert byValue (triple 1 2 3), counted 1 1 (tot 5 1 33))
+    ∷ (assert lent (triple 1 2 4), counted 1 2 (tot 5 2 33))
+    ∷ (assert lent (triple 1 2 3), counted 2 1 (tot 5 2 33))
+    ∷ (open′ (triple 1 0 0), placed (cursorAt (triple 1 0 0) (By Subject) 2))
+    ∷ (next 0 5, stepped 1 2 1 (cursorAt (triple 1 0 0) (By Subject) 1))
+    ∷ (next 0 5, stepped 1 1 1 (cursorAt (triple 1 0 0) (By Subject) 0))
+    ∷ (next 0 5, stepped 2 0 0 (cursorAt (triple 1 0 0) (By Subject) 0))
+    ∷ (open′ (triple 1 2 3), placed (cursorAt (triple 1 2 3) (By Object) 1))
+    ∷ (next 1 5, stepped 1 1 1 (cursorAt (triple 1 2 3) (By Object) 0))
+    ∷ (next 1 5, stepped 2 0 0 (cursorAt (triple 1 2 3) (By Object) 0))
+    ∷ (open′ (triple 7 0 0), refusedWith 4)
+    ∷ (open′ (triple 0 0 0), placed (cursorAt (triple 0 0 0) All 2))
+    ∷ (next 2 1, stepped 1 2 1 (cursorAt (triple 0 0 0) All 1))
+    ∷ (next 2 4294967295, stepped 1 1 1 (cursorAt (triple 0 0 0) All 0))
+    ∷ (next 2 1, stepped 2 0 0 (cursorAt (triple 0 0 0) All 0))
+    ∷ (retract lent (triple 1 2 3), numbered 1)
+    ∷ (open′ (triple 0 0 3), placed (cursorAt (triple 0 0 3) (By Object) 1))
+    ∷ (next 3 9, stepped 2 0 1 (cursorAt (triple 0 0 3) (By Object) 0))
+    ∷ (retract byValue (triple 1 2 3), numbered 0)
+    ∷ (retract byValue (triple 1 2 6), refusedWith 4)
+    ∷ (assert byValue (triple 1 2 3), counted 3 1 (tot 5 2 33))
+    ∷ (retract byValue (triple 1 2 4), numbered 2)
+    ∷ (open′ (triple 1 2 0), placed (cursorAt (triple 1 2 0) (By Subject) 2))
+    ∷ (next 4 1, stepped 3 0 1 (cursorAt (triple 1 2 0) (By Subject) 1))
+    ∷ (next 4 0, refusedWith 7)
+    ∷ (next 4 1, stepped 1 1 1 (cursorAt (triple 1 2 0) (By Subject) 0))
+    ∷ (next 4 1, stepped 2 0 0 (cursorAt (triple 1 2 0) (By Subject) 0))
+    ∷ []
+
+-- Room for four names, three statements and fifteen bytes: 3 for the text, for the names, for the statements; what is
+-- known still answers. Counts with a retracted record tie, and the tie goes to the earlier position; a listing half
+-- read goes on after retractions and revivals; a budget that ends on the last record ends the listing.
+tight : History
+tight = (intern ia, counted 0 1 (tot 1 0 4))
+    ∷ (intern ip, counted 0 2 (tot 2 0 8))
+    ∷ (intern ib, counted 0 3 (tot 3 0 12))
+    ∷ (intern ic, refusedWith 3)
+    ∷ (intern empty, counted 0 4 (tot 4 0 15))
+    ∷ (intern ic, refusedWith 3)
+    ∷ (intern ia, counted 0 1 (tot 4 0 15))
+    ∷ (assert byValue (triple 1 2 3), counted 1 1 (tot 4 1 15))
+    ∷ (assert lent (triple 3 2 1), counted 1 2 (tot 4 2 15))
+    ∷ (assert byValue (triple 1 2 1), counted 1 3 (tot 4 3 15))
+    ∷ (assert byValue (triple 1 2 4), refusedWith 3)
+    ∷ (assert lent (triple 1 2 3), counted 2 1 (tot 4 3 15))
+    ∷ (retract lent (triple 3 2 1), numbered 2)
+    ∷ (open′ (triple 1 0 1), placed (cursorAt (triple 1 0 1) (By Subject) 3))
+    ∷ (next 0 1, stepped 1 3 1 (cursorAt (triple 1 0 1) (By Subject) 1))
+    ∷ (assert lent (triple 3 2 1), counted 3 2 (tot 4 3 15))
+    ∷ (open′ (triple 0 2 1), placed (cursorAt (triple 0 2 1) (By Object) 3))
+    ∷ (next 0 9, stepped 2 0 1 (cursorAt (triple 1 0 1) (By Subject) 0))
+    ∷ (retract byValue (triple 1 2 1), numbered 3)
+    ∷ (next 1 1, stepped 3 0 1 (cursorAt (triple 0 2 1) (By Object) 2))
+    ∷ (next 1 0, refusedWith 7)
+    ∷ (retract byValue (triple 3 2 1), numbered 2)
+    ∷ (assert byValue (triple 1 2 1), counted 3 3 (tot 4 3 15))
+    ∷ (next 1 1, stepped 2 0 1 (cursorAt (triple 0 2 1) (By Object) 0))
+    ∷ (next 1 1, stepped 2 0 0 (cursorAt (triple 0 2 1) (By Object) 0))
+    ∷ (open′ (triple 0 3 2), placed (cursorAt (triple 0 3 2) (By Predicate) 0))
+    ∷ (next 2 5, stepped 2 0 0 (cursorAt (triple 0 3 2) (By Predicate) 0))
+    ∷ []
+
+-- Two index words are room for two names, however many records there are.
+short : History
+short = (intern ic, counted 0 1 (tot 1 0 4))
+    ∷ (intern ib, counted 0 2 (tot 2 0 8))
+    ∷ (intern ia, refusedWith 3)
+    ∷ (intern ic, counted 0 1 (tot 2 0 8))
+    ∷ []
+
+-- No room at all.
+none-at-all : History
+none-at-all = (intern ia, refusedWith 3)
+    ∷ (assert byValue (triple 1 1 1), refusedWith 4)
+    ∷ (retract lent (triple 1 1 1), refusedWith 4)
+    ∷ (open′ (triple 0 1 0), refusedWith 4)
+    ∷ (open′ (triple 0 0 0), placed (cursorAt (triple 0 0 0) All 0))
+    ∷ (next 0 0, refusedWith 7)
+    ∷ (next 0 1, stepped 2 0 0 (cursorAt (triple 0 0 0) All 0))
+    ∷ []
+
+-- ---- tables that hold anything
+
+abbrev wide : Tables
+wide = tables (replicate 64 7) (replicate 70 9) (replicate 8 3) (replicate 100 1)
+
+abbrev narrow : Tables
+narrow = tables (replicate 37 7) (replicate 24 1) (replicate 5 2) (replicate 15 0)
+
+abbrev few : Tables
+few = tables (replicate 64 1) (replicate 70 1) (replicate 2 1) (replicate 100 1)
+
+abbrev void : Tables
+void = tables [] [] [] []
+
+-- ---- the plain lists and the tables give these answers
+
+abbrev Lists : Tables → History → Type 0
+Lists m h = modelReplies (capacitiesOf m) freshModel (callsIn h) ≡ answersIn h
+
+abbrev Stores : Tables → History → Type 0
+Stores m h = storeReplies (freshStore m) (callsIn h) ≡ answersIn h
+
+-- statement 2's nexts are 1, 1, 0
+abbrev nextsOf : Tables → History → ℕ → List ℕ
+nextsOf m h i =
+    let stm = (storeAfter (freshStore m) (callsIn h)) .tables .statements in
+    nextAt stm Subject i ∷ nextAt stm Predicate i ∷ nextAt stm Object i ∷ []
+
+lists-run : Lists wide paper × Lists narrow tight × Lists few short × Lists void none-at-all
+unfolding r21 trips b4 b7 litA ia ib ic ip empty paper tight short none-at-all kindOf firstKindOf runOf stepOf wholeOf
+    among letter alnum iriByte textByte pairByte firstByte labelByte known within same agrees permitted below wellFormed
+    eqBytes lookupName nameOf bytesOf internName internModel matches lookup mark put assertModel strike retractModel
+    onChain holders better pick pickModel listing openModel take-off takeFrom turn nextModel callModel modelReplies
+lists-run = (refl, refl, refl, refl)
+
+stores-run : Stores wide paper × Stores narrow tight × Stores few short × Stores void none-at-all
+    × (nextsOf wide paper 1 ≡ 1 ∷ 1 ∷ 0 ∷ [])
+unfolding r21 trips b4 b7 litA ia ib ic ip empty paper tight short none-at-all kindOf firstKindOf runOf stepOf wholeOf
+    among letter alnum iriByte textByte pairByte firstByte labelByte known within same agrees permitted below wellFormed
+    eqBytes matches better pick fits termAt nextAt flagAt tripleAt firstAt countAt offsetAt kindAt entryAt pickChain
+    pickable startOf linkOf sits visitable walk seek locate appendRecord linkFirst linkRecord kinded asserting assertOf
+    retracting retractOf assertLentOf retractLentOf openOf chainOk recordOk cursorOk walkFrom nextOf compare nameAt rank
+    placeAt indexPlaceOf roomFor bring insertAt internAs internOf callStore storeReplies storeAfter
+stores-run = (refl, refl, refl, refl, refl)

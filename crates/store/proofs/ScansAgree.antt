@@ -1,4 +1,5 @@
--- Open and next of a pattern scan on states that agree: the same values, and the states after them agree. Assumes nothing.
+-- Open and next of a pattern scan on states that agree: the same values, and the states after them agree. Assumes
+-- nothing.
 use mathlib.Core.Path.{_≡_, refl, sym, ap, ap₂, _∙_}
 use mathlib.Core.Bool.{Bool, true, false, cond, _&&_}
 use mathlib.Core.List.{List, [], _∷_, _++_, map}
@@ -18,7 +19,10 @@ use Rattle.store.specs.declared.Scanned.{Scanned}
 use Rattle.store.specs.Triple.{at, within, below, head0}
 use Rattle.store.specs.Tables.{Tables}
 use Rattle.store.specs.Values.{Values, noCursor, placed, openedValues, scannedValues}
-use Rattle.store.specs.Model.{Entry, Listing, Model, Capacities, Taken, found as took, ended as emptied, spent as stopped, entry, matches, holders, pickModel, listing, cursorOf, withListings, openModel, take-off, noListing, leaving, restOf, takenValues, takeFrom, turn, nextModel}
+use Rattle.store.specs.Model.{Entry, Listing, Model, Capacities, Taken, found as took, ended as emptied}
+use Rattle.store.specs.Model.{spent as stopped, entry, matches, holders, pickModel, listing, cursorOf}
+use Rattle.store.specs.Model.{withListings, openModel, take-off, noListing, leaving, restOf, takenValues}
+use Rattle.store.specs.Model.{takeFrom, turn, nextModel}
 use Rattle.store.specs.Walk.{entryAt, pickChain, startOf}
 use Rattle.store.specs.Scan.{cursorAt, openOf, chainOk, recordOk, cursorOk, walkFrom, scannedAs, nextOf}
 use Rattle.store.specs.History.{Store, store, openedCursors, movedCursors}
@@ -27,7 +31,8 @@ use Rattle.store.proofs.Falling.{head-le, head-passes}
 use Rattle.store.proofs.Walks.{asStep, Part, rest-chain, take-cong}
 use Rattle.store.proofs.Picking.{pick-ok}
 use Rattle.store.proofs.Chains.{onWords, pickChain-bound, chain-sits, chain-start, walk-linked, pickable-linked}
-use Rattle.store.proofs.Represented.{onList, Good, Agreeing, Same, same-cond, fits-agrees, chain-agrees, holders-agree, pick-agrees, good-none}
+use Rattle.store.proofs.Represented.{onList, Good, Agreeing, Same, same-cond, fits-agrees, chain-agrees}
+use Rattle.store.proofs.Represented.{holders-agree, pick-agrees, good-none}
 
 -- ---- lists of openings
 
@@ -64,7 +69,8 @@ abbrev pub scanned : Store → ℕ → Scanned → Store × Values
 scanned c j a = (store (c .counters) (c .tables) (movedCursors (c .cursors) j a), scannedValues a)
 
 -- what a walk answers, as taking positions off the rest tells it
-pub taken-values : (g : Listing) (z : Taken) → scannedValues (scannedAs (cursorOf g) (some (asStep z))) ≡ takenValues g z
+pub taken-values : (g : Listing) (z : Taken) → scannedValues (scannedAs (cursorOf g) (some (asStep z)))
+    ≡ takenValues g z
 taken-values g (took n v r) = refl
 taken-values g (emptied v) = refl
 taken-values g (stopped v r) = refl
@@ -83,7 +89,8 @@ module _ (k : Capacities) (c : Store) (s : Model) (R : Agreeing k c s) where
   m = c .tables
 
   cursors-agree : (qs : List ScanCursor) (gs : List Listing) → qs ≡ map cursorOf gs
-      → ((j : ℕ) → Good (length (s .names)) (s .entries) (getD gs j noListing)) → Agreeing k (store n m qs) (withListings s gs)
+      → ((j : ℕ) → Good (length (s .names)) (s .entries) (getD gs j noListing))
+      → Agreeing k (store n m qs) (withListings s gs)
   cursors-agree qs gs e h = record {
     named = R .named;
     size = R .size;
@@ -102,7 +109,8 @@ module _ (k : Capacities) (c : Store) (s : Model) (R : Agreeing k c s) where
   -- ---- open
 
   abbrev first : Triple → ScanCursor
-  first x = cursorAt x (pickChain (m .resources) x) (startOf (n .statements) (m .resources) (pickChain (m .resources) x) x)
+  first x = cursorAt x (pickChain (m .resources) x)
+      (startOf (n .statements) (m .resources) (pickChain (m .resources) x) x)
 
   first-agrees : (x : Triple) → ((p : Position) → at p x ≤ n .resources) → first x ≡ cursorOf (listing x (s .entries))
   unfolding listing
@@ -113,21 +121,31 @@ module _ (k : Capacities) (c : Store) (s : Model) (R : Agreeing k c s) where
         holders-agree k c s R (pickModel x (s .entries)) x,
       )
 
-  listing-good : (x : Triple) → ((p : Position) → at p x ≤ n .resources) → Good (length (s .names)) (s .entries) (listing x (s .entries))
+  listing-good : (x : Triple) → ((p : Position) → at p x ≤ n .resources)
+      → Good (length (s .names)) (s .entries) (listing x (s .entries))
   unfolding listing holders pickModel
   listing-good x h =
-      record { small = λ p. rw (← R .named .size) (h p); picked = pick-ok x _; top = length (s .entries); top-le = omega arith; rest-is = refl }
+      record {
+        small = λ p. rw (← R .named .size) (h p);
+        picked = pick-ok x _;
+        top = length (s .entries);
+        top-le = omega arith;
+        rest-is = refl;
+      }
 
   pub open-agrees : (x : Triple) → Same k (opened c (openOf n m x)) (openModel s x)
   unfolding openOf openModel
   open-agrees x =
       rw (fits-agrees k c s R)
-      (same-cond k (opened c) (within (n .resources) x) (within (length (s .names)) x) _ _ _ _ (ap (λ (z : ℕ). within z x) (R .named .size))
+      (same-cond k (opened c) (within (n .resources) x) (within (length (s .names)) x) _ _ _ _
+      (ap (λ (z : ℕ). within z x) (R .named .size))
       (λ e. let h = within-high (n .resources) x e in
       rw (pickable-linked _ _ _ _ (R .linked) x h) (
         ap placed (first-agrees x h),
-        cursors-agree _ _ (rw (first-agrees x h, R .cursors) (sym (map-snoc cursorOf (s .listings) (listing x (s .entries)))))
-            (all-snoc (Good (length (s .names)) (s .entries)) noListing (s .listings) _ (good-none (length (s .names)) (s .entries)) (R .good) (listing-good x h)),
+        cursors-agree _ _ (rw (first-agrees x h, R .cursors)
+            (sym (map-snoc cursorOf (s .listings) (listing x (s .entries)))))
+            (all-snoc (Good (length (s .names)) (s .entries)) noListing (s .listings) _
+            (good-none (length (s .names)) (s .entries)) (R .good) (listing-good x h)),
       ))
       (λ e. (refl, R)))
 
@@ -165,14 +183,16 @@ module _ (k : Capacities) (c : Store) (s : Model) (R : Agreeing k c s) where
     unfolding walkFrom takeFrom
     walk-agrees b =
         rw rest-agrees
-        (walk-linked _ _ _ _ (R .linked) (g .chain) (g .pattern) (λ i. matches (g .pattern) (entryAt (m .statements) i)) (G .top) b top-le
+        (walk-linked _ _ _ _ (R .linked) (g .chain) (g .pattern)
+        (λ i. matches (g .pattern) (entryAt (m .statements) i)) (G .top) b top-le
         ∙ ap (λ (z : Taken). some (asStep z))
         (take-cong _ _ _ b (G .top) (λ i q. ap (matches (g .pattern)) (sym (R .reads i (omega (arith, top-le)))))))
 
     left-good : (b : ℕ) → Good (length (s .names)) (s .entries) (leaving g (restOf (takeFrom (s .entries) g b)))
     unfolding takeFrom Part
     left-good b =
-        let h = rest-chain (onList (s .entries) (g .chain) (g .pattern)) (λ i. matches (g .pattern) (entry (s .entries) i)) b (G .top) in
+        let h = rest-chain (onList (s .entries) (g .chain) (g .pattern))
+        (λ i. matches (g .pattern) (entry (s .entries) i)) b (G .top) in
         record {
           small = G .small;
           picked = G .picked;
@@ -181,14 +201,15 @@ module _ (k : Capacities) (c : Store) (s : Model) (R : Agreeing k c s) where
           rest-is = rw (G .rest-is) (h .2);
         }
 
-    turn-agrees : (j b : ℕ) → Same k (scanned c j (scannedAs (cursorOf g) (walkFrom n m (cursorOf g) b))) (turn s j g (takeFrom (s .entries) g b))
+    turn-agrees : (j b : ℕ) → Same k (scanned c j (scannedAs (cursorOf g) (walkFrom n m (cursorOf g) b))) (turn s j g
+        (takeFrom (s .entries) g b))
     unfolding turn
     turn-agrees j b =
         rw (walk-agrees b) (
           taken-values g (takeFrom (s .entries) g b),
-          cursors-agree _ _
-              (taken-cursors (c .cursors) j g (takeFrom (s .entries) g b)
-              ∙ ap (λ (z : List ScanCursor). set z j (cursorOf (leaving g (restOf (takeFrom (s .entries) g b))))) (R .cursors)
+          cursors-agree _ _ (taken-cursors (c .cursors) j g (takeFrom (s .entries) g b)
+              ∙ ap (λ (z : List ScanCursor). set z j (cursorOf (leaving g (restOf (takeFrom (s .entries) g b)))))
+              (R .cursors)
               ∙ sym (map-set cursorOf (s .listings) j (leaving g (restOf (takeFrom (s .entries) g b)))))
               (all-set (Good (length (s .names)) (s .entries)) noListing (s .listings) j _ (R .good) (left-good b)),
         )
@@ -197,4 +218,5 @@ module _ (k : Capacities) (c : Store) (s : Model) (R : Agreeing k c s) where
   unfolding nextOf nextModel
   next-agrees j b =
       rw (fits-agrees k c s R, cursor-at j, cursor-ok (getD (s .listings) j noListing) (R .good j))
-      (same-cond k (scanned c j) (eqb b 0) _ _ _ _ _ refl (λ e. (refl, R)) (λ e. turn-agrees (getD (s .listings) j noListing) (R .good j) j b))
+      (same-cond k (scanned c j) (eqb b 0) _ _ _ _ _ refl (λ e. (refl, R))
+      (λ e. turn-agrees (getD (s .listings) j noListing) (R .good j) j b))

@@ -18,28 +18,37 @@ use Rattle.store.specs.declared.Triple.{Triple}
 use Rattle.store.specs.declared.Asserted.{Asserted}
 use Rattle.store.specs.declared.Retracted.{Retracted}
 use Rattle.store.specs.Triple.{at, all3, known, permitted}
-use Rattle.store.specs.Tables.{Tables, statementCapacity, statementWords, resourceWords, termAt, flagAt, tripleAt, offsetAt, kindAt}
+use Rattle.store.specs.Tables.{Tables, statementCapacity, statementWords, resourceWords, termAt, flagAt, tripleAt}
+use Rattle.store.specs.Tables.{offsetAt, kindAt}
 use Rattle.store.specs.Values.{Values, counted, assertedValues, retractedValues}
-use Rattle.store.specs.Model.{Entry, Model, Capacities, entry, lookup, mark, nameOf, totals, withEntries, put, assertModel, strike, retractModel}
+use Rattle.store.specs.Model.{Entry, Model, Capacities, entry, lookup, mark, nameOf, totals, withEntries, put}
+use Rattle.store.specs.Model.{assertModel, strike, retractModel}
 use Rattle.store.specs.Walk.{entryAt}
-use Rattle.store.specs.Statement.{withFlag, appendRecord, linkRecord, appended, kinded, oneStatementMore, asserting, assertOf, retracting, retractOf, countersAfter}
+use Rattle.store.specs.Statement.{withFlag, appendRecord, linkRecord, appended, kinded, oneStatementMore}
+use Rattle.store.specs.Statement.{asserting, assertOf, retracting, retractOf, countersAfter}
 use Rattle.store.specs.Dictionary.{Named}
 use Rattle.store.specs.History.{Store, store}
 use Rattle.store.proofs.Tests.{decide, upto, and-of, all3-of, known-low, known-high}
-use Rattle.store.proofs.Words.{triple-of, triple-same, append-length, append-term-old, append-flag-old, append-term, append-flag, linked-length, linked-offset, linked-kind, flag-term, flag-same, flag-other, triple-at}
+use Rattle.store.proofs.Words.{triple-of, triple-same, append-length, append-term-old, append-flag-old}
+use Rattle.store.proofs.Words.{append-term, append-flag, linked-length, linked-offset, linked-kind, flag-term}
+use Rattle.store.proofs.Words.{flag-same, flag-other, triple-at}
 use Rattle.store.proofs.Links.{append-linked, flag-linked}
 use Rattle.store.proofs.Form.{form-kind, kind-high}
 use Rattle.store.proofs.Text.{length-snoc}
-use Rattle.store.proofs.Represented.{Agreeing, Same, same-cond, fits-agrees, totals-agree, mark-agrees, lookup-le, locate-agrees, mark-length, mark-same, mark-other, mark-spo, good-grow}
+use Rattle.store.proofs.Represented.{Agreeing, Same, same-cond, fits-agrees, totals-agree, mark-agrees}
+use Rattle.store.proofs.Represented.{lookup-le, locate-agrees, mark-length, mark-same, mark-other, mark-spo}
+use Rattle.store.proofs.Represented.{good-grow}
 
 -- an entry by its words
-pub entry-of : (stm : List ℕ) (i : ℕ) (x : Triple) (b : Bool) → ((p : Position) → termAt stm p i ≡ at p x) → eqb (flagAt stm i) 1 ≡ b
+pub entry-of : (stm : List ℕ) (i : ℕ) (x : Triple) (b : Bool) → ((p : Position) → termAt stm p i ≡ at p x)
+    → eqb (flagAt stm i) 1 ≡ b
     → entryAt stm i ≡ record { spo = x; retracted = b }
 unfolding entryAt
 entry-of stm i x b h e = rw (triple-of stm i x h, e)
 
 -- the same words, the same entry
-pub entry-same : (stm stm′ : List ℕ) (i : ℕ) → ((p : Position) → termAt stm′ p i ≡ termAt stm p i) → flagAt stm′ i ≡ flagAt stm i
+pub entry-same : (stm stm′ : List ℕ) (i : ℕ) → ((p : Position) → termAt stm′ p i ≡ termAt stm p i)
+    → flagAt stm′ i ≡ flagAt stm i
     → entryAt stm′ i ≡ entryAt stm i
 unfolding entryAt
 entry-same stm stm′ i h e = rw (triple-same stm stm′ i h, e)
@@ -73,7 +82,8 @@ module _ (k : Capacities) (c : Store) (s : Model) (R : Agreeing k c s) where
       (λ p. flag-term (m .statements) i v p i ∙ sym (entry-term (m .statements) p i))
       (rw (flag-same (m .statements) i v (omega (arith, R .linked .fit-statements))) e))))
       (λ d. rw (mark-other (s .entries) i j b (eqb-false j i d), R .reads j q)
-      (sym (entry-same (m .statements) _ j (λ p. flag-term (m .statements) i v p j) (flag-other (m .statements) i v j (eqb-false j i d)))))
+      (sym (entry-same (m .statements) _ j (λ p. flag-term (m .statements) i v p j)
+      (flag-other (m .statements) i v j (eqb-false j i d)))))
 
   flag-agrees : (i v : ℕ) (b : Bool) → i < n .statements → v ≤ 1 → eqb v 1 ≡ b
       → Agreeing k (store n (withFlag m i v) (c .cursors)) (withEntries s (mark (s .entries) i b))
@@ -103,7 +113,8 @@ module _ (k : Capacities) (c : Store) (s : Model) (R : Agreeing k c s) where
 
   -- ---- a new record
 
-  last-entry : (x : Triple) → entry (s .entries ++ record { spo = x; retracted = false } ∷ []) (n .statements) ≡ record { spo = x; retracted = false }
+  last-entry : (x : Triple) → entry (s .entries ++ record { spo = x; retracted = false } ∷ []) (n .statements)
+      ≡ record { spo = x; retracted = false }
   last-entry x = rw (R .size, getD-append-seam)
 
   module _ (x : Triple) (e : known (n .resources) x ≡ true) where
@@ -116,12 +127,15 @@ module _ (k : Capacities) (c : Store) (s : Model) (R : Agreeing k c s) where
       bytes = R .named .bytes;
       spelled = R .named .spelled;
       well = R .named .well;
-      offsets = λ y h q. linked-offset (n .statements) x (m .resources) (known-low (n .resources) x e) room-at y h ∙ R .named .offsets y h q;
-      kinds = λ y h q. linked-kind (n .statements) x (m .resources) (known-low (n .resources) x e) room-at y h ∙ R .named .kinds y h q;
+      offsets = λ y h q. linked-offset (n .statements) x (m .resources) (known-low (n .resources) x e) room-at y h
+          ∙ R .named .offsets y h q;
+      kinds = λ y h q. linked-kind (n .statements) x (m .resources) (known-low (n .resources) x e) room-at y h
+          ∙ R .named .kinds y h q;
       index = R .named .index;
     }
 
-    append-agrees : suc (n .statements) ≤ statementCapacity m → statementWords * suc (n .statements) ≤ length (m .statements)
+    append-agrees : suc (n .statements) ≤ statementCapacity m
+        → statementWords * suc (n .statements) ≤ length (m .statements)
         → Agreeing k (store (oneStatementMore n) (appended (n .statements) m x) (c .cursors))
         (withEntries s (s .entries ++ record { spo = x; retracted = false } ∷ []))
     append-agrees i h = record {
@@ -161,7 +175,8 @@ module _ (k : Capacities) (c : Store) (s : Model) (R : Agreeing k c s) where
     put-agrees : (i : ℕ) → i ≤ n .statements → Same k (asserted c (asserting n m x i)) (put k s x i)
     unfolding asserting put
     put-agrees zero g =
-        same-cond k (asserted c) (ltb (n .statements) (statementCapacity m)) _ _ _ _ _ (ap₂ ltb (R .size) (sym (R .room-statements)))
+        same-cond k (asserted c) (ltb (n .statements) (statementCapacity m)) _ _ _ _ _
+        (ap₂ ltb (R .size) (sym (R .room-statements)))
         (λ d. let l = ltb-true (n .statements) (statementCapacity m) d in
         let z = append-agrees l (omega arith) in
         (new-values z, z))
@@ -175,7 +190,8 @@ module _ (k : Capacities) (c : Store) (s : Model) (R : Agreeing k c s) where
   unfolding retracting strike
   strike-agrees zero g = (refl, R)
   strike-agrees (suc i) g =
-      same-cond k (retracted′ c) _ _ _ _ _ _ (mark-agrees k c s R i g) (λ d. (refl, R)) (λ d. (refl, flag-agrees i 1 true g (omega arith) refl))
+      same-cond k (retracted′ c) _ _ _ _ _ _ (mark-agrees k c s R i g) (λ d. (refl, R))
+      (λ d. (refl, flag-agrees i 1 true g (omega arith) refl))
 
   -- ---- kinds
 
@@ -188,7 +204,8 @@ module _ (k : Capacities) (c : Store) (s : Model) (R : Agreeing k c s) where
       let kind = R .named .kinds (at p x) lo hi in
       let i : at p x - 1 < length (s .names) = omega (arith, R .named .size) in
       and-of _ _
-      (lt-ltb 0 (kindAt (m .resources) (at p x)) (rw kind (form-kind (getD (s .names) (at p x - 1) []) (R .named .well (at p x - 1) i))))
+      (lt-ltb 0 (kindAt (m .resources) (at p x)) (rw kind
+      (form-kind (getD (s .names) (at p x - 1) []) (R .named .well (at p x - 1) i))))
       (le-leb (kindAt (m .resources) (at p x)) 3 (rw kind (kind-high (getD (s .names) (at p x - 1) [])))))
 
   pub permitted-agrees : (x : Triple) → known (n .resources) x ≡ true
@@ -197,7 +214,8 @@ module _ (k : Capacities) (c : Store) (s : Model) (R : Agreeing k c s) where
   permitted-agrees x e =
       rw (
         R .named .kinds (x .subject .0) (known-low (n .resources) x e Subject) (known-high (n .resources) x e Subject),
-        R .named .kinds (x .predicate .0) (known-low (n .resources) x e Predicate) (known-high (n .resources) x e Predicate),
+        R .named .kinds (x .predicate .0) (known-low (n .resources) x e Predicate)
+            (known-high (n .resources) x e Predicate),
       )
 
   -- ---- the two calls
@@ -206,7 +224,8 @@ module _ (k : Capacities) (c : Store) (s : Model) (R : Agreeing k c s) where
   unfolding assertModel assertOf
   assert-agrees x =
       rw (fits-agrees k c s R)
-      (same-cond k (asserted c) (known (n .resources) x) (known (length (s .names)) x) _ _ _ _ (ap (λ (z : ℕ). known z x) (R .named .size))
+      (same-cond k (asserted c) (known (n .resources) x) (known (length (s .names)) x) _ _ _ _
+      (ap (λ (z : ℕ). known z x) (R .named .size))
       (λ e. rw (kinded-agrees x e)
       (same-cond k (asserted c) (permitted (kindAt (m .resources)) x) _ _ _ _ _ (permitted-agrees x e)
       (λ d. rw (assertOf, locate-agrees k c s R x e) (put-agrees x e (lookup x (s .entries)) (lookup-le k c s R x)))
@@ -217,6 +236,7 @@ module _ (k : Capacities) (c : Store) (s : Model) (R : Agreeing k c s) where
   unfolding retractModel retractOf
   retract-agrees x =
       rw (fits-agrees k c s R)
-      (same-cond k (retracted′ c) (known (n .resources) x) (known (length (s .names)) x) _ _ _ _ (ap (λ (z : ℕ). known z x) (R .named .size))
+      (same-cond k (retracted′ c) (known (n .resources) x) (known (length (s .names)) x) _ _ _ _
+      (ap (λ (z : ℕ). known z x) (R .named .size))
       (λ e. rw (retractOf, locate-agrees k c s R x e) (strike-agrees (lookup x (s .entries)) (lookup-le k c s R x)))
       (λ e. (refl, R)))

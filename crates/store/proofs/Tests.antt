@@ -1,4 +1,5 @@
--- Boolean tests: a case split with its equation, conjunctions, tests of each position, numbers in range. Assumes nothing.
+-- Boolean tests: a case split with its equation, conjunctions, tests of each position, numbers in range. Assumes
+-- nothing.
 use mathlib.Core.Path.{_≡_, refl, sym, ap, ap₂, _∙_}
 use mathlib.Core.Logic.{_≢_}
 use mathlib.Core.Bool.{Bool, true, false, cond, not, _&&_, _||_, false≢true, true≢false}
@@ -11,6 +12,8 @@ use Rattle.store.specs.declared.Position.the-variants.{Subject, Predicat
 use Rattle.store.specs.declared.Triple.{Triple}
 use Rattle.store.specs.Triple.{at, triple, all3, known, within, same, permitted}
 use Rattle.store.specs.Tables.{off}
+-- Every law stands on this file, and so on the closed runs: a definition that changes an answer is refused there first.
+use Rattle.store.proofs.Runs as runs
 
 -- a case split on a test, with the equation
 pub decide {ℓ} : {P : Type ℓ} (b : Bool) → (b ≡ true → P) → (b ≡ false → P) → P
@@ -51,7 +54,8 @@ upto P n old last i h =
     decide (eqb i n) (λ e. rw (eqb-true i n e) last) (λ e. let ne : i ≢ n = eqb-false i n e in old i (omega arith))
 
 -- what holds in 1..n and at n + 1 holds in 1..n + 1
-pub upto-one : (P : ℕ → Type 0) (n : ℕ) → ((y : ℕ) → 0 < y → y ≤ n → P y) → P (suc n) → (y : ℕ) → 0 < y → y ≤ suc n → P y
+pub upto-one : (P : ℕ → Type 0) (n : ℕ) → ((y : ℕ) → 0 < y → y ≤ n → P y) → P (suc n) → (y : ℕ) → 0 < y → y ≤ suc n
+    → P y
 upto-one P n old last y h q =
     decide (eqb y (suc n))
     (λ e. rw (eqb-true y (suc n) e) last)
@@ -94,12 +98,14 @@ known-low n x e p = ltb-true 0 (at p x) (and-l _ _ (all3-at (λ p. ltb 0 (at p x
 
 pub known-high : (n : ℕ) (x : Triple) → known n x ≡ true → (p : Position) → at p x ≤ n
 unfolding known
-known-high n x e p = leb-true (at p x) n (and-r (ltb 0 (at p x)) _ (all3-at (λ p. ltb 0 (at p x) && leb (at p x) n) e p))
+known-high n x e p =
+    leb-true (at p x) n (and-r (ltb 0 (at p x)) _ (all3-at (λ p. ltb 0 (at p x) && leb (at p x) n) e p))
 
 pub known-of : (n : ℕ) (x : Triple) → ((p : Position) → 0 < at p x) → ((p : Position) → at p x ≤ n) → known n x ≡ true
 unfolding known
 known-of n x lo hi =
-    all3-of (λ p. ltb 0 (at p x) && leb (at p x) n) (λ p. and-of _ _ (lt-ltb 0 (at p x) (lo p)) (le-leb (at p x) n (hi p)))
+    all3-of (λ p. ltb 0 (at p x) && leb (at p x) n)
+    (λ p. and-of _ _ (lt-ltb 0 (at p x) (lo p)) (le-leb (at p x) n (hi p)))
 
 pub known-more : (n m : ℕ) (x : Triple) → n ≤ m → known n x ≡ true → known m x ≡ true
 known-more n m x h e = known-of m x (known-low n x e) (λ p. omega (arith, known-high n x e p))

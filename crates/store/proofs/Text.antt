@@ -1,4 +1,5 @@
--- The text: names joined, each closed by a zero byte; a name is read back from its offset; one name more. Assumes nothing.
+-- The text: names joined, each closed by a zero byte; a name is read back from its offset; one name more. Assumes
+-- nothing.
 use mathlib.Core.Path.{_≡_, refl, sym, ap, ap₂, _∙_}
 use mathlib.Core.Bool.{Bool, true, false}
 use mathlib.Core.List.{List, [], _∷_, _++_, append-assoc}
@@ -64,21 +65,25 @@ text-at ns text b i e h =
     ap (λ (z : List ℕ). drop (bytesOf (take i ns)) z) (text-splits ns text b i e h)
     ∙ drop-at (joined (take i ns)) _ (bytesOf (take i ns)) (joined-length (take i ns))
 
-pub name-read : (ns : List (List ℕ)) (text : List ℕ) (b i : ℕ) → take b text ≡ joined ns → i < length ns → clean (getD ns i []) ≡ true
+pub name-read : (ns : List (List ℕ)) (text : List ℕ) (b i : ℕ) → take b text ≡ joined ns → i < length ns
+    → clean (getD ns i []) ≡ true
     → upToZero (drop (bytesOf (take i ns)) text) ≡ getD ns i []
 name-read ns text b i e h c = ap upToZero (text-at ns text b i e h) ∙ upToZero-stops (getD ns i []) _ c
 
 -- the bytes up to a name's end are within the names' bytes
-pub bytes-take : (ns : List (List ℕ)) (i : ℕ) → i < length ns → bytesOf (take i ns) + length (getD ns i []) + 1 ≤ bytesOf ns
+pub bytes-take : (ns : List (List ℕ)) (i : ℕ) → i < length ns
+    → bytesOf (take i ns) + length (getD ns i []) + 1 ≤ bytesOf ns
 bytes-take ns i h =
     let s : bytesOf ns ≡ bytesOf (take i ns) + bytesOf (getD ns i [] ∷ drop (suc i) ns) =
     ap bytesOf (split-at ns i [] h) ∙ bytes-append (take i ns) _ in
-    let c : bytesOf (getD ns i [] ∷ drop (suc i) ns) ≡ length (getD ns i []) + 1 + bytesOf (drop (suc i) ns) = unfold bytesOf in refl in
+    let c : bytesOf (getD ns i [] ∷ drop (suc i) ns)
+    ≡ length (getD ns i []) + 1 + bytesOf (drop (suc i) ns) = unfold bytesOf in refl in
     omega arith
 
 -- ---- one name more
 
-pub text-grows : (ns : List (List ℕ)) (text w : List ℕ) (b : ℕ) → take b text ≡ joined ns → b + length w + 1 ≤ length text
+pub text-grows : (ns : List (List ℕ)) (text w : List ℕ) (b : ℕ) → take b text ≡ joined ns
+    → b + length w + 1 ≤ length text
     → take (b + length w + 1) (sets text b (w ++ 0 ∷ [])) ≡ joined (ns ++ w ∷ [])
 text-grows ns text w b e h =
     let n : length (w ++ 0 ∷ []) ≡ suc (length w) = simp length-append (omega arith) in
@@ -98,7 +103,8 @@ pub length-snoc : {A : Type 0} (l : List A) (w : A) → length (l ++ w ∷ []) �
 length-snoc l w = simp length-append (omega arith)
 
 -- what holds of each name and of one more
-pub snoc-all : (P : List ℕ → Type 0) (ns : List (List ℕ)) (w : List ℕ) → ((i : ℕ) → i < length ns → P (getD ns i [])) → P w
+pub snoc-all : (P : List ℕ → Type 0) (ns : List (List ℕ)) (w : List ℕ) → ((i : ℕ) → i < length ns → P (getD ns i []))
+    → P w
     → (i : ℕ) → i < length (ns ++ w ∷ []) → P (getD (ns ++ w ∷ []) i [])
 snoc-all P [] w h q zero g = q
 snoc-all P [] w h q (suc i) g = absurd (omega arith)

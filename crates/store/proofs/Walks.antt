@@ -1,5 +1,5 @@
--- Walks by links: each turn's law; a walk from the head of a chain comes to what taking positions off the chain comes to, and leaves
--- a chain; a search along a chain that holds every match finds the highest. Assumes nothing.
+-- Walks by links: each turn's law; a walk from the head of a chain comes to what taking positions off the chain comes
+-- to, and leaves a chain; a search along a chain that holds every match finds the highest. Assumes nothing.
 use mathlib.Core.Path.{_≡_, refl, sym, ap, _∙_}
 use mathlib.Core.Bool.{Bool, true, false, cond}
 use mathlib.Core.List.{List, [], _∷_}
@@ -29,7 +29,8 @@ module _ (link : ℕ → ℕ) (ok hit : ℕ → Bool) where
   unfolding walk
   walk-torn b i e = rw (walk, e)
 
-  pub walk-hit : (b i : ℕ) → ok i ≡ true → hit i ≡ true → walk link ok hit (suc b) (suc i) ≡ some (found (suc i) 1 (link i))
+  pub walk-hit : (b i : ℕ) → ok i ≡ true → hit i ≡ true
+      → walk link ok hit (suc b) (suc i) ≡ some (found (suc i) 1 (link i))
   unfolding walk
   walk-hit b i e d = rw (walk, e, d)
 
@@ -39,7 +40,8 @@ module _ (link : ℕ → ℕ) (ok hit : ℕ → Bool) where
   walk-miss b i e d = rw (walk, e, d)
 
 -- walks that agree on each record agree
-pub walk-cong : (link link′ : ℕ → ℕ) (ok ok′ hit hit′ : ℕ → Bool) → ((i : ℕ) → link i ≡ link′ i) → ((i : ℕ) → ok i ≡ ok′ i)
+pub walk-cong : (link link′ : ℕ → ℕ) (ok ok′ hit hit′ : ℕ → Bool) → ((i : ℕ) → link i ≡ link′ i)
+    → ((i : ℕ) → ok i ≡ ok′ i)
     → ((i : ℕ) → hit i ≡ hit′ i) → (b n : ℕ) → walk link ok hit b n ≡ walk link′ ok′ hit′ b n
 unfolding walk
 walk-cong link link′ ok ok′ hit hit′ l o h zero zero = refl
@@ -82,7 +84,8 @@ one-more (took n v r) = refl
 one-more (emptied v) = refl
 one-more (stopped v r) = refl
 
-pub take-hit : (live : ℕ → Bool) (b x : ℕ) (xs : List ℕ) → live (prev x) ≡ true → take-off live (suc b) (x ∷ xs) ≡ took x 1 xs
+pub take-hit : (live : ℕ → Bool) (b x : ℕ) (xs : List ℕ) → live (prev x) ≡ true
+    → take-off live (suc b) (x ∷ xs) ≡ took x 1 xs
 unfolding take-off
 take-hit live b x xs e = rw e
 
@@ -107,7 +110,8 @@ walk-chain f link ok hit (suc n) (suc b) h g =
     rw e (decide (hit n)
     (λ d. rw (walk-hit link ok hit b n o d, d, l))
     (λ d. rw (walk-miss link ok hit b n o d, d, l)
-    (ap afterVisit (walk-chain f link ok hit n b (links-down f link n h) (fine-down f ok n g)) ∙ one-more (take-off hit b (below f n))))))
+    (ap afterVisit (walk-chain f link ok hit n b (links-down f link n h) (fine-down f ok n g))
+    ∙ one-more (take-off hit b (below f n))))))
     (λ e. rw e (walk-chain f link ok hit n (suc b) (links-down f link n h) (fine-down f ok n g)))
 
 -- ---- what taking leaves
@@ -144,7 +148,8 @@ visits-more (emptied v) = refl
 visits-more (stopped v r) = refl
 
 -- the visits of a call and the rest that it leaves make up the rest that it had
-pub visits-rest : (live : ℕ → Bool) (b : ℕ) (l : List ℕ) → visitsIn (take-off live b l) + length (restOf (take-off live b l)) ≡ length l
+pub visits-rest : (live : ℕ → Bool) (b : ℕ) (l : List ℕ)
+    → visitsIn (take-off live b l) + length (restOf (take-off live b l)) ≡ length l
 unfolding take-off
 visits-rest live zero [] = refl
 visits-rest live zero (x ∷ xs) = omega arith
@@ -154,7 +159,8 @@ visits-rest live (suc b) (x ∷ xs) =
     (λ e. rw e (omega arith))
     (λ e. rw e (go (take-off live b xs) (visits-rest live b xs)))
   where
-    go : (s : Taken) → visitsIn s + length (restOf s) ≡ length xs → visitsIn (oneMore s) + length (restOf (oneMore s)) ≡ suc (length xs)
+    go : (s : Taken) → visitsIn s + length (restOf s) ≡ length xs
+        → visitsIn (oneMore s) + length (restOf (oneMore s)) ≡ suc (length xs)
     go (took n v r) h = omega arith
     go (emptied v) h = omega arith
     go (stopped v r) h = omega arith
@@ -175,7 +181,8 @@ rest-chain f live (suc b) (suc n) =
     decide (f n)
     (λ e. rw e (decide (live n)
     (λ d. rw d (n, omega arith, refl))
-    (λ d. rw (d, rest-more (take-off live b (below f n))) (let h = rest-chain f live b n in (h .0, omega (arith, h .1), h .2)))))
+    (λ d. rw (d, rest-more (take-off live b (below f n)))
+    (let h = rest-chain f live b n in (h .0, omega (arith, h .1), h .2)))))
     (λ e. rw e (let h = rest-chain f live (suc b) n in (h .0, omega (arith, h .1), h .2)))
 
 -- a search along a chain that holds every match finds the match with the highest number
@@ -189,14 +196,17 @@ hit-chain f hit (suc b) (suc n) l h =
     decide (hit n)
     (λ d. rw (h n (omega arith) d, d))
     (λ d. rw d (decide (f n)
-    (λ e. rw (e, d, took-more (take-off hit b (below f n))) (hit-chain f hit b n (omega arith) (λ i q. h i (omega arith))))
+    (λ e. rw (e, d, took-more (take-off hit b (below f n)))
+    (hit-chain f hit b n (omega arith) (λ i q. h i (omega arith))))
     (λ e. rw e (hit-chain f hit (suc b) n (omega arith) (λ i q. h i (omega arith))))))
 
-pub take-cong : (f m m′ : ℕ → Bool) (b n : ℕ) → ((i : ℕ) → i < n → m i ≡ m′ i) → take-off m b (below f n) ≡ take-off m′ b (below f n)
+pub take-cong : (f m m′ : ℕ → Bool) (b n : ℕ) → ((i : ℕ) → i < n → m i ≡ m′ i)
+    → take-off m b (below f n) ≡ take-off m′ b (below f n)
 unfolding take-off below
 take-cong f m m′ zero zero h = refl
 take-cong f m m′ (suc b) zero h = refl
-take-cong f m m′ zero (suc n) h = decide (f n) (λ e. rw e) (λ e. rw e (take-cong f m m′ zero n (λ i q. h i (omega arith))))
+take-cong f m m′ zero (suc n) h =
+    decide (f n) (λ e. rw e) (λ e. rw e (take-cong f m m′ zero n (λ i q. h i (omega arith))))
 take-cong f m m′ (suc b) (suc n) h =
     decide (f n)
     (λ e. rw (e, h n (omega arith), take-cong f m m′ b n (λ i q. h i (omega arith))))

@@ -1,5 +1,5 @@
--- Words of the tables after a store: what was written is read back, every other word stays, for a position in general. One new
--- statement record, its links in three resource records, one flag, one new resource record. Assumes nothing.
+-- Words of the tables after a store: what was written is read back, every other word stays, for a position in general.
+-- One new statement record, its links in three resource records, one flag, one new resource record. Assumes nothing.
 use mathlib.Core.Path.{_≡_, refl, sym, ap, _∙_}
 use mathlib.Core.Logic.{_≢_}
 use mathlib.Core.Bool.{Bool, true, false, cond}
@@ -15,7 +15,8 @@ use Rattle.store.specs.declared.Position.{Position}
 use Rattle.store.specs.declared.Position.the-variants.{Subject, Predicate, Object}
 use Rattle.store.specs.declared.Triple.{Triple}
 use Rattle.store.specs.Triple.{at, triple}
-use Rattle.store.specs.Tables.{word, off, statementWords, resourceWords, termAt, nextAt, flagAt, tripleAt, firstAt, countAt, offsetAt, kindAt}
+use Rattle.store.specs.Tables.{word, off, statementWords, resourceWords, termAt, nextAt, flagAt, tripleAt}
+use Rattle.store.specs.Tables.{firstAt, countAt, offsetAt, kindAt}
 use Rattle.store.specs.Statement.{recordWords, appendRecord, linkFirst, linkRecord}
 use Rattle.store.specs.Dictionary.{freshRecord}
 use Rattle.store.proofs.Tests.{decide, off-lt}
@@ -32,7 +33,8 @@ getD-sets-after [] l i k d h = refl
 getD-sets-after (v ∷ vs) l i k d h =
     getD-sets-after vs (set l i v) (suc i) k d (omega arith) ∙ getD-set-other l i k v d (omega arith)
 
-pub getD-sets-in : (vs l : List ℕ) (i j d : ℕ) → i + length vs ≤ length l → j < length vs → getD (sets l i vs) (i + j) d ≡ getD vs j d
+pub getD-sets-in : (vs l : List ℕ) (i j d : ℕ) → i + length vs ≤ length l → j < length vs
+    → getD (sets l i vs) (i + j) d ≡ getD vs j d
 getD-sets-in [] l i j d h q = absurd (omega arith)
 getD-sets-in (v ∷ vs) l i zero d h q =
     rw add-zero (getD-sets-before vs (set l i v) (suc i) i d (omega arith) ∙ getD-set-same l i v d (omega arith))
@@ -47,7 +49,8 @@ triple-at stm Subject i = refl
 triple-at stm Predicate i = refl
 triple-at stm Object i = refl
 
-pub triple-same : (stm stm′ : List ℕ) (i : ℕ) → ((p : Position) → termAt stm′ p i ≡ termAt stm p i) → tripleAt stm′ i ≡ tripleAt stm i
+pub triple-same : (stm stm′ : List ℕ) (i : ℕ) → ((p : Position) → termAt stm′ p i ≡ termAt stm p i)
+    → tripleAt stm′ i ≡ tripleAt stm i
 unfolding tripleAt
 triple-same stm stm′ i h = rw (h Subject, h Predicate, h Object)
 
@@ -130,7 +133,8 @@ module _ (q : Position) (t y : ℕ) (res : List ℕ) (pos : 0 < y) (room : resou
   pub link-count-same : countAt (linkFirst q t y res) q y ≡ suc (countAt res q y)
   unfolding linkFirst countAt
   link-count-same =
-      let a : 8 * (y - 1) + (3 + off q) < length (set res (8 * (y - 1) + off q) (suc t)) = rw length-set (omega (arith, off-lt q)) in
+      let a : 8 * (y - 1) + (3 + off q) < length (set res (8 * (y - 1) + off q) (suc t)) =
+      rw length-set (omega (arith, off-lt q)) in
       rw getD-set-same
 
   -- another resource
@@ -143,21 +147,28 @@ module _ (q : Position) (t y : ℕ) (res : List ℕ) (pos : 0 < y) (room : resou
   link-count-else z h n = link-skip q t y res _ (omega (arith, off-lt q)) (omega (arith, off-lt q))
 
   -- another position
-  pub link-first-other : (p : Position) (z : ℕ) → 0 < z → off p ≢ off q → firstAt (linkFirst q t y res) p z ≡ firstAt res p z
+  pub link-first-other : (p : Position) (z : ℕ) → 0 < z → off p ≢ off q
+      → firstAt (linkFirst q t y res) p z ≡ firstAt res p z
   unfolding firstAt
-  link-first-other p z h n = link-skip q t y res _ (omega (arith, off-lt q, off-lt p)) (omega (arith, off-lt q, off-lt p))
+  link-first-other p z h n =
+      link-skip q t y res _ (omega (arith, off-lt q, off-lt p)) (omega (arith, off-lt q, off-lt p))
 
-  pub link-count-other : (p : Position) (z : ℕ) → 0 < z → off p ≢ off q → countAt (linkFirst q t y res) p z ≡ countAt res p z
+  pub link-count-other : (p : Position) (z : ℕ) → 0 < z → off p ≢ off q
+      → countAt (linkFirst q t y res) p z ≡ countAt res p z
   unfolding countAt
-  link-count-other p z h n = link-skip q t y res _ (omega (arith, off-lt q, off-lt p)) (omega (arith, off-lt q, off-lt p))
+  link-count-other p z h n =
+      link-skip q t y res _ (omega (arith, off-lt q, off-lt p)) (omega (arith, off-lt q, off-lt p))
 
   pub link-first : (z : ℕ) → 0 < z → firstAt (linkFirst q t y res) q z ≡ cond (eqb y z) (suc t) (firstAt res q z)
   link-first z h =
-      decide (eqb y z) (λ e. rw (e, ← eqb-true y z e) link-first-same) (λ e. rw e (link-first-else z h (eqb-false y z e)))
+      decide (eqb y z) (λ e. rw (e, ← eqb-true y z e) link-first-same)
+      (λ e. rw e (link-first-else z h (eqb-false y z e)))
 
-  pub link-count : (z : ℕ) → 0 < z → countAt (linkFirst q t y res) q z ≡ cond (eqb y z) (suc (countAt res q z)) (countAt res q z)
+  pub link-count : (z : ℕ) → 0 < z → countAt (linkFirst q t y res) q z
+      ≡ cond (eqb y z) (suc (countAt res q z)) (countAt res q z)
   link-count z h =
-      decide (eqb y z) (λ e. rw (e, ← eqb-true y z e) link-count-same) (λ e. rw e (link-count-else z h (eqb-false y z e)))
+      decide (eqb y z) (λ e. rw (e, ← eqb-true y z e) link-count-same)
+      (λ e. rw e (link-count-else z h (eqb-false y z e)))
 
 -- ---- the resource table after a new statement record's three links
 
@@ -165,7 +176,8 @@ module _ (t : ℕ) (x : Triple) (res : List ℕ) where
   pub linked-length : length (linkRecord t x res) ≡ length res
   unfolding linkRecord
   linked-length =
-      link-length Object t (x .object .0) _ ∙ link-length Predicate t (x .predicate .0) _ ∙ link-length Subject t (x .subject .0) res
+      link-length Object t (x .object .0) _ ∙ link-length Predicate t (x .predicate .0) _
+      ∙ link-length Subject t (x .subject .0) res
 
 module _ (t : ℕ) (x : Triple) (res : List ℕ) (pos : (p : Position) → 0 < at p x)
     (room : (p : Position) → resourceWords * at p x ≤ length res) where
@@ -181,12 +193,14 @@ module _ (t : ℕ) (x : Triple) (res : List ℕ) (pos : (p : Position) → 0 < a
   room-two : (p : Position) → resourceWords * at p x ≤ length two
   room-two p = rw (link-length Predicate t (x .predicate .0) one) (room-one p)
 
-  pub linked-first : (p : Position) (y : ℕ) → 0 < y → firstAt (linkRecord t x res) p y ≡ cond (eqb (at p x) y) (suc t) (firstAt res p y)
+  pub linked-first : (p : Position) (y : ℕ) → 0 < y
+      → firstAt (linkRecord t x res) p y ≡ cond (eqb (at p x) y) (suc t) (firstAt res p y)
   unfolding linkRecord
   linked-first Subject y h =
       rw (
         link-first-other Object t (x .object .0) two (pos Object) (room-two Object) Subject y h (omega arith),
-        link-first-other Predicate t (x .predicate .0) one (pos Predicate) (room-one Predicate) Subject y h (omega arith),
+        link-first-other Predicate t (x .predicate .0) one (pos Predicate) (room-one Predicate) Subject y h
+            (omega arith),
         link-first Subject t (x .subject .0) res (pos Subject) (room Subject) y h,
       )
   linked-first Predicate y h =
@@ -198,7 +212,8 @@ module _ (t : ℕ) (x : Triple) (res : List ℕ) (pos : (p : Position) → 0 < a
   linked-first Object y h =
       rw (
         link-first Object t (x .object .0) two (pos Object) (room-two Object) y h,
-        link-first-other Predicate t (x .predicate .0) one (pos Predicate) (room-one Predicate) Object y h (omega arith),
+        link-first-other Predicate t (x .predicate .0) one (pos Predicate) (room-one Predicate) Object y h
+            (omega arith),
         link-first-other Subject t (x .subject .0) res (pos Subject) (room Subject) Object y h (omega arith),
       )
 
@@ -208,7 +223,8 @@ module _ (t : ℕ) (x : Triple) (res : List ℕ) (pos : (p : Position) → 0 < a
   linked-count Subject y h =
       rw (
         link-count-other Object t (x .object .0) two (pos Object) (room-two Object) Subject y h (omega arith),
-        link-count-other Predicate t (x .predicate .0) one (pos Predicate) (room-one Predicate) Subject y h (omega arith),
+        link-count-other Predicate t (x .predicate .0) one (pos Predicate) (room-one Predicate) Subject y h
+            (omega arith),
         link-count Subject t (x .subject .0) res (pos Subject) (room Subject) y h,
       )
   linked-count Predicate y h =
@@ -220,17 +236,21 @@ module _ (t : ℕ) (x : Triple) (res : List ℕ) (pos : (p : Position) → 0 < a
   linked-count Object y h =
       rw (
         link-count Object t (x .object .0) two (pos Object) (room-two Object) y h,
-        link-count-other Predicate t (x .predicate .0) one (pos Predicate) (room-one Predicate) Object y h (omega arith),
+        link-count-other Predicate t (x .predicate .0) one (pos Predicate) (room-one Predicate) Object y h
+            (omega arith),
         link-count-other Subject t (x .subject .0) res (pos Subject) (room Subject) Object y h (omega arith),
       )
 
   -- offset and kind stay
-  linked-tail : (k y : ℕ) → 6 ≤ k → k < 8 → 0 < y → word (linkRecord t x res) (8 * (y - 1) + k) ≡ word res (8 * (y - 1) + k)
+  linked-tail : (k y : ℕ) → 6 ≤ k → k < 8 → 0 < y
+      → word (linkRecord t x res) (8 * (y - 1) + k) ≡ word res (8 * (y - 1) + k)
   unfolding linkRecord
   linked-tail k y a b h =
       link-skip Object t (x .object .0) two (8 * (y - 1) + k) (omega (arith, pos Object)) (omega (arith, pos Object))
-      ∙ link-skip Predicate t (x .predicate .0) one (8 * (y - 1) + k) (omega (arith, pos Predicate)) (omega (arith, pos Predicate))
-      ∙ link-skip Subject t (x .subject .0) res (8 * (y - 1) + k) (omega (arith, pos Subject)) (omega (arith, pos Subject))
+      ∙ link-skip Predicate t (x .predicate .0) one (8 * (y - 1) + k) (omega (arith, pos Predicate))
+      (omega (arith, pos Predicate))
+      ∙ link-skip Subject t (x .subject .0) res (8 * (y - 1) + k) (omega (arith, pos Subject))
+      (omega (arith, pos Subject))
 
   pub linked-offset : (y : ℕ) → 0 < y → offsetAt (linkRecord t x res) y ≡ offsetAt res y
   unfolding offsetAt
@@ -291,7 +311,8 @@ module _ (r : ℕ) (res : List ℕ) (o d : ℕ) where
   grow-after k h = getD-sets-after (freshRecord o d) res (resourceWords * r) k 0 (omega arith)
 
   -- a word of the resource y in 1..r
-  pub grow-old : (k y : ℕ) → k < 8 → 0 < y → y ≤ r → word grown (resourceWords * (y - 1) + k) ≡ word res (resourceWords * (y - 1) + k)
+  pub grow-old : (k y : ℕ) → k < 8 → 0 < y → y ≤ r
+      → word grown (resourceWords * (y - 1) + k) ≡ word res (resourceWords * (y - 1) + k)
   grow-old k y h a b = grow-before (8 * (y - 1) + k) (omega arith)
 
   -- a word of the new one

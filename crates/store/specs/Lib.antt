@@ -9,3 +9,4 @@ pub mod Scan
 pub mod Dictionary
 pub mod Soundness
 pub mod History
+pub mod Claims

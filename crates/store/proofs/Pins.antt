@@ -1,0 +1,94 @@
+-- What stands on both sides of the claim about histories, said another way: tests of triples, matching, permitted
+-- kinds, falling positions, the pick. Assumes nothing.
+use mathlib.Core.Path.{_≡_, refl, sym, ap, _∙_}
+use mathlib.Core.Logic.{_≢_, _↔_}
+use mathlib.Core.Bool.{Bool, true, false, cond, not, _&&_, _||_, true≢false, false≢true}
+use mathlib.Core.List.{List, List·Memᴰ}
+use Prim.Native.Nat.{ℕ, zero, suc, _≤_, _<_}
+use native.Mathlib.Omega.{arith}
+use lib.Dec.{eqb, leb, ltb}
+use borrow.Author.Tests.{eqb-true, eqb-false, eq-eqb, ne-eqb}
+use Rattle.store.specs.declared.Position.{Position}
+use Rattle.store.specs.declared.Chain.{Chain}
+use Rattle.store.specs.declared.Chain.the-variants.{All, By}
+use Rattle.store.specs.declared.Triple.{Triple}
+use Rattle.store.specs.Triple.{at, all3, known, within, same, agrees, permitted, below}
+use Rattle.store.specs.Tables.{off}
+use Rattle.store.specs.Model.{Entry, matches, pick}
+use Rattle.store.specs.Claims.{KnownMeans, WithinMeans, SameMeans, MatchesMeans, PermittedMeans, BelowMeans}
+use Rattle.store.specs.Claims.{FirstIsHighest}
+use Rattle.store.specs.Claims.{LeastBound, PicksLeast}
+use Rattle.store.proofs.Tests.{decide, off-lt, and-l, and-r, and-of, all3-at, all3-of, known-low, known-high}
+use Rattle.store.proofs.Tests.{known-of, within-high, within-of, same-is, same-self}
+use Rattle.store.proofs.Falling.{below-in, below-out, head-most}
+use Rattle.store.proofs.Picking.{Picked, pick-picks}
+
+pub known-means : KnownMeans
+known-means n x = (λ e p. (known-low n x e p, known-high n x e p), λ h. known-of n x (λ p. h p .0) (λ p. h p .1))
+
+pub within-means : WithinMeans
+within-means n x = (within-high n x, within-of n x)
+
+pub same-means : SameMeans
+same-means x t = (same-is x t, same-self x t)
+
+-- ---- matching
+
+pub agrees-at : (x t : Triple) → agrees x t ≡ true → (p : Position) → 0 < at p x → at p t ≡ at p x
+unfolding agrees
+agrees-at x t e p h = eqb-true (at p t) (at p x) (second (all3-at (λ p. eqb (at p x) 0 || eqb (at p t) (at p x)) e p))
+  where
+    second : eqb (at p x) 0 || eqb (at p t) (at p x) ≡ true → eqb (at p t) (at p x) ≡ true
+    second d = rw (ne-eqb (at p x) 0 (λ z. omega (arith, z, h))) at d
+
+pub agrees-of : (x t : Triple) → ((p : Position) → 0 < at p x → at p t ≡ at p x) → agrees x t ≡ true
+unfolding agrees
+agrees-of x t h =
+    all3-of (λ p. eqb (at p x) 0 || eqb (at p t) (at p x)) (λ p.
+    decide (eqb (at p x) 0)
+    (λ e. rw e)
+    (λ e. let n : at p x ≢ 0 = eqb-false (at p x) 0 e in rw e (eq-eqb (at p t) (at p x) (h p (omega arith)))))
+
+not-true : (b : Bool) → not b ≡ true → b ≡ false
+not-true true e = absurd (false≢true e)
+not-true false e = refl
+
+pub matches-means : MatchesMeans
+unfolding matches
+matches-means x e = (
+  λ h. (not-true (e .retracted) (and-l _ _ h), agrees-at x (e .spo) (and-r (not (e .retracted)) _ h)),
+  λ h. and-of _ _ (ap not (h .0)) (agrees-of x (e .spo) (h .1)),
+)
+
+pub permitted-means : PermittedMeans
+unfolding permitted
+permitted-means kind x = (
+  λ h. (
+    eqb-false (kind (x .subject .0)) 3 (not-true _ (and-l _ _ h)),
+    eqb-true (kind (x .predicate .0)) 1 (and-r (not (eqb (kind (x .subject .0)) 3)) _ h),
+  ),
+  λ h. and-of _ _ (ap not (ne-eqb (kind (x .subject .0)) 3 (h .0))) (eq-eqb (kind (x .predicate .0)) 1 (h .1)),
+)
+
+-- ---- falling positions
+
+pub below-means : BelowMeans
+below-means f n i = (
+  λ m. let r = below-out f n (suc i) m in
+      let e : i ≡ r .0 = omega (arith, r .1) in
+      (omega (arith, r .2, e), ap f e ∙ r .3),
+  λ h. below-in f n i (h .0) (h .1),
+)
+
+pub first-is-highest : FirstIsHighest
+first-is-highest f n i m =
+    let r = below-out f n i m in omega (arith, r .1, head-most f n (r .0) (r .2) (r .3))
+
+-- ---- the pick
+
+pub picks-least : PicksLeast
+picks-least x cost = go (pick x cost) (pick-picks x cost)
+  where
+    go : (ch : Chain) → Picked x cost 3 ch → LeastBound x cost ch
+    go All h = λ q. h q (off-lt q)
+    go (By p) h = (h .1 .bound, λ q b. h .1 .least q (off-lt q) b, λ q b l. h .1 .first q (off-lt q) b l)

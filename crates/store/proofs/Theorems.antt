@@ -1,0 +1,85 @@
+-- Every claim of `specs/Claims.antt` with its proof: a declaration of each type. Assumes nothing.
+use mathlib.Core.List.{List, []}
+use Rattle.store.specs.Model.{freshModel}
+use Rattle.store.specs.History.{store, freshStore, capacitiesOf}
+use Rattle.store.specs.Claims.{listsOf, HistoriesAgree, HistoriesStaySound, SoundStoresAgree, FreshIsSound}
+use Rattle.store.specs.Claims.{RefusalsChangeNothing, Finds, EndsOrSpends, VisitsAddUp, RoundTrips, KnownMeans}
+use Rattle.store.specs.Claims.{WithinMeans, SameMeans, MatchesMeans, PermittedMeans, BelowMeans, PicksLeast}
+use Rattle.store.specs.Claims.{RefusalsAreBare, NoneIsMissed, FirstIsHighest}
+use Rattle.store.proofs.Histories.{history-agrees, fresh-agrees}
+use Rattle.store.proofs.Kept.{tidy-history, tidy-fresh, agreeing-sound}
+use Rattle.store.proofs.Held.{agreeing-holds, sound-agrees, sound-tidy}
+use Rattle.store.proofs.Openings as openings
+use Rattle.store.proofs.Refusals as refusals
+use Rattle.store.proofs.RoundTrips as trips
+use Rattle.store.proofs.Pins as pins
+
+-- ---- histories
+
+pub histories-agree : HistoriesAgree
+histories-agree m calls = history-agrees (capacitiesOf m) (freshStore m) freshModel (fresh-agrees m) calls .0
+
+pub histories-stay-sound : HistoriesStaySound
+histories-stay-sound m calls =
+    let H = history-agrees (capacitiesOf m) (freshStore m) freshModel (fresh-agrees m) calls in
+    agreeing-holds (capacitiesOf m) _ _ (H .1) (tidy-history (capacitiesOf m) freshModel tidy-fresh calls)
+
+pub sound-stores-agree : SoundStoresAgree
+sound-stores-agree c m S calls =
+    let l = listsOf (store c m []) in
+    let H = history-agrees (capacitiesOf m) (store c m []) l (sound-agrees c m S) calls in
+    (H .0, agreeing-holds (capacitiesOf m) _ _ (H .1) (tidy-history (capacitiesOf m) l (sound-tidy c m S) calls))
+
+pub fresh-is-sound : FreshIsSound
+fresh-is-sound m = agreeing-sound (capacitiesOf m) (freshStore m) freshModel (fresh-agrees m) tidy-fresh
+
+pub refusals-change-nothing : RefusalsChangeNothing
+refusals-change-nothing = refusals.refusals-change-nothing
+
+-- ---- openings
+
+pub finds : Finds
+finds = openings.finds
+
+pub none-is-missed : NoneIsMissed
+none-is-missed = openings.none-is-missed
+
+pub ends-or-spends : EndsOrSpends
+ends-or-spends = openings.ends-or-spends
+
+pub visits-add-up : VisitsAddUp
+visits-add-up = openings.visits-add-up
+
+-- ---- numbers and names
+
+pub round-trips : RoundTrips
+round-trips = trips.round-trips
+
+-- ---- what stands on both sides
+
+pub known-means : KnownMeans
+known-means = pins.known-means
+
+pub within-means : WithinMeans
+within-means = pins.within-means
+
+pub same-means : SameMeans
+same-means = pins.same-means
+
+pub matches-means : MatchesMeans
+matches-means = pins.matches-means
+
+pub permitted-means : PermittedMeans
+permitted-means = pins.permitted-means
+
+pub below-means : BelowMeans
+below-means = pins.below-means
+
+pub first-is-highest : FirstIsHighest
+first-is-highest = pins.first-is-highest
+
+pub picks-least : PicksLeast
+picks-least = pins.picks-least
+
+pub refusals-are-bare : RefusalsAreBare
+refusals-are-bare = refusals.refusals-are-bare
