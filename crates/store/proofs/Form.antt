@@ -1,0 +1,93 @@
+-- What the store needs of well-formed names: no zero byte, a kind from 1 to 3 by the first byte, at most 255 bytes. Assumes nothing.
+use mathlib.Core.Path.{_≡_, refl, sym, ap, _∙_}
+use mathlib.Core.Bool.{Bool, true, false}
+use mathlib.Core.List.{List, [], _∷_}
+use Prim.Native.Nat.{ℕ, zero, suc, _≤_, _<_}
+use native.Mathlib.Omega.{arith}
+use lib.ListN.{length}
+use lib.Dec.{eqb, leb, ltb}
+use borrow.Author.Tests.{leb-true, ltb-true, ltb-false}
+use Rattle.term.specs.Bytes.{pick, among, letter, alnum, iriByte, textByte, pairByte, firstByte, labelByte}
+use Rattle.term.specs.Scanner.{stepOf, runOf, wholeOf, firstKindOf, kindOf}
+use Rattle.term.specs.declared.Scan.{Scan}
+use Rattle.term.specs.declared.Scan.the-variants.{Start, IriOpen, Iri, Closed, Under, Colon, Label, Dot, Dots, Text, Escape, Quote, At, Tag, Hyphen, Group, Caret, Carets, Bad}
+use Rattle.store.specs.Model.{wellFormed}
+use Rattle.store.proofs.Tests.{decide}
+
+-- no zero byte
+abbrev pub clean : List ℕ → Bool
+clean [] = true
+clean (zero ∷ r) = false
+clean (suc b ∷ r) = clean r
+
+-- a zero byte continues no name
+zero-bad : (q : Scan) → stepOf q 0 ≡ Bad
+unfolding stepOf among letter alnum iriByte textByte pairByte firstByte labelByte
+zero-bad Start = refl
+zero-bad IriOpen = refl
+zero-bad Iri = refl
+zero-bad Closed = refl
+zero-bad Under = refl
+zero-bad Colon = refl
+zero-bad Label = refl
+zero-bad Dot = refl
+zero-bad Dots = refl
+zero-bad Text = refl
+zero-bad Escape = refl
+zero-bad Quote = refl
+zero-bad At = refl
+zero-bad Tag = refl
+zero-bad Hyphen = refl
+zero-bad Group = refl
+zero-bad Caret = refl
+zero-bad Carets = refl
+zero-bad Bad = refl
+
+bad-stays : (s : List ℕ) → wholeOf (runOf Bad s) ≡ false
+unfolding stepOf runOf wholeOf
+bad-stays [] = refl
+bad-stays (b ∷ s) = bad-stays s
+
+run-clean : (q : Scan) (s : List ℕ) → wholeOf (runOf q s) ≡ true → clean s ≡ true
+unfolding runOf
+run-clean q [] e = refl
+run-clean q (zero ∷ s) e = let d = bad-stays s in let z = rw (zero-bad q) at e in cc
+run-clean q (suc b ∷ s) e = run-clean (stepOf q (suc b)) s e
+
+record Parts (w : List ℕ) : Type 0 where
+  short : leb (length w) 255 ≡ true
+  whole : wholeOf (runOf Start w) ≡ true
+  kind : 0 < firstKindOf w
+
+parts : (w : List ℕ) → wellFormed w ≡ true → Parts w
+unfolding wellFormed kindOf
+parts w e =
+    decide (leb (length w) 255)
+    (λ a. decide (wholeOf (runOf Start w))
+    (λ b. record { short = a; whole = b; kind = ltb-true 0 (firstKindOf w) (rw (a, b) at e) })
+    (λ b. absurd (omega (arith, ltb-true 0 0 (rw (a, b) at e)))))
+    (λ a. absurd (omega (arith, ltb-true 0 0 (rw a at e))))
+
+pub form-clean : (w : List ℕ) → wellFormed w ≡ true → clean w ≡ true
+form-clean w e = run-clean Start w (parts w e .whole)
+
+pub form-short : (w : List ℕ) → wellFormed w ≡ true → length w ≤ 255
+form-short w e = leb-true (length w) 255 (parts w e .short)
+
+pub form-kind : (w : List ℕ) → wellFormed w ≡ true → 0 < firstKindOf w
+form-kind w e = parts w e .kind
+
+pub kind-high : (w : List ℕ) → firstKindOf w ≤ 3
+unfolding firstKindOf
+kind-high [] = omega arith
+kind-high (b ∷ r) =
+    decide (eqb b 60)
+    (λ e. rw e (omega arith))
+    (λ e. rw e (decide (eqb b 95)
+    (λ d. rw d (omega arith))
+    (λ d. rw d (decide (eqb b 34) (λ f. rw f (omega arith)) (λ f. rw f (omega arith))))))
+
+-- the kind of a well-formed name is its first byte's
+pub form-kindOf : (w : List ℕ) → wellFormed w ≡ true → kindOf 255 w ≡ firstKindOf w
+unfolding kindOf
+form-kindOf w e = rw (parts w e .short, parts w e .whole)

@@ -1,0 +1,107 @@
+-- The byte order of names (`compare`): reflexive, total, antisymmetric, transitive; equal names are equal lists. Assumes nothing.
+use mathlib.Core.Path.{_≡_, refl, sym, ap, ap₂, _∙_}
+use mathlib.Core.Logic.{_≢_}
+use mathlib.Core.Bool.{Bool, true, false, cond, _&&_, false≢true}
+use mathlib.Core.List.{List, [], _∷_}
+use Prim.Native.Nat.{ℕ, zero, suc, _≤_, _<_}
+use native.Mathlib.Omega.{arith}
+use lib.Dec.{eqb, leb, ltb}
+use borrow.Author.Tests.{eqb-true, eq-eqb, ltb-true, ltb-false, lt-ltb, le-ltb}
+use Rattle.store.specs.Model.{eqBytes}
+use Rattle.store.specs.Dictionary.{Ordering, less, equal, more, compare, isLess}
+use Rattle.store.proofs.Tests.{decide, three, and-l, and-r, and-of}
+
+abbrev pub flip : Ordering → Ordering
+flip less = more
+flip equal = equal
+flip more = less
+
+-- by the first bytes
+pub compare-less : (x y : ℕ) (xs ys : List ℕ) → x < y → compare (x ∷ xs) (y ∷ ys) ≡ less
+unfolding compare
+compare-less x y xs ys h = rw (lt-ltb x y h)
+
+pub compare-more : (x y : ℕ) (xs ys : List ℕ) → y < x → compare (x ∷ xs) (y ∷ ys) ≡ more
+unfolding compare
+compare-more x y xs ys h = rw (le-ltb x y (omega arith), lt-ltb y x h)
+
+pub compare-tail : (x y : ℕ) (xs ys : List ℕ) → x ≡ y → compare (x ∷ xs) (y ∷ ys) ≡ compare xs ys
+unfolding compare
+compare-tail x y xs ys h = rw (le-ltb x y (omega arith), le-ltb y x (omega arith))
+
+pub compare-refl : (a : List ℕ) → compare a a ≡ equal
+unfolding compare
+compare-refl [] = refl
+compare-refl (x ∷ xs) = compare-tail x x xs xs refl ∙ compare-refl xs
+
+-- total and antisymmetric
+pub compare-flip : (a b : List ℕ) → compare b a ≡ flip (compare a b)
+unfolding compare
+compare-flip [] [] = refl
+compare-flip [] (y ∷ ys) = refl
+compare-flip (x ∷ xs) [] = refl
+compare-flip (x ∷ xs) (y ∷ ys) =
+    three x y
+    (λ h. compare-more y x ys xs h ∙ ap flip (sym (compare-less x y xs ys h)))
+    (λ h. compare-tail y x ys xs (sym h) ∙ compare-flip xs ys ∙ ap flip (sym (compare-tail x y xs ys h)))
+    (λ h. compare-less y x ys xs h ∙ ap flip (sym (compare-more x y xs ys h)))
+
+pub less-not-equal : less ≢ equal
+less-not-equal e = let z : _≡_ {A = ℕ} 0 1 = cc in omega arith
+
+pub compare-equal : (a b : List ℕ) → compare a b ≡ equal → a ≡ b
+unfolding compare
+compare-equal [] [] e = refl
+compare-equal [] (y ∷ ys) e = cc
+compare-equal (x ∷ xs) [] e = cc
+compare-equal (x ∷ xs) (y ∷ ys) e =
+    three x y
+    (λ h. let d = compare-less x y xs ys h in cc)
+    (λ h. ap₂ _∷_ h (compare-equal xs ys (sym (compare-tail x y xs ys h) ∙ e)))
+    (λ h. let d = compare-more x y xs ys h in cc)
+
+pub compare-trans : (a b c : List ℕ) → compare a b ≡ less → compare b c ≡ less → compare a c ≡ less
+unfolding compare
+compare-trans [] [] c e d = d
+compare-trans [] (y ∷ ys) [] e d = cc
+compare-trans [] (y ∷ ys) (z ∷ zs) e d = refl
+compare-trans (x ∷ xs) [] c e d = cc
+compare-trans (x ∷ xs) (y ∷ ys) [] e d = d
+compare-trans (x ∷ xs) (y ∷ ys) (z ∷ zs) e d =
+    three x y
+    (λ h. three y z
+    (λ g. compare-less x z xs zs (omega arith))
+    (λ g. compare-less x z xs zs (omega arith))
+    (λ g. let f = compare-more y z ys zs g in cc))
+    (λ h. three y z
+    (λ g. compare-less x z xs zs (omega arith))
+    (λ g. compare-tail x z xs zs (h ∙ g)
+    ∙ compare-trans xs ys zs (sym (compare-tail x y xs ys h) ∙ e) (sym (compare-tail y z ys zs g) ∙ d))
+    (λ g. let f = compare-more y z ys zs g in cc))
+    (λ h. let f = compare-more x y xs ys h in cc)
+
+pub is-less : (o : Ordering) → isLess o ≡ true → o ≡ less
+is-less less e = refl
+is-less equal e = cc
+is-less more e = cc
+
+-- ---- the same bytes
+
+pub eqBytes-is : (a b : List ℕ) → eqBytes a b ≡ true → a ≡ b
+unfolding eqBytes
+eqBytes-is [] [] e = refl
+eqBytes-is [] (y ∷ ys) e = absurd (false≢true e)
+eqBytes-is (x ∷ xs) [] e = absurd (false≢true e)
+eqBytes-is (x ∷ xs) (y ∷ ys) e = ap₂ _∷_ (eqb-true x y (and-l (eqb x y) _ e)) (eqBytes-is xs ys (and-r (eqb x y) _ e))
+
+pub eqBytes-refl : (a : List ℕ) → eqBytes a a ≡ true
+unfolding eqBytes
+eqBytes-refl [] = refl
+eqBytes-refl (x ∷ xs) = and-of _ _ (eq-eqb x x refl) (eqBytes-refl xs)
+
+pub eqBytes-not : (a b : List ℕ) → a ≢ b → eqBytes a b ≡ false
+eqBytes-not a b h = decide (eqBytes a b) (λ e. absurd (h (eqBytes-is a b e))) (λ e. e)
+
+-- equal in the order exactly where the bytes are
+pub eqBytes-compare : (a b : List ℕ) → compare a b ≡ equal → eqBytes a b ≡ true
+eqBytes-compare a b e = rw (compare-equal a b e) (eqBytes-refl b)

@@ -1,0 +1,127 @@
+-- Boolean tests: a case split with its equation, conjunctions, tests of each position, numbers in range. Assumes nothing.
+use mathlib.Core.Path.{_≡_, refl, sym, ap, ap₂, _∙_}
+use mathlib.Core.Logic.{_≢_}
+use mathlib.Core.Bool.{Bool, true, false, cond, not, _&&_, _||_, false≢true, true≢false}
+use Prim.Native.Nat.{ℕ, zero, suc, _≤_, _<_}
+use native.Mathlib.Omega.{arith}
+use lib.Dec.{eqb, leb, ltb}
+use borrow.Author.Tests.{eqb-true, eqb-false, eq-eqb, ne-eqb, leb-true, ltb-true, ltb-false, lt-ltb, le-leb, le-ltb}
+use Rattle.store.specs.declared.Position.{Position}
+use Rattle.store.specs.declared.Position.the-variants.{Subject, Predicate, Object}
+use Rattle.store.specs.declared.Triple.{Triple}
+use Rattle.store.specs.Triple.{at, triple, all3, known, within, same, permitted}
+use Rattle.store.specs.Tables.{off}
+
+-- a case split on a test, with the equation
+pub decide {ℓ} : {P : Type ℓ} (b : Bool) → (b ≡ true → P) → (b ≡ false → P) → P
+decide true y n = y refl
+decide false y n = n refl
+
+-- a case split on two numbers
+pub three {ℓ} : {P : Type ℓ} (x y : ℕ) → (x < y → P) → (x ≡ y → P) → (y < x → P) → P
+three {P = P} x y a b c = go (ltb x y) (ltb y x) refl refl
+  where
+    go : (p q : Bool) → ltb x y ≡ p → ltb y x ≡ q → P
+    go true q e d = a (ltb-true x y e)
+    go false true e d = c (ltb-true y x d)
+    go false false e d = b (omega (arith, ltb-false x y e, ltb-false y x d))
+
+pub and-l : (a b : Bool) → a && b ≡ true → a ≡ true
+and-l true b e = refl
+and-l false b e = e
+
+pub and-r : (a b : Bool) → a && b ≡ true → b ≡ true
+and-r true b e = e
+and-r false b e = absurd (false≢true e)
+
+pub and-of : (a b : Bool) → a ≡ true → b ≡ true → a && b ≡ true
+and-of a b e d = rw (e, d)
+
+pub and-assoc : (a b c : Bool) → (a && b) && c ≡ a && (b && c)
+and-assoc true b c = refl
+and-assoc false b c = refl
+
+pub cond-all : {A : Type 0} (P : A → Type 0) (b : Bool) (x y : A) → P x → P y → P (cond b x y)
+cond-all P true x y h g = h
+cond-all P false x y h g = g
+
+-- what holds below n and at n holds below n + 1
+pub upto : (P : ℕ → Type 0) (n : ℕ) → ((i : ℕ) → i < n → P i) → P n → (i : ℕ) → i < suc n → P i
+upto P n old last i h =
+    decide (eqb i n) (λ e. rw (eqb-true i n e) last) (λ e. let ne : i ≢ n = eqb-false i n e in old i (omega arith))
+
+-- what holds in 1..n and at n + 1 holds in 1..n + 1
+pub upto-one : (P : ℕ → Type 0) (n : ℕ) → ((y : ℕ) → 0 < y → y ≤ n → P y) → P (suc n) → (y : ℕ) → 0 < y → y ≤ suc n → P y
+upto-one P n old last y h q =
+    decide (eqb y (suc n))
+    (λ e. rw (eqb-true y (suc n) e) last)
+    (λ e. let ne : y ≢ suc n = eqb-false y (suc n) e in old y h (omega arith))
+
+-- ---- positions
+
+pub off-lt : (p : Position) → off p < 3
+off-lt Subject = omega arith
+off-lt Predicate = omega arith
+off-lt Object = omega arith
+
+pub off-inj : (p q : Position) → off p ≡ off q → p ≡ q
+off-inj Subject Subject e = refl
+off-inj Subject Predicate e = absurd (omega arith)
+off-inj Subject Object e = absurd (omega arith)
+off-inj Predicate Subject e = absurd (omega arith)
+off-inj Predicate Predicate e = refl
+off-inj Predicate Object e = absurd (omega arith)
+off-inj Object Subject e = absurd (omega arith)
+off-inj Object Predicate e = absurd (omega arith)
+off-inj Object Object e = refl
+
+pub all3-at : (f : Position → Bool) → all3 f ≡ true → (p : Position) → f p ≡ true
+all3-at f e Subject = and-l (f Subject) (f Predicate && f Object) e
+all3-at f e Predicate = and-l (f Predicate) (f Object) (and-r (f Subject) (f Predicate && f Object) e)
+all3-at f e Object = and-r (f Predicate) (f Object) (and-r (f Subject) (f Predicate && f Object) e)
+
+pub all3-of : (f : Position → Bool) → ((p : Position) → f p ≡ true) → all3 f ≡ true
+all3-of f h = rw (h Subject, h Predicate, h Object)
+
+pub all3-same : (f g : Position → Bool) → ((p : Position) → f p ≡ g p) → all3 f ≡ all3 g
+all3-same f g h = rw (h Subject, h Predicate, h Object)
+
+-- ---- a triple's numbers in range
+
+pub known-low : (n : ℕ) (x : Triple) → known n x ≡ true → (p : Position) → 0 < at p x
+unfolding known
+known-low n x e p = ltb-true 0 (at p x) (and-l _ _ (all3-at (λ p. ltb 0 (at p x) && leb (at p x) n) e p))
+
+pub known-high : (n : ℕ) (x : Triple) → known n x ≡ true → (p : Position) → at p x ≤ n
+unfolding known
+known-high n x e p = leb-true (at p x) n (and-r (ltb 0 (at p x)) _ (all3-at (λ p. ltb 0 (at p x) && leb (at p x) n) e p))
+
+pub known-of : (n : ℕ) (x : Triple) → ((p : Position) → 0 < at p x) → ((p : Position) → at p x ≤ n) → known n x ≡ true
+unfolding known
+known-of n x lo hi =
+    all3-of (λ p. ltb 0 (at p x) && leb (at p x) n) (λ p. and-of _ _ (lt-ltb 0 (at p x) (lo p)) (le-leb (at p x) n (hi p)))
+
+pub known-more : (n m : ℕ) (x : Triple) → n ≤ m → known n x ≡ true → known m x ≡ true
+known-more n m x h e = known-of m x (known-low n x e) (λ p. omega (arith, known-high n x e p))
+
+pub within-high : (n : ℕ) (x : Triple) → within n x ≡ true → (p : Position) → at p x ≤ n
+unfolding within
+within-high n x e p = leb-true (at p x) n (all3-at (λ p. leb (at p x) n) e p)
+
+pub within-of : (n : ℕ) (x : Triple) → ((p : Position) → at p x ≤ n) → within n x ≡ true
+unfolding within
+within-of n x h = all3-of (λ p. leb (at p x) n) (λ p. le-leb (at p x) n (h p))
+
+pub same-self : (x t : Triple) → t ≡ x → same x t ≡ true
+unfolding same
+same-self x t h = rw h (all3-of (λ p. eqb (at p x) (at p x)) (λ p. eq-eqb (at p x) (at p x) refl))
+
+pub same-at : (x t : Triple) → same x t ≡ true → (p : Position) → at p t ≡ at p x
+unfolding same
+same-at x t e p = eqb-true (at p t) (at p x) (all3-at (λ p. eqb (at p t) (at p x)) e p)
+
+pub same-is : (x t : Triple) → same x t ≡ true → t ≡ x
+same-is x t e =
+    ap (λ (n : ℕ). triple n (t .predicate .0) (t .object .0)) (same-at x t e Subject)
+    ∙ ap (λ (n : ℕ). triple (x .subject .0) n (t .object .0)) (same-at x t e Predicate)
+    ∙ ap (λ (n : ℕ). triple (x .subject .0) (x .predicate .0) n) (same-at x t e Object)

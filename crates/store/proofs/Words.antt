@@ -1,0 +1,302 @@
+-- Words of the tables after a store: what was written is read back, every other word stays, for a position in general. One new
+-- statement record, its links in three resource records, one flag, one new resource record. Assumes nothing.
+use mathlib.Core.Path.{_≡_, refl, sym, ap, _∙_}
+use mathlib.Core.Logic.{_≢_}
+use mathlib.Core.Bool.{Bool, true, false, cond}
+use mathlib.Core.List.{List, [], _∷_, _++_}
+use Prim.Native.Nat.{ℕ, zero, suc, _+_, _-_, _*_, _≤_, _<_}
+use native.Mathlib.Omega.{arith}
+use native.Mathlib.Nat.{add-zero, add-suc, suc-add}
+use lib.ListN.{length, getD, set, length-set}
+use lib.Seq.{sets, length-sets, getD-set-same, getD-set-other}
+use lib.Dec.{eqb}
+use borrow.Author.Tests.{eqb-true, eqb-false}
+use Rattle.store.specs.declared.Position.{Position}
+use Rattle.store.specs.declared.Position.the-variants.{Subject, Predicate, Object}
+use Rattle.store.specs.declared.Triple.{Triple}
+use Rattle.store.specs.Triple.{at, triple}
+use Rattle.store.specs.Tables.{word, off, statementWords, resourceWords, termAt, nextAt, flagAt, tripleAt, firstAt, countAt, offsetAt, kindAt}
+use Rattle.store.specs.Statement.{recordWords, appendRecord, linkFirst, linkRecord}
+use Rattle.store.specs.Dictionary.{freshRecord}
+use Rattle.store.proofs.Tests.{decide, off-lt}
+
+-- ---- a run of stores, read back
+
+pub getD-sets-before : (vs l : List ℕ) (i k d : ℕ) → k < i → getD (sets l i vs) k d ≡ getD l k d
+getD-sets-before [] l i k d h = refl
+getD-sets-before (v ∷ vs) l i k d h =
+    getD-sets-before vs (set l i v) (suc i) k d (omega arith) ∙ getD-set-other l i k v d (omega arith)
+
+pub getD-sets-after : (vs l : List ℕ) (i k d : ℕ) → i + length vs ≤ k → getD (sets l i vs) k d ≡ getD l k d
+getD-sets-after [] l i k d h = refl
+getD-sets-after (v ∷ vs) l i k d h =
+    getD-sets-after vs (set l i v) (suc i) k d (omega arith) ∙ getD-set-other l i k v d (omega arith)
+
+pub getD-sets-in : (vs l : List ℕ) (i j d : ℕ) → i + length vs ≤ length l → j < length vs → getD (sets l i vs) (i + j) d ≡ getD vs j d
+getD-sets-in [] l i j d h q = absurd (omega arith)
+getD-sets-in (v ∷ vs) l i zero d h q =
+    rw add-zero (getD-sets-before vs (set l i v) (suc i) i d (omega arith) ∙ getD-set-same l i v d (omega arith))
+getD-sets-in (v ∷ vs) l i (suc j) d h q =
+    rw (add-suc, ← suc-add) (getD-sets-in vs (set l i v) (suc i) j d (rw length-set (omega arith)) (omega arith))
+
+-- ---- an entry's triple
+
+pub triple-at : (stm : List ℕ) (p : Position) (i : ℕ) → at p (tripleAt stm i) ≡ termAt stm p i
+unfolding tripleAt
+triple-at stm Subject i = refl
+triple-at stm Predicate i = refl
+triple-at stm Object i = refl
+
+pub triple-same : (stm stm′ : List ℕ) (i : ℕ) → ((p : Position) → termAt stm′ p i ≡ termAt stm p i) → tripleAt stm′ i ≡ tripleAt stm i
+unfolding tripleAt
+triple-same stm stm′ i h = rw (h Subject, h Predicate, h Object)
+
+pub triple-of : (stm : List ℕ) (i : ℕ) (x : Triple) → ((p : Position) → termAt stm p i ≡ at p x) → tripleAt stm i ≡ x
+unfolding tripleAt
+triple-of stm i x h = rw (h Subject, h Predicate, h Object)
+
+-- ---- a new statement record in entry t
+
+module _ (t : ℕ) (x : Triple) (res stm : List ℕ) where
+  pub append-length : length (appendRecord t x res stm) ≡ length stm
+  unfolding appendRecord
+  append-length = length-sets stm (statementWords * t) (recordWords x res)
+
+  pub append-word-before : (k : ℕ) → k < statementWords * t → word (appendRecord t x res stm) k ≡ word stm k
+  unfolding appendRecord
+  append-word-before k h = getD-sets-before (recordWords x res) stm (statementWords * t) k 0 h
+
+  pub append-word-after : (k : ℕ) → statementWords * suc t ≤ k → word (appendRecord t x res stm) k ≡ word stm k
+  unfolding appendRecord
+  append-word-after k h = getD-sets-after (recordWords x res) stm (statementWords * t) k 0 (omega arith)
+
+  append-old : (i k : ℕ) → i < t → k < 7 → word (appendRecord t x res stm) (7 * i + k) ≡ word stm (7 * i + k)
+  append-old i k h q = append-word-before (7 * i + k) (omega arith)
+
+  pub append-term-old : (p : Position) (i : ℕ) → i < t → termAt (appendRecord t x res stm) p i ≡ termAt stm p i
+  unfolding termAt
+  append-term-old p i h = append-old i (off p) h (omega (arith, off-lt p))
+
+  pub append-next-old : (p : Position) (i : ℕ) → i < t → nextAt (appendRecord t x res stm) p i ≡ nextAt stm p i
+  unfolding nextAt
+  append-next-old p i h = append-old i (3 + off p) h (omega (arith, off-lt p))
+
+  pub append-flag-old : (i : ℕ) → i < t → flagAt (appendRecord t x res stm) i ≡ flagAt stm i
+  unfolding flagAt
+  append-flag-old i h = append-old i 6 h (omega arith)
+
+  module _ (room : statementWords * suc t ≤ length stm) where
+    append-new : (k : ℕ) → k < 7 → word (appendRecord t x res stm) (7 * t + k) ≡ word (recordWords x res) k
+    unfolding appendRecord
+    append-new k h = getD-sets-in (recordWords x res) stm (7 * t) k 0 (omega arith) (omega arith)
+
+    pub append-term : (p : Position) → termAt (appendRecord t x res stm) p t ≡ at p x
+    unfolding termAt
+    append-term Subject = append-new 0 (omega arith)
+    append-term Predicate = append-new 1 (omega arith)
+    append-term Object = append-new 2 (omega arith)
+
+    pub append-next : (p : Position) → nextAt (appendRecord t x res stm) p t ≡ firstAt res p (at p x)
+    unfolding nextAt
+    append-next Subject = append-new 3 (omega arith)
+    append-next Predicate = append-new 4 (omega arith)
+    append-next Object = append-new 5 (omega arith)
+
+    pub append-flag : flagAt (appendRecord t x res stm) t ≡ 0
+    unfolding flagAt
+    append-flag = append-new 6 (omega arith)
+
+-- ---- the resource table after a link at one position of the resource y
+
+module _ (q : Position) (t y : ℕ) (res : List ℕ) where
+  pub link-length : length (linkFirst q t y res) ≡ length res
+  unfolding linkFirst
+  link-length = simp length-set
+
+  -- any word but the two
+  pub link-skip : (k : ℕ) → k ≢ resourceWords * (y - 1) + off q → k ≢ resourceWords * (y - 1) + (3 + off q)
+      → word (linkFirst q t y res) k ≡ word res k
+  unfolding linkFirst
+  link-skip k h g = rw (getD-set-other, getD-set-other)
+
+module _ (q : Position) (t y : ℕ) (res : List ℕ) (pos : 0 < y) (room : resourceWords * y ≤ length res) where
+  pub link-first-same : firstAt (linkFirst q t y res) q y ≡ suc t
+  unfolding linkFirst firstAt
+  link-first-same =
+      let a : 8 * (y - 1) + off q < length res = omega (arith, off-lt q) in
+      let n : 8 * (y - 1) + off q ≢ 8 * (y - 1) + (3 + off q) = omega arith in
+      rw (getD-set-other, getD-set-same)
+
+  pub link-count-same : countAt (linkFirst q t y res) q y ≡ suc (countAt res q y)
+  unfolding linkFirst countAt
+  link-count-same =
+      let a : 8 * (y - 1) + (3 + off q) < length (set res (8 * (y - 1) + off q) (suc t)) = rw length-set (omega (arith, off-lt q)) in
+      rw getD-set-same
+
+  -- another resource
+  link-first-else : (z : ℕ) → 0 < z → y ≢ z → firstAt (linkFirst q t y res) q z ≡ firstAt res q z
+  unfolding firstAt
+  link-first-else z h n = link-skip q t y res _ (omega (arith, off-lt q)) (omega (arith, off-lt q))
+
+  link-count-else : (z : ℕ) → 0 < z → y ≢ z → countAt (linkFirst q t y res) q z ≡ countAt res q z
+  unfolding countAt
+  link-count-else z h n = link-skip q t y res _ (omega (arith, off-lt q)) (omega (arith, off-lt q))
+
+  -- another position
+  pub link-first-other : (p : Position) (z : ℕ) → 0 < z → off p ≢ off q → firstAt (linkFirst q t y res) p z ≡ firstAt res p z
+  unfolding firstAt
+  link-first-other p z h n = link-skip q t y res _ (omega (arith, off-lt q, off-lt p)) (omega (arith, off-lt q, off-lt p))
+
+  pub link-count-other : (p : Position) (z : ℕ) → 0 < z → off p ≢ off q → countAt (linkFirst q t y res) p z ≡ countAt res p z
+  unfolding countAt
+  link-count-other p z h n = link-skip q t y res _ (omega (arith, off-lt q, off-lt p)) (omega (arith, off-lt q, off-lt p))
+
+  pub link-first : (z : ℕ) → 0 < z → firstAt (linkFirst q t y res) q z ≡ cond (eqb y z) (suc t) (firstAt res q z)
+  link-first z h =
+      decide (eqb y z) (λ e. rw (e, ← eqb-true y z e) link-first-same) (λ e. rw e (link-first-else z h (eqb-false y z e)))
+
+  pub link-count : (z : ℕ) → 0 < z → countAt (linkFirst q t y res) q z ≡ cond (eqb y z) (suc (countAt res q z)) (countAt res q z)
+  link-count z h =
+      decide (eqb y z) (λ e. rw (e, ← eqb-true y z e) link-count-same) (λ e. rw e (link-count-else z h (eqb-false y z e)))
+
+-- ---- the resource table after a new statement record's three links
+
+module _ (t : ℕ) (x : Triple) (res : List ℕ) where
+  pub linked-length : length (linkRecord t x res) ≡ length res
+  unfolding linkRecord
+  linked-length =
+      link-length Object t (x .object .0) _ ∙ link-length Predicate t (x .predicate .0) _ ∙ link-length Subject t (x .subject .0) res
+
+module _ (t : ℕ) (x : Triple) (res : List ℕ) (pos : (p : Position) → 0 < at p x)
+    (room : (p : Position) → resourceWords * at p x ≤ length res) where
+  abbrev one : List ℕ
+  one = linkFirst Subject t (x .subject .0) res
+
+  abbrev two : List ℕ
+  two = linkFirst Predicate t (x .predicate .0) one
+
+  room-one : (p : Position) → resourceWords * at p x ≤ length one
+  room-one p = rw (link-length Subject t (x .subject .0) res) (room p)
+
+  room-two : (p : Position) → resourceWords * at p x ≤ length two
+  room-two p = rw (link-length Predicate t (x .predicate .0) one) (room-one p)
+
+  pub linked-first : (p : Position) (y : ℕ) → 0 < y → firstAt (linkRecord t x res) p y ≡ cond (eqb (at p x) y) (suc t) (firstAt res p y)
+  unfolding linkRecord
+  linked-first Subject y h =
+      rw (
+        link-first-other Object t (x .object .0) two (pos Object) (room-two Object) Subject y h (omega arith),
+        link-first-other Predicate t (x .predicate .0) one (pos Predicate) (room-one Predicate) Subject y h (omega arith),
+        link-first Subject t (x .subject .0) res (pos Subject) (room Subject) y h,
+      )
+  linked-first Predicate y h =
+      rw (
+        link-first-other Object t (x .object .0) two (pos Object) (room-two Object) Predicate y h (omega arith),
+        link-first Predicate t (x .predicate .0) one (pos Predicate) (room-one Predicate) y h,
+        link-first-other Subject t (x .subject .0) res (pos Subject) (room Subject) Predicate y h (omega arith),
+      )
+  linked-first Object y h =
+      rw (
+        link-first Object t (x .object .0) two (pos Object) (room-two Object) y h,
+        link-first-other Predicate t (x .predicate .0) one (pos Predicate) (room-one Predicate) Object y h (omega arith),
+        link-first-other Subject t (x .subject .0) res (pos Subject) (room Subject) Object y h (omega arith),
+      )
+
+  pub linked-count : (p : Position) (y : ℕ) → 0 < y
+      → countAt (linkRecord t x res) p y ≡ cond (eqb (at p x) y) (suc (countAt res p y)) (countAt res p y)
+  unfolding linkRecord
+  linked-count Subject y h =
+      rw (
+        link-count-other Object t (x .object .0) two (pos Object) (room-two Object) Subject y h (omega arith),
+        link-count-other Predicate t (x .predicate .0) one (pos Predicate) (room-one Predicate) Subject y h (omega arith),
+        link-count Subject t (x .subject .0) res (pos Subject) (room Subject) y h,
+      )
+  linked-count Predicate y h =
+      rw (
+        link-count-other Object t (x .object .0) two (pos Object) (room-two Object) Predicate y h (omega arith),
+        link-count Predicate t (x .predicate .0) one (pos Predicate) (room-one Predicate) y h,
+        link-count-other Subject t (x .subject .0) res (pos Subject) (room Subject) Predicate y h (omega arith),
+      )
+  linked-count Object y h =
+      rw (
+        link-count Object t (x .object .0) two (pos Object) (room-two Object) y h,
+        link-count-other Predicate t (x .predicate .0) one (pos Predicate) (room-one Predicate) Object y h (omega arith),
+        link-count-other Subject t (x .subject .0) res (pos Subject) (room Subject) Object y h (omega arith),
+      )
+
+  -- offset and kind stay
+  linked-tail : (k y : ℕ) → 6 ≤ k → k < 8 → 0 < y → word (linkRecord t x res) (8 * (y - 1) + k) ≡ word res (8 * (y - 1) + k)
+  unfolding linkRecord
+  linked-tail k y a b h =
+      link-skip Object t (x .object .0) two (8 * (y - 1) + k) (omega (arith, pos Object)) (omega (arith, pos Object))
+      ∙ link-skip Predicate t (x .predicate .0) one (8 * (y - 1) + k) (omega (arith, pos Predicate)) (omega (arith, pos Predicate))
+      ∙ link-skip Subject t (x .subject .0) res (8 * (y - 1) + k) (omega (arith, pos Subject)) (omega (arith, pos Subject))
+
+  pub linked-offset : (y : ℕ) → 0 < y → offsetAt (linkRecord t x res) y ≡ offsetAt res y
+  unfolding offsetAt
+  linked-offset y h = linked-tail 6 y (omega arith) (omega arith) h
+
+  pub linked-kind : (y : ℕ) → 0 < y → kindAt (linkRecord t x res) y ≡ kindAt res y
+  unfolding kindAt
+  linked-kind y h = linked-tail 7 y (omega arith) (omega arith) h
+
+-- ---- the flag of entry i
+
+module _ (stm : List ℕ) (i v : ℕ) where
+  abbrev flagged : List ℕ
+  flagged = set stm (statementWords * i + 6) v
+
+  flag-skip : (k j : ℕ) → k < 6 → word flagged (7 * j + k) ≡ word stm (7 * j + k)
+  flag-skip k j h = getD-set-other stm (7 * i + 6) (7 * j + k) v 0 (omega arith)
+
+  pub flag-term : (p : Position) (j : ℕ) → termAt flagged p j ≡ termAt stm p j
+  unfolding termAt
+  flag-term p j = flag-skip (off p) j (omega (arith, off-lt p))
+
+  pub flag-next : (p : Position) (j : ℕ) → nextAt flagged p j ≡ nextAt stm p j
+  unfolding nextAt
+  flag-next p j = flag-skip (3 + off p) j (omega (arith, off-lt p))
+
+  pub flag-same : statementWords * suc i ≤ length stm → flagAt flagged i ≡ v
+  unfolding flagAt
+  flag-same h = getD-set-same stm (7 * i + 6) v 0 (omega arith)
+
+  pub flag-other : (j : ℕ) → j ≢ i → flagAt flagged j ≡ flagAt stm j
+  unfolding flagAt
+  flag-other j h = getD-set-other stm (7 * i + 6) (7 * j + 6) v 0 (omega arith)
+
+-- ---- a new resource record, of zeros, an offset and a kind
+
+pub zero-first : (o d : ℕ) (p : Position) → word (freshRecord o d) (off p) ≡ 0
+zero-first o d Subject = refl
+zero-first o d Predicate = refl
+zero-first o d Object = refl
+
+pub zero-count : (o d : ℕ) (p : Position) → word (freshRecord o d) (3 + off p) ≡ 0
+zero-count o d Subject = refl
+zero-count o d Predicate = refl
+zero-count o d Object = refl
+
+module _ (r : ℕ) (res : List ℕ) (o d : ℕ) where
+  abbrev grown : List ℕ
+  grown = sets res (resourceWords * r) (freshRecord o d)
+
+  pub grow-length : length grown ≡ length res
+  grow-length = length-sets res (resourceWords * r) (freshRecord o d)
+
+  pub grow-before : (k : ℕ) → k < resourceWords * r → word grown k ≡ word res k
+  grow-before k h = getD-sets-before (freshRecord o d) res (resourceWords * r) k 0 h
+
+  pub grow-after : (k : ℕ) → resourceWords * suc r ≤ k → word grown k ≡ word res k
+  grow-after k h = getD-sets-after (freshRecord o d) res (resourceWords * r) k 0 (omega arith)
+
+  -- a word of the resource y in 1..r
+  pub grow-old : (k y : ℕ) → k < 8 → 0 < y → y ≤ r → word grown (resourceWords * (y - 1) + k) ≡ word res (resourceWords * (y - 1) + k)
+  grow-old k y h a b = grow-before (8 * (y - 1) + k) (omega arith)
+
+  -- a word of the new one
+  pub grow-new : resourceWords * suc r ≤ length res → (k : ℕ) → k < 8
+      → word grown (resourceWords * (suc r - 1) + k) ≡ word (freshRecord o d) k
+  grow-new room k h =
+      let e : 8 * (suc r - 1) + k ≡ 8 * r + k = omega arith in
+      rw e (getD-sets-in (freshRecord o d) res (8 * r) k 0 (omega arith) (omega arith))
