@@ -97,7 +97,8 @@ pub fn kind_at(resources: &[u32], y: u32) -> u32
     resources[i]
 }
 
-fn lesser(a: usize, b: usize) -> usize
+// The lesser of two numbers.
+pub fn lesser(a: usize, b: usize) -> usize
     ensures { λ r. ⌜ r ≡ min a b ⌝ }
 {
     if a < b { a } else { b }
