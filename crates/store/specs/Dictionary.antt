@@ -97,7 +97,7 @@ foundAs (At n k) = Number n
 foundAs (Before k) = Absent
 foundAs Torn = NotFound Damaged
 
--- Find: 1; 2; the number, or absent
+-- Find on a sound dictionary: 1; 2; the number, or absent. On any tables `FindAnswer` says what holds.
 unfoldable pub findOf : Counters → Tables → List ℕ → Lookup
 findOf c m w = cond (fits c m) (cond (wellFormed w) (foundAs (indexPlaceOf c m w)) (NotFound Malformed)) (NotFound Capacity)
 
@@ -149,7 +149,7 @@ internAs c m w (Before k) =
     cond (roomFor c m w) (withName c m w k, Id (record { 0 = suc (c .resources) }) (oneNameMore c w)) (m, NotInterned Full)
 internAs c m w Torn = (m, NotInterned Damaged)
 
--- Enter: 1; 2; already there; 3; new
+-- Enter on a sound dictionary: 1; 2; already there; 3; new. On any tables `InternAnswer` says what holds.
 unfoldable pub internOf : Counters → Tables → List ℕ → Tables × Interned
 internOf c m w =
     cond (fits c m) (cond (wellFormed w) (internAs c m w (indexPlaceOf c m w)) (m, NotInterned Malformed)) (m, NotInterned Capacity)

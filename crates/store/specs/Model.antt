@@ -230,7 +230,7 @@ takeFrom l g b = take-off (λ i. matches (g .pattern) (entry l i)) b (g .rest)
 unfoldable pub turn : Model → ℕ → Listing → Taken → Model × Values
 turn s j g r = (withListings s (set (s .listings) j (leaving g (restOf r))), takenValues g r)
 
--- Next of opening j, from 0: 7; found, ended or spent
+-- Next of opening j, counted from 0 among those not refused: 7; found, ended or spent. A j that names none is a listing with nothing left.
 unfoldable pub nextModel : Model → ℕ → ℕ → Model × Values
 nextModel s j b =
     let g = getD (s .listings) j noListing in cond (eqb b 0) (s, refusedWith 7) (turn s j g (takeFrom (s .entries) g b))

@@ -78,7 +78,7 @@ pub enum Refusal {
     UnknownNumber,
     // 5: a literal as subject, or a predicate that is no IRI.
     KindNotPermitted,
-    // 6: a cursor that no opening or next call of this store can have given.
+    // 6: a cursor with a number out of range, a chain that is no bound position, or a record without its resource.
     BadCursor,
     // 7: a budget of 0.
     NoBudget,

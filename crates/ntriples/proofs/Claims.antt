@@ -1,0 +1,417 @@
+-- The claims of specs/Claims.antt. Assumes nothing.
+use Prim.Native.Nat.{ℕ, zero, suc, _+_, _-_, _≤_, _<_, min}
+use mathlib.Core.Path.{_≡_, refl, sym, _∙_, ap, subst}
+use mathlib.Core.List.{List, [], _∷_, _++_, append-assoc}
+use mathlib.Core.Bool.{Bool, true, false}
+use mathlib.Core.Logic.{_⊎_, ⊎-elim, inl, inr, _↔_}
+use lib.Dec.{leb, ltb, eqb}
+use lib.ListN.{length, take, drop, length-append}
+use lib.Seq.{drop-drop, drop-append-seam, take-append-seam}
+use native.Mathlib.Omega.{arith}
+use borrow.Author.Tests.{le-leb, lt-leb}
+use Rattle.term.specs.Bytes.{pick, among}
+use Rattle.term.specs.Scanner.{kindOf}
+use Rattle.term.specs.Grammar as g
+use Rattle.term.proofs.Names.{never, kinds}
+use Rattle.ntriples.specs.declared.Span.{Span}
+use Rattle.ntriples.specs.declared.Line.{Line}
+use Rattle.ntriples.specs.declared.Line.the-variants as answer
+use Rattle.ntriples.specs.Grammar.{
+  span,
+  white,
+  WhiteSpace,
+  Trail,
+  Subject,
+  Predicate,
+  Object,
+  Triple,
+  subjectSpan,
+  predicateSpan,
+  objectSpan,
+  ShortTerms,
+  Within,
+  Viable,
+  Longest,
+}
+use Rattle.ntriples.specs.Reader.{Outcome, Empty, Terms, Fails, Begin, placeOf, lineOf}
+use Rattle.ntriples.specs.Text.{FirstLine, bytesOf, firstLineOf, takenOf, answerOf, readOf}
+use Rattle.ntriples.specs.Terms.{termOf}
+use Rattle.ntriples.specs.Claims.{
+  Derived,
+  Underivable,
+  Enterable,
+  Meant,
+  LineAnswered,
+  Reading,
+  ReadsALine,
+  OneFirstLine,
+  SameStrings,
+  OneDerivation,
+}
+use Rattle.ntriples.proofs.Rest.{Rest, Derives, ShortParts, ShortOutcome}
+use Rattle.ntriples.proofs.Reading.{broken, continued, answered, reads, unique, Stopped, stopped}
+use Rattle.ntriples.proofs.Derivation.{partsOf, rest-of, derivation, within-back, within-forth, viable-is}
+use Rattle.ntriples.proofs.Lines.{line-found, line-exists, line-first}
+use Rattle.ntriples.proofs.Terms.{subject-is, predicate-is, object-is}
+
+-- a line with a derivation is read so
+triple-reads : {l : List ℕ} (m i : ℕ) → 1 ≤ m → (d : Triple l) → Within m d → lineOf m i l ≡ Terms (partsOf i d)
+unfolding answered
+triple-reads {l} m i h d w =
+    reads m i l (Terms (partsOf i d)) h refl .1 (Derives.triple (rest-of i d), within-forth m i (i + length l) d w)
+
+trail-reads : {l : List ℕ} (m i : ℕ) → 1 ≤ m → Trail l → lineOf m i l ≡ Empty
+unfolding answered
+trail-reads {l} m i h t = reads m i l Empty h refl .1 (Derives.nothing t, tt)
+
+-- the three ways in which a line is read
+data Read (m i : ℕ) (l : List ℕ) : Outcome → Type 0 where
+  nothing : Trail l → Read m i l Empty
+  triple : (d : Triple l) → Within m d → Read m i l (Terms (partsOf i d))
+  refused : (k : ℕ) → Underivable m l → Longest m l k → Read m i l (Fails (i + k))
+
+read-terms : (m i : ℕ) (l : List ℕ) (ms : List Span) → Derives i l (Terms ms) → ShortParts m (i + length l) ms → Read m i l (Terms ms)
+read-terms m i l ms (Derives.triple r) h =
+    let d = derivation r in rw (d .1) (Read.triple (d .0) (within-back m i (d .0) (rw (d .1) at h)))
+
+longest-stop : (m i : ℕ) (l : List ℕ) (k : ℕ) → 1 ≤ m → (s : Stopped m i l k) → Longest m l (length (s .front))
+longest-stop m i l k h s =
+    record {
+      front = s .front;
+      back = s .back;
+      splits = s .splits;
+      long = refl;
+      viable = viable-is m i (s .front) .1 (continued m i (s .front) h .1 (s .whole));
+      longest = λ b t e v.
+          never (sym (continued m i (s .front ++ (b ∷ [])) h .0 (viable-is m i (s .front ++ (b ∷ [])) .0 v)) ∙ s .breaks b t e);
+    }
+
+empty-fails : {C : Type 0} (k : ℕ) → Empty ≡ Fails k → C
+empty-fails k e = let z : _≡_ {A = ℕ} 0 1 = cc in absurd (omega arith)
+
+terms-fails : {C : Type 0} (ms : List Span) (k : ℕ) → Terms ms ≡ Fails k → C
+terms-fails ms k e = let z : _≡_ {A = ℕ} 0 1 = cc in absurd (omega arith)
+
+read-fails : (m i : ℕ) (l : List ℕ) (k : ℕ) → 1 ≤ m → lineOf m i l ≡ Fails k → Read m i l (Fails k)
+read-fails m i l k h e =
+    let s = stopped m i l k e in
+    rw (← s .at)
+    (Read.refused (length (s .front))
+    record {
+      notNothing = λ t. empty-fails k (sym (trail-reads m i h t) ∙ e);
+      noTriple = λ d w. terms-fails (partsOf i d) k (sym (triple-reads m i h d w) ∙ e);
+    }
+    (longest-stop m i l k h s))
+
+read-trail : (m i : ℕ) (l : List ℕ) → Derives i l Empty → Read m i l Empty
+read-trail m i l (Derives.nothing t) = Read.nothing t
+
+read-by : (m i : ℕ) (l : List ℕ) → 1 ≤ m → (r : Outcome) → lineOf m i l ≡ r → Read m i l r
+unfolding answered
+read-by m i l h Empty e = read-trail m i l (reads m i l Empty h refl .0 e .0)
+read-by m i l h (Terms ms) e = let w = reads m i l (Terms ms) h refl .0 e in read-terms m i l ms (w .0) (w .1)
+read-by m i l h (Fails k) e = read-fails m i l k h e
+
+read-line : (m i : ℕ) (l : List ℕ) → 1 ≤ m → Read m i l (lineOf m i l)
+read-line m i l h = read-by m i l h (lineOf m i l) refl
+
+-- A prefix of a viable prefix is viable, so the longest one has one length.
+fewer : {l : List ℕ} (m c c′ : ℕ) (d : Triple l) → c′ ≤ c → ShortTerms m c d → ShortTerms m c′ d
+fewer m c c′ d h w = let x = w .0 in let y = w .1 in let z = w .2 in (omega arith, omega arith, omega arith)
+
+fewer-line : {l : List ℕ} (m c c′ : ℕ) → c′ ≤ c → Trail l ⊎ ((d : Triple l) × ShortTerms m c d) → Trail l ⊎ ((d : Triple l) × ShortTerms m c′ d)
+fewer-line m c c′ h (inl t) = inl t
+fewer-line m c c′ h (inr w) = inr (w .0, fewer m c c′ (w .0) h (w .1))
+
+shorter : {l l′ : List ℕ} (m c c′ : ℕ) → l ≡ l′ → c′ ≤ c → Trail l ⊎ ((d : Triple l) × ShortTerms m c d)
+    → Trail l′ ⊎ ((d : Triple l′) × ShortTerms m c′ d)
+shorter m c c′ e h v = subst (λ (z : List ℕ). Trail z ⊎ ((d : Triple z) × ShortTerms m c′ d)) e (fewer-line m c c′ h v)
+
+viable-prefix : (m : ℕ) (p q : List ℕ) → Viable m (p ++ q) → Viable m p
+viable-prefix m p q v =
+    record {
+      rest = q ++ v .rest;
+      line = shorter m (length (p ++ q)) (length p) (append-assoc p q (v .rest)) (let e = length-append p q in omega arith) (v .line);
+    }
+
+-- of two fronts of one list, the shorter and one byte more begin the longer
+record Further (f b f′ : List ℕ) : Type 0 where
+  byte : ℕ
+  later : List ℕ
+  more : List ℕ
+  back : b ≡ byte ∷ later
+  front : f′ ≡ (f ++ (byte ∷ [])) ++ more
+
+cons-both : (x y : ℕ) (s t : List ℕ) → x ≡ y → s ≡ t → x ∷ s ≡ y ∷ t
+cons-both x y s t p q = cc
+
+further : (f b f′ b′ : List ℕ) → f ++ b ≡ f′ ++ b′ → length f < length f′ → Further f b f′
+further [] b [] b′ e h = absurd (omega arith)
+further [] b (x ∷ f′) b′ e h = record { byte = x; later = f′ ++ b′; more = f′; back = e; front = refl }
+further (x ∷ f) b [] b′ e h = absurd (omega arith)
+further (x ∷ f) b (y ∷ f′) b′ e h =
+    let e′ : f ++ b ≡ f′ ++ b′ = cc in
+    let xy : x ≡ y = cc in
+    let w = further f b f′ b′ e′ (omega arith) in
+    record { byte = w .byte; later = w .later; more = w .more; back = w .back; front = cons-both y x f′ _ (sym xy) (w .front) }
+
+not-longer : (m : ℕ) (l : List ℕ) (k k′ : ℕ) → Longest m l k → Longest m l k′ → k < k′ → ⊥
+not-longer m l k k′ x y h =
+    let a = x .long in
+    let b = y .long in
+    let w = further (x .front) (x .back) (y .front) (y .back) (sym (x .splits) ∙ y .splits) (omega arith) in
+    x .longest (w .byte) (w .later) (w .back) (viable-prefix m (x .front ++ (w .byte ∷ [])) (w .more) (rw (w .front) at (y .viable)))
+
+apart : (a b : ℕ) → (a < b → ⊥) → (b < a → ⊥) → a ≡ b
+apart a b f h = omega arith
+
+longest-one : (m : ℕ) (l : List ℕ) (k k′ : ℕ) → Longest m l k → Longest m l k′ → k ≡ k′
+longest-one m l k k′ x y = apart k k′ (λ h. not-longer m l k k′ x y h) (λ h. not-longer m l k′ k y x h)
+
+-- The answer for each way. An answer of one kind is none of another.
+nothing-triple : {C : Type 0} (s p o : Span) → answer.Nothing ≡ answer.Triple s p o → C
+nothing-triple s p o e = let z : _≡_ {A = ℕ} 0 1 = cc in absurd (omega arith)
+
+refused-triple : {C : Type 0} (k : ℕ) (s p o : Span) → answer.Refused k ≡ answer.Triple s p o → C
+refused-triple k s p o e = let z : _≡_ {A = ℕ} 0 1 = cc in absurd (omega arith)
+
+triple-nothing : {C : Type 0} (s p o : Span) → answer.Triple s p o ≡ answer.Nothing → C
+triple-nothing s p o e = nothing-triple s p o (sym e)
+
+refused-nothing : {C : Type 0} (k : ℕ) → answer.Refused k ≡ answer.Nothing → C
+refused-nothing k e = let z : _≡_ {A = ℕ} 0 1 = cc in absurd (omega arith)
+
+nothing-refused : {C : Type 0} (k : ℕ) → answer.Nothing ≡ answer.Refused k → C
+nothing-refused k e = refused-nothing k (sym e)
+
+triple-refused : {C : Type 0} (k : ℕ) (s p o : Span) → answer.Triple s p o ≡ answer.Refused k → C
+triple-refused k s p o e = refused-triple k s p o (sym e)
+
+derived-by : (m i : ℕ) (l : List ℕ) (s p o : Span) (r : Outcome) → Read m i l r → answerOf i r ≡ answer.Triple s p o → Derived m i l s p o
+unfolding answerOf
+derived-by m i l s p o r (Read.nothing t) e = nothing-triple s p o e
+derived-by m i l s p o r (Read.triple d w) e =
+    record { derivation = d; within = w; subjectAt = cc; predicateAt = cc; objectAt = cc }
+derived-by m i l s p o r (Read.refused k u x) e = refused-triple (i + k - i) s p o e
+
+triple-answer : (i : ℕ) (s p o : Span) → answerOf i (Terms (s ∷ (p ∷ (o ∷ [])))) ≡ answer.Triple s p o
+unfolding answerOf
+triple-answer i s p o = refl
+
+derived-reads : (m i : ℕ) (l : List ℕ) (s p o : Span) → 1 ≤ m → Derived m i l s p o → answerOf i (lineOf m i l) ≡ answer.Triple s p o
+derived-reads m i l s p o h d =
+    ap (answerOf i) (triple-reads m i h (d .derivation) (d .within))
+    ∙ (triple-answer i _ _ _ ∙ rw (d .subjectAt, d .predicateAt, d .objectAt))
+
+nothing-by : (m i : ℕ) (l : List ℕ) (r : Outcome) → Read m i l r → answerOf i r ≡ answer.Nothing → Trail l
+unfolding answerOf
+nothing-by m i l r (Read.nothing t) e = t
+nothing-by m i l r (Read.triple d w) e = triple-nothing _ _ _ e
+nothing-by m i l r (Read.refused k u x) e = refused-nothing (i + k - i) e
+
+nothing-reads : (m i : ℕ) (l : List ℕ) → 1 ≤ m → Trail l → answerOf i (lineOf m i l) ≡ answer.Nothing
+unfolding answerOf
+nothing-reads m i l h t = rw (trail-reads m i h t)
+
+back-off : (i k : ℕ) → i + k - i ≡ k
+back-off i k = omega arith
+
+refused-by : (m i : ℕ) (l : List ℕ) (k : ℕ) (r : Outcome) → Read m i l r → answerOf i r ≡ answer.Refused k → Underivable m l × Longest m l k
+unfolding answerOf
+refused-by m i l k r (Read.nothing t) e = nothing-refused k e
+refused-by m i l k r (Read.triple d w) e = triple-refused k _ _ _ e
+refused-by m i l k r (Read.refused j u x) e =
+    let q : i + j - i ≡ k = cc in
+    (u, rw (sym (back-off i j) ∙ q) at x)
+
+refused-reads : (m i : ℕ) (l : List ℕ) (k : ℕ) (r : Outcome) → Read m i l r → Underivable m l × Longest m l k → answerOf i r ≡ answer.Refused k
+unfolding answerOf
+refused-reads m i l k r (Read.nothing t) u = absurd (u .0 .notNothing t)
+refused-reads m i l k r (Read.triple d w) u = absurd (u .0 .noTriple d w)
+refused-reads m i l k r (Read.refused j v x) u = ap answer.Refused (back-off i j ∙ longest-one m l j k x (u .1))
+
+no-end : (m i : ℕ) (l : List ℕ) (r : Outcome) → Read m i l r → answerOf i r ≡ answer.End → ⊥
+unfolding answerOf
+no-end m i l r (Read.nothing t) e = let z : _≡_ {A = ℕ} 0 1 = cc in omega arith
+no-end m i l r (Read.triple d w) e = let z : _≡_ {A = ℕ} 0 1 = cc in omega arith
+no-end m i l r (Read.refused k u x) e = let z : _≡_ {A = ℕ} 0 1 = cc in omega arith
+
+-- The bytes of the parts.
+cut : (i : ℕ) (text w t s : List ℕ) → drop i text ≡ w ++ (t ++ s)
+    → (bytesOf text (span (i + length w) (i + length w + length t)) ≡ t) × (drop (i + length w + length t) text ≡ s)
+cut i text w t s e =
+    let x : drop (i + length w) text ≡ t ++ s = sym (drop-drop (length w) i text) ∙ rw e (drop-append-seam w (t ++ s)) in
+    let y = back-off (i + length w) (length t) in
+    (rw (y, x) (take-append-seam t s), sym (drop-drop (length t) (i + length w) text) ∙ rw x (drop-append-seam t s))
+
+record Spelled {l : List ℕ} (text : List ℕ) (i : ℕ) (d : Triple l) : Type 0 where
+  subject : bytesOf text (subjectSpan i d) ≡ d .subject
+  predicate : bytesOf text (predicateSpan i d) ≡ d .predicate
+  object : bytesOf text (objectSpan i d) ≡ d .object
+
+spelled : {l : List ℕ} (text : List ℕ) (i : ℕ) (d : Triple l) (r : List ℕ) → drop i text ≡ l ++ r → Spelled text i d
+spelled text i d r e =
+    let f = simp append-assoc at (e ∙ ap (λ (z : List ℕ). z ++ r) (d .spells)) in
+    let s = cut i text (d .before) (d .subject) _ f in
+    let p = cut _ text (d .between₁) (d .predicate) _ (s .1) in
+    let o = cut _ text (d .between₂) (d .object) _ (p .1) in
+    record { subject = s .0; predicate = p .0; object = o .0 }
+
+subject-kind : {t : List ℕ} (m : ℕ) → Subject t → length t ≤ m → (kindOf m t ≡ 1) ⊎ (kindOf m t ≡ 2)
+subject-kind {t} m (Subject.iri h) k = inl (kinds m 1 t (omega arith) .1 (k, g.Name.iri h))
+subject-kind {t} m (Subject.blank h) k = inr (kinds m 2 t (omega arith) .1 (k, g.Name.blank h))
+
+predicate-kind : {t : List ℕ} (m : ℕ) → Predicate t → length t ≤ m → kindOf m t ≡ 1
+predicate-kind {t} m (Predicate.iri h) k = kinds m 1 t (omega arith) .1 (k, g.Name.iri h)
+
+object-kind : {t : List ℕ} (m : ℕ) → Object t → length t ≤ m → (kindOf m t ≡ 1) ⊎ ((kindOf m t ≡ 2) ⊎ (kindOf m t ≡ 3))
+object-kind {t} m (Object.iri h) k = inl (kinds m 1 t (omega arith) .1 (k, g.Name.iri h))
+object-kind {t} m (Object.blank h) k = inr (inl (kinds m 2 t (omega arith) .1 (k, g.Name.blank h)))
+object-kind {t} m (Object.literal h) k = inr (inr (kinds m 3 t (omega arith) .1 (k, g.Name.literal h)))
+
+enterable : (m : ℕ) (text : List ℕ) (i : ℕ) (l r : List ℕ) (s p o : Span) → drop i text ≡ l ++ r → Derived m i l s p o → Enterable m text s p o
+enterable m text i l r s p o e h =
+    let d = h .derivation in
+    let b = spelled text i d r e in
+    record {
+      subjectKind = rw (← h .subjectAt, b .subject) (subject-kind m (d .isSubject) (h .within .0));
+      predicateKind = rw (← h .predicateAt, b .predicate) (predicate-kind m (d .isPredicate) (h .within .1));
+      objectKind = rw (← h .objectAt, b .object) (object-kind m (d .isObject) (h .within .2));
+    }
+
+meant : (m : ℕ) (text : List ℕ) (i : ℕ) (l r : List ℕ) (s p o : Span) → drop i text ≡ l ++ r → Derived m i l s p o → Meant l text s p o
+meant m text i l r s p o e h =
+    let d = h .derivation in
+    let b = spelled text i d r e in
+    record {
+      derivation = d;
+      subjectMeans = ap (λ (z : Span). termOf (bytesOf text z)) (sym (h .subjectAt)) ∙ (ap termOf (b .subject) ∙ subject-is (d .isSubject));
+      predicateMeans =
+          ap (λ (z : Span). termOf (bytesOf text z)) (sym (h .predicateAt)) ∙ (ap termOf (b .predicate) ∙ predicate-is (d .isPredicate));
+      objectMeans = ap (λ (z : Span). termOf (bytesOf text z)) (sym (h .objectAt)) ∙ (ap termOf (b .object) ∙ object-is (d .isObject));
+    }
+
+pub read-at : (m : ℕ) (text : List ℕ) (i : ℕ) (l : List ℕ) (n : ℕ) → i < length text → FirstLine (drop i text) l n
+    → readOf m text i ≡ record { line = answerOf i (lineOf m i l); next = i + n }
+unfolding readOf
+read-at m text i l n h f = let w = line-found (drop i text) l n f in rw (lt-leb (length text) i h, w .0, w .1)
+
+line-answered : (m : ℕ) (text : List ℕ) (i : ℕ) (l : List ℕ) (n : ℕ) → 1 ≤ m → i < length text → FirstLine (drop i text) l n
+    → LineAnswered m text i l n
+line-answered m text i l n h k f =
+    let e = read-at m text i l n k f in
+    let v = read-line m i l h in
+    let r = line-first (drop i text) l n f in
+    let derived : (s p o : Span) → readOf m text i .line ≡ answer.Triple s p o → Derived m i l s p o =
+    λ s p o q. derived-by m i l s p o (lineOf m i l) v (rw e at q)
+    in
+    record {
+      moves = rw e;
+      triple = λ s p o. (derived s p o, λ d. rw e (derived-reads m i l s p o h d));
+      nothing = (λ q. nothing-by m i l (lineOf m i l) v (rw e at q), λ t. rw e (nothing-reads m i l h t));
+      refused = λ j. (
+        λ q. refused-by m i l j (lineOf m i l) v (rw e at q),
+        λ u. rw e (refused-reads m i l j (lineOf m i l) v u),
+      );
+      notEnd = λ q. no-end m i l (lineOf m i l) v (rw e at q);
+      enterable = λ s p o q. enterable m text i l (r .0) s p o (r .1) (derived s p o q);
+      meant = λ s p o q. meant m text i l (r .0) s p o (r .1) (derived s p o q);
+    }
+
+pub reads-a-line : ReadsALine
+unfolding readOf
+reads-a-line m text i h =
+    record { ended = λ k. rw (le-leb (length text) i k); answered = λ l n k f. line-answered m text i l n h k f }
+
+pub one-first-line : OneFirstLine
+one-first-line s =
+    let w = line-exists s in
+    let x = line-found s (w .0) (w .1) (w .2) in
+    (w .0, w .1, w .2, λ k j f. let y = line-found s k j f in (sym (y .0) ∙ x .0, sym (y .1) ∙ x .1))
+
+-- Two derivations of one line have parts of the same lengths, and so the same strings.
+cancel : (a b s t : List ℕ) → length a ≡ length b → a ++ s ≡ b ++ t → (a ≡ b) × (s ≡ t)
+cancel [] [] s t h e = (refl, e)
+cancel [] (y ∷ b) s t h e = absurd (omega arith)
+cancel (x ∷ a) [] s t h e = absurd (omega arith)
+cancel (x ∷ a) (y ∷ b) s t h e =
+    let e′ : a ++ s ≡ b ++ t = cc in
+    let xy : x ≡ y = cc in
+    let w = cancel a b s t (omega arith) e′ in
+    (cons-both x y a b xy (w .0), w .1)
+
+dark-dot : {C : Type 0} (b : ℕ) → white b ≡ true → 46 ≡ b → C
+unfolding white among
+dark-dot b h e = never (rw (← e) at h)
+
+first-dot : {a b : List ℕ} (s t : List ℕ) → WhiteSpace a → WhiteSpace b → a ++ (46 ∷ s) ≡ b ++ (46 ∷ t) → (a ≡ b) × (s ≡ t)
+first-dot s t WhiteSpace.none WhiteSpace.none e = (refl, cc)
+first-dot s t WhiteSpace.none (WhiteSpace.more {b = y} h v) e = dark-dot y h (cc)
+first-dot s t (WhiteSpace.more {b = x} h u) WhiteSpace.none e = dark-dot x h (cc)
+first-dot s t (WhiteSpace.more {b = x} {s = a} h u) (WhiteSpace.more {b = y} {s = b} k v) e =
+    let e′ : a ++ (46 ∷ s) ≡ b ++ (46 ∷ t) = cc in
+    let xy : x ≡ y = cc in
+    let w = first-dot s t u v e′ in
+    (cons-both x y a b xy (w .0), w .1)
+
+record SameLengths {l : List ℕ} (d e : Triple l) : Type 0 where
+  before : length (d .before) ≡ length (e .before)
+  subject : length (d .subject) ≡ length (e .subject)
+  between₁ : length (d .between₁) ≡ length (e .between₁)
+  predicate : length (d .predicate) ≡ length (e .predicate)
+  between₂ : length (d .between₂) ≡ length (e .between₂)
+  object : length (d .object) ≡ length (e .object)
+
+same-spans : (s p o s′ p′ o′ : Span) → Terms (s ∷ (p ∷ (o ∷ []))) ≡ Terms (s′ ∷ (p′ ∷ (o′ ∷ []))) → (s ≡ s′) × (p ≡ p′) × (o ≡ o′)
+same-spans s p o s′ p′ o′ e = (cc, cc, cc)
+
+same-lengths : {l : List ℕ} (d e : Triple l) → SameLengths d e
+same-lengths {l} d e =
+    let w =
+    same-spans _ _ _ _ _ _
+    (unique 0 l (Terms (partsOf 0 d)) (Terms (partsOf 0 e)) (Derives.triple (rest-of 0 d)) (Derives.triple (rest-of 0 e)))
+    in
+    let a = ap (λ (z : Span). z .start) (w .0) in
+    let b = ap (λ (z : Span). z .end) (w .0) in
+    let c = ap (λ (z : Span). z .start) (w .1) in
+    let f = ap (λ (z : Span). z .end) (w .1) in
+    let g = ap (λ (z : Span). z .start) (w .2) in
+    let h = ap (λ (z : Span). z .end) (w .2) in
+    record {
+      before = omega arith;
+      subject = omega arith;
+      between₁ = omega arith;
+      predicate = omega arith;
+      between₂ = omega arith;
+      object = omega arith;
+    }
+
+same-strings : {l : List ℕ} (d e : Triple l) → SameStrings d e
+same-strings d e =
+    let n = same-lengths d e in
+    let a = cancel (d .before) (e .before) _ _ (n .before) (sym (d .spells) ∙ e .spells) in
+    let b = cancel (d .subject) (e .subject) _ _ (n .subject) (a .1) in
+    let c = cancel (d .between₁) (e .between₁) _ _ (n .between₁) (b .1) in
+    let f = cancel (d .predicate) (e .predicate) _ _ (n .predicate) (c .1) in
+    let g = cancel (d .between₂) (e .between₂) _ _ (n .between₂) (f .1) in
+    let h = cancel (d .object) (e .object) _ _ (n .object) (g .1) in
+    let k = first-dot (d .after) (e .after) (d .white₃) (e .white₃) (h .1) in
+    record {
+      before = a .0;
+      subject = b .0;
+      between₁ = c .0;
+      predicate = f .0;
+      between₂ = g .0;
+      object = h .0;
+      between₃ = k .0;
+      after = k .1;
+    }
+
+terms-empty : {C : Type 0} (ms : List Span) → Terms ms ≡ Empty → C
+terms-empty ms e = let z : _≡_ {A = ℕ} 0 1 = cc in absurd (omega arith)
+
+pub one-derivation : OneDerivation
+one-derivation l d = (
+  λ e. same-strings d e,
+  λ t. terms-empty (partsOf 0 d) (unique 0 l (Terms (partsOf 0 d)) Empty (Derives.triple (rest-of 0 d)) (Derives.nothing t)),
+)

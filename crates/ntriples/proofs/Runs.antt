@@ -1,0 +1,48 @@
+-- Runs of one class of bytes, one byte at a time, and that a place which a class does not leave is the same at the run's end.
+-- Assumes nothing.
+use Prim.Native.Nat.{ℕ, zero, suc, _+_, _-_, _≤_, _<_}
+use mathlib.Core.Path.{_≡_, refl, sym, _∙_, ap}
+use mathlib.Core.List.{List, [], _∷_, _++_}
+use mathlib.Core.Bool.{Bool, true, false}
+use mathlib.Core.Logic.{_⊎_, ⊎-elim, inl, inr}
+use lib.ListN.{length, getD, take, drop, drop-of-length-le, length-take}
+use lib.Seq.{slice, slice-cons, slice-empty}
+use native.Mathlib.Omega.{arith}
+use native.Mathlib.Numerals.{add-one}
+use Rattle.ntriples.specs.Reader.{Outcome, Place, advanceOf, placeOf, endOf}
+use Rattle.ntriples.specs.Productions.{Inline, RunEnd, runEnd, onward}
+
+-- the bytes from i up to `stop`, one at a time
+pub slice-next : (text : List ℕ) (i stop : ℕ) → i < stop → stop ≤ length text
+    → slice i stop text ≡ getD text i 0 ∷ slice (i + 1) stop text
+slice-next text i stop h k = rw (add-one i) (slice-cons i stop text 0 h k)
+
+pub slice-none : (text : List ℕ) (i stop : ℕ) → stop ≤ i → slice i stop text ≡ []
+slice-none text i stop h =
+    let e = length-take stop text in
+    let k : length (take stop text) ≤ i = omega arith in
+    drop-of-length-le (take stop text) k
+
+pub run-turn : (f : ℕ → Bool) (text : List ℕ) (i stop : ℕ) → i < stop → stop ≤ length text → f (getD text i 0) ≡ true
+    → runEnd f i (slice i stop text) ≡ runEnd f (i + 1) (slice (i + 1) stop text)
+unfolding runEnd
+run-turn f text i stop h k e = rw (slice-next text i stop h k, runEnd, e)
+
+pub run-out : (f : ℕ → Bool) (text : List ℕ) (i stop : ℕ) → i < stop → stop ≤ length text → f (getD text i 0) ≡ false
+    → runEnd f i (slice i stop text) ≡ i
+unfolding runEnd
+run-out f text i stop h k e = rw (slice-next text i stop h k, runEnd, e)
+
+pub run-end : (f : ℕ → Bool) (text : List ℕ) (i stop : ℕ) → stop ≤ i → runEnd f i (slice i stop text) ≡ i
+unfolding runEnd
+run-end f text i stop h = rw (slice-none text i stop h)
+
+-- reading on by one byte, and at the line's end
+pub onward-next : (text : List ℕ) (stop i : ℕ) (p : Place) → i < stop → stop ≤ length text
+    → onward text stop i p ≡ onward text stop (i + 1) (advanceOf 255 i p (getD text i 0))
+unfolding onward placeOf
+onward-next text stop i p h k = rw (slice-next text i stop h k)
+
+pub onward-end : (text : List ℕ) (stop i : ℕ) (p : Place) → stop ≤ i → onward text stop i p ≡ endOf stop p
+unfolding onward placeOf
+onward-end text stop i p h = rw (slice-none text i stop h)

@@ -1,0 +1,354 @@
+-- The sequence of a line's productions, one law for each way in which a function of them goes on or returns. Assumes nothing.
+use Prim.Native.Nat.{ℕ, zero, suc, _+_, _-_, _≤_, _<_}
+use mathlib.Core.Path.{_≡_, refl, sym, _∙_, ap}
+use mathlib.Core.List.{List, [], _∷_, _++_}
+use mathlib.Core.Bool.{Bool, true, false}
+use mathlib.Core.Logic.{_⊎_, ⊎-elim, inl, inr}
+use lib.Dec.{leb, ltb, eqb}
+use lib.ListN.{length, getD, take, drop, take-append-drop}
+use lib.Seq.{slice, slice-empty, length-slice, length-take-le, take-all, take-suc, drop-cons, drop-append-le}
+use native.Mathlib.Omega.{arith}
+use native.Mathlib.Numerals.{add-one}
+use borrow.Author.Tests.{ltb-true, ltb-false, eqb-true, eqb-false, eq-eqb, ne-eqb}
+use Rattle.term.specs.Bytes.{pick}
+use Rattle.ntriples.specs.declared.Span.{Span}
+use Rattle.ntriples.specs.declared.TermEnd.{TermEnd}
+use Rattle.ntriples.specs.declared.TermEnd.the-variants as term
+use Rattle.ntriples.specs.declared.ObjectEnd.{ObjectEnd}
+use Rattle.ntriples.specs.declared.ObjectEnd.the-variants as object
+use Rattle.ntriples.specs.Grammar.{span, white, commentByte}
+use Rattle.ntriples.specs.Reader.{
+  Outcome,
+  Empty,
+  Terms,
+  Fails,
+  Place,
+  Begin,
+  Gap,
+  Inside,
+  After,
+  Noted,
+  Remark,
+  Broken,
+  opens,
+  afterOf,
+  enterOf,
+  gapOf,
+  advanceOf,
+  placeOf,
+  endOf,
+  lineOf,
+}
+use Rattle.ntriples.specs.Text.{Unbroken, endsInCr, FirstLine, answerOf, readOf}
+use Rattle.ntriples.specs.Productions.{Dark, RunEnd, runEnd, onward, TermEnds, ObjectEnds, crDropped, EolAt}
+use Rattle.ntriples.proofs.Forth.{gap-space}
+use Rattle.ntriples.proofs.Halts.{decide, step-to, at-end, onward-broken}
+use Rattle.ntriples.proofs.Runs.{slice-next, slice-none, run-turn, run-out, run-end, onward-next, onward-end}
+use Rattle.ntriples.proofs.Claims.{read-at}
+
+-- A run of bytes that do not leave a place is read over.
+abbrev Stays : (ℕ → Bool) → Place → Type 0
+Stays f p = (i b : ℕ) → f b ≡ true → advanceOf 255 i p b ≡ p
+
+over-run : (k : ℕ) (f : ℕ → Bool) (text : List ℕ) (stop i : ℕ) (p : Place) → Stays f p → i + k ≡ stop → stop ≤ length text
+    → onward text stop i p ≡ onward text stop (runEnd f i (slice i stop text)) p
+over-run zero f text stop i p s e t =
+    let h : stop ≤ i = omega arith in rw (run-end f text i stop h)
+over-run (suc k) f text stop i p s e t =
+    let h : i < stop = omega arith in
+    ⊎-elim
+    (λ z. step-to text stop i p p h t (s i (getD text i 0) z)
+    ∙ (over-run k f text stop (i + 1) p s (omega arith) t ∙ ap (λ (r : ℕ). onward text stop r p) (sym (run-turn f text i stop h t z))))
+    (λ z. rw (run-out f text i stop h t z))
+    (decide (f (getD text i 0)))
+
+skipped : (f : ℕ → Bool) (text : List ℕ) (stop i r : ℕ) (p : Place) → Stays f p → i ≤ stop → stop ≤ length text → RunEnd f text i stop r
+    → onward text stop i p ≡ onward text stop r p
+skipped f text stop i r p s h t e =
+    over-run (stop - i) f text stop i p s (omega arith) t ∙ ap (λ (z : ℕ). onward text stop z p) (sym (e .end))
+
+begin-stays : Stays white Begin
+unfolding advanceOf
+begin-stays i b e = rw e
+
+gap-stays : (ms : List Span) (n : ℕ) → Stays white (Gap ms n)
+unfolding advanceOf
+gap-stays ms n i b e = gap-space i ms n b e
+
+after-stays : (ms : List Span) → Stays white (After ms)
+unfolding advanceOf afterOf
+after-stays ms i b e = rw e
+
+noted-stays : (ms : List Span) → Stays commentByte (Noted ms)
+unfolding advanceOf
+noted-stays ms i b e = rw e
+
+remark-stays : Stays commentByte Remark
+unfolding advanceOf
+remark-stays i b e = rw e
+
+-- a byte at which the reading breaks
+breaks : (text : List ℕ) (stop i : ℕ) (p : Place) → i < stop → stop ≤ length text → advanceOf 255 i p (getD text i 0) ≡ Broken i
+    → onward text stop i p ≡ Fails i
+breaks text stop i p h t e = step-to text stop i p (Broken i) h t e ∙ onward-broken text stop (i + 1) i
+
+strictly : (r stop : ℕ) → r ≤ stop → (r ≡ stop → ⊥) → r < stop
+strictly r stop h n = omega arith
+
+-- COMMENTS
+pub remark-end : (text : List ℕ) (stop i r : ℕ) → i ≤ stop → stop ≤ length text → RunEnd commentByte text i stop r → stop ≤ r
+    → onward text stop i Remark ≡ Empty
+unfolding endOf
+remark-end text stop i r h t e k = skipped commentByte text stop i r Remark remark-stays h t e ∙ at-end text stop r Remark Empty k refl
+
+pub remark-odd : (text : List ℕ) (stop i r : ℕ) → i ≤ stop → stop ≤ length text → RunEnd commentByte text i stop r → r < stop
+    → onward text stop i Remark ≡ Fails r
+unfolding advanceOf
+remark-odd text stop i r h t e k =
+    skipped commentByte text stop i r Remark remark-stays h t e ∙ breaks text stop r Remark k t (rw (e .out k))
+
+pub noted-end : (text : List ℕ) (stop i r : ℕ) (ms : List Span) → i ≤ stop → stop ≤ length text → RunEnd commentByte text i stop r
+    → stop ≤ r → onward text stop i (Noted ms) ≡ Terms ms
+unfolding endOf
+noted-end text stop i r ms h t e k =
+    skipped commentByte text stop i r (Noted ms) (noted-stays ms) h t e ∙ at-end text stop r (Noted ms) (Terms ms) k refl
+
+pub noted-odd : (text : List ℕ) (stop i r : ℕ) (ms : List Span) → i ≤ stop → stop ≤ length text → RunEnd commentByte text i stop r
+    → r < stop → onward text stop i (Noted ms) ≡ Fails r
+unfolding advanceOf
+noted-odd text stop i r ms h t e k =
+    skipped commentByte text stop i r (Noted ms) (noted-stays ms) h t e ∙ breaks text stop r (Noted ms) k t (rw (e .out k))
+
+-- AFTER THE DOT
+pub after-end : (text : List ℕ) (stop i r : ℕ) (ms : List Span) → i ≤ stop → stop ≤ length text → RunEnd white text i stop r → r ≡ stop
+    → onward text stop i (After ms) ≡ Terms ms
+unfolding endOf
+after-end text stop i r ms h t e k =
+    skipped white text stop i r (After ms) (after-stays ms) h t e ∙ at-end text stop r (After ms) (Terms ms) (omega arith) refl
+
+pub after-odd : (text : List ℕ) (stop i r : ℕ) (ms : List Span) → i ≤ stop → stop ≤ length text → RunEnd white text i stop r
+    → (r ≡ stop → ⊥) → (getD text r 0 ≡ 35 → ⊥) → onward text stop i (After ms) ≡ Fails r
+unfolding advanceOf afterOf
+after-odd text stop i r ms h t e n b =
+    let k = strictly r stop (e .before) n in
+    skipped white text stop i r (After ms) (after-stays ms) h t e
+    ∙ breaks text stop r (After ms) k t (rw (e .out k, ne-eqb (getD text r 0) 35 b))
+
+pub after-note : (text : List ℕ) (stop i r : ℕ) (ms : List Span) → i ≤ stop → stop ≤ length text → RunEnd white text i stop r
+    → (r ≡ stop → ⊥) → getD text r 0 ≡ 35 → onward text stop i (After ms) ≡ onward text stop (r + 1) (Noted ms)
+unfolding advanceOf afterOf
+after-note text stop i r ms h t e n b =
+    let k = strictly r stop (e .before) n in
+    skipped white text stop i r (After ms) (after-stays ms) h t e
+    ∙ step-to text stop r (After ms) (Noted ms) k t (rw (e .out k, eq-eqb (getD text r 0) 35 b))
+
+-- BETWEEN TERMS
+pub gap-skipped : (text : List ℕ) (stop i r : ℕ) (ms : List Span) (n : ℕ) → i ≤ stop → stop ≤ length text → RunEnd white text i stop r
+    → onward text stop i (Gap ms n) ≡ onward text stop r (Gap ms n)
+gap-skipped text stop i r ms n h t e = skipped white text stop i r (Gap ms n) (gap-stays ms n) h t e
+
+pub run-dark : (text : List ℕ) (stop i r : ℕ) → stop ≤ length text → RunEnd white text i stop r → Dark text r stop
+run-dark text stop i r t e = record { before = e .before; inText = t; dark = e .out }
+
+pub dot-none : (text : List ℕ) (stop i r : ℕ) (ms : List Span) → i ≤ stop → stop ≤ length text → RunEnd white text i stop r → r ≡ stop
+    → onward text stop i (Gap ms 0) ≡ Fails r
+unfolding endOf
+dot-none text stop i r ms h t e k =
+    gap-skipped text stop i r ms 0 h t e ∙ at-end text stop r (Gap ms 0) (Fails r) (omega arith) (ap Fails (sym k))
+
+pub dot-odd : (text : List ℕ) (stop i r : ℕ) (ms : List Span) → i ≤ stop → stop ≤ length text → RunEnd white text i stop r
+    → (r ≡ stop → ⊥) → (getD text r 0 ≡ 46 → ⊥) → onward text stop i (Gap ms 0) ≡ Fails r
+unfolding advanceOf gapOf
+dot-odd text stop i r ms h t e n b =
+    let k = strictly r stop (e .before) n in
+    gap-skipped text stop i r ms 0 h t e ∙ breaks text stop r (Gap ms 0) k t (rw (e .out k, ne-eqb (getD text r 0) 46 b))
+
+pub dot-read : (text : List ℕ) (stop i r : ℕ) (ms : List Span) → i ≤ stop → stop ≤ length text → RunEnd white text i stop r
+    → (r ≡ stop → ⊥) → getD text r 0 ≡ 46 → onward text stop i (Gap ms 0) ≡ onward text stop (r + 1) (After ms)
+unfolding advanceOf gapOf
+dot-read text stop i r ms h t e n b =
+    let k = strictly r stop (e .before) n in
+    gap-skipped text stop i r ms 0 h t e
+    ∙ step-to text stop r (Gap ms 0) (After ms) k t (rw (e .out k, eq-eqb (getD text r 0) 46 b))
+
+-- a place where a term is due, and none begins
+pub term-none : (text : List ℕ) (stop a n : ℕ) → a ≡ stop → TermEnds text stop n a (term.Broken a)
+unfolding endOf
+term-none text stop a n h =
+    (omega arith, λ ms. at-end text stop a (Gap ms (suc n)) (Fails a) (omega arith) (ap Fails (sym h)))
+
+pub term-closed : (text : List ℕ) (stop a n : ℕ) → Dark text a stop → (a ≡ stop → ⊥) → opens n (getD text a 0) ≡ false
+    → TermEnds text stop n a (term.Broken a)
+unfolding advanceOf gapOf enterOf
+term-closed text stop a n d h o =
+    let k = strictly a stop (d .before) h in
+    (omega arith, λ ms. breaks text stop a (Gap ms (suc n)) k (d .inText) (rw (d .dark k, o)))
+
+pub object-none : (text : List ℕ) (stop a : ℕ) → a ≡ stop → ObjectEnds text stop a (object.Broken a)
+object-none text stop a h = term-none text stop a 0 h
+
+pub object-closed : (text : List ℕ) (stop a : ℕ) → Dark text a stop → (a ≡ stop → ⊥) → opens 0 (getD text a 0) ≡ false
+    → ObjectEnds text stop a (object.Broken a)
+object-closed text stop a d h o = term-closed text stop a 0 d h o
+
+-- how a term ends, by the answer of its function
+pub term-told : (text : List ℕ) (stop n a : ℕ) (r r′ : TermEnd) → r ≡ r′ → TermEnds text stop n a r → TermEnds text stop n a r′
+term-told text stop n a r r′ e h = rw e at h
+
+pub object-told : (text : List ℕ) (stop a : ℕ) (r r′ : ObjectEnd) → r ≡ r′ → ObjectEnds text stop a r → ObjectEnds text stop a r′
+object-told text stop a r r′ e h = rw e at h
+
+-- THE LINE'S BEGINNING
+pub begin-end : (text : List ℕ) (stop i r : ℕ) → i ≤ stop → stop ≤ length text → RunEnd white text i stop r → r ≡ stop
+    → onward text stop i Begin ≡ Empty
+unfolding endOf
+begin-end text stop i r h t e k =
+    skipped white text stop i r Begin begin-stays h t e ∙ at-end text stop r Begin Empty (omega arith) refl
+
+pub begin-note : (text : List ℕ) (stop i r : ℕ) → i ≤ stop → stop ≤ length text → RunEnd white text i stop r → (r ≡ stop → ⊥)
+    → getD text r 0 ≡ 35 → onward text stop i Begin ≡ onward text stop (r + 1) Remark
+unfolding advanceOf
+begin-note text stop i r h t e n b =
+    let k = strictly r stop (e .before) n in
+    skipped white text stop i r Begin begin-stays h t e
+    ∙ step-to text stop r Begin Remark k t (rw (e .out k, eq-eqb (getD text r 0) 35 b))
+
+pub begin-term : (text : List ℕ) (stop i r : ℕ) → i ≤ stop → stop ≤ length text → RunEnd white text i stop r → (r ≡ stop → ⊥)
+    → (getD text r 0 ≡ 35 → ⊥) → onward text stop i Begin ≡ onward text stop r (Gap [] 3)
+unfolding advanceOf gapOf
+begin-term text stop i r h t e n b =
+    let k = strictly r stop (e .before) n in
+    let q = enterOf r [] 2 (getD text r 0) in
+    skipped white text stop i r Begin begin-stays h t e
+    ∙ (step-to text stop r Begin q k t (rw (e .out k, ne-eqb (getD text r 0) 35 b))
+    ∙ sym (step-to text stop r (Gap [] 3) q k t (rw (e .out k))))
+
+-- THE TEXT
+whole-line : (text : List ℕ) (i stop : ℕ) → i ≤ stop → stop ≤ length text → lineOf 255 i (slice i stop text) ≡ onward text stop i Begin
+unfolding lineOf onward
+whole-line text i stop h t =
+    let e = length-slice i stop text t in
+    let k : i + length (slice i stop text) ≡ stop = omega arith in
+    rw k
+
+slice-append : (text : List ℕ) (i e : ℕ) → i ≤ e → e ≤ length text → drop i text ≡ slice i e text ++ drop e text
+slice-append text i e h k =
+    let n = length-take-le e text k in
+    let j : i ≤ length (take e text) = omega arith in
+    ap (drop i) (sym (take-append-drop e text)) ∙ drop-append-le i (take e text) (drop e text) j
+
+drop-next : (text : List ℕ) (e : ℕ) → e < length text → drop e text ≡ getD text e 0 ∷ drop (e + 1) text
+drop-next text e k = rw (add-one e) (drop-cons text e 0 k)
+
+slice-snoc : (text : List ℕ) (i e : ℕ) → i ≤ e → e < length text → slice i (e + 1) text ≡ slice i e text ++ (getD text e 0 ∷ [])
+slice-snoc text i e h k =
+    let n = length-take-le e text (omega arith) in
+    let j : i ≤ length (take e text) = omega arith in
+    rw (add-one e, take-suc text e 0 k) (drop-append-le i (take e text) (getD text e 0 ∷ []) j)
+
+unbroken-snoc : (l : List ℕ) (b : ℕ) → Unbroken l → eqb b 10 ≡ false → Unbroken (l ++ (b ∷ []))
+unbroken-snoc l b Unbroken.none e = Unbroken.byte e Unbroken.none
+unbroken-snoc l b (Unbroken.byte {s = s} h u) e = Unbroken.byte h (unbroken-snoc s b u e)
+
+unbroken-front : (l : List ℕ) (b : ℕ) → Unbroken (l ++ (b ∷ [])) → Unbroken l
+unbroken-front [] b u = Unbroken.none
+unbroken-front (x ∷ l) b (Unbroken.byte h u) = Unbroken.byte h (unbroken-front l b u)
+
+ends-snoc : (l : List ℕ) (b : ℕ) → endsInCr (l ++ (b ∷ [])) ≡ eqb b 13
+ends-snoc [] b = refl
+ends-snoc (x ∷ []) b = refl
+ends-snoc (x ∷ (y ∷ l)) b = ends-snoc (y ∷ l) b
+
+pub eol-begin : (text : List ℕ) (i : ℕ) → Unbroken (slice i i text)
+eol-begin text i = rw (slice-empty i text) Unbroken.none
+
+pub eol-turn : (text : List ℕ) (at i : ℕ) → at ≤ i → i < length text → (getD text i 0 ≡ 10 → ⊥) → Unbroken (slice at i text)
+    → Unbroken (slice at (i + 1) text)
+eol-turn text at i h k n u = rw (slice-snoc text at i h k) (unbroken-snoc _ _ u (ne-eqb (getD text i 0) 10 n))
+
+-- the line ends at the end of the text
+pub read-last : (text : List ℕ) (i e : ℕ) → i < length text → EolAt text i e → e ≡ length text
+    → readOf 255 text i ≡ record { line = answerOf i (onward text e i Begin); next = e }
+read-last text i e h t k =
+    let l = slice i e text in
+    let n = length-slice i e text (t .before) in
+    let a = t .after in
+    let s : drop i text ≡ l = ap (drop i) (sym (take-all e text (omega arith))) in
+    let f : FirstLine (drop i text) l (length l) = rw s (FirstLine.last (t .unbroken)) in
+    let j : i + length l ≡ e = omega arith in
+    read-at 255 text i l (length l) h f ∙ rw (whole-line text i e (t .after) (t .before), j)
+
+at-lf : (text : List ℕ) (i e : ℕ) → EolAt text i e → e < length text → drop i text ≡ slice i e text ++ (10 ∷ drop (e + 1) text)
+at-lf text i e t k =
+    slice-append text i e (t .after) (t .before) ∙ ap (λ (z : List ℕ). slice i e text ++ z) (drop-next text e k ∙ rw (t .lf k))
+
+-- the line ends at a LF with no CR before it
+read-lf : (text : List ℕ) (i e : ℕ) → i < length text → EolAt text i e → e < length text → endsInCr (slice i e text) ≡ false
+    → readOf 255 text i ≡ record { line = answerOf i (onward text e i Begin); next = e + 1 }
+read-lf text i e h t k c =
+    let l = slice i e text in
+    let n = length-slice i e text (t .before) in
+    let a = t .after in
+    let f = FirstLine.lf l (drop (e + 1) text) (at-lf text i e t k) (t .unbroken) c in
+    let j : i + (length l + 1) ≡ e + 1 = omega arith in
+    read-at 255 text i l (length l + 1) h f ∙ rw (whole-line text i e (t .after) (t .before), j)
+
+-- the line ends at a CR and a LF
+read-crlf : (text : List ℕ) (i e : ℕ) → i < length text → EolAt text i e → e < length text → i < e → getD text (e - 1) 0 ≡ 13
+    → readOf 255 text i ≡ record { line = answerOf i (onward text (e - 1) i Begin); next = e + 1 }
+read-crlf text i e h t k m c =
+    let d = e - 1 in
+    let x : d + 1 ≡ e = omega arith in
+    let id : i ≤ d = omega arith in
+    let dt : d ≤ length text = omega arith in
+    let dl : d < length text = omega arith in
+    let l = slice i d text in
+    let u : Unbroken (l ++ (getD text d 0 ∷ [])) = rw (← slice-snoc text i d id dl, x) (t .unbroken) in
+    let s : drop i text ≡ l ++ (13 ∷ (10 ∷ drop (e + 1) text)) =
+    slice-append text i d id dt
+    ∙ ap (λ (z : List ℕ). l ++ z)
+    (drop-next text d dl ∙ rw (c, x) (ap (λ (z : List ℕ). 13 ∷ z) (drop-next text e k ∙ rw (t .lf k))))
+    in
+    let f = FirstLine.crlf l (drop (e + 1) text) s (unbroken-front l (getD text d 0) u) in
+    let n = length-slice i d text dt in
+    let j : i + (length l + 2) ≡ e + 1 = omega arith in
+    read-at 255 text i l (length l + 2) h f ∙ rw (whole-line text i d id dt, j)
+
+cr-last : (text : List ℕ) (i e : ℕ) → i < e → e ≤ length text → endsInCr (slice i e text) ≡ eqb (getD text (e - 1) 0) 13
+cr-last text i e h k =
+    let x : e - 1 + 1 ≡ e = omega arith in
+    let s = rw x at (slice-snoc text i (e - 1) (omega arith) (omega arith)) in
+    ap endsInCr s ∙ ends-snoc (slice i (e - 1) text) (getD text (e - 1) 0)
+
+dropped-none : (text : List ℕ) (i e : ℕ) → eqb e i ≡ true → crDropped text i e ≡ e
+unfolding crDropped
+dropped-none text i e z = rw z
+
+dropped-cr : (text : List ℕ) (i e : ℕ) → eqb e i ≡ false → eqb (getD text (e - 1) 0) 13 ≡ true → crDropped text i e ≡ e - 1
+unfolding crDropped
+dropped-cr text i e z w = rw (z, w)
+
+dropped-no : (text : List ℕ) (i e : ℕ) → eqb e i ≡ false → eqb (getD text (e - 1) 0) 13 ≡ false → crDropped text i e ≡ e
+unfolding crDropped
+dropped-no text i e z w = rw (z, w)
+
+pub read-broken : (text : List ℕ) (i e : ℕ) → i < length text → EolAt text i e → (e ≡ length text → ⊥)
+    → readOf 255 text i ≡ record { line = answerOf i (onward text (crDropped text i e) i Begin); next = e + 1 }
+read-broken text i e h t n =
+    let k = strictly e (length text) (t .before) n in
+    ⊎-elim
+    (λ z. let y = eqb-true e i z in
+    rw (dropped-none text i e z) (read-lf text i e h t k (rw (y, slice-empty i text))))
+    (λ z. let y = strictly i e (t .after) (λ q. eqb-false e i z (sym q)) in
+    ⊎-elim (λ w. rw (dropped-cr text i e z w) (read-crlf text i e h t k y (eqb-true (getD text (e - 1) 0) 13 w)))
+    (λ w. rw (dropped-no text i e z w) (read-lf text i e h t k (cr-last text i e y (t .before) ∙ w)))
+    (decide (eqb (getD text (e - 1) 0) 13)))
+    (decide (eqb e i))
+
+pub dropped-facts : (text : List ℕ) (i e : ℕ) → i ≤ e → (i ≤ crDropped text i e) × (crDropped text i e ≤ e)
+dropped-facts text i e h =
+    ⊎-elim (λ z. rw (dropped-none text i e z) (omega arith, omega arith))
+    (λ z. let y = eqb-false e i z in
+    ⊎-elim (λ w. rw (dropped-cr text i e z w) (omega arith, omega arith)) (λ w. rw (dropped-no text i e z w) (omega arith, omega arith))
+    (decide (eqb (getD text (e - 1) 0) 13)))
+    (decide (eqb e i))

@@ -1,0 +1,89 @@
+use mathlib.Core.Path.{_≡_, refl, sym, _∙_, ap}
+use mathlib.Core.List.{[], _∷_}
+use native.Mathlib.Omega.{arith}
+use Rattle.ntriples.specs.Text.{answerOf}
+use Rattle.ntriples.proofs.Sequence.{after-end, after-odd, after-note, noted-end, noted-odd}
+use borrow.Author.Needs.{needs}
+use Rattle.ntriples.proofs.after_dot.Statement.{statement}
+use Rattle.ntriples.proofs.after_dot.Tie as tie
+use Rattle.ntriples.proofs.after_dot.Reads as reads
+use Rattle.ntriples.proofs.after_dot.Lts as lts
+use Rattle.ntriples.proofs.comment.Reads as comment-reads
+use Rattle.ntriples.proofs.white_space.Reads as white-space-reads
+
+white-space-requires : tie.Need-white-space-requires
+white-space-requires c κs = record { before = c .before .pre .before; inText = c .before .pre .inText }
+
+returns : tie.Need-returns
+unfolding answerOf
+returns c =
+    let a = c .before .before .before .args in
+    let p = c .before .before .before .pre in
+    sym (ap (answerOf (a .at))
+    (after-end (a .text .now) (a .stop) (a .from) _ (a .s ∷ (a .p ∷ (a .o ∷ []))) (p .before) (p .inText) (c .before .white-space .ensures) (c .if1 .taken)))
+
+shared-slice-read-if2 : tie.Need-shared-slice-read-if2
+shared-slice-read-if2 c = let w = c .before .before .white-space .ensures .before in let n = c .before .if1 .left in let t = c .before .before .before .before .pre .inText in omega arith
+
+sub-t13 : tie.Need-sub-t13
+sub-t13 c = let w = c .before .before .before .white-space .ensures .after in let b = c .before .before .before .before .before .pre .begun in omega arith
+
+returns-2 : tie.Need-returns-2
+unfolding answerOf
+returns-2 c =
+    let a = c .before .before .before .before .before .args in
+    let p = c .before .before .before .before .before .pre in
+    sym (ap (answerOf (a .at))
+    (after-odd (a .text .now) (a .stop) (a .from) _ (a .s ∷ (a .p ∷ (a .o ∷ []))) (p .before) (p .inText) (c .before .before .before .white-space .ensures) (c .before .before .if1 .left)
+    (c .if2 .taken)))
+
+add-comment : tie.Need-add-comment
+add-comment c = let w = c .before .before .before .white-space .ensures .before in let n = c .before .before .if1 .left in let t = c .before .before .before .before .before .pre .inText in search needs
+
+comment-requires : tie.Need-comment-requires
+comment-requires c κs =
+    let w = c .before .before .before .white-space .ensures .before in
+    let n = c .before .before .if1 .left in
+    record { before = omega arith; inText = c .before .before .before .before .before .pre .inText }
+
+sub-t15 : tie.Need-sub-t15
+sub-t15 c = let w = c .before .before .before .before .before .white-space .ensures .after in let e = c .before .comment .ensures .after in let b = c .before .before .before .before .before .before .before .pre .begun in omega arith
+
+returns-3 : tie.Need-returns-3
+unfolding answerOf
+returns-3 c =
+    let a = c .before .before .before .before .before .before .before .args in
+    let p = c .before .before .before .before .before .before .before .pre in
+    let w = c .before .before .before .before .before .white-space .ensures in
+    let n = c .before .before .before .before .if1 .left in
+    let b = w .before in
+    sym (ap (answerOf (a .at))
+    (after-note (a .text .now) (a .stop) (a .from) _ (a .s ∷ (a .p ∷ (a .o ∷ []))) (p .before) (p .inText) w n (c .before .before .if2 .left)
+    ∙ noted-odd (a .text .now) (a .stop) _ _ (a .s ∷ (a .p ∷ (a .o ∷ []))) (omega arith) (p .inText) (c .before .comment .ensures) (c .if3 .taken)))
+
+returns-4 : tie.Need-returns-4
+unfolding answerOf
+returns-4 c =
+    let a = c .before .before .before .before .before .before .before .args in
+    let p = c .before .before .before .before .before .before .before .pre in
+    let w = c .before .before .before .before .before .white-space .ensures in
+    let n = c .before .before .before .before .if1 .left in
+    let b = w .before in
+    sym (ap (answerOf (a .at))
+    (after-note (a .text .now) (a .stop) (a .from) _ (a .s ∷ (a .p ∷ (a .o ∷ []))) (p .before) (p .inText) w n (c .before .before .if2 .left)
+    ∙ noted-end (a .text .now) (a .stop) _ _ (a .s ∷ (a .p ∷ (a .o ∷ []))) (omega arith) (p .inText) (c .before .comment .ensures) (c .if3 .left)))
+
+pub after-dot-spec : {M : Type 1} → statement M
+after-dot-spec =
+    tie.close
+    (tie.spec
+    white-space-requires
+    returns
+    shared-slice-read-if2
+    sub-t13
+    returns-2
+    add-comment
+    comment-requires
+    sub-t15
+    returns-3
+    returns-4)

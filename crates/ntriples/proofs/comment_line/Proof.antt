@@ -1,0 +1,33 @@
+use mathlib.Core.Path.{_≡_, refl, sym, _∙_, ap}
+use native.Mathlib.Omega.{arith}
+use Rattle.ntriples.specs.Text.{answerOf}
+use Rattle.ntriples.proofs.Sequence.{remark-end, remark-odd}
+use borrow.Author.Needs.{needs}
+use Rattle.ntriples.proofs.comment_line.Statement.{statement}
+use Rattle.ntriples.proofs.comment_line.Tie as tie
+use Rattle.ntriples.proofs.comment_line.Reads as reads
+use Rattle.ntriples.proofs.comment_line.Lts as lts
+use Rattle.ntriples.proofs.comment.Reads as comment-reads
+
+comment-requires : tie.Need-comment-requires
+comment-requires c κs = record { before = c .before .pre .before; inText = c .before .pre .inText }
+
+sub-t7 : tie.Need-sub-t7
+sub-t7 c = let p = c .before .before .before .pre .begun in let e = c .before .comment .ensures .after in omega arith
+
+returns : tie.Need-returns
+unfolding answerOf
+returns c =
+    let a = c .before .before .before .args in
+    let p = c .before .before .before .pre in
+    sym (ap (answerOf (a .at)) (remark-odd (a .text .now) (a .stop) (a .from) _ (p .before) (p .inText) (c .before .comment .ensures) (c .if1 .taken)))
+
+returns-2 : tie.Need-returns-2
+unfolding answerOf
+returns-2 c =
+    let a = c .before .before .before .args in
+    let p = c .before .before .before .pre in
+    sym (ap (answerOf (a .at)) (remark-end (a .text .now) (a .stop) (a .from) _ (p .before) (p .inText) (c .before .comment .ensures) (c .if1 .left)))
+
+pub comment-line-spec : {M : Type 1} → statement M
+comment-line-spec = tie.close (tie.spec comment-requires sub-t7 returns returns-2)

@@ -1,0 +1,62 @@
+use Prim.Native.Nat.{_-_, _≤_, _<_}
+use lib.ListN.{length, getD}
+use lib.Seq.{slice}
+use native.Mathlib.Omega.{arith}
+use Rattle.ntriples.specs.Text.{Unbroken}
+use Rattle.ntriples.proofs.Sequence.{eol-begin, eol-turn}
+use borrow.Author.Needs.{needs}
+use Rattle.ntriples.proofs.end_of_line.Statement.{statement}
+use Rattle.ntriples.proofs.end_of_line.Tie as tie
+use Rattle.ntriples.proofs.end_of_line.Reads as reads
+use Rattle.ntriples.proofs.end_of_line.Lts as lts
+
+abbrev Inv-loop : tie.InvT-loop
+Inv-loop text at i₀ i = (at ≤ i) × (i ≤ length text) × Unbroken (slice at i text)
+
+abbrev μ-loop : tie.MeasureT-loop
+μ-loop text at i₀ i = length text - i
+
+loop-holds : tie.Need-loop-holds Inv-loop μ-loop
+loop-holds c = let a = c .args in let h = c .pre in (omega arith, omega arith, eol-begin (a .text .now) (a .at))
+
+shared-slice-read-if1 : tie.Need-shared-slice-read-if1 Inv-loop μ-loop
+shared-slice-read-if1 c = let t = c .before .loop-test .taken in omega arith
+
+returns : tie.Need-returns Inv-loop μ-loop
+returns c =
+    let l = c .before .before .before .loop in
+    let e = c .if1 .taken in
+    record { after = l .inv .0; before = l .inv .1; unbroken = l .inv .2; lf = λ _. e }
+
+add-i : tie.Need-add-i Inv-loop μ-loop
+add-i c = search needs
+
+loop-less : tie.Need-loop-less Inv-loop μ-loop
+loop-less c = search needs
+
+loop-again : tie.Need-loop-again Inv-loop μ-loop
+loop-again c =
+    let l = c .before .before .before .loop in
+    let a = c .before .before .before .before .args in
+    let t = c .before .before .loop-test .taken in
+    (omega arith, omega arith, eol-turn (a .text .now) (a .at) (l .i) (l .inv .0) t (c .if1 .left) (l .inv .2))
+
+returns-2 : tie.Need-returns-2 Inv-loop μ-loop
+returns-2 c =
+    let l = c .before .loop in
+    let t = c .loop-test .left in
+    record { after = l .inv .0; before = l .inv .1; unbroken = l .inv .2; lf = λ k. absurd (omega arith) }
+
+pub end-of-line-spec : {M : Type 1} → statement M
+end-of-line-spec =
+    tie.close
+    (tie.spec
+    Inv-loop
+    μ-loop
+    loop-holds
+    shared-slice-read-if1
+    returns
+    add-i
+    loop-less
+    loop-again
+    returns-2)

@@ -1,0 +1,81 @@
+-- What is proved of reading a line (scope paper, "Names", last paragraph, and "Read a line"), for every limit m of a term's
+-- bytes from 1 up; the paper's is 255. Each claim is a type; proofs/Claims.antt has a value of each. Assumes nothing.
+use Prim.Native.Nat.{ℕ, zero, suc, _+_, _-_, _≤_, _<_}
+use mathlib.Core.Path.{_≡_}
+use mathlib.Core.List.{List, [], _∷_, _++_}
+use mathlib.Core.Logic.{_⊎_, _↔_}
+use lib.ListN.{length, drop}
+use Rattle.term.specs.Scanner.{kindOf}
+use Rattle.ntriples.specs.declared.Span.{Span}
+use Rattle.ntriples.specs.declared.Line.the-variants as answer
+use Rattle.ntriples.specs.Grammar.{Trail, Triple, subjectSpan, predicateSpan, objectSpan, Within, Longest}
+use Rattle.ntriples.specs.Text.{FirstLine, bytesOf, readOf}
+use Rattle.ntriples.specs.Terms.{termOf, subjectTerm, predicateTerm, objectTerm}
+
+-- The line l, whose first byte has position i, has a derivation with the parts s, p, o and terms of at most m bytes.
+pub record Derived (m i : ℕ) (l : List ℕ) (s p o : Span) : Type 0 where
+  pub derivation : Triple l
+  pub within : Within m derivation
+  pub subjectAt : subjectSpan i derivation ≡ s
+  pub predicateAt : predicateSpan i derivation ≡ p
+  pub objectAt : objectSpan i derivation ≡ o
+
+-- No derivation exists: neither as a line that gives nothing nor as a triple with terms of at most m bytes.
+pub record Underivable (m : ℕ) (l : List ℕ) : Type 0 where
+  pub notNothing : Trail l → ⊥
+  pub noTriple : (d : Triple l) → Within m d → ⊥
+
+-- The parts of a triple are well-formed names of the kinds that their places allow, so that entering them is not refused 2.
+pub record Enterable (m : ℕ) (text : List ℕ) (s p o : Span) : Type 0 where
+  pub subjectKind : (kindOf m (bytesOf text s) ≡ 1) ⊎ (kindOf m (bytesOf text s) ≡ 2)
+  pub predicateKind : kindOf m (bytesOf text p) ≡ 1
+  pub objectKind : (kindOf m (bytesOf text o) ≡ 1) ⊎ ((kindOf m (bytesOf text o) ≡ 2) ⊎ (kindOf m (bytesOf text o) ≡ 3))
+
+-- The terms of the parts are those that N-Triples gives the line's derivation.
+pub record Meant (l : List ℕ) (text : List ℕ) (s p o : Span) : Type 0 where
+  pub derivation : Triple l
+  pub subjectMeans : termOf (bytesOf text s) ≡ subjectTerm (derivation .isSubject)
+  pub predicateMeans : termOf (bytesOf text p) ≡ predicateTerm (derivation .isPredicate)
+  pub objectMeans : termOf (bytesOf text o) ≡ objectTerm (derivation .isObject)
+
+-- What is answered at position i, where the line there is l and has n bytes with its EOL.
+pub record LineAnswered (m : ℕ) (text : List ℕ) (i : ℕ) (l : List ℕ) (n : ℕ) : Type 0 where
+  -- the position moves past the line, after a refusal too
+  pub moves : readOf m text i .next ≡ i + n
+  -- three parts exactly if a derivation has them
+  pub triple : (s p o : Span) → (readOf m text i .line ≡ answer.Triple s p o) ↔ Derived m i l s p o
+  -- nothing exactly on a blank line or a comment line
+  pub nothing : (readOf m text i .line ≡ answer.Nothing) ↔ Trail l
+  -- 10 exactly if no derivation exists, with the length of the longest prefix that some line continues
+  pub refused : (k : ℕ) → (readOf m text i .line ≡ answer.Refused k) ↔ (Underivable m l × Longest m l k)
+  pub notEnd : readOf m text i .line ≡ answer.End → ⊥
+  pub enterable : (s p o : Span) → readOf m text i .line ≡ answer.Triple s p o → Enterable m text s p o
+  pub meant : (s p o : Span) → readOf m text i .line ≡ answer.Triple s p o → Meant l text s p o
+
+-- Read a line: end, with the position kept, at or past the text's end; else the answer for the line that begins there.
+pub record Reading (m : ℕ) (text : List ℕ) (i : ℕ) : Type 0 where
+  pub ended : length text ≤ i → readOf m text i ≡ record { line = answer.End; next = i }
+  pub answered : (l : List ℕ) (n : ℕ) → i < length text → FirstLine (drop i text) l n → LineAnswered m text i l n
+
+abbrev pub ReadsALine : Type 0
+ReadsALine = (m : ℕ) (text : List ℕ) (i : ℕ) → 1 ≤ m → Reading m text i
+
+-- Every text has one first line.
+abbrev pub OneFirstLine : Type 0
+OneFirstLine =
+    (s : List ℕ) → (l : List ℕ) × (n : ℕ) × FirstLine s l n × ((k : List ℕ) (j : ℕ) → FirstLine s k j → (k ≡ l) × (j ≡ n))
+
+-- A line has one derivation at most, whatever the length of its terms: two have the same strings throughout, and a line with
+-- one does not give nothing.
+pub record SameStrings {l : List ℕ} (d e : Triple l) : Type 0 where
+  pub before : d .before ≡ e .before
+  pub subject : d .subject ≡ e .subject
+  pub between₁ : d .between₁ ≡ e .between₁
+  pub predicate : d .predicate ≡ e .predicate
+  pub between₂ : d .between₂ ≡ e .between₂
+  pub object : d .object ≡ e .object
+  pub between₃ : d .between₃ ≡ e .between₃
+  pub after : d .after ≡ e .after
+
+abbrev pub OneDerivation : Type 0
+OneDerivation = (l : List ℕ) (d : Triple l) → ((e : Triple l) → SameStrings d e) × (Trail l → ⊥)

@@ -1,0 +1,6 @@
+pub mod Grammar
+pub mod Reader
+pub mod Text
+pub mod Terms
+pub mod Claims
+pub mod Productions

@@ -1,0 +1,141 @@
+-- Reading a line by one pass over its bytes (scope paper, "Read a line"). The limit of a term's bytes is a parameter
+-- throughout. Assumes nothing.
+use Prim.Native.Nat.{ℕ, zero, suc, _+_, _-_}
+use mathlib.Core.List.{List, [], _∷_, _++_}
+use mathlib.Core.Bool.{Bool, true, false}
+use lib.Dec.{leb, ltb, eqb}
+use lib.ListN.{length}
+use Rattle.term.specs.Bytes.{pick}
+use Rattle.term.specs.Scanner.{stepOf, wholeOf, isBad, firstKindOf}
+use Rattle.term.specs.declared.Scan.{Scan}
+use Rattle.term.specs.declared.Scan.the-variants.{
+  Start,
+  IriOpen,
+  Iri,
+  Closed,
+  Under,
+  Colon,
+  Label,
+  Dot,
+  Dots,
+  Text,
+  Escape,
+  Quote,
+  At,
+  Tag,
+  Hyphen,
+  Group,
+  Caret,
+  Carets,
+  Bad,
+}
+use Rattle.ntriples.specs.declared.Span.{Span}
+use Rattle.ntriples.specs.Grammar.{span, white, commentByte}
+
+-- What a line gives: nothing, the parts of its terms in order, or a refusal with the position of the byte.
+pub data Outcome : Type 0 where
+  Empty : Outcome
+  Terms : List Span → Outcome
+  Fails : ℕ → Outcome
+
+-- the kinds of the term that n more follow: subject (2) 1 or 2, predicate (1) 1, object (0) 1 to 3
+unfoldable pub permitted : ℕ → ℕ → Bool
+permitted zero k = true
+permitted (suc zero) k = eqb k 1
+permitted (suc (suc n)) k = ltb k 3
+
+-- Where a reading stands in a line; ms are the parts already read.
+--   Begin            nothing but spaces and tabs so far
+--   Gap ms n         between terms: n terms are still to come
+--   Inside ms n q a  in a term that began at position a, n more follow it; q is the scan of its bytes
+--   After ms         after the dot
+--   Noted ms         in a comment after the dot
+--   Remark           in a comment with no triple before it
+--   Broken k         the byte at position k continues no line
+pub data Place : Type 0 where
+  Begin : Place
+  Gap : List Span → ℕ → Place
+  Inside : List Span → ℕ → Scan → ℕ → Place
+  After : List Span → Place
+  Noted : List Span → Place
+  Remark : Place
+  Broken : ℕ → Place
+
+-- whether the last byte read is a lone dot of a label
+unfoldable pub isDot : Scan → Bool
+isDot Start = false
+isDot IriOpen = false
+isDot Iri = false
+isDot Closed = false
+isDot Under = false
+isDot Colon = false
+isDot Label = false
+isDot Dot = true
+isDot Dots = false
+isDot Text = false
+isDot Escape = false
+isDot Quote = false
+isDot At = false
+isDot Tag = false
+isDot Hyphen = false
+isDot Group = false
+isDot Caret = false
+isDot Carets = false
+isDot Bad = false
+
+-- whether a term that n more follow may begin with b
+unfoldable pub opens : ℕ → ℕ → Bool
+opens n b = pick (eqb (firstKindOf (b ∷ [])) 0) false (permitted n (firstKindOf (b ∷ [])))
+
+-- an object's scan whose last byte is a lone dot, which may be the line's
+unfoldable pub dotted : ℕ → Scan → Bool
+dotted n q = pick (eqb n 0) (isDot q) false
+
+unfoldable pub afterOf : ℕ → List Span → ℕ → Place
+afterOf i ms b = pick (white b) (After ms) (pick (eqb b 35) (Noted ms) (Broken i))
+
+unfoldable pub enterOf : ℕ → List Span → ℕ → ℕ → Place
+enterOf i ms n b = pick (opens n b) (Inside ms n (stepOf Start b) i) (Broken i)
+
+unfoldable pub gapOf : ℕ → List Span → ℕ → ℕ → Place
+gapOf i ms zero b = pick (white b) (Gap ms zero) (pick (eqb b 46) (After ms) (Broken i))
+gapOf i ms (suc n) b = pick (white b) (Gap ms (suc n)) (enterOf i ms n b)
+
+-- the term goes on with b: byte limit + 1 of it breaks the line, unless it is a dot that ends the line
+unfoldable pub goesOnOf : ℕ → ℕ → List Span → ℕ → Scan → ℕ → Place
+goesOnOf limit i ms n q a =
+    pick (ltb i (a + limit)) (Inside ms n q a) (pick (dotted n q) (After (ms ++ (span a i ∷ []))) (Broken i))
+
+-- the term does not go on with b
+unfoldable pub leaveOf : ℕ → List Span → ℕ → Scan → ℕ → ℕ → Place
+leaveOf i ms n q a b =
+    pick (wholeOf q) (gapOf i (ms ++ (span a i ∷ [])) n b)
+    (pick (dotted n q) (afterOf i (ms ++ (span a (i - 1) ∷ [])) b) (Broken i))
+
+-- the place after the byte b at position i
+unfoldable pub advanceOf : ℕ → ℕ → Place → ℕ → Place
+advanceOf limit i Begin b = pick (white b) Begin (pick (eqb b 35) Remark (enterOf i [] 2 b))
+advanceOf limit i (Gap ms n) b = gapOf i ms n b
+advanceOf limit i (Inside ms n q a) b = pick (isBad (stepOf q b)) (leaveOf i ms n q a b) (goesOnOf limit i ms n (stepOf q b) a)
+advanceOf limit i (After ms) b = afterOf i ms b
+advanceOf limit i (Noted ms) b = pick (commentByte b) (Noted ms) (Broken i)
+advanceOf limit i Remark b = pick (commentByte b) Remark (Broken i)
+advanceOf limit i (Broken k) b = Broken k
+
+unfoldable pub placeOf : ℕ → ℕ → Place → List ℕ → Place
+placeOf limit i p [] = p
+placeOf limit i p (b ∷ s) = placeOf limit (i + 1) (advanceOf limit i p b) s
+
+-- what the line gives if it ends at position i
+unfoldable pub endOf : ℕ → Place → Outcome
+endOf i Begin = Empty
+endOf i (Gap ms n) = Fails i
+endOf i (Inside ms n q a) = pick (dotted n q) (Terms (ms ++ (span a (i - 1) ∷ []))) (Fails i)
+endOf i (After ms) = Terms ms
+endOf i (Noted ms) = Terms ms
+endOf i Remark = Empty
+endOf i (Broken k) = Fails k
+
+-- what the line l, its ending apart, gives, where its first byte has position i
+unfoldable pub lineOf : ℕ → ℕ → List ℕ → Outcome
+lineOf limit i l = endOf (i + length l) (placeOf limit i Begin l)

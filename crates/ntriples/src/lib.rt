@@ -1,0 +1,432 @@
+// Reading N-Triples lines (scope paper, "Names", last paragraph, and "Read a line").
+//
+// A function for each production of the line's grammar has the production's name: white space, comment, subject, predicate,
+// object, triple. Each takes the text, the position where the production begins and the position `stop` where the line ends,
+// and gives the position where the production ends, or the position of the first byte that continues no line. A run of bytes
+// of one class is one loop, so reading is linear in the line's length.
+//
+// The only refusal is 10, with its offset in the line.
+ghost use Prim.Native.Nat.{_≤_};
+ghost use mathlib.Core.Path.{_≡_};
+ghost use mathlib.Core.List.{[], _∷_};
+ghost use lib.ListN.{length};
+ghost use Rattle.ntriples.specs.Grammar.{white, commentByte};
+ghost use Rattle.ntriples.specs.Reader.{isDot, opens, Begin, Gap, After, Remark};
+ghost use Rattle.ntriples.specs.Text.{answerOf, readOf};
+ghost use Rattle.ntriples.specs.Productions.{Inline, OnLine, TermAt, Dark, Reached, RunEnd, onward, TermEnds, EarlierEnds, ObjectEnds, beyondOf, cutOf, crDropped, EolAt};
+use term::Scan;
+
+// A part of the text: the position of its first byte, and the position after its last.
+pub struct Span {
+    pub start: usize,
+    pub end: usize,
+}
+
+// What reading a line answers. End: the position is at or past the text's end. Nothing: a blank line or a comment line.
+// Triple: the parts of the subject, the predicate and the object. Refused: refusal 10, with its offset in the line.
+pub enum Line {
+    End,
+    Nothing,
+    Triple(Span, Span, Span),
+    Refused(usize),
+}
+
+// The answer, and the position after the line.
+pub struct LineRead {
+    pub line: Line,
+    pub next: usize,
+}
+
+// Where a subject or a predicate ends, or the position of the byte that continues no line.
+pub enum TermEnd {
+    Whole(usize),
+    Broken(usize),
+}
+
+// Where an object ends. Dotted: it is a blank node, and the byte after it is the line's dot.
+pub enum ObjectEnd {
+    Whole(usize),
+    Dotted(usize),
+    Broken(usize),
+}
+
+// A space or a tab.
+fn is_white(b: u8) -> bool
+    ensures { λ r. ⌜ r ≡ white b ⌝ }
+{
+    match b {
+        b' ' | b'\t' => true,
+        _ => false,
+    }
+}
+
+// A byte of a comment: a tab or 32..126.
+fn is_comment_byte(b: u8) -> bool
+    ensures { λ r. ⌜ r ≡ commentByte b ⌝ }
+{
+    match b {
+        b'\t' => true,
+        32..=126 => true,
+        _ => false,
+    }
+}
+
+// The end of the spaces and tabs from `from` on.
+fn white_space(text: &[u8], from: usize, stop: usize) -> usize
+    requires { ⌜ Inline (now text) from stop ⌝ }
+    ensures { λ r. ⌜ RunEnd white (now (text .entry)) from stop r ⌝ }
+{
+    let mut i = from;
+    while i < stop {
+        if !is_white(text[i]) {
+            return i;
+        }
+        i += 1;
+    }
+    i
+}
+
+// The end of the bytes of a comment from `from` on.
+fn comment(text: &[u8], from: usize, stop: usize) -> usize
+    requires { ⌜ Inline (now text) from stop ⌝ }
+    ensures { λ r. ⌜ RunEnd commentByte (now (text .entry)) from stop r ⌝ }
+{
+    let mut i = from;
+    while i < stop {
+        if !is_comment_byte(text[i]) {
+            return i;
+        }
+        i += 1;
+    }
+    i
+}
+
+// A lone dot after a label's byte, which may be the line's.
+fn is_dot(q: Scan) -> bool
+    ensures { λ r. ⌜ r ≡ isDot q ⌝ }
+{
+    match q {
+        Scan::Start => false,
+        Scan::IriOpen => false,
+        Scan::Iri => false,
+        Scan::Closed => false,
+        Scan::Under => false,
+        Scan::Colon => false,
+        Scan::Label => false,
+        Scan::Dot => true,
+        Scan::Dots => false,
+        Scan::Text => false,
+        Scan::Escape => false,
+        Scan::Quote => false,
+        Scan::At => false,
+        Scan::Tag => false,
+        Scan::Hyphen => false,
+        Scan::Group => false,
+        Scan::Caret => false,
+        Scan::Carets => false,
+        Scan::Bad => false,
+    }
+}
+
+// How far the scan of a term that begins at `a` may go: to the line's end, and over at most 255 bytes.
+fn cut(a: usize, stop: usize) -> usize
+    requires { ⌜ a ≤ stop ⌝ }
+    ensures { λ r. ⌜ r ≡ cutOf a stop ⌝ }
+{
+    if stop - a <= term::NAME_LIMIT {
+        return stop;
+    }
+    a + term::NAME_LIMIT
+}
+
+// The scan with byte 256 of the term that begins at `a`, where the scan `q` has come to that byte of the line; else Bad.
+fn beyond(text: &[u8], a: usize, i: usize, stop: usize, q: Scan) -> Scan
+    requires { ⌜ OnLine (now text) a i stop ⌝ }
+    ensures { λ r. ⌜ r ≡ beyondOf (now (text .entry)) a i stop q ⌝ }
+{
+    if i == stop {
+        return Scan::Bad;
+    }
+    if i - a < term::NAME_LIMIT {
+        return Scan::Bad;
+    }
+    term::step(q, text[i])
+}
+
+// The end of the subject or the predicate that begins at `a`.
+fn term_end(text: &[u8], a: usize, stop: usize) -> TermEnd
+    requires { ⌜ TermAt (now text) a stop ⌝ }
+    ensures { λ r. ⌜ EarlierEnds (now (text .entry)) stop a r ⌝ }
+{
+    let h = term::scan_term(text, a, cut(a, stop));
+    let q = h.state;
+    let i = h.at;
+    if !term::is_bad(beyond(text, a, i, stop, q)) {
+        return TermEnd::Broken(i);
+    }
+    if term::whole(q) {
+        return TermEnd::Whole(i);
+    }
+    TermEnd::Broken(i)
+}
+
+// The end of the object that begins at `a`. A dot after a blank node's label is the line's if no byte of a label follows.
+fn object_end(text: &[u8], a: usize, stop: usize) -> ObjectEnd
+    requires { ⌜ TermAt (now text) a stop ⌝ }
+    ensures { λ r. ⌜ ObjectEnds (now (text .entry)) stop a r ⌝ }
+{
+    let h = term::scan_term(text, a, cut(a, stop));
+    let q = h.state;
+    let i = h.at;
+    let t = beyond(text, a, i, stop, q);
+    if !term::is_bad(t) {
+        if is_dot(t) {
+            return ObjectEnd::Dotted(i);
+        }
+        return ObjectEnd::Broken(i);
+    }
+    if term::whole(q) {
+        return ObjectEnd::Whole(i);
+    }
+    if is_dot(q) {
+        return ObjectEnd::Dotted(i - 1);
+    }
+    ObjectEnd::Broken(i)
+}
+
+// An IRI or a blank node.
+fn opens_subject(b: u8) -> bool
+    ensures { λ r. ⌜ r ≡ opens 2 b ⌝ }
+{
+    match b {
+        b'<' | b'_' => true,
+        _ => false,
+    }
+}
+
+// An IRI.
+fn opens_predicate(b: u8) -> bool
+    ensures { λ r. ⌜ r ≡ opens 1 b ⌝ }
+{
+    match b {
+        b'<' => true,
+        _ => false,
+    }
+}
+
+// An IRI, a blank node or a literal.
+fn opens_object(b: u8) -> bool
+    ensures { λ r. ⌜ r ≡ opens 0 b ⌝ }
+{
+    match b {
+        b'<' | b'_' | b'"' => true,
+        _ => false,
+    }
+}
+
+fn subject(text: &[u8], a: usize, stop: usize) -> TermEnd
+    requires { ⌜ Dark (now text) a stop ⌝ }
+    ensures { λ r. ⌜ TermEnds (now (text .entry)) stop 2 a r ⌝ }
+{
+    if a == stop {
+        return TermEnd::Broken(a);
+    }
+    if !opens_subject(text[a]) {
+        return TermEnd::Broken(a);
+    }
+    term_end(text, a, stop)
+}
+
+fn predicate(text: &[u8], a: usize, stop: usize) -> TermEnd
+    requires { ⌜ Dark (now text) a stop ⌝ }
+    ensures { λ r. ⌜ TermEnds (now (text .entry)) stop 1 a r ⌝ }
+{
+    if a == stop {
+        return TermEnd::Broken(a);
+    }
+    if !opens_predicate(text[a]) {
+        return TermEnd::Broken(a);
+    }
+    term_end(text, a, stop)
+}
+
+fn object(text: &[u8], a: usize, stop: usize) -> ObjectEnd
+    requires { ⌜ Dark (now text) a stop ⌝ }
+    ensures { λ r. ⌜ ObjectEnds (now (text .entry)) stop a r ⌝ }
+{
+    if a == stop {
+        return ObjectEnd::Broken(a);
+    }
+    if !opens_object(text[a]) {
+        return ObjectEnd::Broken(a);
+    }
+    object_end(text, a, stop)
+}
+
+// The line after its dot, from `from` on: spaces and tabs, and possibly a comment.
+fn after_dot(text: &[u8], at: usize, from: usize, stop: usize, s: Span, p: Span, o: Span) -> Line
+    requires { ⌜ OnLine (now text) at from stop ⌝ }
+    ensures { λ r. ⌜ r ≡ answerOf at (onward (now (text .entry)) stop from (After (s ∷ (p ∷ (o ∷ []))))) ⌝ }
+{
+    let a = white_space(text, from, stop);
+    if a == stop {
+        return Line::Triple(s, p, o);
+    }
+    if text[a] != b'#' {
+        return Line::Refused(a - at);
+    }
+    let end = comment(text, a + 1, stop);
+    if end < stop {
+        return Line::Refused(end - at);
+    }
+    Line::Triple(s, p, o)
+}
+
+// The line after its object: the dot, and what follows it.
+fn after_object(text: &[u8], at: usize, from: usize, stop: usize, s: Span, p: Span, o: Span) -> Line
+    requires { ⌜ OnLine (now text) at from stop ⌝ }
+    ensures { λ r. ⌜ r ≡ answerOf at (onward (now (text .entry)) stop from (Gap (s ∷ (p ∷ (o ∷ []))) 0)) ⌝ }
+{
+    let a = white_space(text, from, stop);
+    if a == stop {
+        return Line::Refused(a - at);
+    }
+    if text[a] != b'.' {
+        return Line::Refused(a - at);
+    }
+    after_dot(text, at, a + 1, stop, s, p, o)
+}
+
+// The line after its predicate: the object, and what follows it.
+fn after_predicate(text: &[u8], at: usize, from: usize, stop: usize, s: Span, p: Span) -> Line
+    requires { ⌜ OnLine (now text) at from stop ⌝ }
+    ensures { λ r. ⌜ r ≡ answerOf at (onward (now (text .entry)) stop from (Gap (s ∷ (p ∷ [])) 1)) ⌝ }
+{
+    let a = white_space(text, from, stop);
+    match object(text, a, stop) {
+        ObjectEnd::Whole(e) => {
+            let o = Span { start: a, end: e };
+            after_object(text, at, e, stop, s, p, o)
+        }
+        ObjectEnd::Dotted(e) => {
+            let o = Span { start: a, end: e };
+            after_dot(text, at, e + 1, stop, s, p, o)
+        }
+        ObjectEnd::Broken(k) => Line::Refused(k - at),
+    }
+}
+
+// The line after its subject: the predicate, and what follows it.
+fn after_subject(text: &[u8], at: usize, from: usize, stop: usize, s: Span) -> Line
+    requires { ⌜ OnLine (now text) at from stop ⌝ }
+    ensures { λ r. ⌜ r ≡ answerOf at (onward (now (text .entry)) stop from (Gap (s ∷ []) 2)) ⌝ }
+{
+    let a = white_space(text, from, stop);
+    match predicate(text, a, stop) {
+        TermEnd::Whole(e) => {
+            let p = Span { start: a, end: e };
+            after_predicate(text, at, e, stop, s, p)
+        }
+        TermEnd::Broken(k) => Line::Refused(k - at),
+    }
+}
+
+// A triple, from the first byte of its subject on.
+fn triple(text: &[u8], at: usize, from: usize, stop: usize) -> Line
+    requires { ⌜ Reached (now text) at from stop ⌝ }
+    ensures { λ r. ⌜ r ≡ answerOf at (onward (now (text .entry)) stop from (Gap [] 3)) ⌝ }
+{
+    match subject(text, from, stop) {
+        TermEnd::Whole(e) => {
+            let s = Span {
+                start: from,
+                end: e,
+            };
+            after_subject(text, at, e, stop, s)
+        }
+        TermEnd::Broken(k) => Line::Refused(k - at),
+    }
+}
+
+// A comment with no triple before it, after its `#`.
+fn comment_line(text: &[u8], at: usize, from: usize, stop: usize) -> Line
+    requires { ⌜ OnLine (now text) at from stop ⌝ }
+    ensures { λ r. ⌜ r ≡ answerOf at (onward (now (text .entry)) stop from Remark) ⌝ }
+{
+    let end = comment(text, from, stop);
+    if end < stop {
+        return Line::Refused(end - at);
+    }
+    Line::Nothing
+}
+
+// The line from `at` up to `stop`, its EOL apart.
+fn whole_line(text: &[u8], at: usize, stop: usize) -> Line
+    requires { ⌜ Inline (now text) at stop ⌝ }
+    ensures { λ r. ⌜ r ≡ answerOf at (onward (now (text .entry)) stop at Begin) ⌝ }
+{
+    let a = white_space(text, at, stop);
+    if a == stop {
+        return Line::Nothing;
+    }
+    if text[a] == b'#' {
+        return comment_line(text, at, a + 1, stop);
+    }
+    triple(text, at, a, stop)
+}
+
+// The position of the first LF from `at` on, or the text's end.
+fn end_of_line(text: &[u8], at: usize) -> usize
+    requires { ⌜ at ≤ length (now text) ⌝ }
+    ensures { λ r. ⌜ EolAt (now (text .entry)) at r ⌝ }
+{
+    let mut i = at;
+    while i < text.len() {
+        if text[i] == b'\n' {
+            return i;
+        }
+        i += 1;
+    }
+    i
+}
+
+// Where the line ends whose LF stands at `lf`: one CR before the LF is dropped.
+fn drop_cr(text: &[u8], at: usize, lf: usize) -> usize
+    requires { ⌜ Inline (now text) at lf ⌝ }
+    ensures { λ r. ⌜ r ≡ crDropped (now (text .entry)) at lf ⌝ }
+{
+    if lf == at {
+        return lf;
+    }
+    if text[lf - 1] == b'\r' {
+        return lf - 1;
+    }
+    lf
+}
+
+// Reads the line at the position `at` of the text. The position may stand anywhere, also inside a line, which is then read
+// from there. The next position is past the line and its EOL, after a refusal too; at or past the text's end it is `at`.
+pub fn read_line(text: &[u8], at: usize) -> LineRead
+    ensures { λ r. ⌜ r ≡ readOf 255 (now (text .entry)) at ⌝ }
+{
+    if at >= text.len() {
+        let end = Line::End;
+        return LineRead {
+            line: end,
+            next: at,
+        };
+    }
+    let eol = end_of_line(text, at);
+    if eol == text.len() {
+        let last = whole_line(text, at, eol);
+        return LineRead {
+            line: last,
+            next: eol,
+        };
+    }
+    let line = whole_line(text, at, drop_cr(text, at, eol));
+    LineRead {
+        line: line,
+        next: eol + 1,
+    }
+}

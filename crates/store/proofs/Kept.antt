@@ -1,0 +1,133 @@
+-- What the plain lists keep: known numbers, permitted kinds, no triple twice; so after any list of calls the store is sound. The plain
+-- lists read off a sound store agree with it. Assumes nothing.
+use mathlib.Core.Path.{_≡_, refl, sym, ap, ap₂, _∙_}
+use mathlib.Core.Logic.{_≢_}
+use mathlib.Core.Bool.{Bool, true, false, cond, _&&_}
+use mathlib.Core.List.{List, [], _∷_, _++_}
+use Prim.Native.Nat.{ℕ, zero, suc, _+_, _-_, _≤_, _<_}
+use native.Mathlib.Omega.{arith}
+use lib.ListN.{length, getD, set, length-append, List·getD-append}
+use lib.Seq.{getD-append-seam}
+use lib.Dec.{eqb, leb, ltb}
+use borrow.Author.Tests.{leb-true}
+use Rattle.term.specs.Scanner.{firstKindOf}
+use Rattle.store.specs.declared.Counters.{Counters}
+use Rattle.store.specs.declared.Position.the-variants.{Subject, Predicate, Object}
+use Rattle.store.specs.declared.Triple.{Triple}
+use Rattle.store.specs.Triple.{at, known, within, same, permitted, below, head0}
+use Rattle.store.specs.Tables.{Tables, fits, resourceCapacity, statementCapacity, textCapacity, tripleAt, kindAt}
+use Rattle.store.specs.Model.{Entry, Listing, Model, Capacities, Call, intern, assert, retract, open′, next, wellFormed, lookupName, nameOf, bytesOf, internName, internModel, entry, lookup, mark, put, assertModel, strike, retractModel, openModel, turn, nextModel, freshModel, callModel, modelAfter}
+use Rattle.store.specs.Soundness.{Sound}
+use Rattle.store.specs.History.{Store}
+use Rattle.store.proofs.Tests.{decide, upto, known-low, known-high, known-more, same-self}
+use Rattle.store.proofs.Falling.{head-pos}
+use Rattle.store.proofs.Text.{name-old, length-snoc}
+use Rattle.store.proofs.Represented.{Agreeing, fits-agrees, spo-agrees, mark-length, mark-spo}
+use Rattle.store.proofs.StatementsAgree.{permitted-agrees}
+
+abbrev pub kindIn : Model → ℕ → ℕ
+kindIn s y = firstKindOf (nameOf (s .names) y)
+
+pub record Tidy (s : Model) : Type 0 where
+  pub inside : (i : ℕ) → i < length (s .entries) → known (length (s .names)) ((entry (s .entries) i) .spo) ≡ true
+  pub kinds : (i : ℕ) → i < length (s .entries) → permitted (kindIn s) ((entry (s .entries) i) .spo) ≡ true
+  pub once : (i j : ℕ) → i < j → j < length (s .entries) → (entry (s .entries) i) .spo ≢ (entry (s .entries) j) .spo
+
+-- a triple that is not found is not there
+absent : (x : Triple) (l : List Entry) → lookup x l ≡ 0 → (i : ℕ) → i < length l → (entry l i) .spo ≢ x
+unfolding lookup
+absent x l e i h d = omega (arith, head-pos (λ i. same x ((entry l i) .spo)) (length l) i h (same-self x ((entry l i) .spo) d), e)
+
+abbrev more : Model → Triple → List Entry
+more s x = s .entries ++ record { spo = x; retracted = false } ∷ []
+
+module _ (s : Model) (D : Tidy s) where
+  tidy-append : (x : Triple) → known (length (s .names)) x ≡ true → permitted (kindIn s) x ≡ true → lookup x (s .entries) ≡ 0
+      → Tidy (record { names = s .names; entries = more s x; listings = s .listings })
+  tidy-append x k a e = record {
+    inside = λ i h. upto (λ i. known (length (s .names)) ((entry (more s x) i) .spo) ≡ true) (length (s .entries))
+        (λ i q. rw List·getD-append (D .inside i q)) (rw getD-append-seam k) i (omega (arith, simp length-append at h));
+    kinds = λ i h. upto (λ i. permitted (kindIn s) ((entry (more s x) i) .spo) ≡ true) (length (s .entries))
+        (λ i q. rw List·getD-append (D .kinds i q)) (rw getD-append-seam a) i (omega (arith, simp length-append at h));
+    once = λ i j h g. upto (λ j. (i : ℕ) → i < j → (entry (more s x) i) .spo ≢ (entry (more s x) j) .spo) (length (s .entries))
+        (λ j q i h. let q′ : i < length (s .entries) = omega arith in
+        rw (List·getD-append (s .entries) _ _ i q′, List·getD-append (s .entries) _ _ j q) (D .once i j h q))
+        (λ i h. rw (List·getD-append (s .entries) _ _ i h, getD-append-seam) (absent x (s .entries) e i h))
+        j (omega (arith, simp length-append at g)) i h;
+  }
+
+  tidy-mark : (i : ℕ) (b : Bool) → Tidy (record { names = s .names; entries = mark (s .entries) i b; listings = s .listings })
+  tidy-mark i b =
+      let n = mark-length (s .entries) i b in
+      record {
+        inside = λ j h. let h′ : j < length (s .entries) = omega arith in rw (mark-spo (s .entries) i j b h′) (D .inside j h′);
+        kinds = λ j h. let h′ : j < length (s .entries) = omega arith in rw (mark-spo (s .entries) i j b h′) (D .kinds j h′);
+        once = λ j m h g.
+            let g′ : m < length (s .entries) = omega arith in
+            let h′ : j < length (s .entries) = omega arith in
+            rw (mark-spo (s .entries) i j b h′, mark-spo (s .entries) i m b g′) (D .once j m h g′);
+      }
+
+  tidy-name : (w : List ℕ) → Tidy (record { names = s .names ++ w ∷ []; entries = s .entries; listings = s .listings })
+  unfolding permitted
+  tidy-name w = record {
+    inside = λ i h. known-more (length (s .names)) _ _ (omega (arith, length-snoc (s .names) w)) (D .inside i h);
+    kinds = λ i h.
+        let x = (entry (s .entries) i) .spo in
+        let k = D .inside i h in
+        rw (name-old (s .names) w (x .subject .0) (known-low _ x k Subject) (known-high _ x k Subject),
+          name-old (s .names) w (x .predicate .0) (known-low _ x k Predicate) (known-high _ x k Predicate))
+        (D .kinds i h);
+    once = D .once;
+  }
+
+  tidy-listings : (g : List Listing) → Tidy (record { names = s .names; entries = s .entries; listings = g })
+  tidy-listings g = record { inside = D .inside; kinds = D .kinds; once = D .once }
+
+  tidy-call : (k : Capacities) (a : Call) → Tidy ((callModel k s a) .0)
+  unfolding callModel internModel assertModel retractModel openModel nextModel turn
+  tidy-call k (intern w) = decide (wellFormed w) (λ e. rw e (go (lookupName w (s .names)))) (λ e. rw e D)
+    where
+      go : (t : ℕ) → Tidy ((internName k s w t) .0)
+      go zero = unfold internName in
+          (decide (ltb (length (s .names)) (k .resources) && leb (bytesOf (s .names ++ w ∷ [])) (k .text)) (λ e. rw e (tidy-name w)) (λ e. rw e D))
+      go (suc i) = unfold internName in D
+  tidy-call k (assert f x) =
+      decide (known (length (s .names)) x)
+      (λ e. rw e (decide (permitted (kindIn s) x) (λ d. rw d (go e d (lookup x (s .entries)) refl)) (λ d. rw d D)))
+      (λ e. rw e D)
+    where
+      go : known (length (s .names)) x ≡ true → permitted (kindIn s) x ≡ true → (t : ℕ) → lookup x (s .entries) ≡ t → Tidy ((put k s x t) .0)
+      go e d zero q = unfold put in (decide (ltb (length (s .entries)) (k .statements)) (λ f. rw f (tidy-append x e d q)) (λ f. rw f D))
+      go e d (suc i) q = unfold put in (decide ((entry (s .entries) i) .retracted) (λ f. rw f (tidy-mark i false)) (λ f. rw f D))
+  tidy-call k (retract f x) =
+      decide (known (length (s .names)) x) (λ e. rw e (go (lookup x (s .entries)))) (λ e. rw e D)
+    where
+      go : (t : ℕ) → Tidy ((strike s t) .0)
+      go zero = unfold strike in D
+      go (suc i) = unfold strike in (decide ((entry (s .entries) i) .retracted) (λ f. rw f D) (λ f. rw f (tidy-mark i true)))
+  tidy-call k (open′ x) = decide (within (length (s .names)) x) (λ e. rw e (tidy-listings _)) (λ e. rw e D)
+  tidy-call k (next j b) = decide (eqb b 0) (λ e. rw e D) (λ e. rw e (tidy-listings _))
+
+pub tidy-history : (k : Capacities) (s : Model) → Tidy s → (a : List Call) → Tidy (modelAfter k s a)
+unfolding modelAfter
+tidy-history k s D [] = D
+tidy-history k s D (a ∷ r) = tidy-history k ((callModel k s a) .0) (tidy-call s D k a) r
+
+pub tidy-fresh : Tidy freshModel
+tidy-fresh = record { inside = λ i h. absurd (omega arith); kinds = λ i h. absurd (omega arith); once = λ i j h g. absurd (omega arith) }
+
+-- ---- a store that agrees with tidy lists is sound
+
+pub agreeing-sound : (k : Capacities) (c : Store) (s : Model) → Agreeing k c s → Tidy s → Sound (c .counters) (c .tables)
+agreeing-sound k c s R D = record {
+  capacity = fits-agrees k c s R;
+  linked = R .linked;
+  kinds = λ i h.
+      let q : i < length (s .entries) = omega (arith, R .size) in
+      rw (← spo-agrees k c s R i h)
+      (permitted-agrees k c s R ((entry (s .entries) i) .spo) (rw (R .named .size) (D .inside i q)) ∙ D .kinds i q);
+  once = λ i j h g. rw (← spo-agrees k c s R i (omega arith), ← spo-agrees k c s R j g) (D .once i j h (omega (arith, R .size)));
+  names = s .names;
+  named = R .named;
+}

@@ -1,0 +1,222 @@
+-- Assert and retract on states that agree: the same values, and the states after them agree. Assumes nothing.
+use mathlib.Core.Path.{_≡_, refl, sym, ap, ap₂, _∙_}
+use mathlib.Core.Logic.{_≢_}
+use mathlib.Core.Bool.{Bool, true, false, cond, _&&_}
+use mathlib.Core.List.{List, [], _∷_, _++_}
+use mathlib.Core.Option.{Option, none, some}
+use Prim.Native.Nat.{ℕ, zero, suc, _+_, _*_, _-_, _≤_, _<_}
+use native.Mathlib.Omega.{arith}
+use lib.ListN.{length, getD, set, length-set, length-append, List·getD-append}
+use lib.Seq.{getD-append-seam}
+use lib.Dec.{eqb, leb, ltb}
+use borrow.Author.Tests.{eqb-true, eqb-false, ltb-true, lt-ltb, le-leb}
+use Rattle.term.specs.Scanner.{firstKindOf}
+use Rattle.store.specs.declared.Counters.{Counters}
+use Rattle.store.specs.declared.Position.{Position}
+use Rattle.store.specs.declared.Position.the-variants.{Subject, Predicate, Object}
+use Rattle.store.specs.declared.Triple.{Triple}
+use Rattle.store.specs.declared.Asserted.{Asserted}
+use Rattle.store.specs.declared.Retracted.{Retracted}
+use Rattle.store.specs.Triple.{at, all3, known, permitted}
+use Rattle.store.specs.Tables.{Tables, statementCapacity, statementWords, resourceWords, termAt, flagAt, tripleAt, offsetAt, kindAt}
+use Rattle.store.specs.Values.{Values, counted, assertedValues, retractedValues}
+use Rattle.store.specs.Model.{Entry, Model, Capacities, entry, lookup, mark, nameOf, totals, withEntries, put, assertModel, strike, retractModel}
+use Rattle.store.specs.Walk.{entryAt}
+use Rattle.store.specs.Statement.{withFlag, appendRecord, linkRecord, appended, kinded, oneStatementMore, asserting, assertOf, retracting, retractOf, countersAfter}
+use Rattle.store.specs.Dictionary.{Named}
+use Rattle.store.specs.History.{Store, store}
+use Rattle.store.proofs.Tests.{decide, upto, and-of, all3-of, known-low, known-high}
+use Rattle.store.proofs.Words.{triple-of, triple-same, append-length, append-term-old, append-flag-old, append-term, append-flag, linked-length, linked-offset, linked-kind, flag-term, flag-same, flag-other, triple-at}
+use Rattle.store.proofs.Links.{append-linked, flag-linked}
+use Rattle.store.proofs.Form.{form-kind, kind-high}
+use Rattle.store.proofs.Text.{length-snoc}
+use Rattle.store.proofs.Represented.{Agreeing, Same, same-cond, fits-agrees, totals-agree, mark-agrees, lookup-le, locate-agrees, mark-length, mark-same, mark-other, mark-spo, good-grow}
+
+-- an entry by its words
+pub entry-of : (stm : List ℕ) (i : ℕ) (x : Triple) (b : Bool) → ((p : Position) → termAt stm p i ≡ at p x) → eqb (flagAt stm i) 1 ≡ b
+    → entryAt stm i ≡ record { spo = x; retracted = b }
+unfolding entryAt
+entry-of stm i x b h e = rw (triple-of stm i x h, e)
+
+-- the same words, the same entry
+pub entry-same : (stm stm′ : List ℕ) (i : ℕ) → ((p : Position) → termAt stm′ p i ≡ termAt stm p i) → flagAt stm′ i ≡ flagAt stm i
+    → entryAt stm′ i ≡ entryAt stm i
+unfolding entryAt
+entry-same stm stm′ i h e = rw (triple-same stm stm′ i h, e)
+
+entry-term : (stm : List ℕ) (p : Position) (i : ℕ) → at p ((entryAt stm i) .spo) ≡ termAt stm p i
+unfolding entryAt
+entry-term stm p i = triple-at stm p i
+
+-- the state and the values after a reply
+abbrev pub asserted : Store → Tables × Asserted → Store × Values
+asserted c a = (store (countersAfter (c .counters) (a .1)) (a .0) (c .cursors), assertedValues (a .1))
+
+abbrev pub retracted′ : Store → Tables × Retracted → Store × Values
+retracted′ c a = (store (c .counters) (a .0) (c .cursors), retractedValues (a .1))
+
+module _ (k : Capacities) (c : Store) (s : Model) (R : Agreeing k c s) where
+  abbrev n : Counters
+  n = c .counters
+
+  abbrev m : Tables
+  m = c .tables
+
+  -- ---- a flag set in both
+
+  flag-entry : (i j v : ℕ) (b : Bool) → i < n .statements → eqb v 1 ≡ b → j < n .statements
+      → entry (mark (s .entries) i b) j ≡ entryAt (set (m .statements) (statementWords * i + 6) v) j
+  flag-entry i j v b h e q =
+      decide (eqb j i)
+      (λ d. rw (eqb-true j i d, mark-same (s .entries) i b (omega (arith, R .size)), R .reads i h)
+      (sym (entry-of _ i ((entryAt (m .statements) i) .spo) b
+      (λ p. flag-term (m .statements) i v p i ∙ sym (entry-term (m .statements) p i))
+      (rw (flag-same (m .statements) i v (omega (arith, R .linked .fit-statements))) e))))
+      (λ d. rw (mark-other (s .entries) i j b (eqb-false j i d), R .reads j q)
+      (sym (entry-same (m .statements) _ j (λ p. flag-term (m .statements) i v p j) (flag-other (m .statements) i v j (eqb-false j i d)))))
+
+  flag-agrees : (i v : ℕ) (b : Bool) → i < n .statements → v ≤ 1 → eqb v 1 ≡ b
+      → Agreeing k (store n (withFlag m i v) (c .cursors)) (withEntries s (mark (s .entries) i b))
+  flag-agrees i v b h g e = record {
+    named = record {
+      size = R .named .size;
+      bytes = R .named .bytes;
+      spelled = R .named .spelled;
+      well = R .named .well;
+      offsets = R .named .offsets;
+      kinds = R .named .kinds;
+      index = R .named .index;
+    };
+    size = R .size ∙ sym (mark-length (s .entries) i b);
+    linked = flag-linked (m .statements) i v (n .resources) (n .statements) (m .resources) h g (R .linked);
+    reads = λ j q. flag-entry i j v b h e q;
+    cursors = R .cursors;
+    good = λ j. good-grow (length (s .names)) (length (s .names)) (s .entries) (mark (s .entries) i b) _ (omega arith)
+        (omega (arith, mark-length (s .entries) i b)) (λ j q. mark-spo (s .entries) i j b q) (R .good j);
+    room-resources = R .room-resources;
+    room-statements = rw length-set (R .room-statements);
+    room-text = R .room-text;
+    in-resources = R .in-resources;
+    in-statements = R .in-statements;
+    in-text = R .in-text;
+  }
+
+  -- ---- a new record
+
+  last-entry : (x : Triple) → entry (s .entries ++ record { spo = x; retracted = false } ∷ []) (n .statements) ≡ record { spo = x; retracted = false }
+  last-entry x = rw (R .size, getD-append-seam)
+
+  module _ (x : Triple) (e : known (n .resources) x ≡ true) where
+    room-at : (p : Position) → resourceWords * at p x ≤ length (m .resources)
+    room-at p = omega (arith, known-high (n .resources) x e p, R .linked .fit-resources)
+
+    names-stay : Named (s .names) (oneStatementMore n) (appended (n .statements) m x)
+    names-stay = record {
+      size = R .named .size;
+      bytes = R .named .bytes;
+      spelled = R .named .spelled;
+      well = R .named .well;
+      offsets = λ y h q. linked-offset (n .statements) x (m .resources) (known-low (n .resources) x e) room-at y h ∙ R .named .offsets y h q;
+      kinds = λ y h q. linked-kind (n .statements) x (m .resources) (known-low (n .resources) x e) room-at y h ∙ R .named .kinds y h q;
+      index = R .named .index;
+    }
+
+    append-agrees : suc (n .statements) ≤ statementCapacity m → statementWords * suc (n .statements) ≤ length (m .statements)
+        → Agreeing k (store (oneStatementMore n) (appended (n .statements) m x) (c .cursors))
+        (withEntries s (s .entries ++ record { spo = x; retracted = false } ∷ []))
+    append-agrees i h = record {
+      named = names-stay;
+      size = rw length-append (omega (arith, R .size));
+      linked = append-linked (n .resources) (n .statements) x (m .resources) (m .statements) (R .linked) h
+          (known-low (n .resources) x e) (known-high (n .resources) x e);
+      reads = upto _ (n .statements)
+          (λ i q. let q′ : i < length (s .entries) = omega (arith, R .size) in
+          rw (List·getD-append, R .reads i q)
+          (sym (entry-same (m .statements) _ i
+          (λ p. append-term-old (n .statements) x (m .resources) (m .statements) p i q)
+          (append-flag-old (n .statements) x (m .resources) (m .statements) i q))))
+          (last-entry x ∙ sym (entry-of _ (n .statements) x false
+          (append-term (n .statements) x (m .resources) (m .statements) h)
+          (rw (append-flag (n .statements) x (m .resources) (m .statements) h))));
+      cursors = R .cursors;
+      good = λ j. good-grow (length (s .names)) (length (s .names)) (s .entries) _ _ (omega arith)
+          (rw length-append (omega arith)) (λ i q. rw List·getD-append) (R .good j);
+      room-resources = rw (linked-length (n .statements) x (m .resources)) (R .room-resources);
+      room-statements = rw (append-length (n .statements) x (m .resources) (m .statements)) (R .room-statements);
+      room-text = R .room-text;
+      in-resources = R .in-resources;
+      in-statements = rw (R .room-statements) i;
+      in-text = R .in-text;
+    }
+
+    -- ---- assert
+
+    new-values : (z : Agreeing k (store (oneStatementMore n) (appended (n .statements) m x) (c .cursors))
+        (withEntries s (s .entries ++ record { spo = x; retracted = false } ∷ [])))
+        → counted 1 (suc (n .statements)) (oneStatementMore n)
+        ≡ counted 1 (length (s .entries ++ record { spo = x; retracted = false } ∷ []))
+        (totals (withEntries s (s .entries ++ record { spo = x; retracted = false } ∷ [])))
+    new-values z = ap₂ (counted 1) (z .size) (totals-agree k _ _ z)
+
+    put-agrees : (i : ℕ) → i ≤ n .statements → Same k (asserted c (asserting n m x i)) (put k s x i)
+    unfolding asserting put
+    put-agrees zero g =
+        same-cond k (asserted c) (ltb (n .statements) (statementCapacity m)) _ _ _ _ _ (ap₂ ltb (R .size) (sym (R .room-statements)))
+        (λ d. let l = ltb-true (n .statements) (statementCapacity m) d in
+        let z = append-agrees l (omega arith) in
+        (new-values z, z))
+        (λ d. (refl, R))
+    put-agrees (suc i) g =
+        same-cond k (asserted c) _ _ _ _ _ _ (mark-agrees k c s R i g)
+        (λ d. (ap (counted 3 (suc i)) (totals-agree k c s R), flag-agrees i 0 false g (omega arith) refl))
+        (λ d. (ap (counted 2 (suc i)) (totals-agree k c s R), R))
+
+  strike-agrees : (i : ℕ) → i ≤ n .statements → Same k (retracted′ c (retracting m i)) (strike s i)
+  unfolding retracting strike
+  strike-agrees zero g = (refl, R)
+  strike-agrees (suc i) g =
+      same-cond k (retracted′ c) _ _ _ _ _ _ (mark-agrees k c s R i g) (λ d. (refl, R)) (λ d. (refl, flag-agrees i 1 true g (omega arith) refl))
+
+  -- ---- kinds
+
+  kinded-agrees : (x : Triple) → known (n .resources) x ≡ true → kinded (m .resources) x ≡ true
+  unfolding kinded nameOf
+  kinded-agrees x e =
+      all3-of (λ p. ltb 0 (kindAt (m .resources) (at p x)) && leb (kindAt (m .resources) (at p x)) 3) (λ p.
+      let lo = known-low (n .resources) x e p in
+      let hi = known-high (n .resources) x e p in
+      let kind = R .named .kinds (at p x) lo hi in
+      let i : at p x - 1 < length (s .names) = omega (arith, R .named .size) in
+      and-of _ _
+      (lt-ltb 0 (kindAt (m .resources) (at p x)) (rw kind (form-kind (getD (s .names) (at p x - 1) []) (R .named .well (at p x - 1) i))))
+      (le-leb (kindAt (m .resources) (at p x)) 3 (rw kind (kind-high (getD (s .names) (at p x - 1) [])))))
+
+  pub permitted-agrees : (x : Triple) → known (n .resources) x ≡ true
+      → permitted (kindAt (m .resources)) x ≡ permitted (λ y. firstKindOf (nameOf (s .names) y)) x
+  unfolding permitted
+  permitted-agrees x e =
+      rw (
+        R .named .kinds (x .subject .0) (known-low (n .resources) x e Subject) (known-high (n .resources) x e Subject),
+        R .named .kinds (x .predicate .0) (known-low (n .resources) x e Predicate) (known-high (n .resources) x e Predicate),
+      )
+
+  -- ---- the two calls
+
+  pub assert-agrees : (x : Triple) → Same k (asserted c (assertOf n m x)) (assertModel k s x)
+  unfolding assertModel assertOf
+  assert-agrees x =
+      rw (fits-agrees k c s R)
+      (same-cond k (asserted c) (known (n .resources) x) (known (length (s .names)) x) _ _ _ _ (ap (λ (z : ℕ). known z x) (R .named .size))
+      (λ e. rw (kinded-agrees x e)
+      (same-cond k (asserted c) (permitted (kindAt (m .resources)) x) _ _ _ _ _ (permitted-agrees x e)
+      (λ d. rw (assertOf, locate-agrees k c s R x e) (put-agrees x e (lookup x (s .entries)) (lookup-le k c s R x)))
+      (λ d. (refl, R))))
+      (λ e. (refl, R)))
+
+  pub retract-agrees : (x : Triple) → Same k (retracted′ c (retractOf n m x)) (retractModel s x)
+  unfolding retractModel retractOf
+  retract-agrees x =
+      rw (fits-agrees k c s R)
+      (same-cond k (retracted′ c) (known (n .resources) x) (known (length (s .names)) x) _ _ _ _ (ap (λ (z : ℕ). known z x) (R .named .size))
+      (λ e. rw (retractOf, locate-agrees k c s R x e) (strike-agrees (lookup x (s .entries)) (lookup-le k c s R x)))
+      (λ e. (refl, R)))
