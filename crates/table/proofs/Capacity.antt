@@ -12,11 +12,11 @@ use Rattle.store.specs.Tables.{Tables, fits, resourceCapacity, statementCapacit
 
 -- ---- both halves of a test
 
-and-l : (a b : Bool) → a && b ≡ true → a ≡ true
+pub and-l : (a b : Bool) → a && b ≡ true → a ≡ true
 and-l true b e = refl
 and-l false b e = e
 
-and-r : (a b : Bool) → a && b ≡ true → b ≡ true
+pub and-r : (a b : Bool) → a && b ≡ true → b ≡ true
 and-r true b e = e
 and-r false b e = absurd (false≢true e)
 

@@ -1,10 +1,14 @@
 // Words of a record at a position in general. Each function asks that its record lies in the table; the operations see to it.
+use store::NameRead;
 use store::Position;
+use store::Refusal;
 use store::ResourceId;
 use store::Triple;
 ghost use mathlib.Core.Path.{_≡_};
-ghost use Prim.Native.Nat.{ℕ, _-_, _<_};
+ghost use Prim.Native.Nat.{ℕ, _-_, _<_, _≤_, min};
+ghost use lib.ListN.{length};
 ghost use Rattle.store.specs.Tables.{off, termAt, nextAt, flagAt, tripleAt, firstAt, countAt, offsetAt, kindAt};
+ghost use Rattle.store.specs.Reading.{zeroFrom, spanTo};
 ghost use Rattle.table.specs.Held.{StatementHeld, ResourceHeld};
 
 // A position's word within a group of three.
@@ -91,4 +95,30 @@ pub fn kind_at(resources: &[u32], y: u32) -> u32
 {
     let i = crate::RESOURCE_WORDS * (y as usize - 1) + crate::KIND;
     resources[i]
+}
+
+// The lesser of two numbers.
+pub fn lesser(a: usize, b: usize) -> usize
+    ensures { λ r. ⌜ r ≡ min a b ⌝ }
+{
+    if a < b { a } else { b }
+}
+
+// The name that starts at an offset of the text: it is closed by a zero byte within 256 bytes and before `end`, or it is damaged.
+// The offset may be any word: nothing is read at or past `end`.
+pub fn span_at(text: &[u8], end: u32, from: u32) -> NameRead
+    requires { ⌜ end ≤ length (now text) ⌝ }
+    ensures { λ r. ⌜ r ≡ spanTo from (zeroFrom (now (text .entry)) end 256 from) ⌝ }
+{
+    let start = from as usize;
+    let stop = lesser(start + crate::NAME_WINDOW, end as usize);
+    let mut at = start;
+    // No byte from `start` up to `at` is zero.
+    while at < stop {
+        if text[at] == 0 {
+            return NameRead::Span(from, (at - start) as u32);
+        }
+        at += 1;
+    }
+    NameRead::Refused(Refusal::Damaged)
 }

@@ -9,8 +9,17 @@
 //
 // Records are numbered from 1. A record's words are read and written through `inner`, for a position in general.
 use store::Counters;
+use store::NameRead;
+use store::Refusal;
+use store::ResourceId;
+use store::StatementId;
+use store::StatementRead;
+use store::Triple;
 ghost use mathlib.Core.Path.{_≡_};
+ghost use Rattle.store.specs.Triple.{known};
 ghost use Rattle.store.specs.Tables.{tables, fits};
+ghost use Rattle.store.specs.Reading.{inRange, statementOf, nameSpanOf};
+ghost use Rattle.table.specs.Part.{partOf};
 
 pub mod inner;
 
@@ -29,6 +38,9 @@ pub const KIND: usize = 7;
 pub const NEXT: usize = 3;
 
 pub const FLAG: usize = 6;
+
+// A name of the longest kind and its zero byte.
+pub const NAME_WINDOW: usize = 256;
 
 // Whether no counter exceeds its capacity. Every operation of the store refuses 1 where this is false.
 pub fn fits(c: Counters, resources: &[u32], statements: &[u32], index: &[u32], text: &[u8]) -> bool
@@ -56,4 +68,99 @@ pub fn fits(c: Counters, resources: &[u32], statements: &[u32], index: &[u32], t
         return false;
     }
     b <= text.len()
+}
+
+// Whether x is one of the numbers 1 to n.
+pub fn in_range(n: u32, x: u32) -> bool
+    ensures { λ b. ⌜ b ≡ inRange n x ⌝ }
+{
+    if x == 0 {
+        return false;
+    }
+    x <= n
+}
+
+// Whether all three numbers are in 1 to n.
+pub fn known(n: u32, x: Triple) -> bool
+    ensures { λ b. ⌜ b ≡ known n x ⌝ }
+{
+    if !in_range(n, x.subject.0) {
+        return false;
+    }
+    if !in_range(n, x.predicate.0) {
+        return false;
+    }
+    in_range(n, x.object.0)
+}
+
+// Read a statement. Refusals: 1; 4 if the number is 0 or above T; 9 if a resource is outside 1..R or the flag exceeds 1.
+pub fn read_statement(
+    c: Counters,
+    resources: &[u32],
+    statements: &[u32],
+    index: &[u32],
+    text: &[u8],
+    n: StatementId,
+) -> StatementRead
+    ensures { λ r. ⌜ r ≡ statementOf c (tables (now (resources .entry)) (now (statements .entry)) (now (index .entry)) (now (text .entry))) n ⌝ }
+{
+    if !fits(c, resources, statements, index, text) {
+        return StatementRead::Refused(Refusal::Capacity);
+    }
+    if !in_range(c.statements, n.0) {
+        return StatementRead::Refused(Refusal::UnknownNumber);
+    }
+    let spo = inner::triple_at(statements, n.0);
+    if !known(c.resources, spo) {
+        return StatementRead::Refused(Refusal::Damaged);
+    }
+    let flag = inner::flag_at(statements, n.0);
+    if flag > 1 {
+        return StatementRead::Refused(Refusal::Damaged);
+    }
+    StatementRead::Is(spo, flag)
+}
+
+// Name of a number: where its bytes are in the text, the zero byte not included. Refusals: 1; 4 if the number is 0 or above R; 9 if the
+// offset is at or past B, or no zero byte follows within 256 bytes and before B.
+pub fn name_span(
+    c: Counters,
+    resources: &[u32],
+    statements: &[u32],
+    index: &[u32],
+    text: &[u8],
+    n: ResourceId,
+) -> NameRead
+    ensures { λ r. ⌜ r ≡ nameSpanOf c (tables (now (resources .entry)) (now (statements .entry)) (now (index .entry)) (now (text .entry))) n ⌝ }
+{
+    if !fits(c, resources, statements, index, text) {
+        return NameRead::Refused(Refusal::Capacity);
+    }
+    if !in_range(c.resources, n.0) {
+        return NameRead::Refused(Refusal::UnknownNumber);
+    }
+    let from = inner::offset_at(resources, n.0);
+    inner::span_at(text, c.text, from)
+}
+
+// Name of a number, as the part of the lent text that `name_span` tells; empty where it refuses. The part lives as long as the text is
+// lent: while it is in use nothing can be written to the text, so an intern may follow only once the part is no longer needed.
+pub fn name<'t>(
+    c: Counters,
+    resources: &[u32],
+    statements: &[u32],
+    index: &[u32],
+    text: &'t [u8],
+    n: ResourceId,
+) -> &'t [u8]
+    ensures { λ r. ⌜ now r ≡ partOf (now (text .entry)) (nameSpanOf c (tables (now (resources .entry)) (now (statements .entry)) (now (index .entry)) (now (text .entry))) n) ⌝ }
+{
+    match name_span(c, resources, statements, index, text, n) {
+        NameRead::Refused(_) => &text[..0],
+        NameRead::Span(start, size) => {
+            let from = start as usize;
+            let end = from + size as usize;
+            &text[from..end]
+        }
+    }
 }

@@ -1,0 +1,194 @@
+-- The contracts of find and intern, put together from the search: exact where the dictionary is sound, within the bound on any tables,
+-- one law for each way out of the code. Assumes nothing.
+use mathlib.Core.Path.{_≡_, refl, sym, ap, _∙_, subst}
+use mathlib.Core.Logic.{_≢_}
+use mathlib.Core.Bool.{Bool, true, false, cond, _&&_, false≢true, true≢false}
+use mathlib.Core.List.{List, [], _∷_, _++_}
+use Prim.Native.Nat.{ℕ, suc, zero, _+_, _-_, _*_, _/_, _<_, _≤_}
+use native.Mathlib.Omega.{arith}
+use lib.ListN.{length}
+use lib.Seq.{sets}
+use lib.Dec.{eqb, leb, ltb}
+use borrow.Author.Tests.{lt-ltb, le-ltb, ltb-true, ltb-false}
+use Rattle.term.specs.Scanner.{kindOf, firstKindOf}
+use Rattle.store.specs.declared.Counters.{Counters}
+use Rattle.store.specs.declared.Refusal.{Refusal}
+use Rattle.store.specs.declared.Refusal.the-variants.{Capacity, Malformed, Full, Damaged}
+use Rattle.store.specs.declared.IndexPlace.{IndexPlace}
+use Rattle.store.specs.declared.IndexPlace.the-variants.{At, Before, Torn}
+use Rattle.store.specs.declared.Lookup.{Lookup}
+use Rattle.store.specs.declared.Lookup.the-variants.{Number, Absent, Refused as NotFound}
+use Rattle.store.specs.declared.Interned.{Interned}
+use Rattle.store.specs.declared.Interned.the-variants.{Number as Id, Refused as NotInterned}
+use Rattle.store.specs.Tables.{Tables, tables, after, fits, word, resourceCapacity, statementCapacity, textCapacity, maxResources, resourceWords}
+use Rattle.store.specs.Reading.{inRange}
+use Rattle.store.specs.Model.{wellFormed}
+use Rattle.store.specs.Dictionary.{Named, PlaceWithin, indexPlaceOf, foundAs, findOf, FindAnswer, roomFor, oneNameMore, freshRecord, withName, internAs, internOf, InternWrites, InternAnswer}
+use Rattle.store.proofs.Tests.{decide, and-l, and-r}
+use Rattle.store.proofs.Form.{form-clean, form-kindOf}
+use Rattle.store.proofs.Interning.{writes-nothing, intern-as-writes, intern-as-refused}
+use Rattle.table.proofs.Capacity.{fits-room}
+use Rattle.table.proofs.Held.{from-one, up-to}
+use Rattle.dictionary.specs.Search.{Readable, compareOf, probeOf, middle, searchOf, searched}
+use Rattle.dictionary.specs.Extend.{Roomy, Extended}
+use Rattle.dictionary.specs.declared.Compared.{Compared}
+use Rattle.dictionary.specs.declared.Compared.the-variants.{Less, Same, More, Cut}
+use Rattle.dictionary.proofs.Named.{searched-is}
+
+-- ---- the search on any tables: a number in 1..R at an entry of the index, a position within it, or damage
+
+cut-same : Cut ≡ Same → ⊥
+cut-same e = let z : _≡_ {A = ℕ} 0 1 = cc in omega arith
+
+module _ (c : Counters) (res idx text w : List ℕ) where
+  probe-range : (k : ℕ) → probeOf c res idx text w k ≡ Same → inRange (c .resources) (word idx k) ≡ true
+  unfolding probeOf
+  probe-range k = decide (inRange (c .resources) (word idx k)) (λ q. rw q (λ e. refl)) (λ q. rw q (λ e. absurd (cut-same e)))
+
+  abbrev Bounded : ℕ → Type 0
+  Bounded f = (lo hi : ℕ) → lo ≤ hi → hi ≤ c .resources → PlaceWithin (c .resources) (searchOf c res idx text w f lo hi)
+
+  bounded-turn : (f lo hi : ℕ) → Bounded f → lo < hi → hi ≤ c .resources → (o : Compared) → probeOf c res idx text w (middle lo hi) ≡ o
+      → PlaceWithin (c .resources) (searchOf c res idx text w (suc f) lo hi)
+  unfolding searchOf
+  bounded-turn f lo hi ih lt b Less e = rw (searchOf, lt-ltb lo hi lt, e) (ih (middle lo hi + 1) hi (omega arith) b)
+  bounded-turn f lo hi ih lt b More e = rw (searchOf, lt-ltb lo hi lt, e) (ih lo (middle lo hi) (omega arith) (omega arith))
+  bounded-turn f lo hi ih lt b Same e =
+      let p = probe-range (middle lo hi) e in
+      rw (searchOf, lt-ltb lo hi lt, e) (from-one _ _ p, up-to _ _ p, omega arith)
+  bounded-turn f lo hi ih lt b Cut e = rw (searchOf, lt-ltb lo hi lt, e) tt
+
+  bounded : (f : ℕ) → Bounded f
+  unfolding searchOf
+  bounded zero lo hi a b = omega arith
+  bounded (suc f) lo hi a b =
+      decide (ltb lo hi)
+      (λ q. bounded-turn f lo hi (bounded f) (ltb-true lo hi q) b (probeOf c res idx text w (middle lo hi)) refl)
+      (λ q. rw (searchOf, q) (omega arith))
+
+  pub searched-within : PlaceWithin (c .resources) (searched c res idx text w)
+  searched-within = bounded 16 0 (c .resources) (omega arith) (omega arith)
+
+  pub miss-within : (k : ℕ) → Before k ≡ searched c res idx text w → k ≤ c .resources
+  miss-within k e = rw (← e) at searched-within
+
+-- ---- the tests of the code
+
+pub malformed : (w : List ℕ) (k : ℕ) → k ≡ kindOf 255 w → k ≡ 0 → wellFormed w ≡ false
+unfolding wellFormed
+malformed w k e z = le-ltb 0 (kindOf 255 w) (omega arith)
+
+pub formed : (w : List ℕ) (k : ℕ) → k ≡ kindOf 255 w → (k ≡ 0 → ⊥) → wellFormed w ≡ true
+unfolding wellFormed
+formed w k e z = lt-ltb 0 (kindOf 255 w) (omega (arith, e))
+
+module _ (c : Counters) (m : Tables) where
+  pub readable : fits c m ≡ true → Readable c (m .resources) (m .index) (m .text)
+  readable f =
+      let r = fits-room c m f in
+      record { few = r .few-resources; in-resources = r .in-resources; in-index = r .in-index; in-text = r .in-text }
+
+  -- room for one name more is refusal 1 of the counters with one name more
+  pub room-grown : (w : List ℕ) → fits c m ≡ true → roomFor c m w ≡ fits (oneNameMore c w) m
+  unfolding fits roomFor
+  room-grown w f =
+      let t = and-l (leb (c .statements) (statementCapacity m)) _ (and-r (leb (c .resources) (resourceCapacity m)) _ f) in rw t
+
+  pub roomy : (w : List ℕ) (k : ℕ) → fits (oneNameMore c w) m ≡ true → k ≤ c .resources
+      → Roomy c (m .resources) (m .index) (m .text) w k
+  roomy w k f h =
+      let r = fits-room (oneNameMore c w) m f in
+      record {
+        few = omega (arith, r .few-resources);
+        in-resources = r .in-resources;
+        in-index = omega (arith, r .in-index);
+        in-text = omega (arith, r .in-text);
+        within = h;
+      }
+
+-- ---- find
+
+module _ (c : Counters) (m : Tables) (w : List ℕ) (a : Lookup) where
+  pub find-capacity : fits c m ≡ false → a ≡ NotFound Capacity → FindAnswer c m w a
+  unfolding findOf
+  find-capacity f e = record {
+    capacity = λ g. e;
+    malformed = λ g. absurd (true≢false (sym g ∙ f));
+    exact = λ ns N. e ∙ rw f;
+    bounded = λ g. absurd (true≢false (sym g ∙ f));
+  }
+
+  pub find-malformed : fits c m ≡ true → wellFormed w ≡ false → a ≡ NotFound Malformed → FindAnswer c m w a
+  unfolding findOf
+  find-malformed f b e = record {
+    capacity = λ g. absurd (true≢false (sym f ∙ g));
+    malformed = λ g h. e;
+    exact = λ ns N. e ∙ rw (f, b);
+    bounded = λ g h. absurd (true≢false (sym h ∙ b));
+  }
+
+  pub find-searched : fits c m ≡ true → wellFormed w ≡ true → a ≡ foundAs (searched c (m .resources) (m .index) (m .text) w)
+      → FindAnswer c m w a
+  unfolding findOf
+  find-searched f b e = record {
+    capacity = λ g. absurd (true≢false (sym f ∙ g));
+    malformed = λ g h. absurd (true≢false (sym b ∙ h));
+    exact = λ ns N. e ∙ rw (f, b) (ap foundAs (searched-is ns c m N w (form-clean w b) (fits-room c m f .few-resources)));
+    bounded = λ g h. (searched c (m .resources) (m .index) (m .text) w, e, searched-within c (m .resources) (m .index) (m .text) w);
+  }
+
+-- ---- intern
+
+module _ (c : Counters) (m m′ : Tables) (w : List ℕ) (a : Interned) where
+  pub intern-capacity : fits c m ≡ false → after m′ a ≡ after m (NotInterned Capacity) → InternAnswer c m m′ w a
+  unfolding internOf
+  intern-capacity f e = record {
+    capacity = λ g. e;
+    malformed = λ g. absurd (true≢false (sym g ∙ f));
+    exact = λ ns N. e ∙ rw f;
+    bounded = λ g. absurd (true≢false (sym g ∙ f));
+    writes = subst (InternWrites c m) (sym (ap (λ (o : Tables × Interned). o .0) e)) (writes-nothing c m);
+    refused = λ q g. ap (λ (o : Tables × Interned). o .0) e;
+  }
+
+  pub intern-malformed : fits c m ≡ true → wellFormed w ≡ false → after m′ a ≡ after m (NotInterned Malformed) → InternAnswer c m m′ w a
+  unfolding internOf
+  intern-malformed f b e = record {
+    capacity = λ g. absurd (true≢false (sym f ∙ g));
+    malformed = λ g h. e;
+    exact = λ ns N. e ∙ rw (f, b);
+    bounded = λ g h. absurd (true≢false (sym h ∙ b));
+    writes = subst (InternWrites c m) (sym (ap (λ (o : Tables × Interned). o .0) e)) (writes-nothing c m);
+    refused = λ q g. ap (λ (o : Tables × Interned). o .0) e;
+  }
+
+  abbrev found : IndexPlace
+  found = searched c (m .resources) (m .index) (m .text) w
+
+  pub intern-searched : fits c m ≡ true → wellFormed w ≡ true → after m′ a ≡ internAs c m w found → InternAnswer c m m′ w a
+  unfolding internOf
+  intern-searched f b e = record {
+    capacity = λ g. absurd (true≢false (sym f ∙ g));
+    malformed = λ g h. absurd (true≢false (sym b ∙ h));
+    exact = λ ns N. e ∙ rw (f, b) (ap (internAs c m w) (searched-is ns c m N w (form-clean w b) (fits-room c m f .few-resources)));
+    bounded = λ g h. (found, e, searched-within c (m .resources) (m .index) (m .text) w);
+    writes = subst (InternWrites c m) (sym (ap (λ (o : Tables × Interned). o .0) e)) (intern-as-writes c m w found);
+    refused = λ q g. ap (λ (o : Tables × Interned). o .0) e
+        ∙ intern-as-refused c m w found q (sym (ap (λ (o : Tables × Interned). o .1) e) ∙ g);
+  }
+
+module _ (c : Counters) (m : Tables) (w : List ℕ) (f : fits c m ≡ true) (b : wellFormed w ≡ true) where
+  pub intern-full : (k : ℕ) → Before k ≡ searched c (m .resources) (m .index) (m .text) w → fits (oneNameMore c w) m ≡ false
+      → InternAnswer c m m w (NotInterned Full)
+  unfolding internAs
+  intern-full k s g = intern-searched c m m w (NotInterned Full) f b (rw (← s, room-grown c m w f, g))
+
+  -- the three writes are the definition's
+  pub intern-new : (k d : ℕ) (res′ idx′ text′ : List ℕ) (n : Counters) → Before k ≡ searched c (m .resources) (m .index) (m .text) w
+      → fits (oneNameMore c w) m ≡ true → n ≡ oneNameMore c w → d ≡ kindOf 255 w
+      → Extended c (m .resources) res′ (m .index) idx′ (m .text) text′ w k d
+      → InternAnswer c m (tables res′ (m .statements) idx′ text′) w (Id (record { 0 = n .resources }) n)
+  unfolding internAs
+  intern-new k d res′ idx′ text′ n s g e q x =
+      intern-searched c m (tables res′ (m .statements) idx′ text′) w _ f b
+      (rw (← s, room-grown c m w f, g, e, x .new-record, x .new-entry, x .new-name, q, form-kindOf w b))

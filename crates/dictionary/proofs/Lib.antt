@@ -1,0 +1,4 @@
+pub mod Steps
+pub mod Writes
+pub mod Named
+pub mod Answers

@@ -1,0 +1,20 @@
+use Rattle.store.specs.Reading.{inRange}
+use mathlib.Core.Path.{_≡_, refl, sym, ap, _∙_}
+use native.Mathlib.Omega.{arith}
+use borrow.Author.Tests.{eq-eqb, ne-eqb, lt-ltb, le-ltb, le-leb, lt-leb, not-true, not-false}
+use borrow.Author.Needs.{needs}
+use Rattle.table.proofs.in_range.Statement.{statement}
+use Rattle.table.proofs.in_range.Tie as tie
+use Rattle.table.proofs.in_range.Reads as reads
+use Rattle.table.proofs.in_range.Lts as lts
+
+returns : tie.Need-returns
+unfolding inRange
+returns c = rw (le-ltb 0 (c .before .args .x) (omega arith))
+
+returns-2 : tie.Need-returns-2
+unfolding inRange
+returns-2 c = rw (lt-ltb 0 (c .before .args .x) (omega arith))
+
+pub in-range-spec : {M : Type 1} → statement M
+in-range-spec = tie.close (tie.spec returns returns-2)
