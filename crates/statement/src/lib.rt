@@ -1,0 +1,3 @@
+// Statements and pattern scans.
+pub mod inner;
+pub mod triple;
