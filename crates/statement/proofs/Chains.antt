@@ -2,7 +2,7 @@
 -- Assumes nothing.
 use mathlib.Core.Path.{_≡_, refl, sym, ap, _∙_}
 use mathlib.Core.Bool.{Bool, true, false, cond, _&&_, _||_, false≢true}
-use mathlib.Core.List.{List}
+use mathlib.Core.List.{List, []}
 use mathlib.Core.Option.{Option, none, some}
 use Prim.Native.Nat.{ℕ, zero, suc, _+_, _-_, _*_, _≤_, _<_}
 use native.Mathlib.Omega.{arith}
@@ -14,14 +14,18 @@ use Rattle.store.specs.declared.Position.the-variants.{Subject, Predicate, Obje
 use Rattle.store.specs.declared.Chain.{Chain}
 use Rattle.store.specs.declared.Chain.the-variants.{All, By}
 use Rattle.store.specs.declared.Triple.{Triple}
-use Rattle.store.specs.Triple.{at, all3, known, within}
-use Rattle.store.specs.Tables.{resourceWords, statementWords, firstAt, countAt, flagAt, tripleAt}
+use Rattle.store.specs.Triple.{at, all3, known, within, same}
+use Rattle.store.specs.declared.Counters.{Counters}
+use Rattle.store.specs.Tables.{Tables, tables, resourceWords, statementWords, firstAt, countAt, flagAt, tripleAt}
 use Rattle.store.specs.Model.{better, pick}
-use Rattle.store.specs.Walk.{pickChain, pickable, startOf, linkOf, sits, visitable, walk, Step, found, ended, spent, afterVisit}
+use Rattle.store.specs.Walk.{pickChain, pickable, startOf, linkOf, sits, visitable, walk, Step, found, ended, spent, afterVisit, foundIn}
+use Rattle.store.specs.Statement.{seek, locate}
 use Rattle.statement.specs.declared.inner.Sought.{Sought}
+use Rattle.statement.specs.declared.inner.Sought.the-variants.{Same}
+use Rattle.statement.specs.declared.inner.Walked.{Walked}
 use Rattle.statement.specs.declared.inner.Visited.{Visited}
 use Rattle.statement.specs.declared.inner.Visited.the-variants.{Damaged as Torn, Hit, Miss}
-use Rattle.statement.specs.Chains.{PatternHeld, bound, hits, visitOf}
+use Rattle.statement.specs.Chains.{PatternHeld, bound, hits, visitOf, stepOf}
 
 -- ---- tests
 
@@ -211,3 +215,91 @@ module _ (k : Sought) (r : ℕ) (stm : List ℕ) (ch : Chain) (x : Triple) where
       let b = and-l l f (and-r (sits stm ch x i) (l && f) (and-r (known r (tripleAt stm i)) (sits stm ch x i && (l && f)) (a .0))) in
       let d = leb-true (linkOf stm ch i) i b in
       omega arith
+
+-- ---- the record found
+
+-- a walk's record, 0 for none
+abbrev numberIn : Option Step → ℕ
+numberIn none = 0
+numberIn (some s) = foundIn s
+
+number-after : (s : Option Step) → numberIn (afterVisit s) ≡ numberIn s
+number-after none = refl
+number-after (some (found n w r)) = refl
+number-after (some (ended w)) = refl
+number-after (some (spent w r)) = refl
+
+-- a walk over falling links finds no record above its first
+walk-within : (link : ℕ → ℕ) (ok hit : ℕ → Bool) → ((i : ℕ) → ok i ≡ true → link i ≤ i) → (b n : ℕ) → numberIn (walk link ok hit b n) ≤ n
+unfolding walk
+walk-within link ok hit falls zero zero = omega arith
+walk-within link ok hit falls zero (suc i) = omega arith
+walk-within link ok hit falls (suc b) zero = omega arith
+walk-within link ok hit falls (suc b) (suc i) = visited (ok i) (hit i) (falls i) (walk-within link ok hit falls b (link i))
+  where
+    visited : (o h : Bool) → (o ≡ true → link i ≤ i) → numberIn (walk link ok hit b (link i)) ≤ link i
+        → numberIn (elim o [ false ↦ none | true ↦ elim h [ true ↦ some (found (suc i) 1 (link i)) | false ↦ afterVisit (walk link ok hit b (link i)) ] ]) ≤ suc i
+    visited false h f d = omega arith
+    visited true true f d = omega arith
+    visited true false f d = let e = f refl in rw (number-after (walk link ok hit b (link i))) (omega arith)
+
+-- a record that can be visited has a falling link
+falling : (r : ℕ) (stm : List ℕ) (ch : Chain) (x : Triple) (i : ℕ) → visitable r stm ch x i ≡ true → linkOf stm ch i ≤ i
+unfolding visitable
+falling r stm ch x i e =
+    let l = leb (linkOf stm ch i) i in
+    let f = leb (flagAt stm i) 1 in
+    leb-true (linkOf stm ch i) i (and-l l f (and-r (sits stm ch x i) (l && f) (and-r (known r (tripleAt stm i)) (sits stm ch x i && (l && f)) e)))
+
+-- what is located, of what a walk comes to
+abbrev pub located : Option Step → Option ℕ
+located none = none
+located (some s) = some (foundIn s)
+
+module _ (c : Counters) (m : Tables) (x : Triple) where
+  pub locate-torn : pickable (c .statements) (m .resources) x ≡ false → locate c m x ≡ none
+  unfolding locate
+  locate-torn e = rw e
+
+  opened : (s : Option Step) → elim s [ none ↦ none | some s ↦ some (foundIn s) ] ≡ located s
+  opened none = refl
+  opened (some s) = refl
+
+  locate-seek : pickable (c .statements) (m .resources) x ≡ true → locate c m x ≡ located (seek c m x)
+  unfolding locate
+  locate-seek e = rw e (opened (seek c m x))
+
+  -- the walk that code makes, from the chain picked and its first record
+  pub locate-walk : (a : Walked) (ch : Chain) (n : ℕ) → pickable (c .statements) (m .resources) x ≡ true
+      → ch ≡ pickChain (m .resources) x → n ≡ startOf (c .statements) (m .resources) ch x
+      → stepOf a ≡ walk (linkOf (m .statements) ch) (visitable (c .resources) (m .statements) ch x) (hits Same (m .statements) x) (c .statements) n
+      → locate c m x ≡ located (stepOf a)
+  unfolding seek hits
+  locate-walk a ch n p d e w = let s : stepOf a ≡ seek c m x = w ∙ rw (e, d) in locate-seek p ∙ ap located (sym s)
+
+  pub locate-pickable : (n : ℕ) → locate c m x ≡ some n → pickable (c .statements) (m .resources) x ≡ true
+  unfolding locate
+  locate-pickable n e = shape (pickable (c .statements) (m .resources) x) _ e
+    where
+      shape : (b : Bool) (o : Option ℕ) → cond b o none ≡ some n → b ≡ true
+      shape true o e = refl
+      shape false o e = let z : _≡_ {A = ℕ} 0 1 = cc in absurd (omega arith)
+
+  pub locate-within : (n : ℕ) → locate c m x ≡ some n → n ≤ c .statements
+  unfolding seek
+  locate-within n e =
+      let p = locate-pickable n e in
+      let ch = pickChain (m .resources) x in
+      let s = start-within (c .statements) (m .resources) x p ch (pick-bound (m .resources) x) in
+      let w = walk-within (linkOf (m .statements) ch) (visitable (c .resources) (m .statements) ch x) (λ i. same x (tripleAt (m .statements) i)) (falling (c .resources) (m .statements) ch x) (c .statements) (startOf (c .statements) (m .resources) ch x) in
+      let d = number (seek c m x) (sym (locate-seek p) ∙ e) in
+      omega arith
+    where
+      number : (s : Option Step) → located s ≡ some n → numberIn s ≡ n
+      number none e = let z : _≡_ {A = ℕ} 0 1 = cc in absurd (omega arith)
+      number (some s) e = cc
+
+-- the index and the text are not read
+pub locate-any : (c : Counters) (res stm index text : List ℕ) (x : Triple) → locate c (tables res stm index text) x ≡ locate c (tables res stm [] []) x
+unfolding locate seek
+locate-any c res stm index text x = refl
