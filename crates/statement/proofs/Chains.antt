@@ -1,0 +1,305 @@
+-- Laws of the pick and the walk: what is picked is bound and starts within T; the walk at each way out of a turn, and its next turn.
+-- Assumes nothing.
+use mathlib.Core.Path.{_≡_, refl, sym, ap, _∙_}
+use mathlib.Core.Bool.{Bool, true, false, cond, _&&_, _||_, false≢true}
+use mathlib.Core.List.{List, []}
+use mathlib.Core.Option.{Option, none, some}
+use Prim.Native.Nat.{ℕ, zero, suc, _+_, _-_, _*_, _≤_, _<_}
+use native.Mathlib.Omega.{arith}
+use lib.ListN.{length}
+use lib.Dec.{eqb, leb, ltb}
+use borrow.Author.Tests.{ltb-true, leb-true, eqb-true, eqb-false, lt-ltb, le-leb, eq-eqb, ne-eqb}
+use Rattle.store.specs.declared.Position.{Position}
+use Rattle.store.specs.declared.Position.the-variants.{Subject, Predicate, Object}
+use Rattle.store.specs.declared.Chain.{Chain}
+use Rattle.store.specs.declared.Chain.the-variants.{All, By}
+use Rattle.store.specs.declared.Triple.{Triple}
+use Rattle.store.specs.Triple.{at, all3, known, within, same}
+use Rattle.store.specs.declared.Counters.{Counters}
+use Rattle.store.specs.Tables.{Tables, tables, resourceWords, statementWords, firstAt, countAt, flagAt, tripleAt}
+use Rattle.store.specs.Model.{better, pick}
+use Rattle.store.specs.Walk.{pickChain, pickable, startOf, linkOf, sits, visitable, walk, Step, found, ended, spent, afterVisit, foundIn}
+use Rattle.store.specs.Statement.{seek, locate}
+use Rattle.statement.specs.declared.inner.Sought.{Sought}
+use Rattle.statement.specs.declared.inner.Sought.the-variants.{Same}
+use Rattle.statement.specs.declared.inner.Walked.{Walked}
+use Rattle.statement.specs.declared.inner.Visited.{Visited}
+use Rattle.statement.specs.declared.inner.Visited.the-variants.{Damaged as Torn, Hit, Miss}
+use Rattle.statement.specs.Chains.{PatternHeld, bound, hits, visitOf, stepOf}
+
+-- ---- tests
+
+pub and-l : (a b : Bool) → a && b ≡ true → a ≡ true
+and-l true b e = refl
+and-l false b e = e
+
+pub and-r : (a b : Bool) → a && b ≡ true → b ≡ true
+and-r true b e = e
+and-r false b e = absurd (false≢true e)
+
+-- one half of a test is false, so the other holds
+or-r : (a b : Bool) → a || b ≡ true → a ≡ false → b ≡ true
+or-r true b e f = absurd (false≢true (sym f))
+or-r false b e f = e
+
+-- a test of each position, at one
+pub at-one : (f : Position → Bool) → all3 f ≡ true → (p : Position) → f p ≡ true
+at-one f e Subject = and-l (f Subject) _ e
+at-one f e Predicate = and-l (f Predicate) (f Object) (and-r (f Subject) _ e)
+at-one f e Object = and-r (f Predicate) (f Object) (and-r (f Subject) _ e)
+
+-- ---- numbers within R
+
+pub known-one : (n : ℕ) (x : Triple) → known n x ≡ true → (p : Position) → 1 ≤ at p x
+unfolding known
+known-one n x e p = ltb-true 0 (at p x) (and-l _ (leb (at p x) n) (at-one (λ q. ltb 0 (at q x) && leb (at q x) n) e p))
+
+pub known-most : (n : ℕ) (x : Triple) → known n x ≡ true → (p : Position) → at p x ≤ n
+unfolding known
+known-most n x e p = leb-true (at p x) n (and-r (ltb 0 (at p x)) _ (at-one (λ q. ltb 0 (at q x) && leb (at q x) n) e p))
+
+pub within-most : (n : ℕ) (x : Triple) → within n x ≡ true → (p : Position) → at p x ≤ n
+unfolding within
+within-most n x e p = leb-true (at p x) n (at-one (λ q. leb (at q x) n) e p)
+
+-- a pattern within R lies in a table of R records
+pub held : (res : List ℕ) (n : ℕ) (x : Triple) → resourceWords * n ≤ length res → ((p : Position) → at p x ≤ n) → PatternHeld res x
+held res n x h f = record { each = λ p. let q = f p in omega arith }
+
+-- ---- the pick
+
+module _ (x : Triple) (cost : Position → ℕ) where
+  pub better-bound : (q : Position) (ch : Chain) → bound ch x ≡ true → bound (better x cost q ch) x ≡ true
+  unfolding better bound
+  better-bound q All e = decide (eqb (at q x) 0) refl
+    where
+      decide : (t : Bool) → eqb (at q x) 0 ≡ t → bound (cond (eqb (at q x) 0) All (By q)) x ≡ true
+      decide true d = rw d
+      decide false d = rw d (lt-ltb 0 (at q x) (let z = eqb-false (at q x) 0 d in omega arith))
+  better-bound q (By p) e = decide (eqb (at q x) 0) refl
+    where
+      less : (t : Bool) → ltb 0 (at q x) ≡ true → bound (cond t (By q) (By p)) x ≡ true
+      less true h = h
+      less false h = e
+
+      decide : (t : Bool) → eqb (at q x) 0 ≡ t → bound (cond (eqb (at q x) 0) (By p) (cond (ltb (cost q) (cost p)) (By q) (By p))) x ≡ true
+      decide true d = rw d e
+      decide false d = rw d (less (ltb (cost q) (cost p)) (lt-ltb 0 (at q x) (let z = eqb-false (at q x) 0 d in omega arith)))
+
+-- a position that is not bound changes nothing
+pub better-unbound : (x : Triple) (cost : Position → ℕ) (q : Position) (ch : Chain) → at q x ≡ 0 → ch ≡ better x cost q ch
+unfolding better
+better-unbound x cost q All e = rw (eq-eqb (at q x) 0 e)
+better-unbound x cost q (By p) e = rw (eq-eqb (at q x) 0 e)
+
+pub bound-all : (x : Triple) → bound All x ≡ true
+unfolding bound
+bound-all x = refl
+
+pub bound-at : (x : Triple) (ch : Chain) (p : Position) → ch ≡ By p → bound ch x ≡ true → 1 ≤ at p x
+unfolding bound
+bound-at x ch p d e = ltb-true 0 (at p x) (rw d at e)
+
+pub pick-bound : (res : List ℕ) (x : Triple) → bound (pickChain res x) x ≡ true
+unfolding pickChain pick
+pick-bound res x =
+    let f : Position → ℕ = λ q. countAt res q (at q x) in
+    better-bound x f Object _ (better-bound x f Predicate _ (better-bound x f Subject All (bound-all x)))
+
+-- the first record of a bound chain that can be picked is within T
+pub start-within : (t : ℕ) (res : List ℕ) (x : Triple) → pickable t res x ≡ true → (ch : Chain) → bound ch x ≡ true → startOf t res ch x ≤ t
+unfolding pickable startOf bound
+start-within t res x e All h = omega arith
+start-within t res x e (By p) h =
+    let f : Position → Bool = λ q. eqb (at q x) 0 || (leb (countAt res q (at q x)) t && leb (firstAt res q (at q x)) t) in
+    let b = ltb-true 0 (at p x) h in
+    leb-true (firstAt res p (at p x)) t (and-r (leb (countAt res p (at p x)) t) _ (or-r (eqb (at p x) 0) _ (at-one f e p) (ne-eqb (at p x) 0 (omega arith))))
+
+-- the count at a bound position of a pattern that can be picked is within T
+pub count-within : (t : ℕ) (res : List ℕ) (x : Triple) → pickable t res x ≡ true → (p : Position) → 1 ≤ at p x → countAt res p (at p x) ≤ t
+unfolding pickable
+count-within t res x e p h =
+    let f : Position → Bool = λ q. eqb (at q x) 0 || (leb (countAt res q (at q x)) t && leb (firstAt res q (at q x)) t) in
+    leb-true (countAt res p (at p x)) t (and-l _ (leb (firstAt res p (at p x)) t) (or-r (eqb (at p x) 0) _ (at-one f e p) (ne-eqb (at p x) 0 (omega arith))))
+
+-- ---- the walk
+
+-- v visits more
+abbrev pub plus : ℕ → Option Step → Option Step
+plus v none = none
+plus v (some (found n w r)) = some (found n (v + w) r)
+plus v (some (ended w)) = some (ended (v + w))
+plus v (some (spent w r)) = some (spent (v + w) r)
+
+pub plus-none : (s : Option Step) → plus 0 s ≡ s
+plus-none none = refl
+plus-none (some (found n w r)) = ap (λ (z : ℕ). some (found n z r)) (omega arith)
+plus-none (some (ended w)) = ap (λ (z : ℕ). some (ended z)) (omega arith)
+plus-none (some (spent w r)) = ap (λ (z : ℕ). some (spent z r)) (omega arith)
+
+plus-after : (v : ℕ) (s : Option Step) → plus v (afterVisit s) ≡ plus (v + 1) s
+plus-after v none = refl
+plus-after v (some (found n w r)) = ap (λ (z : ℕ). some (found n z r)) (omega arith)
+plus-after v (some (ended w)) = ap (λ (z : ℕ). some (ended z)) (omega arith)
+plus-after v (some (spent w r)) = ap (λ (z : ℕ). some (spent z r)) (omega arith)
+
+-- what a visit's tests were
+torn : (a b : Bool) (m : ℕ) → cond a (cond b (Hit m) (Miss m)) Torn ≡ Torn → a ≡ false
+torn true true m e = let z : _≡_ {A = ℕ} 0 1 = cc in absurd (omega arith)
+torn true false m e = let z : _≡_ {A = ℕ} 0 1 = cc in absurd (omega arith)
+torn false b m e = refl
+
+hit : (a b : Bool) (m k : ℕ) → cond a (cond b (Hit m) (Miss m)) Torn ≡ Hit k → (a ≡ true) × (b ≡ true) × (m ≡ k)
+hit true true m k e = (refl, refl, cc)
+hit true false m k e = let z : _≡_ {A = ℕ} 0 1 = cc in absurd (omega arith)
+hit false b m k e = let z : _≡_ {A = ℕ} 0 1 = cc in absurd (omega arith)
+
+miss : (a b : Bool) (m k : ℕ) → cond a (cond b (Hit m) (Miss m)) Torn ≡ Miss k → (a ≡ true) × (b ≡ false) × (m ≡ k)
+miss true true m k e = let z : _≡_ {A = ℕ} 0 1 = cc in absurd (omega arith)
+miss true false m k e = (refl, refl, cc)
+miss false b m k e = let z : _≡_ {A = ℕ} 0 1 = cc in absurd (omega arith)
+
+module _ (k : Sought) (r : ℕ) (stm : List ℕ) (ch : Chain) (x : Triple) where
+  -- the walk from record n with `left` visits left, v visits made
+  abbrev pub onward : ℕ → ℕ → ℕ → Option Step
+  onward v left n = plus v (walk (linkOf stm ch) (visitable r stm ch x) (hits k stm x) left n)
+
+  pub walk-ended : (v left n : ℕ) → n ≡ 0 → onward v left n ≡ some (ended v)
+  unfolding walk
+  walk-ended v zero zero e = ap (λ (z : ℕ). some (ended z)) (omega arith)
+  walk-ended v (suc b) zero e = ap (λ (z : ℕ). some (ended z)) (omega arith)
+  walk-ended v left (suc i) e = absurd (omega arith)
+
+  pub walk-spent : (v left n : ℕ) → (n ≡ 0 → ⊥) → left ≡ 0 → onward v left n ≡ some (spent v n)
+  unfolding walk
+  walk-spent v left zero h e = absurd (h refl)
+  walk-spent v zero (suc i) h e = ap (λ (z : ℕ). some (spent z (suc i))) (omega arith)
+  walk-spent v (suc b) (suc i) h e = absurd (omega arith)
+
+  pub walk-torn : (v left n : ℕ) → (n ≡ 0 → ⊥) → (left ≡ 0 → ⊥) → visitOf k r stm ch x (n - 1) ≡ Torn → onward v left n ≡ none
+  unfolding walk visitOf
+  walk-torn v left zero h f e = absurd (h refl)
+  walk-torn v zero (suc i) h f e = absurd (f refl)
+  walk-torn v (suc b) (suc i) h f e =
+      let d : suc i - 1 ≡ i = omega arith in
+      let a = torn (visitable r stm ch x i) (hits k stm x i) (linkOf stm ch i) (rw d at e) in
+      rw (walk, a)
+
+  pub walk-hit : (v left n m : ℕ) → (n ≡ 0 → ⊥) → (left ≡ 0 → ⊥) → visitOf k r stm ch x (n - 1) ≡ Hit m → onward v left n ≡ some (found n (v + 1) m)
+  unfolding walk visitOf
+  walk-hit v left zero m h f e = absurd (h refl)
+  walk-hit v zero (suc i) m h f e = absurd (f refl)
+  walk-hit v (suc b) (suc i) m h f e =
+      let d : suc i - 1 ≡ i = omega arith in
+      let a = hit (visitable r stm ch x i) (hits k stm x i) (linkOf stm ch i) m (rw d at e) in
+      rw (walk, a .0, a .1, a .2)
+
+  pub walk-miss : (v left n m : ℕ) → (n ≡ 0 → ⊥) → (left ≡ 0 → ⊥) → visitOf k r stm ch x (n - 1) ≡ Miss m → onward v left n ≡ onward (v + 1) (left - 1) m
+  unfolding walk visitOf
+  walk-miss v left zero m h f e = absurd (h refl)
+  walk-miss v zero (suc i) m h f e = absurd (f refl)
+  walk-miss v (suc b) (suc i) m h f e =
+      let d : suc i - 1 ≡ i = omega arith in
+      let g : suc b - 1 ≡ b = omega arith in
+      let a = miss (visitable r stm ch x i) (hits k stm x i) (linkOf stm ch i) m (rw d at e) in
+      rw (walk, a .0, a .1, a .2, g) (plus-after v (walk (linkOf stm ch) (visitable r stm ch x) (hits k stm x) b m))
+
+  -- a visit that goes on gives a lower record
+  pub visit-falls : (n m : ℕ) → (n ≡ 0 → ⊥) → visitOf k r stm ch x (n - 1) ≡ Miss m → m < n
+  unfolding visitOf visitable
+  visit-falls n m h e =
+      let i = n - 1 in
+      let l = leb (linkOf stm ch i) i in
+      let f = leb (flagAt stm i) 1 in
+      let a = miss (visitable r stm ch x i) (hits k stm x i) (linkOf stm ch i) m e in
+      let b = and-l l f (and-r (sits stm ch x i) (l && f) (and-r (known r (tripleAt stm i)) (sits stm ch x i && (l && f)) (a .0))) in
+      let d = leb-true (linkOf stm ch i) i b in
+      omega arith
+
+-- ---- the record found
+
+-- a walk's record, 0 for none
+abbrev numberIn : Option Step → ℕ
+numberIn none = 0
+numberIn (some s) = foundIn s
+
+number-after : (s : Option Step) → numberIn (afterVisit s) ≡ numberIn s
+number-after none = refl
+number-after (some (found n w r)) = refl
+number-after (some (ended w)) = refl
+number-after (some (spent w r)) = refl
+
+-- a walk over falling links finds no record above its first
+walk-within : (link : ℕ → ℕ) (ok hit : ℕ → Bool) → ((i : ℕ) → ok i ≡ true → link i ≤ i) → (b n : ℕ) → numberIn (walk link ok hit b n) ≤ n
+unfolding walk
+walk-within link ok hit falls zero zero = omega arith
+walk-within link ok hit falls zero (suc i) = omega arith
+walk-within link ok hit falls (suc b) zero = omega arith
+walk-within link ok hit falls (suc b) (suc i) = visited (ok i) (hit i) (falls i) (walk-within link ok hit falls b (link i))
+  where
+    visited : (o h : Bool) → (o ≡ true → link i ≤ i) → numberIn (walk link ok hit b (link i)) ≤ link i
+        → numberIn (elim o [ false ↦ none | true ↦ elim h [ true ↦ some (found (suc i) 1 (link i)) | false ↦ afterVisit (walk link ok hit b (link i)) ] ]) ≤ suc i
+    visited false h f d = omega arith
+    visited true true f d = omega arith
+    visited true false f d = let e = f refl in rw (number-after (walk link ok hit b (link i))) (omega arith)
+
+-- a record that can be visited has a falling link
+falling : (r : ℕ) (stm : List ℕ) (ch : Chain) (x : Triple) (i : ℕ) → visitable r stm ch x i ≡ true → linkOf stm ch i ≤ i
+unfolding visitable
+falling r stm ch x i e =
+    let l = leb (linkOf stm ch i) i in
+    let f = leb (flagAt stm i) 1 in
+    leb-true (linkOf stm ch i) i (and-l l f (and-r (sits stm ch x i) (l && f) (and-r (known r (tripleAt stm i)) (sits stm ch x i && (l && f)) e)))
+
+-- what is located, of what a walk comes to
+abbrev pub located : Option Step → Option ℕ
+located none = none
+located (some s) = some (foundIn s)
+
+module _ (c : Counters) (m : Tables) (x : Triple) where
+  pub locate-torn : pickable (c .statements) (m .resources) x ≡ false → locate c m x ≡ none
+  unfolding locate
+  locate-torn e = rw e
+
+  opened : (s : Option Step) → elim s [ none ↦ none | some s ↦ some (foundIn s) ] ≡ located s
+  opened none = refl
+  opened (some s) = refl
+
+  locate-seek : pickable (c .statements) (m .resources) x ≡ true → locate c m x ≡ located (seek c m x)
+  unfolding locate
+  locate-seek e = rw e (opened (seek c m x))
+
+  -- the walk that code makes, from the chain picked and its first record
+  pub locate-walk : (a : Walked) (ch : Chain) (n : ℕ) → pickable (c .statements) (m .resources) x ≡ true
+      → ch ≡ pickChain (m .resources) x → n ≡ startOf (c .statements) (m .resources) ch x
+      → stepOf a ≡ walk (linkOf (m .statements) ch) (visitable (c .resources) (m .statements) ch x) (hits Same (m .statements) x) (c .statements) n
+      → locate c m x ≡ located (stepOf a)
+  unfolding seek hits
+  locate-walk a ch n p d e w = let s : stepOf a ≡ seek c m x = w ∙ rw (e, d) in locate-seek p ∙ ap located (sym s)
+
+  pub locate-pickable : (n : ℕ) → locate c m x ≡ some n → pickable (c .statements) (m .resources) x ≡ true
+  unfolding locate
+  locate-pickable n e = shape (pickable (c .statements) (m .resources) x) _ e
+    where
+      shape : (b : Bool) (o : Option ℕ) → cond b o none ≡ some n → b ≡ true
+      shape true o e = refl
+      shape false o e = let z : _≡_ {A = ℕ} 0 1 = cc in absurd (omega arith)
+
+  pub locate-within : (n : ℕ) → locate c m x ≡ some n → n ≤ c .statements
+  unfolding seek
+  locate-within n e =
+      let p = locate-pickable n e in
+      let ch = pickChain (m .resources) x in
+      let s = start-within (c .statements) (m .resources) x p ch (pick-bound (m .resources) x) in
+      let w = walk-within (linkOf (m .statements) ch) (visitable (c .resources) (m .statements) ch x) (λ i. same x (tripleAt (m .statements) i)) (falling (c .resources) (m .statements) ch x) (c .statements) (startOf (c .statements) (m .resources) ch x) in
+      let d = number (seek c m x) (sym (locate-seek p) ∙ e) in
+      omega arith
+    where
+      number : (s : Option Step) → located s ≡ some n → numberIn s ≡ n
+      number none e = let z : _≡_ {A = ℕ} 0 1 = cc in absurd (omega arith)
+      number (some s) e = cc
+
+-- the index and the text are not read
+pub locate-any : (c : Counters) (res stm index text : List ℕ) (x : Triple) → locate c (tables res stm index text) x ≡ locate c (tables res stm [] []) x
+unfolding locate seek
+locate-any c res stm index text x = refl

@@ -1,0 +1,3 @@
+pub mod Chains
+pub mod Operations
+pub mod Records

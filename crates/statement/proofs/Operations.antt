@@ -1,0 +1,175 @@
+-- Laws of the operations: what counters within capacity give, and each operation by what was found before anything is written.
+-- Assumes nothing.
+use mathlib.Core.Path.{_≡_, refl, sym, ap, _∙_}
+use mathlib.Core.Bool.{Bool, true, false, cond, not, _&&_}
+use mathlib.Core.List.{List, []}
+use mathlib.Core.Option.{Option, none, some}
+use Prim.Native.Nat.{ℕ, zero, suc, _+_, _-_, _*_, _≤_, _<_}
+use native.Mathlib.Omega.{arith}
+use lib.ListN.{length}
+use lib.Dec.{eqb, leb, ltb}
+use borrow.Author.Tests.{leb-true, ne-eqb, lt-ltb}
+use Rattle.store.specs.declared.Counters.{Counters}
+use Rattle.store.specs.declared.Position.{Position}
+use Rattle.store.specs.declared.Chain.{Chain}
+use Rattle.store.specs.declared.Triple.{Triple}
+use Rattle.store.specs.declared.ScanCursor.{ScanCursor}
+use Rattle.store.specs.declared.StatementId.{StatementId}
+use Rattle.store.specs.declared.Refusal.{Refusal}
+use Rattle.store.specs.declared.Refusal.the-variants.{Capacity, UnknownNumber, KindNotPermitted, Damaged}
+use Rattle.store.specs.declared.Asserted.{Asserted}
+use Rattle.store.specs.declared.Asserted.the-variants.{Refused as NotAsserted}
+use Rattle.store.specs.declared.Retracted.{Retracted}
+use Rattle.store.specs.declared.Retracted.the-variants.{Refused as NotRetracted}
+use Rattle.store.specs.Triple.{at, known, within, permitted}
+use Rattle.store.specs.Tables.{Tables, fits, resourceWords, statementWords, kindAt, maxStatements}
+use Rattle.store.specs.Walk.{linkOf, sits, visitable, walk}
+use Rattle.store.specs.Statement.{locate, kinded, asserting, assertOf, retracting, retractOf}
+use Rattle.store.specs.Scan.{chainOk, recordOk, cursorOk, walkFrom, scannedAs, nextOf}
+use Rattle.table.specs.Held.{StatementHeld, ResourceHeld}
+use Rattle.table.proofs.Capacity.{Room, fits-room}
+use Rattle.statement.specs.declared.inner.Sought.the-variants.{LiveMatch}
+use Rattle.statement.specs.declared.inner.Walked.{Walked}
+use Rattle.statement.specs.declared.inner.Located.{Located}
+use Rattle.statement.specs.declared.inner.Located.the-variants.{Refused, At}
+use Rattle.statement.specs.Chains.{PatternHeld, TripleHeld, hits, stepOf, locatedAs}
+use Rattle.statement.specs.Operations.{Linkable, Appendable, assertTarget, retractTarget}
+use Rattle.statement.proofs.Chains.{and-l, and-r, known-one, known-most, within-most, held, count-within, locate-pickable, locate-within}
+
+-- ---- counters within capacity
+
+module _ (c : Counters) (m : Tables) (e : fits c m ≡ true) where
+  pub statements-in : statementWords * c .statements ≤ length (m .statements)
+  statements-in = fits-room c m e .in-statements
+
+  pub within-held : (x : Triple) → within (c .resources) x ≡ true → PatternHeld (m .resources) x
+  within-held x d = held (m .resources) (c .resources) x (fits-room c m e .in-resources) (within-most (c .resources) x d)
+
+  pub known-pattern : (x : Triple) → known (c .resources) x ≡ true → PatternHeld (m .resources) x
+  known-pattern x d = held (m .resources) (c .resources) x (fits-room c m e .in-resources) (known-most (c .resources) x d)
+
+  pub known-held : (x : Triple) → known (c .resources) x ≡ true → TripleHeld (m .resources) x
+  known-held x d = record { each = λ p. record { from-one = known-one (c .resources) x d p; whole = known-pattern x d .each p } }
+
+  -- the record located lies in its table
+  pub located-in : (x : Triple) (n : ℕ) → locate c m x ≡ some n → statementWords * n ≤ length (m .statements)
+  located-in x n d = let h = locate-within c m x n d in let r = statements-in in omega arith
+
+  -- where a triple is located, a new record can be linked
+  pub appendable : (x : Triple) (n : ℕ) → known (c .resources) x ≡ true → locate c m x ≡ some n → Appendable c (m .resources) x
+  appendable x n d l = record {
+    few = fits-room c m e .few-statements;
+    each = λ p. record {
+      resource-in = known-held x d .each p;
+      grows =
+          let h = count-within (c .statements) (m .resources) x (locate-pickable c m x n l) p (known-one (c .resources) x d p) in
+          let f = fits-room c m e .few-statements in
+          omega arith;
+    };
+  }
+
+-- ---- assert and retract, by what was found
+
+module _ (c : Counters) (m : Tables) (x : Triple) where
+  abbrev assertBy : Located → Tables × Asserted
+  assertBy (Refused e) = (m, NotAsserted e)
+  assertBy (At n) = asserting c m x (n .0)
+
+  assert-by : assertOf c m x ≡ assertBy (assertTarget c m x)
+  unfolding assertOf assertTarget
+  assert-by = by (fits c m) (known (c .resources) x) (kinded (m .resources) x) (permitted (kindAt (m .resources)) x) (locate c m x)
+    where
+      by : (a b d f : Bool) (o : Option ℕ)
+          → cond a (cond b (cond d (cond f (elim o [ none ↦ (m, NotAsserted Damaged) | some n ↦ asserting c m x n ]) (m, NotAsserted KindNotPermitted)) (m, NotAsserted Damaged)) (m, NotAsserted UnknownNumber)) (m, NotAsserted Capacity)
+          ≡ assertBy (cond a (cond b (cond d (cond f (locatedAs o) (Refused KindNotPermitted)) (Refused Damaged)) (Refused UnknownNumber)) (Refused Capacity))
+      by false b d f o = refl
+      by true false d f o = refl
+      by true true false f o = refl
+      by true true true false o = refl
+      by true true true true none = refl
+      by true true true true (some n) = refl
+
+  pub assert-refused : (r : Refusal) → assertTarget c m x ≡ Refused r → (m, NotAsserted r) ≡ assertOf c m x
+  assert-refused r e = sym (assert-by ∙ ap assertBy e)
+
+  pub assert-at : (n : StatementId) → assertTarget c m x ≡ At n → asserting c m x (n .0) ≡ assertOf c m x
+  assert-at n e = sym (assert-by ∙ ap assertBy e)
+
+  pub assert-found : (n : StatementId) → assertTarget c m x ≡ At n → (fits c m ≡ true) × (known (c .resources) x ≡ true) × (locate c m x ≡ some (n .0))
+  unfolding assertTarget
+  assert-found n e = shape (fits c m) (known (c .resources) x) (kinded (m .resources) x) (permitted (kindAt (m .resources)) x) (locate c m x) e
+    where
+      shape : (a b d f : Bool) (o : Option ℕ) → cond a (cond b (cond d (cond f (locatedAs o) (Refused KindNotPermitted)) (Refused Damaged)) (Refused UnknownNumber)) (Refused Capacity) ≡ At n
+          → (a ≡ true) × (b ≡ true) × (o ≡ some (n .0))
+      shape false b d f o e = let z : _≡_ {A = ℕ} 0 1 = cc in absurd (omega arith)
+      shape true false d f o e = let z : _≡_ {A = ℕ} 0 1 = cc in absurd (omega arith)
+      shape true true false f o e = let z : _≡_ {A = ℕ} 0 1 = cc in absurd (omega arith)
+      shape true true true false o e = let z : _≡_ {A = ℕ} 0 1 = cc in absurd (omega arith)
+      shape true true true true none e = let z : _≡_ {A = ℕ} 0 1 = cc in absurd (omega arith)
+      shape true true true true (some k) e = (refl, refl, cc)
+
+  abbrev retractBy : Located → Tables × Retracted
+  retractBy (Refused e) = (m, NotRetracted e)
+  retractBy (At n) = retracting m (n .0)
+
+  retract-by : retractOf c m x ≡ retractBy (retractTarget c m x)
+  unfolding retractOf retractTarget
+  retract-by = by (fits c m) (known (c .resources) x) (locate c m x)
+    where
+      by : (a b : Bool) (o : Option ℕ)
+          → cond a (cond b (elim o [ none ↦ (m, NotRetracted Damaged) | some n ↦ retracting m n ]) (m, NotRetracted UnknownNumber)) (m, NotRetracted Capacity)
+          ≡ retractBy (cond a (cond b (locatedAs o) (Refused UnknownNumber)) (Refused Capacity))
+      by false b o = refl
+      by true false o = refl
+      by true true none = refl
+      by true true (some n) = refl
+
+  pub retract-refused : (r : Refusal) → retractTarget c m x ≡ Refused r → (m, NotRetracted r) ≡ retractOf c m x
+  retract-refused r e = sym (retract-by ∙ ap retractBy e)
+
+  pub retract-at : (n : StatementId) → retractTarget c m x ≡ At n → retracting m (n .0) ≡ retractOf c m x
+  retract-at n e = sym (retract-by ∙ ap retractBy e)
+
+  pub retract-found : (n : StatementId) → retractTarget c m x ≡ At n → (fits c m ≡ true) × (locate c m x ≡ some (n .0))
+  unfolding retractTarget
+  retract-found n e = shape (fits c m) (known (c .resources) x) (locate c m x) e
+    where
+      shape : (a b : Bool) (o : Option ℕ) → cond a (cond b (locatedAs o) (Refused UnknownNumber)) (Refused Capacity) ≡ At n → (a ≡ true) × (o ≡ some (n .0))
+      shape false b o e = let z : _≡_ {A = ℕ} 0 1 = cc in absurd (omega arith)
+      shape true false o e = let z : _≡_ {A = ℕ} 0 1 = cc in absurd (omega arith)
+      shape true true none e = let z : _≡_ {A = ℕ} 0 1 = cc in absurd (omega arith)
+      shape true true (some k) e = (refl, cc)
+
+-- ---- next of a scan
+
+-- a number other than 0 is bound
+pub nonzero : (y : ℕ) → not (eqb y 0) ≡ ltb 0 y
+nonzero zero = refl
+nonzero (suc i) = rw (ne-eqb (suc i) 0 (omega arith), lt-ltb 0 (suc i) (omega arith))
+
+module _ (stm : List ℕ) (ch : Chain) (x : Triple) where
+  pub record-none : (n : ℕ) → n ≡ 0 → recordOk stm ch x n ≡ true
+  unfolding recordOk
+  record-none zero e = refl
+  record-none (suc i) e = absurd (omega arith)
+
+  pub record-some : (n : ℕ) → (n ≡ 0 → ⊥) → recordOk stm ch x n ≡ sits stm ch x (n - 1)
+  unfolding recordOk
+  record-some zero h = absurd (h refl)
+  record-some (suc i) h = let e : suc i - 1 ≡ i = omega arith in rw e
+
+module _ (c : Counters) (m : Tables) (q : ScanCursor) where
+  -- a cursor that is taken stands within T
+  pub cursor-within : cursorOk c m q ≡ true → q .next .0 ≤ c .statements
+  unfolding cursorOk
+  cursor-within e =
+      let l = leb (q .next .0) (c .statements) in
+      let r = recordOk (m .statements) (q .chain) (q .pattern) (q .next .0) in
+      let k = chainOk (q .chain) (q .pattern) in
+      leb-true (q .next .0) (c .statements) (and-l l r (and-r k (l && r) (and-r (within (c .resources) (q .pattern)) (k && (l && r)) e)))
+
+  pub next-walk : (a : Walked) (b : ℕ) → fits c m ≡ true → cursorOk c m q ≡ true → (b ≡ 0 → ⊥)
+      → stepOf a ≡ walk (linkOf (m .statements) (q .chain)) (visitable (c .resources) (m .statements) (q .chain) (q .pattern)) (hits LiveMatch (m .statements) (q .pattern)) b (q .next .0)
+      → nextOf c m q b ≡ scannedAs q (stepOf a)
+  unfolding nextOf walkFrom hits
+  next-walk a b f k h w = rw (f, k, ne-eqb b 0 h) (ap (scannedAs q) (sym w))

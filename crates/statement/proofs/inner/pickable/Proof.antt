@@ -1,0 +1,40 @@
+use Rattle.store.specs.Walk.{pickable}
+use borrow.Author.Tests.{not-false, not-true}
+use borrow.Author.Needs.{needs}
+use Rattle.statement.proofs.inner.pickable.Statement.{statement}
+use Rattle.statement.proofs.inner.pickable.Tie as tie
+use Rattle.statement.proofs.inner.pickable.Reads as reads
+use Rattle.statement.proofs.inner.pickable.Lts as lts
+use Rattle.statement.proofs.inner.pickable_at.Reads as pickable-at-reads
+
+pickable-at-requires : tie.Need-pickable-at-requires
+pickable-at-requires c κs = search needs
+
+returns : tie.Need-returns
+unfolding pickable
+returns c = simp (← c .before .pickable-at .ensures, not-true (c .before .pickable-at .result) (c .if1 .taken))
+
+pickable-at-requires-2 : tie.Need-pickable-at-requires-2
+pickable-at-requires-2 c κs = search needs
+
+returns-2 : tie.Need-returns-2
+unfolding pickable
+returns-2 c = simp (← c .before .before .before .pickable-at .ensures, not-false (c .before .before .before .pickable-at .result) (c .before .before .if1 .left), ← c .before .pickable-at2 .ensures, not-true (c .before .pickable-at2 .result) (c .if2 .taken))
+
+pickable-at-requires-3 : tie.Need-pickable-at-requires-3
+pickable-at-requires-3 c κs = search needs
+
+returns-3 : tie.Need-returns-3
+unfolding pickable
+returns-3 c = simp (← c .before .before .before .before .pickable-at .ensures, not-false (c .before .before .before .before .pickable-at .result) (c .before .before .before .if1 .left), ← c .before .before .pickable-at2 .ensures, not-false (c .before .before .pickable-at2 .result) (c .before .if2 .left), ← c .pickable-at3 .ensures)
+
+pub pickable-spec : {M : Type 1} → statement M
+pickable-spec =
+    tie.close
+    (tie.spec
+    pickable-at-requires
+    returns
+    pickable-at-requires-2
+    returns-2
+    pickable-at-requires-3
+    returns-3)

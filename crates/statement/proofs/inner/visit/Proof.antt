@@ -1,0 +1,36 @@
+use Rattle.statement.specs.Chains.{visitOf}
+use borrow.Author.Tests.{not-false, not-true}
+use borrow.Author.Needs.{needs}
+use Rattle.statement.proofs.inner.visit.Statement.{statement}
+use Rattle.statement.proofs.inner.visit.Tie as tie
+use Rattle.statement.proofs.inner.visit.Reads as reads
+use Rattle.statement.proofs.inner.visit.Lts as lts
+use Rattle.statement.proofs.inner.hits.Reads as hits-reads
+use Rattle.statement.proofs.inner.link_of.Reads as link-of-reads
+use Rattle.statement.proofs.inner.visitable.Reads as visitable-reads
+
+visitable-requires : tie.Need-visitable-requires
+visitable-requires c κs = search needs
+
+returns : tie.Need-returns
+unfolding visitOf
+returns c = simp (← c .before .visitable .ensures, not-true (c .before .visitable .result) (c .if1 .taken))
+
+link-of-requires : tie.Need-link-of-requires
+link-of-requires c κs = search needs
+
+hits-requires : tie.Need-hits-requires
+hits-requires c κs = search needs
+
+returns-2 : tie.Need-returns-2
+unfolding visitOf
+returns-2 c = simp (← c .before .before .before .before .visitable .ensures, not-false (c .before .before .before .before .visitable .result) (c .before .before .before .if1 .left), ← c .before .before .link-of .ensures, ← c .before .hits .ensures, c .if2 .taken)
+
+returns-3 : tie.Need-returns-3
+unfolding visitOf
+returns-3 c = simp (← c .before .before .before .before .visitable .ensures, not-false (c .before .before .before .before .visitable .result) (c .before .before .before .if1 .left), ← c .before .before .link-of .ensures, ← c .before .hits .ensures, c .if2 .left)
+
+pub visit-spec : {M : Type 1} → statement M
+visit-spec =
+    tie.close
+    (tie.spec visitable-requires returns link-of-requires hits-requires returns-2 returns-3)

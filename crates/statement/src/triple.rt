@@ -1,0 +1,91 @@
+// Three numbers: the one at a position, and the tests that statements and patterns are put to. Nothing here reads a table.
+use store::Position;
+use store::Triple;
+ghost use mathlib.Core.Path.{_≡_};
+ghost use mathlib.Core.Bool.{_&&_, _||_};
+ghost use Prim.Native.Nat.{ℕ};
+ghost use lib.Dec.{eqb, leb, ltb};
+ghost use Rattle.store.specs.Triple.{at, known, within, same, agrees};
+
+// The number at a position.
+pub fn at(p: Position, x: Triple) -> u32
+    ensures { λ r. ⌜ r ≡ at p x ⌝ }
+{
+    match p {
+        Position::Subject => x.subject.0,
+        Position::Predicate => x.predicate.0,
+        Position::Object => x.object.0,
+    }
+}
+
+// Whether y is in 1..=n.
+pub fn in_range(n: u32, y: u32) -> bool
+    ensures { λ b. ⌜ b ≡ (ltb 0 y && leb y n) ⌝ }
+{
+    if y == 0 {
+        return false;
+    }
+    y <= n
+}
+
+// Whether a pattern's number y admits the number z: 0 stands for any.
+pub fn admits(y: u32, z: u32) -> bool
+    ensures { λ b. ⌜ b ≡ (eqb y 0 || eqb z y) ⌝ }
+{
+    if y == 0 {
+        return true;
+    }
+    z == y
+}
+
+// Whether every number is in 1..=n.
+pub fn known(n: u32, x: Triple) -> bool
+    ensures { λ b. ⌜ b ≡ known n x ⌝ }
+{
+    if !in_range(n, x.subject.0) {
+        return false;
+    }
+    if !in_range(n, x.predicate.0) {
+        return false;
+    }
+    in_range(n, x.object.0)
+}
+
+// Whether no number exceeds n.
+pub fn within(n: u32, x: Triple) -> bool
+    ensures { λ b. ⌜ b ≡ within n x ⌝ }
+{
+    if x.subject.0 > n {
+        return false;
+    }
+    if x.predicate.0 > n {
+        return false;
+    }
+    x.object.0 <= n
+}
+
+// Whether t has the same three numbers as x.
+pub fn same(x: Triple, t: Triple) -> bool
+    ensures { λ b. ⌜ b ≡ same x t ⌝ }
+{
+    if t.subject.0 != x.subject.0 {
+        return false;
+    }
+    if t.predicate.0 != x.predicate.0 {
+        return false;
+    }
+    t.object.0 == x.object.0
+}
+
+// Whether t has the number of the pattern x at each position that x binds.
+pub fn agrees(x: Triple, t: Triple) -> bool
+    ensures { λ b. ⌜ b ≡ agrees x t ⌝ }
+{
+    if !admits(x.subject.0, t.subject.0) {
+        return false;
+    }
+    if !admits(x.predicate.0, t.predicate.0) {
+        return false;
+    }
+    admits(x.object.0, t.object.0)
+}
