@@ -1,0 +1,241 @@
+-- A place once accepted stays accepted, on any tables: no call takes a record away or changes its triple (`Kept`). So
+-- a cursor that a next call answered is never refused 6 later (`KeptClaim`, put together in `Onwards`). Assumes
+-- nothing.
+use mathlib.Core.Path.{_≡_, refl, _∙_}
+use mathlib.Core.Bool.{true, _&&_}
+use mathlib.Core.List.{List, [], _∷_}
+use mathlib.Core.Option.{Option, none, some}
+use Prim.Native.Nat.{ℕ, zero, suc, _-_, _≤_, _<_}
+use native.Mathlib.Omega.{arith}
+use lib.ListN.{length}
+use lib.Dec.{eqb, leb, ltb}
+use borrow.Author.Tests.{leb-true, ltb-true, le-leb, lt-ltb}
+use Rattle.store.specs.declared.Position.{Position}
+use Rattle.store.specs.declared.Chain.{Chain}
+use Rattle.store.specs.declared.Chain.the-variants.{All, By}
+use Rattle.store.specs.declared.Counters.{Counters}
+use Rattle.store.specs.declared.Triple.{Triple}
+use Rattle.store.specs.declared.IndexPlace.{IndexPlace}
+use Rattle.store.specs.declared.IndexPlace.the-variants.{At, Before, Torn}
+use Rattle.store.specs.declared.Interned.{Interned}
+use Rattle.store.specs.declared.Asserted.{Asserted}
+use Rattle.store.specs.declared.Retracted.{Retracted}
+use Rattle.store.specs.declared.Asserted.the-variants.{Refused as NotAsserted}
+use Rattle.store.specs.declared.Retracted.the-variants.{Refused as NotRetracted}
+use Rattle.store.specs.declared.Refusal.the-variants.{Damaged}
+use Rattle.store.specs.Triple.{known, prev, permitted}
+use Rattle.store.specs.Tables.{Tables, fits, termAt, kindAt, flagAt, statementCapacity}
+use Rattle.store.specs.Model.{Call, intern, assert, retract, open′, next, byValue, lent, wellFormed}
+use Rattle.store.specs.Walk.{sits}
+use Rattle.store.specs.Scan.{chainOk, recordOk}
+use Rattle.store.specs.Statement.{locate, kinded, withFlag, asserting, assertOf, retracting, retractOf, countersAfter}
+use Rattle.store.specs.Statement.{assertLentOf, retractLentOf}
+use Rattle.store.specs.Dictionary.{indexPlaceOf, roomFor, internAs, internOf}
+use Rattle.store.specs.History.{Store, internedCounters, callStore, storeAfter}
+use Rattle.store.proofs.Tests.{and-l, and-r, and-of, cond-all, known-more}
+use Rattle.store.proofs.Words.{triple-same, append-term-old, flag-term}
+use Rattle.graph.specs.declared.QueryPattern.{QueryPattern}
+use Rattle.graph.specs.declared.Level.{Level}
+use Rattle.graph.specs.Query.{match, isSome, Place, start, inside, finish, recordAt, nextPattern, binds, asked}
+use Rattle.graph.specs.Query.{enteredOk, placeOk}
+use Rattle.graph.proofs.Levels.{suc-prev}
+
+-- no record fewer, and each with its triple
+pub record Kept (r t : ℕ) (stm : List ℕ) (r′ t′ : ℕ) (stm′ : List ℕ) : Type 0 where
+  pub resources : r ≤ r′
+  pub records : t ≤ t′
+  pub terms : (p : Position) (i : ℕ) → i < t → termAt stm′ p i ≡ termAt stm p i
+
+module _ (r t : ℕ) (stm : List ℕ) (r′ t′ : ℕ) (stm′ : List ℕ) (K : Kept r t stm r′ t′ stm′)
+    (ps : List QueryPattern) where
+  record-kept : (n : ℕ) → 0 < n → n ≤ t → recordAt stm′ n ≡ recordAt stm n
+  unfolding recordAt
+  record-kept n h q =
+      let e = suc-prev n h in
+      let i : prev n < t = omega arith in triple-same stm stm′ (prev n) (λ p. K .terms p (prev n) i)
+
+  -- the tests of a level
+  first-part : (e : Level) (up : List Level) → enteredOk stm ps r t (e ∷ up) ≡ true
+      → (0 < e .statement .0) × (e .statement .0 ≤ t) × (chainOk (e .chain) (asked stm ps up) ≡ true)
+      × (known r (recordAt stm (e .statement .0)) ≡ true)
+      × (isSome (match (nextPattern ps up) (recordAt stm (e .statement .0)) (binds stm ps up)) ≡ true)
+      × (enteredOk stm ps r t up ≡ true)
+  unfolding enteredOk
+  first-part e up h =
+      let w = (ltb 0 (e .statement .0) && leb (e .statement .0) t) in
+      let g = (chainOk (e .chain) (asked stm ps up) && (known r (recordAt stm (e .statement .0))
+      && isSome (match (nextPattern ps up) (recordAt stm (e .statement .0)) (binds stm ps up)))) in
+      let x = and-l (w && g) (enteredOk stm ps r t up) h in
+      let y = and-l w _ x in
+      let z = and-r w _ x in
+      let k = and-r (chainOk (e .chain) (asked stm ps up)) _ z in (
+        ltb-true 0 (e .statement .0) (and-l _ _ y),
+        leb-true (e .statement .0) t (and-r (ltb 0 (e .statement .0)) _ y),
+        and-l (chainOk (e .chain) (asked stm ps up)) _ z,
+        and-l (known r (recordAt stm (e .statement .0))) _ k,
+        and-r (known r (recordAt stm (e .statement .0))) _ k,
+        and-r (w && g) (enteredOk stm ps r t up) h,
+      )
+
+  binds-kept : (up : List Level) → enteredOk stm ps r t up ≡ true → binds stm′ ps up ≡ binds stm ps up
+  unfolding binds
+  binds-kept [] o = refl
+  binds-kept (e ∷ up) o = let f = first-part e up o in
+      rw (record-kept (e .statement .0) (f .0) (f .1), binds-kept up (f .5))
+
+  asked-kept : (up : List Level) → enteredOk stm ps r t up ≡ true → asked stm′ ps up ≡ asked stm ps up
+  unfolding asked
+  asked-kept up o = rw (binds-kept up o)
+
+  level-kept : (e : Level) (up : List Level) → enteredOk stm ps r t (e ∷ up) ≡ true
+      → enteredOk stm′ ps r′ t′ up ≡ true
+      → enteredOk stm′ ps r′ t′ (e ∷ up) ≡ true
+  unfolding enteredOk
+  level-kept e up o ih =
+      let f = first-part e up o in
+      rw (asked-kept up (f .5), record-kept (e .statement .0) (f .0) (f .1), binds-kept up (f .5))
+      (and-of _ _
+      (and-of _ _
+      (and-of _ _ (lt-ltb 0 (e .statement .0) (f .0)) (le-leb (e .statement .0) t′ (omega (arith, f .1, K .records))))
+      (and-of _ _ (f .2) (and-of _ _ (known-more r r′ (recordAt stm (e .statement .0)) (K .resources) (f .3))
+      (f .4))))
+      ih)
+
+  entered-kept : (up : List Level) → enteredOk stm ps r t up ≡ true → enteredOk stm′ ps r′ t′ up ≡ true
+  entered-kept [] o = unfold enteredOk in refl
+  entered-kept (e ∷ up) o = level-kept e up o (entered-kept up ((first-part e up o) .5))
+
+  next-kept : (ch : Chain) (x : Triple) (n : ℕ) → n ≤ t → recordOk stm ch x n ≡ true → recordOk stm′ ch x n ≡ true
+  unfolding recordOk sits
+  next-kept ch x zero h e = refl
+  next-kept All x (suc i) h e = refl
+  next-kept (By p) x (suc i) h e = rw (K .terms p i (omega arith)) e
+
+  pub place-kept : (q : Place) → placeOk stm ps r t q ≡ true → placeOk stm′ ps r′ t′ q ≡ true
+  unfolding placeOk
+  place-kept start o = refl
+  place-kept (inside l up) o =
+      let a = and-r (ltb (length up) (length ps)) _ o in
+      let b = and-r (enteredOk stm ps r t up) _ a in
+      let d = and-r (leb (l .statement .0) t) _ b in
+      let e = and-l (enteredOk stm ps r t up) _ a in
+      let n = leb-true (l .statement .0) t (and-l _ _ b) in
+      rw (asked-kept up e)
+      (and-of _ _ (and-l (ltb (length up) (length ps)) _ o)
+      (and-of _ _ (entered-kept up e)
+      (and-of _ _ (le-leb (l .statement .0) t′ (omega (arith, K .records)))
+      (and-of _ _ (and-l (chainOk (l .chain) (asked stm ps up)) _ d)
+      (next-kept (l .chain) (asked stm ps up) (l .statement .0) n
+      (and-r (chainOk (l .chain) (asked stm ps up)) _ d))))))
+  place-kept finish o = refl
+
+-- ---- the calls keep
+
+abbrev pub Keeps : Counters → Tables → Counters → Tables → Type 0
+Keeps c m c′ m′ = Kept (c .resources) (c .statements) (m .statements) (c′ .resources) (c′ .statements)
+    (m′ .statements)
+
+keeps-same : (c : Counters) (m : Tables) → Keeps c m c m
+keeps-same c m = record { resources = omega arith; records = omega arith; terms = λ p i h. refl }
+
+flag-keeps : (c : Counters) (m : Tables) (i v : ℕ) → Keeps c m c (withFlag m i v)
+flag-keeps c m i v =
+    record { resources = omega arith; records = omega arith; terms = λ p j h. flag-term (m .statements) i v p j }
+
+module _ (c : Counters) (m : Tables) where
+  abbrev AssertKeeps : Tables × Asserted → Type 0
+  AssertKeeps a = Keeps c m (countersAfter c (a .1)) (a .0)
+
+  asserting-keeps : (x : Triple) (n : ℕ) → AssertKeeps (asserting c m x n)
+  unfolding asserting
+  asserting-keeps x zero =
+      cond-all AssertKeeps (ltb (c .statements) (statementCapacity m)) _ _
+      (record {
+        resources = omega arith;
+        records = omega arith;
+        terms =
+            λ p i h. append-term-old (c .statements) x (m .resources) (m .statements) p i h;
+      })
+      (keeps-same c m)
+  asserting-keeps x (suc i) =
+      cond-all AssertKeeps (eqb (flagAt (m .statements) i) 1) _ _ (flag-keeps c m i 0) (keeps-same c m)
+
+  assert-keeps : (x : Triple) → AssertKeeps (assertOf c m x)
+  unfolding assertOf
+  assert-keeps x =
+      cond-all AssertKeeps (fits c m) _ _
+      (cond-all AssertKeeps (known (c .resources) x) _ _
+      (cond-all AssertKeeps (kinded (m .resources) x) _ _
+      (cond-all AssertKeeps (permitted (kindAt (m .resources)) x) _ _ (walked (locate c m x)) (keeps-same c m))
+      (keeps-same c m)) (keeps-same c m))
+      (keeps-same c m)
+    where
+      walked : (o : Option ℕ) → AssertKeeps (elim o [ none ↦ (m, NotAsserted Damaged) | some n ↦ asserting c m x n ])
+      walked none = keeps-same c m
+      walked (some n) = asserting-keeps x n
+
+  abbrev RetractKeeps : Tables × Retracted → Type 0
+  RetractKeeps a = Keeps c m c (a .0)
+
+  retracting-keeps : (n : ℕ) → RetractKeeps (retracting m n)
+  unfolding retracting
+  retracting-keeps zero = keeps-same c m
+  retracting-keeps (suc i) =
+      cond-all RetractKeeps (eqb (flagAt (m .statements) i) 1) _ _ (keeps-same c m) (flag-keeps c m i 1)
+
+  retract-keeps : (x : Triple) → RetractKeeps (retractOf c m x)
+  unfolding retractOf
+  retract-keeps x =
+      cond-all RetractKeeps (fits c m) _ _
+      (cond-all RetractKeeps (known (c .resources) x) _ _ (walked (locate c m x)) (keeps-same c m))
+      (keeps-same c m)
+    where
+      walked : (o : Option ℕ) → RetractKeeps (elim o [ none ↦ (m, NotRetracted Damaged) | some n ↦ retracting m n ])
+      walked none = keeps-same c m
+      walked (some n) = retracting-keeps n
+
+  abbrev InternKeeps : Tables × Interned → Type 0
+  InternKeeps a = Keeps c m (internedCounters c (a .1)) (a .0)
+
+  interned-keeps : (w : List ℕ) (x : IndexPlace) → InternKeeps (internAs c m w x)
+  unfolding internAs
+  interned-keeps w (At n k) = keeps-same c m
+  interned-keeps w (Before k) =
+      cond-all InternKeeps (roomFor c m w) _ _
+      (record { resources = omega arith; records = omega arith; terms = λ p i h. refl }) (keeps-same c m)
+  interned-keeps w Torn = keeps-same c m
+
+  intern-keeps : (w : List ℕ) → InternKeeps (internOf c m w)
+  unfolding internOf
+  intern-keeps w =
+      cond-all InternKeeps (fits c m) _ _
+      (cond-all InternKeeps (wellFormed w) _ _ (interned-keeps w (indexPlaceOf c m w)) (keeps-same c m))
+      (keeps-same c m)
+
+abbrev pub StoreKeeps : Store → Store → Type 0
+StoreKeeps s s′ = Keeps (s .counters) (s .tables) (s′ .counters) (s′ .tables)
+
+keeps-trans : (a b d : Store) → StoreKeeps a b → StoreKeeps b d → StoreKeeps a d
+keeps-trans a b d K M = record {
+  resources = omega (arith, K .resources, M .resources);
+  records = omega (arith, K .records, M .records);
+  terms = λ p i h. M .terms p i (omega (arith, K .records)) ∙ K .terms p i h;
+}
+
+call-keeps : (s : Store) (a : Call) → StoreKeeps s ((callStore s a) .0)
+unfolding callStore assertLentOf retractLentOf
+call-keeps s (intern w) = intern-keeps (s .counters) (s .tables) w
+call-keeps s (assert byValue x) = assert-keeps (s .counters) (s .tables) x
+call-keeps s (assert lent x) = assert-keeps (s .counters) (s .tables) x
+call-keeps s (retract byValue x) = retract-keeps (s .counters) (s .tables) x
+call-keeps s (retract lent x) = retract-keeps (s .counters) (s .tables) x
+call-keeps s (open′ x) = keeps-same (s .counters) (s .tables)
+call-keeps s (next j b) = keeps-same (s .counters) (s .tables)
+
+-- on any tables, any calls
+pub calls-keep : (s : Store) (a : List Call) → StoreKeeps s (storeAfter s a)
+unfolding storeAfter
+calls-keep s [] = keeps-same (s .counters) (s .tables)
+calls-keep s (a ∷ r) =
+    keeps-trans s ((callStore s a) .0) (storeAfter ((callStore s a) .0) r) (call-keeps s a)
+    (calls-keep ((callStore s a) .0) r)

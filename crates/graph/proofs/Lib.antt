@@ -1,0 +1,16 @@
+pub mod Laws
+pub mod Bind
+pub mod Solve
+pub mod Levels
+pub mod Reading
+pub mod Place
+pub mod Later
+pub mod Names
+pub mod Solutions
+pub mod Calls
+pub mod Onwards
+pub mod Scans
+pub mod Listed
+pub mod Writes
+pub mod Theorems
+pub mod Runs

@@ -1,0 +1,430 @@
+-- The graph of the plain lists (crate `store`, `Model`), and what entering, asserting and retracting do to it.
+-- Assumes nothing.
+use mathlib.Core.Path.{_≡_, refl, sym, ap, _∙_}
+use mathlib.Core.Logic.{_≢_, _⊎_, inl, inr, _↔_}
+use mathlib.Core.Bool.{Bool, true, false, _&&_, true≢false}
+use mathlib.Core.List.{List, [], _∷_, _++_}
+use Prim.Native.Nat.{ℕ, zero, suc, _+_, _-_, _≤_, _<_}
+use native.Mathlib.Omega.{arith}
+use lib.ListN.{length, getD, List·getD-append}
+use lib.Seq.{getD-append-seam}
+use lib.Dec.{eqb, leb, ltb}
+use borrow.Author.Tests.{eqb-true, eqb-false, ltb-true, ltb-false}
+use Rattle.term.specs.Scanner.{firstKindOf}
+use Rattle.store.specs.declared.Position.{Position}
+use Rattle.store.specs.declared.Position.the-variants.{Subject, Predicate, Object}
+use Rattle.store.specs.declared.Triple.{Triple}
+use Rattle.store.specs.Triple.{at, known, same, permitted}
+use Rattle.store.specs.Values.{Values}
+use Rattle.store.specs.Model.{Entry, Model, Capacities, wellFormed, eqBytes, lookupName, nameOf, bytesOf, internName}
+use Rattle.store.specs.Model.{internModel, entry, lookup, mark, put, assertModel, strike, retractModel}
+use Rattle.store.proofs.Tests.{decide, three, known-low, known-high, same-self, same-is}
+use Rattle.store.proofs.Falling.{head-le, head-passes, head-pos}
+use Rattle.store.proofs.Order.{eqBytes-is}
+use Rattle.store.proofs.Text.{name-old, name-new, length-snoc}
+use Rattle.store.proofs.Represented.{mark-length, mark-same, mark-other}
+use Rattle.store.proofs.Kept.{Tidy}
+use Rattle.graph.specs.Meaning.{Term, RdfTriple, termAt, Graph}
+use Rattle.graph.specs.Claims.{SameGraph}
+use Rattle.graph.proofs.Solve.{triple-ext}
+
+-- three numbers as three listed names
+unfoldable pub nameTriple : List Term → Triple → RdfTriple
+nameTriple ns x = record {
+  subject = nameOf ns (x .subject .0);
+  predicate = nameOf ns (x .predicate .0);
+  object =
+      nameOf ns (x .object .0);
+}
+
+pub name-triple-at : (ns : List Term) (x : Triple) (p : Position) → termAt p (nameTriple ns x) ≡ nameOf ns (at p x)
+unfolding nameTriple
+name-triple-at ns x Subject = refl
+name-triple-at ns x Predicate = refl
+name-triple-at ns x Object = refl
+
+pub name-triple-same : (ns ns′ : List Term) (x : Triple)
+    → ((p : Position) → nameOf ns (at p x) ≡ nameOf ns′ (at p x)) → nameTriple ns x ≡ nameTriple ns′ x
+unfolding nameTriple
+name-triple-same ns ns′ x h = rw (h Subject, h Predicate, h Object)
+
+-- the graph: the triples listed and not struck out
+abbrev pub listGraph : List Term → List Entry → Graph
+listGraph ns l y = (i : ℕ) × (i < length l) × ((entry l i) .retracted ≡ false)
+    × (nameTriple ns ((entry l i) .spo) ≡ y)
+
+abbrev pub modelGraph : Model → Graph
+modelGraph s = listGraph (s .names) (s .entries)
+
+pub graph-same : (G : Graph) → SameGraph G G
+graph-same G z = ((λ g. g), (λ g. g))
+
+pub graph-trans : (G H K : Graph) → SameGraph G H → SameGraph H K → SameGraph G K
+graph-trans G H K a b z = ((λ g. b z .0 (a z .0 g)), (λ g. a z .1 (b z .1 g)))
+
+-- ---- where a triple is listed
+
+pub listed-at : (x : Triple) (l : List Entry) (i : ℕ) → lookup x l ≡ suc i → (i < length l) × ((entry l i) .spo ≡ x)
+unfolding lookup
+listed-at x l i e = (
+  omega (arith, head-le (λ i. same x ((entry l i) .spo)) (length l), e),
+  same-is x ((entry l i) .spo) (head-passes (λ i. same x ((entry l i) .spo)) (length l) i e),
+)
+
+pub unlisted : (x : Triple) (l : List Entry) → lookup x l ≡ 0 → (i : ℕ) → i < length l → (entry l i) .spo ≢ x
+unfolding lookup
+unlisted x l e i h d =
+    omega (arith, head-pos (λ i. same x ((entry l i) .spo)) (length l) i h (same-self x ((entry l i) .spo) d), e)
+
+pub name-listed : (w : Term) (ns : List Term) (i : ℕ) → lookupName w ns ≡ suc i → (i < length ns)
+    × (nameOf ns (suc i) ≡ w)
+unfolding lookupName nameOf
+name-listed w ns i e =
+    let q : suc i - 1 ≡ i = omega arith in (
+      omega (arith, head-le (λ i. eqBytes (getD ns i []) w) (length ns), e),
+      rw q (eqBytes-is (getD ns i []) w (head-passes (λ i. eqBytes (getD ns i []) w) (length ns) i e)),
+    )
+
+-- ---- names more
+
+named-more : (ns : List Term) (w : Term) (l : List Entry)
+    → ((i : ℕ) → i < length l → known (length ns) ((entry l i) .spo) ≡ true)
+    → SameGraph (listGraph (ns ++ w ∷ []) l) (listGraph ns l)
+named-more ns w l k z = (
+  (λ g. (g .0, g .1, g .2, sym (old (g .0) (g .1)) ∙ g .3)),
+  (λ g. (g .0, g .1, g .2, old (g .0) (g .1) ∙ g .3)),
+)
+  where
+    old : (i : ℕ) → i < length l → nameTriple (ns ++ w ∷ []) ((entry l i) .spo) ≡ nameTriple ns ((entry l i) .spo)
+    old i h = name-triple-same (ns ++ w ∷ []) ns ((entry l i) .spo) (λ p.
+        name-old ns w (at p ((entry l i) .spo)) (known-low (length ns) _ (k i h) p)
+        (known-high (length ns) _ (k i h) p))
+
+-- what entering a name does to the lists
+pub record ModelEntered (s s′ : Model) (w : Term) (v : Values) : Type 0 where
+  pub graph : SameGraph (modelGraph s′) (modelGraph s)
+  pub longer : length (s .names) ≤ length (s′ .names)
+  pub kept : (n : ℕ) → 0 < n → n ≤ length (s .names) → nameOf (s′ .names) n ≡ nameOf (s .names) n
+  pub answered : v .refusal ≡ 0 → (0 < v .number) × (v .number ≤ length (s′ .names))
+      × (nameOf (s′ .names) (v .number) ≡ w)
+
+module _ (k : Capacities) (s : Model) (D : Tidy s) where
+  unchanged : (w : Term) (v : Values) → v .refusal ≢ 0 → ModelEntered s s w v
+  unchanged w v h = record {
+    graph = graph-same (modelGraph s);
+    longer = omega arith;
+    kept =
+        λ n a b. refl;
+    answered = λ e. absurd (h e);
+  }
+
+  entered-as : (w : Term) (t : ℕ) → lookupName w (s .names) ≡ t
+      → ModelEntered s ((internName k s w t) .0) w ((internName k s w t) .1)
+  unfolding internName
+  entered-as w zero e =
+      decide (ltb (length (s .names)) (k .resources) && leb (bytesOf (s .names ++ w ∷ [])) (k .text))
+      (λ d. rw d (record {
+        graph = named-more (s .names) w (s .entries) (D .inside);
+        longer = omega (arith, length-snoc (s .names) w);
+        kept = λ n a b. name-old (s .names) w n a b;
+        answered = λ z. let n = length-snoc (s .names) w in
+            (omega arith, omega arith, rw n (name-new (s .names) w));
+      }))
+      (λ d. rw d (unchanged w _ (λ z. omega arith)))
+  entered-as w (suc i) e = record {
+    graph = graph-same (modelGraph s);
+    longer = omega arith;
+    kept = λ n a b. refl;
+    answered = λ z. let h = name-listed w (s .names) i e in (omega arith, omega (arith, h .0), h .1);
+  }
+
+  pub model-enters : (w : Term) → ModelEntered s ((internModel k s w) .0) w ((internModel k s w) .1)
+  unfolding internModel
+  model-enters w =
+      decide (wellFormed w) (λ e. rw e (entered-as w (lookupName w (s .names)) refl))
+      (λ e. rw e (unchanged w _ (λ z. omega arith)))
+
+-- ---- triples more, and marks
+
+abbrev live : Triple → Entry
+live x = record { spo = x; retracted = false }
+
+module _ (ns : List Term) (l : List Entry) where
+  more-old : (e : Entry) (i : ℕ) → i < length l → entry (l ++ e ∷ []) i ≡ entry l i
+  more-old e i h = List·getD-append l (e ∷ []) _ i h
+
+  more-new : (e : Entry) → entry (l ++ e ∷ []) (length l) ≡ e
+  more-new e = getD-append-seam l e [] _
+
+  more-length : (e : Entry) → length (l ++ e ∷ []) ≡ suc (length l)
+  more-length e = length-snoc l e
+
+  -- one triple more
+  appended : (x : Triple) (z : RdfTriple) → listGraph ns (l ++ live x ∷ []) z
+      ↔ (listGraph ns l z ⊎ (z ≡ nameTriple ns x))
+  appended x z = (there, back)
+    where
+      there : listGraph ns (l ++ live x ∷ []) z → listGraph ns l z ⊎ (z ≡ nameTriple ns x)
+      there g =
+          decide (ltb (g .0) (length l))
+          (λ d. let h = ltb-true (g .0) (length l) d in
+          let o = more-old (live x) (g .0) h in
+          inl (
+            g .0,
+            h,
+            ap (λ (e : Entry). e .retracted) (sym o) ∙ g .2,
+            ap (λ (e : Entry). nameTriple ns (e .spo))
+                (sym o) ∙ g .3,
+          ))
+          (λ d. let h : g .0 ≡ length l = omega (arith, g .1, more-length (live x), ltb-false (g .0) (length l) d) in
+          let o : entry (l ++ live x ∷ []) (g .0) ≡ live x = ap (λ (i : ℕ). entry (l ++ live x ∷ []) i) h
+          ∙ more-new (live x) in
+          inr (sym (g .3) ∙ ap (λ (e : Entry). nameTriple ns (e .spo)) o))
+
+      back : listGraph ns l z ⊎ (z ≡ nameTriple ns x) → listGraph ns (l ++ live x ∷ []) z
+      back (inl g) =
+          let o = more-old (live x) (g .0) (g .1) in (
+            g .0,
+            omega (arith, g .1, more-length (live x)),
+            ap (λ (e : Entry). e .retracted) o ∙ g .2,
+            ap (λ (e : Entry). nameTriple ns (e .spo)) o ∙ g .3,
+          )
+      back (inr e) =
+          let o = more-new (live x) in (
+            length l,
+            omega (arith, more-length (live x)),
+            ap (λ (e : Entry). e .retracted) o,
+            ap (λ (e : Entry). nameTriple ns (e .spo)) o ∙ sym e,
+          )
+
+  marked-other : (i j : ℕ) (b : Bool) → j ≢ i → entry (mark l i b) j ≡ entry l j
+  marked-other i j b h = mark-other l i j b h
+
+  -- a triple marked live
+  revived : (i : ℕ) → i < length l → (z : RdfTriple) → listGraph ns (mark l i false) z
+      ↔ (listGraph ns l z ⊎ (z ≡ nameTriple ns ((entry l i) .spo)))
+  revived i h z = (there, back)
+    where
+      there : listGraph ns (mark l i false) z → listGraph ns l z ⊎ (z ≡ nameTriple ns ((entry l i) .spo))
+      there g =
+          decide (eqb (g .0) i)
+          (λ d. let e = eqb-true (g .0) i d in
+          let o : entry (mark l i false) (g .0) ≡ record { spo = (entry l i) .spo; retracted = false } =
+          ap (λ (j : ℕ). entry (mark l i false) j) e ∙ mark-same l i false h in
+          inr (sym (g .3) ∙ ap (λ (e : Entry). nameTriple ns (e .spo)) o))
+          (λ d. let o = mark-other l i (g .0) false (eqb-false (g .0) i d) in
+          inl (
+            g .0,
+            omega (arith, g .1, mark-length l i false),
+            ap (λ (e : Entry). e .retracted) (sym o) ∙ g .2,
+            ap (λ (e : Entry). nameTriple ns (e .spo)) (sym o) ∙ g .3,
+          ))
+
+      back : listGraph ns l z ⊎ (z ≡ nameTriple ns ((entry l i) .spo)) → listGraph ns (mark l i false) z
+      back (inl g) =
+          decide (eqb (g .0) i)
+          (λ d. let e = eqb-true (g .0) i d in
+          let o = mark-same l i false h in (
+            i,
+            omega (arith, mark-length l i false),
+            ap (λ (e : Entry). e .retracted) o,
+            ap (λ (e : Entry). nameTriple ns (e .spo)) o ∙ ap (λ (j : ℕ). nameTriple ns ((entry l j) .spo)) (sym e)
+                ∙ g .3,
+          ))
+          (λ d. let o = mark-other l i (g .0) false (eqb-false (g .0) i d) in (
+            g .0,
+            omega (arith, g .1, mark-length l i false),
+            ap (λ (e : Entry). e .retracted) o ∙ g .2,
+            ap (λ (e : Entry). nameTriple ns (e .spo)) o ∙ g .3,
+          ))
+      back (inr e) =
+          let o = mark-same l i false h in (
+            i,
+            omega (arith, mark-length l i false),
+            ap (λ (e : Entry). e .retracted) o,
+            ap (λ (e : Entry). nameTriple ns (e .spo)) o ∙ sym e,
+          )
+
+module _ (s : Model) (D : Tidy s)
+    (distinct : (y z : ℕ) → 0 < y → y ≤ length (s .names) → 0 < z → z ≤ length (s .names)
+    → nameOf (s .names) y ≡ nameOf (s .names) z → y ≡ z) where
+  abbrev N : Triple → RdfTriple
+  N x = nameTriple (s .names) x
+
+  triples-apart : (x t : Triple) → known (length (s .names)) x ≡ true → known (length (s .names)) t ≡ true
+      → N x ≡ N t → x ≡ t
+  triples-apart x t a b e = triple-ext x t (λ p.
+      distinct (at p x) (at p t) (known-low _ x a p) (known-high _ x a p) (known-low _ t b p) (known-high _ t b p)
+      (sym (name-triple-at (s .names) x p) ∙ ap (termAt p) e ∙ name-triple-at (s .names) t p))
+
+  -- a triple of the graph is listed and live
+  pub in-graph : (x : Triple) → known (length (s .names)) x ≡ true → modelGraph s (N x)
+      → (i : ℕ) × (i < length (s .entries)) × ((entry (s .entries) i) .spo ≡ x)
+      × ((entry (s .entries) i) .retracted ≡ false)
+  in-graph x k g = (
+    g .0,
+    g .1,
+    triples-apart ((entry (s .entries) (g .0)) .spo) x (D .inside (g .0) (g .1)) k
+        (g .3),
+    g .2,
+  )
+
+  one-place : (i j : ℕ) → i < length (s .entries) → j < length (s .entries)
+      → (entry (s .entries) i) .spo ≡ (entry (s .entries) j) .spo → i ≡ j
+  one-place i j h g e = three i j (λ q. absurd (D .once i j q g e)) (λ q. q) (λ q. absurd (D .once j i q h (sym e)))
+
+  not-in : (x : Triple) → known (length (s .names)) x ≡ true → lookup x (s .entries) ≡ 0 → modelGraph s (N x) → ⊥
+  not-in x k e g = let r = in-graph x k g in unlisted x (s .entries) e (r .0) (r .1) (r .2)
+
+  not-struck : (x : Triple) (i : ℕ) → known (length (s .names)) x ≡ true → lookup x (s .entries) ≡ suc i
+      → (entry (s .entries) i) .retracted ≡ true
+      → modelGraph s (N x) → ⊥
+  not-struck x i k e d g =
+      let r = in-graph x k g in
+      let q = listed-at x (s .entries) i e in
+      let j = one-place (r .0) i (r .1) (q .0) (r .2 ∙ sym (q .1)) in
+      true≢false (sym d ∙ ap (λ (j : ℕ). (entry (s .entries) j) .retracted) (sym j) ∙ r .3)
+
+  is-in : (x : Triple) (i : ℕ) → lookup x (s .entries) ≡ suc i → (entry (s .entries) i) .retracted ≡ false
+      → modelGraph s (N x)
+  is-in x i e d = let q = listed-at x (s .entries) i e in (i, q .0, d, ap N (q .1))
+
+  -- ---- assert
+
+  pub record ModelAdded (s′ : Model) (y : RdfTriple) (v : Values) : Type 0 where
+    pub refused : v .refusal ≢ 0 → SameGraph (modelGraph s′) (modelGraph s)
+    pub added : v .refusal ≡ 0 → (z : RdfTriple) → modelGraph s′ z ↔ (modelGraph s z ⊎ (z ≡ y))
+    pub already : v .refusal ≡ 0 → (v .status ≡ 2) ↔ modelGraph s y
+
+  not-added : (y : RdfTriple) (v : Values) → v .refusal ≢ 0 → ModelAdded s y v
+  not-added y v h = record {
+    refused = λ n. graph-same (modelGraph s);
+    added = λ e. absurd (h e);
+    already =
+        λ e. absurd (h e);
+  }
+
+  put-adds : (k : Capacities) (x : Triple) → known (length (s .names)) x ≡ true → (t : ℕ) → lookup x (s .entries) ≡ t
+      → ModelAdded ((put k s x t) .0) (N x) ((put k s x t) .1)
+  unfolding put
+  put-adds k x kn zero e =
+      decide (ltb (length (s .entries)) (k .statements))
+      (λ d. rw d (record {
+        refused = λ n. absurd (n refl);
+        added = λ n z. appended (s .names) (s .entries) x z;
+        already = λ n. ((λ q. absurd (omega arith)), (λ g. absurd (not-in x kn e g)));
+      }))
+      (λ d. rw d (not-added (N x) _ (λ n. omega arith)))
+  put-adds k x kn (suc i) e =
+      let q = listed-at x (s .entries) i e in
+      decide ((entry (s .entries) i) .retracted)
+      (λ d. rw d (record {
+        refused = λ n. absurd (n refl);
+        added = λ n z. rw (← q .1) (revived (s .names) (s .entries) i (q .0) z);
+        already = λ n. ((λ q. absurd (omega arith)), (λ g. absurd (not-struck x i kn e d g)));
+      }))
+      (λ d. rw d (record {
+        refused = λ n. absurd (n refl);
+        added = λ n z. ((λ g. inl g), (λ g. only (is-in x i e d) g));
+        already = λ n. ((λ q. is-in x i e d), (λ g. refl));
+      }))
+    where
+      only : {z : RdfTriple} → modelGraph s (N x) → modelGraph s z ⊎ (z ≡ N x) → modelGraph s z
+      only g (inl h) = h
+      only g (inr e) = rw e g
+
+  pub model-asserts : (k : Capacities) (x : Triple)
+      → ModelAdded ((assertModel k s x) .0) (N x) ((assertModel k s x) .1)
+  unfolding assertModel
+  model-asserts k x =
+      decide (known (length (s .names)) x)
+      (λ e. rw e (decide (permitted (λ y. firstKindOf (nameOf (s .names) y)) x)
+      (λ d. rw d (put-adds k x e (lookup x (s .entries)) refl))
+      (λ d. rw d (not-added (N x) _ (λ n. omega arith)))))
+      (λ e. rw e (not-added (N x) _ (λ n. omega arith)))
+
+  -- ---- retract
+
+  pub record ModelRemoved (s′ : Model) (y : RdfTriple) (v : Values) : Type 0 where
+    pub refused : v .refusal ≢ 0 → SameGraph (modelGraph s′) (modelGraph s)
+    pub removed : v .refusal ≡ 0 → (z : RdfTriple) → modelGraph s′ z ↔ (modelGraph s z × (z ≢ y))
+    pub absent : v .refusal ≡ 0 → (v .number ≡ 0) ↔ (modelGraph s y → ⊥)
+
+  not-removed : (y : RdfTriple) (v : Values) → v .refusal ≢ 0 → ModelRemoved s y v
+  not-removed y v h = record {
+    refused = λ n. graph-same (modelGraph s);
+    removed = λ e. absurd (h e);
+    absent =
+        λ e. absurd (h e);
+  }
+
+  -- nothing to take away
+  was-absent : (y : RdfTriple) (v : Values) → v .number ≡ 0 → (modelGraph s y → ⊥) → ModelRemoved s y v
+  was-absent y v n h = record {
+    refused = λ e. graph-same (modelGraph s);
+    removed = λ e z. ((λ g. (g, λ q. h (rw q at g))), (λ g. g .0));
+    absent = λ e. ((λ q. h), (λ q. n));
+  }
+
+  struck-out : (x : Triple) (i : ℕ) → known (length (s .names)) x ≡ true → lookup x (s .entries) ≡ suc i
+      → (z : RdfTriple)
+      → listGraph (s .names) (mark (s .entries) i true) z ↔ (modelGraph s z × (z ≢ N x))
+  struck-out x i kn e z = (there, back)
+    where
+      h : i < length (s .entries)
+      h = listed-at x (s .entries) i e .0
+
+      is-x : (entry (s .entries) i) .spo ≡ x
+      is-x = listed-at x (s .entries) i e .1
+
+      there : listGraph (s .names) (mark (s .entries) i true) z → modelGraph s z × (z ≢ N x)
+      there g =
+          decide (eqb (g .0) i)
+          (λ d. let j = eqb-true (g .0) i d in
+          let o : entry (mark (s .entries) i true) (g .0) ≡ record {
+            spo = (entry (s .entries) i) .spo;
+            retracted =
+                true;
+          } =
+          ap (λ (j : ℕ). entry (mark (s .entries) i true) j) j ∙ mark-same (s .entries) i true h in
+          absurd (true≢false (ap (λ (e : Entry). e .retracted) (sym o) ∙ g .2)))
+          (λ d. let n = eqb-false (g .0) i d in
+          let o = mark-other (s .entries) i (g .0) true n in
+          let b : g .0 < length (s .entries) = omega (arith, g .1, mark-length (s .entries) i true) in
+          let w : nameTriple (s .names) ((entry (s .entries) (g .0)) .spo) ≡ z =
+          ap (λ (e : Entry). N (e .spo)) (sym o) ∙ g .3 in (
+            (g .0, b, ap (λ (e : Entry). e .retracted) (sym o) ∙ g .2, w),
+            (λ q. n (one-place (g .0) i b h
+                (triples-apart ((entry (s .entries) (g .0)) .spo) x (D .inside (g .0) b) kn (w ∙ q) ∙ sym is-x))),
+          ))
+
+      back : modelGraph s z × (z ≢ N x) → listGraph (s .names) (mark (s .entries) i true) z
+      back p =
+          let g = p .0 in
+          let n : g .0 ≢ i = λ j. p .1 (sym (g .3) ∙ ap (λ (k : ℕ). N ((entry (s .entries) k) .spo)) j ∙ ap N is-x) in
+          let o = mark-other (s .entries) i (g .0) true n in (
+            g .0,
+            omega (arith, g .1, mark-length (s .entries) i true),
+            ap (λ (e : Entry). e .retracted) o ∙ g .2,
+            ap (λ (e : Entry). N (e .spo)) o ∙ g .3,
+          )
+
+  strike-removes : (x : Triple) → known (length (s .names)) x ≡ true → (t : ℕ) → lookup x (s .entries) ≡ t
+      → ModelRemoved ((strike s t) .0) (N x) ((strike s t) .1)
+  unfolding strike
+  strike-removes x kn zero e = was-absent (N x) _ refl (not-in x kn e)
+  strike-removes x kn (suc i) e =
+      decide ((entry (s .entries) i) .retracted)
+      (λ d. rw d (was-absent (N x) _ refl (not-struck x i kn e d)))
+      (λ d. rw d (record {
+        refused = λ n. absurd (n refl);
+        removed = λ n z. struck-out x i kn e z;
+        absent = λ n. ((λ q. absurd (omega arith)), (λ q. absurd (q (is-in x i e d))));
+      }))
+
+  pub model-retracts : (x : Triple) → ModelRemoved ((retractModel s x) .0) (N x) ((retractModel s x) .1)
+  unfolding retractModel
+  model-retracts x =
+      decide (known (length (s .names)) x)
+      (λ e. rw e (strike-removes x e (lookup x (s .entries)) refl))
+      (λ e. rw e (not-removed (N x) _ (λ n. omega arith)))

@@ -1,0 +1,127 @@
+-- On a sound store numbers and names are in bijection, and the live statements are an RDF graph (`GraphClaim`).
+-- Assumes nothing.
+use mathlib.Core.Path.{_≡_, refl, sym, ap, _∙_}
+use mathlib.Core.Logic.{_≢_, _⊎_, inl, inr}
+use mathlib.Core.Bool.{true, not, _&&_, false≢true}
+use mathlib.Core.List.{[]}
+use Prim.Native.Nat.{ℕ, _-_, _≤_, _<_}
+use native.Mathlib.Omega.{arith}
+use lib.ListN.{length, getD}
+use lib.Dec.{eqb}
+use borrow.Author.Tests.{eqb-true, eq-eqb}
+use Rattle.term.specs.Grammar.{Iri, Blank, Literal, Name, iri, blank, literal}
+use Rattle.term.specs.Scanner.{firstKindOf}
+use Rattle.term.proofs.Names.{kinds}
+use Rattle.store.specs.declared.Position.{Position}
+use Rattle.store.specs.declared.Position.the-variants.{Subject, Predicate, Object}
+use Rattle.store.specs.declared.Counters.{Counters}
+use Rattle.store.specs.declared.Triple.{Triple}
+use Rattle.store.specs.Triple.{at, permitted}
+use Rattle.store.specs.Tables.{Tables, tripleAt, kindAt}
+use Rattle.store.specs.Model.{wellFormed, eqBytes, lookupName, nameOf}
+use Rattle.store.specs.Dictionary.{nameAt}
+use Rattle.store.specs.Soundness.{Sound}
+use Rattle.store.proofs.Tests.{and-l, and-r, three}
+use Rattle.store.proofs.Falling.{head-le}
+use Rattle.store.proofs.Words.{triple-at}
+use Rattle.store.proofs.Form.{form-kind, form-kindOf}
+use Rattle.store.proofs.NamesAgree.{name-at}
+use Rattle.store.proofs.RoundTrips.{distinct-names, lookup-name}
+use Rattle.graph.specs.Meaning.{Term, termAt, IsTriple}
+use Rattle.graph.specs.Graph.{named, LiveAt}
+use Rattle.graph.specs.Claims.{GraphClaim}
+use Rattle.graph.proofs.Solve.{triple-ext}
+
+-- a triple's name at a position is the name of its number there
+pub named-at : (m : Tables) (x : Triple) (p : Position) → termAt p (named m x) ≡ nameAt m (at p x)
+unfolding named
+named-at m x Subject = refl
+named-at m x Predicate = refl
+named-at m x Object = refl
+
+-- ---- a name of a kind
+
+asIri : {k : ℕ} {w : Term} → Name k w → k ≡ 1 → Iri w
+asIri (iri h) e = h
+asIri (blank h) e = absurd (omega arith)
+asIri (literal h) e = absurd (omega arith)
+
+asSubject : {k : ℕ} {w : Term} → Name k w → k ≢ 3 → Iri w ⊎ Blank w
+asSubject (iri h) e = inl h
+asSubject (blank h) e = inr h
+asSubject (literal h) e = absurd (e refl)
+
+asObject : {k : ℕ} {w : Term} → Name k w → Iri w ⊎ (Blank w ⊎ Literal w)
+asObject (iri h) = inl h
+asObject (blank h) = inr (inl h)
+asObject (literal h) = inr (inr h)
+
+not-three : (k : ℕ) → not (eqb k 3) ≡ true → k ≢ 3
+not-three k e d = false≢true (rw (eq-eqb k 3 d) at e)
+
+module _ (c : Counters) (m : Tables) (S : Sound c m) where
+  -- ---- the bijection
+
+  pub names-apart : (y z : ℕ) → 0 < y → y ≤ c .resources → 0 < z → z ≤ c .resources → nameAt m y ≡ nameAt m z → y ≡ z
+  names-apart y z a b d e h =
+      distinct-names c m S y z a b d e
+      (sym (name-at (S .names) c m (S .named) y a b) ∙ h ∙ name-at (S .names) c m (S .named) z d e)
+
+  -- the number of a name, or 0
+  unfoldable pub numberOfName : Term → ℕ
+  numberOfName w = lookupName w (S .names)
+
+  pub number-le : (w : Term) → numberOfName w ≤ c .resources
+  unfolding numberOfName lookupName
+  number-le w = rw (S .named .size) (head-le (λ i. eqBytes (getD (S .names) i []) w) (length (S .names)))
+
+  pub number-name : (y : ℕ) → 0 < y → y ≤ c .resources → numberOfName (nameAt m y) ≡ y
+  unfolding numberOfName
+  number-name y a b =
+      ap (λ (w : Term). lookupName w (S .names)) (name-at (S .names) c m (S .named) y a b) ∙ lookup-name c m S y a b
+
+  -- ---- the graph
+
+  name-kind : (y : ℕ) → 0 < y → y ≤ c .resources → Name (kindAt (m .resources) y) (nameAt m y)
+  name-kind y a b =
+      let w = nameOf (S .names) y in
+      let f : wellFormed w ≡ true = (unfold nameOf in (S .named .well (y - 1) (omega (arith, S .named .size)))) in
+      let e = S .named .kinds y a b in
+      rw (e, name-at (S .names) c m (S .named) y a b)
+      ((kinds 255 (firstKindOf w) w (form-kind w f)) .0 (form-kindOf w f) .1)
+
+  term-low : (p : Position) (i : ℕ) → i < c .statements → 0 < at p (tripleAt (m .statements) i)
+  term-low p i h = rw (triple-at (m .statements) p i) (S .linked .low p i h)
+
+  term-high : (p : Position) (i : ℕ) → i < c .statements → at p (tripleAt (m .statements) i) ≤ c .resources
+  term-high p i h = rw (triple-at (m .statements) p i) (S .linked .high p i h)
+
+  live-triple : (i : ℕ) → i < c .statements → IsTriple (named m (tripleAt (m .statements) i))
+  unfolding named permitted
+  live-triple i h =
+      let x = tripleAt (m .statements) i in
+      let k′ : not (eqb (kindAt (m .resources) (x .subject .0)) 3) && eqb (kindAt (m .resources) (x .predicate .0)) 1
+      ≡ true = S .kinds i h in
+      record {
+        subject-kind = asSubject (name-kind (x .subject .0) (term-low Subject i h) (term-high Subject i h))
+            (not-three _ (and-l _ _ k′));
+        predicate-kind = asIri (name-kind (x .predicate .0) (term-low Predicate i h) (term-high Predicate i h))
+            (eqb-true _ 1 (and-r (not (eqb (kindAt (m .resources) (x .subject .0)) 3)) _ k′));
+        object-kind = asObject (name-kind (x .object .0) (term-low Object i h) (term-high Object i h));
+      }
+
+  live-once : (i j : ℕ) → LiveAt c m i → LiveAt c m j
+      → named m (tripleAt (m .statements) i) ≡ named m (tripleAt (m .statements) j) → i ≡ j
+  live-once i j a b e =
+      let t : tripleAt (m .statements) i ≡ tripleAt (m .statements) j = triple-ext _ _ (λ p.
+      names-apart _ _ (term-low p i (a .0)) (term-high p i (a .0)) (term-low p j (b .0)) (term-high p j (b .0))
+      (sym (named-at m (tripleAt (m .statements) i) p) ∙ ap (termAt p) e
+      ∙ named-at m (tripleAt (m .statements) j) p)) in
+      three i j (λ h. absurd (S .once i j h (b .0) t)) (λ h. h) (λ h. absurd (S .once j i h (a .0) (sym t)))
+
+pub live-graph : GraphClaim
+live-graph c m S = record {
+  graph = λ x g. rw (← g .2) (live-triple c m S (g .0) (g .1 .0));
+  once = live-once c m S;
+  distinct = names-apart c m S;
+}

@@ -1,0 +1,517 @@
+-- One next call from any cursor that refusal 6 accepts answers from the solutions holding at the call, at or after
+-- the cursor's place (`NextClaim`); a cursor answered is never refused 6 later (`KeptClaim`); with no change between,
+-- budgets add up (`SplitClaim`). Assumes nothing.
+use mathlib.Core.Path.{_≡_, refl, sym, ap, _∙_, fun-ext}
+use mathlib.Core.Logic.{_≢_}
+use mathlib.Core.Bool.{Bool, true, false, true≢false, false≢true}
+use mathlib.Core.List.{List, [], _∷_}
+use Prim.Native.Nat.{ℕ, zero, suc, _+_, _-_, _<_}
+use native.Mathlib.Omega.{arith}
+use lib.ListN.{length}
+use lib.Dec.{eqb, ltb}
+use borrow.Author.Tests.{eqb-false, ltb-true, ne-eqb}
+use Rattle.store.specs.declared.Counters.{Counters}
+use Rattle.store.specs.declared.Refusal.{Refusal}
+use Rattle.store.specs.declared.Refusal.the-variants.{Capacity, Malformed, Full, UnknownNumber, KindNotPermitted}
+use Rattle.store.specs.declared.Refusal.the-variants.{BadCursor, NoBudget, BadQuery, Damaged, BadLine}
+use Rattle.store.specs.Tables.{Tables, fits}
+use Rattle.store.specs.History.{store, storeAfter}
+use Rattle.store.specs.Soundness.{Sound}
+use Rattle.store.proofs.Tests.{decide, and-l}
+use Rattle.graph.specs.declared.QueryPattern.{QueryPattern}
+use Rattle.graph.specs.declared.Level.{Level}
+use Rattle.graph.specs.declared.QueryCursor.{QueryCursor}
+use Rattle.graph.specs.declared.QueryStep.{QueryStep}
+use Rattle.graph.specs.declared.QueryStep.the-variants.{Found, Ended, Spent, Refused}
+use Rattle.graph.specs.Query.{wordsOk, patternsOf, Bindings, unbound, Place, start, inside, finish, Turn, bad}
+use Rattle.graph.specs.Query.{go, whole, Answer, refused, found, ended, spent, settle, remains, intact, pruned}
+use Rattle.graph.specs.Query.{placeOk, enter, visit, walk, begun, resume, answerOf, placeOf, cursorAt, packed}
+use Rattle.graph.specs.Query.{nextQueryOf}
+use Rattle.graph.specs.Order.{numbersOn, atOrAfter, keep, onwardsOf}
+use Rattle.graph.specs.Claims.{Unrefused, statementsIn, AllInOrder, accepted, onwardsFrom, Answers, NextClaim}
+use Rattle.graph.specs.Claims.{KeptClaim, moreVisits, SplitClaim}
+use Rattle.graph.proofs.Laws.{Shallow, place-cursor, walk-ended, walk-bad, walk-go, walk-whole}
+use Rattle.graph.proofs.Solve.{statements, descending-nodup}
+use Rattle.graph.proofs.Reading.{Reached, Outcome, walk-outcome, intact-ok, pruned-same}
+use Rattle.graph.proofs.Place.{fromPlace, Gives, any-place, place-keeps}
+use Rattle.graph.proofs.Later.{place-kept, calls-keep}
+use Rattle.graph.proofs.Solutions.{single, exactly, once-as-mappings}
+use Rattle.graph.proofs.Calls.{words-few, statements-are, fit, low, everything, everything-order}
+
+-- ---- an accepted place fits its cursor
+
+accepted-room : (stm : List ℕ) (ps : List QueryPattern) (r t : ℕ) (l : Level) (up : List Level)
+    → placeOk stm ps r t (inside l up) ≡ true
+    → length up < length ps
+unfolding placeOk
+accepted-room stm ps r t l up o = ltb-true (length up) (length ps) (and-l (ltb (length up) (length ps)) _ o)
+
+accepted-shallow : (c : Counters) (m : Tables) (ws : List ℕ) → wordsOk (c .resources) ws ≡ true → (q : Place)
+    → placeOk (m .statements) (patternsOf ws) (c .resources) (c .statements) q ≡ true → Shallow q
+accepted-shallow c m ws words start o = tt
+accepted-shallow c m ws words (inside l up) o =
+    omega (
+      arith,
+      accepted-room (m .statements) (patternsOf ws) (c .resources) (c .statements) l up o,
+      words-few (c .resources) ws words,
+    )
+accepted-shallow c m ws words finish o = tt
+
+module _ (c : Counters) (m : Tables) (S : Sound c m) (ws : List ℕ) (words : wordsOk (c .resources) ws ≡ true) where
+  abbrev all : List Bindings
+  all = everything c m S ws words
+
+  abbrev Ok : Place → Type 0
+  Ok q = placeOk (m .statements) (patternsOf ws) (c .resources) (c .statements) q ≡ true
+
+  abbrev after : Place → List Bindings
+  after q = onwardsOf (statementsIn c m ws) all q
+
+  abbrev from : Place → List Bindings
+  from q = fromPlace (c .resources) (c .statements) (m .resources) (m .statements) (patternsOf ws) q
+
+  from-after : (q : Place) → Ok q → from q ≡ after q
+  from-after start o = unfold fromPlace onwardsOf in refl
+  from-after (inside l up) o =
+      place-keeps (c .resources) (c .statements) (m .resources) (m .statements) (patternsOf ws) (S .linked)
+      (fit c m S ws words) (low c m S ws words)
+      (single c m S) l up o
+      ∙ same-test (fun-ext (statements-are (c .statements) (m .statements) (patternsOf ws)))
+    where
+      same-test : {f g : Bindings → List ℕ} → f ≡ g
+          → keep (λ s. atOrAfter (numbersOn up (l .statement .0 ∷ [])) (f s)) all ≡ onwardsOf g all (inside l up)
+      same-test e = unfold onwardsOf in (rw e)
+  from-after finish o = unfold fromPlace onwardsOf in refl
+
+  answer-gives : (q : Place) (b : ℕ) → Ok q → 0 < b
+      → Gives (c .resources) (c .statements) (m .resources) (m .statements) (patternsOf ws) q b (answerOf c m ws q b)
+  unfolding answerOf
+  answer-gives q b o h =
+      let n : b ≢ 0 = omega arith in
+      rw (S .capacity, words, o, ne-eqb b 0 n)
+      (any-place (c .resources) (c .statements) (m .resources) (m .statements) (patternsOf ws) (S .linked)
+      (fit c m S ws words) (low c m S ws words) q b o h)
+
+  -- the cursor answered stands for the place
+  cursor-ok : (q : Place) → Ok q → accepted c m ws (cursorAt q) ≡ true
+  cursor-ok q o = rw (place-cursor q (accepted-shallow c m ws words q o)) o
+
+  cursor-after : (q : Place) → Ok q → onwardsFrom c m ws all (cursorAt q) ≡ after q
+  cursor-after q o = ap after (place-cursor q (accepted-shallow c m ws words q o))
+
+  answers-of : (q : QueryCursor) (b : ℕ) (a : Answer) → Ok (placeOf q)
+      → Gives (c .resources) (c .statements) (m .resources) (m .statements) (patternsOf ws) (placeOf q) b a
+      → Answers c m ws all q b (packed a) ((packed a) .step)
+  unfolding packed
+  answers-of q b (refused e) o g = g
+  answers-of q b (found s v q′) o g = (
+    sym (from-after (placeOf q) o) ∙ g .0
+        ∙ ap (λ (z : List Bindings). s ∷ z) (from-after q′ (g .1) ∙ sym (cursor-after q′ (g .1))),
+    cursor-ok q′ (g .1),
+  )
+  answers-of q b (ended v) o g = sym (from-after (placeOf q) o) ∙ g
+  answers-of q b (spent v q′) o g = (
+    sym (from-after (placeOf q) o) ∙ g .0 ∙ from-after q′ (g .1) ∙ sym (cursor-after q′ (g .1)),
+    cursor-ok q′ (g .1),
+    omega (arith, g .2),
+  )
+
+  next-answers : (q : QueryCursor) (b : ℕ) → accepted c m ws q ≡ true → 0 < b
+      → Answers c m ws all q b (nextQueryOf c m ws q b) ((nextQueryOf c m ws q b) .step)
+  unfolding nextQueryOf
+  next-answers q b o h = answers-of q b (answerOf c m ws (placeOf q) b) o (answer-gives (placeOf q) b o h)
+
+  in-order : AllInOrder c m ws all
+  in-order = record {
+    exact = exactly c m S (patternsOf ws) (fit c m S ws words) (low c m S ws words);
+    once = once-as-mappings c m S (patternsOf ws) (fit c m S ws words) (low c m S ws words) all (λ s k. k)
+        (descending-nodup (statementsIn c m ws) all (everything-order c m S ws words));
+    order = everything-order c m S ws words;
+  }
+
+pub next-onwards : NextClaim
+next-onwards c m S ws words = (everything c m S ws words, in-order c m S ws words, next-answers c m S ws words)
+
+-- ---- a call that is not refused has passed the tests
+
+pub record Passed (c : Counters) (m : Tables) (ws : List ℕ) (q : Place) (b : ℕ) : Type 0 where
+  pub capacity : fits c m ≡ true
+  pub words : wordsOk (c .resources) ws ≡ true
+  pub place : placeOk (m .statements) (patternsOf ws) (c .resources) (c .statements) q ≡ true
+  pub budget : 0 < b
+
+abbrev NotRefused : Answer → Type 0
+NotRefused (refused e) = ⊥
+NotRefused (found s v q) = Unit {0}
+NotRefused (ended v) = Unit {0}
+NotRefused (spent v q) = Unit {0}
+
+pub passed : (c : Counters) (m : Tables) (ws : List ℕ) (q : Place) (b : ℕ) → NotRefused (answerOf c m ws q b)
+    → Passed c m ws q b
+unfolding answerOf
+passed c m ws q b =
+    decide (fits c m)
+    (λ f. decide (wordsOk (c .resources) ws)
+    (λ w. decide (placeOk (m .statements) (patternsOf ws) (c .resources) (c .statements) q)
+    (λ p. decide (eqb b 0)
+    (λ z. rw (f, w, p, z) (λ n. absurd n))
+    (λ z. λ n. let d : b ≢ 0 = eqb-false b 0 z in
+    record { capacity = f; words = w; place = p; budget = omega arith }))
+    (λ p. rw (f, w, p) (λ n. absurd n)))
+    (λ w. rw (f, w) (λ n. absurd n)))
+    (λ f. rw f (λ n. absurd n))
+
+unrefused-answer : (a : Answer) → Unrefused ((packed a) .step) → NotRefused a
+unfolding packed
+unrefused-answer (refused e) n = n
+unrefused-answer (found s v q) n = tt
+unrefused-answer (ended v) n = tt
+unrefused-answer (spent v q) n = tt
+
+-- ---- refusal 6 is given by its test alone
+
+abbrev isSix : Refusal → Bool
+isSix Capacity = false
+isSix Malformed = false
+isSix Full = false
+isSix UnknownNumber = false
+isSix KindNotPermitted = false
+isSix BadCursor = true
+isSix NoBudget = false
+isSix BadQuery = false
+isSix Damaged = false
+isSix BadLine = false
+
+abbrev saysSix : Answer → Bool
+saysSix (refused e) = isSix e
+saysSix (found s v q) = false
+saysSix (ended v) = false
+saysSix (spent v q) = false
+
+module _ (r t : ℕ) (res stm : List ℕ) (ps : List QueryPattern) where
+  walk-not-six : (b : ℕ) (l : Level) (up : List Level) (v : ℕ) → saysSix (walk r t res stm ps b l up v) ≡ false
+  walk-not-six zero l up v = unfold walk in (decide (remains stm l up) (λ e. rw e) (λ e. rw e))
+  walk-not-six (suc b) l up v = one (settle stm l up) refl (λ l up v. walk-not-six b l up v)
+    where
+      two : (n : Level) (top : List Level) → settle stm l up ≡ n ∷ top → (g : Turn) → visit r t res stm ps n top ≡ g
+          → ((l : Level) (up : List Level) (v : ℕ) → saysSix (walk r t res stm ps b l up v) ≡ false)
+          → saysSix (walk r t res stm ps (suc b) l up v) ≡ false
+      two n top e bad d ih = rw (walk-bad r t res stm ps l up v b n top e d)
+      two n top e (go n′ top′) d ih = rw (walk-go r t res stm ps l up v b n top n′ top′ e d) (ih n′ top′ (v + 1))
+      two n top e (whole s n′ top′) d ih = rw (walk-whole r t res stm ps l up v b n top s n′ top′ e d)
+
+      one : (k : List Level) → settle stm l up ≡ k
+          → ((l : Level) (up : List Level) (v : ℕ) → saysSix (walk r t res stm ps b l up v) ≡ false)
+          → saysSix (walk r t res stm ps (suc b) l up v) ≡ false
+      one [] e ih = rw (walk-ended r t res stm ps l up v b e)
+      one (n ∷ top) e ih = two n top e (visit r t res stm ps n top) refl ih
+
+  begun-not-six : (b : ℕ) (g : Turn) → saysSix (begun r t res stm ps b g) ≡ false
+  unfolding begun
+  begun-not-six b bad = refl
+  begun-not-six b (go l up) = walk-not-six b l up 0
+  begun-not-six b (whole s l up) = refl
+
+  resume-not-six : (q : Place) (b : ℕ) → saysSix (resume r t res stm ps q b) ≡ false
+  unfolding resume
+  resume-not-six start b =
+      decide (eqb (length ps) 0) (λ e. rw e) (λ e. rw e (begun-not-six b (enter r t res stm ps [])))
+  resume-not-six (inside l up) b =
+      decide (intact stm up) (λ e. rw e (walk-not-six b ((pruned stm l up) .0) ((pruned stm l up) .1) 0)) (λ e. rw e)
+  resume-not-six finish b = refl
+
+not-six : (c : Counters) (m : Tables) (ws : List ℕ) (q : Place) (b : ℕ)
+    → placeOk (m .statements) (patternsOf ws) (c .resources) (c .statements) q ≡ true
+    → saysSix (answerOf c m ws q b) ≡ false
+unfolding answerOf
+not-six c m ws q b o =
+    decide (fits c m)
+    (λ f. decide (wordsOk (c .resources) ws)
+    (λ w. decide (eqb b 0)
+    (λ z. rw (f, w, o, z))
+    (λ z. rw (f, w, o, z)
+    (resume-not-six (c .resources) (c .statements) (m .resources) (m .statements) (patternsOf ws) q b)))
+    (λ w. rw (f, w)))
+    (λ f. rw f)
+
+isRefused : QueryStep → Bool
+isRefused Found = false
+isRefused Ended = false
+isRefused Spent = false
+isRefused (Refused e) = true
+
+refusal-is : (e : Refusal) → Refused e ≡ Refused BadCursor → e ≡ BadCursor
+refusal-is e d = cc
+
+six-step : (a : Answer) → saysSix a ≡ false → (packed a) .step ≢ Refused BadCursor
+unfolding packed isRefused
+six-step (refused e) n d = true≢false (sym (ap isSix (refusal-is e d)) ∙ n)
+six-step (found s v q) n d = false≢true (ap isRefused d)
+six-step (ended v) n d = false≢true (ap isRefused d)
+six-step (spent v q) n d = false≢true (ap isRefused d)
+
+-- the place that an answer stands for is accepted
+place-after : (c : Counters) (m : Tables) (ws : List ℕ) (q : Place) (b : ℕ) (a : Answer)
+    → Gives (c .resources) (c .statements) (m .resources) (m .statements) (patternsOf ws) q b a
+    → (q′ : Place) × ((packed a) .cursor ≡ cursorAt q′)
+    × (placeOk (m .statements) (patternsOf ws) (c .resources) (c .statements) q′ ≡ true)
+unfolding packed
+place-after c m ws q b (refused e) g = absurd g
+place-after c m ws q b (found s v q′) g = (q′, refl, g .1)
+place-after c m ws q b (ended v) g = (finish, refl, (unfold placeOk in refl))
+place-after c m ws q b (spent v q′) g = (q′, refl, g .1)
+
+never-six : (c : Counters) (m : Tables) (ws : List ℕ) (q : QueryCursor) (b : ℕ)
+    → placeOk (m .statements) (patternsOf ws) (c .resources) (c .statements) (placeOf q) ≡ true
+    → (nextQueryOf c m ws q b) .step ≢ Refused BadCursor
+unfolding nextQueryOf
+never-six c m ws q b o = six-step (answerOf c m ws (placeOf q) b) (not-six c m ws (placeOf q) b o)
+
+pub cursor-kept : KeptClaim
+unfolding nextQueryOf
+cursor-kept c m S ws q b u qs calls b′ =
+    let P = passed c m ws (placeOf q) b (unrefused-answer (answerOf c m ws (placeOf q) b) u) in
+    let s = storeAfter (store c m qs) calls in
+    let a = answerOf c m ws (placeOf q) b in
+    let g = place-after c m ws (placeOf q) b a
+    (answer-gives c m S ws (P .words) (placeOf q) b (P .place) (P .budget)) in
+    let d : placeOf ((packed a) .cursor) ≡ g .0 =
+    ap placeOf (g .1) ∙ place-cursor (g .0) (accepted-shallow c m ws (P .words) (g .0) (g .2)) in
+    let k = place-kept (c .resources) (c .statements) (m .statements) (s .counters .resources)
+    (s .counters .statements) (s .tables .statements)
+    (calls-keep (store c m qs) calls) (patternsOf ws) (g .0) (g .2) in
+    never-six (s .counters) (s .tables) ws ((packed a) .cursor) b′ (rw d k)
+
+-- ---- budgets add up
+
+abbrev plus : ℕ → Answer → Answer
+plus w (refused e) = refused e
+plus w (found s v q) = found s (w + v) q
+plus w (ended v) = ended (w + v)
+plus w (spent v q) = spent (w + v) q
+
+packed-plus : (w : ℕ) (a : Answer) → NotRefused a → packed (plus w a) ≡ moreVisits w (packed a)
+unfolding packed
+packed-plus w (refused e) n = absurd n
+packed-plus w (found s v q) n = refl
+packed-plus w (ended v) n = refl
+packed-plus w (spent v q) n = refl
+
+abbrev isSpentAnswer : Answer → Bool
+isSpentAnswer (refused e) = false
+isSpentAnswer (found s v q) = false
+isSpentAnswer (ended v) = false
+isSpentAnswer (spent v q) = true
+
+spent-only : (a : Answer) (v : ℕ) (q : Place) {P : Type 0} → isSpentAnswer a ≡ false → a ≡ spent v q → P
+spent-only a v q z e = absurd (true≢false (sym (ap isSpentAnswer e) ∙ z))
+
+module _ (r t : ℕ) (res stm : List ℕ) (ps : List QueryPattern) where
+  walk-plus : (b : ℕ) (l : Level) (up : List Level) (w v : ℕ) → walk r t res stm ps b l up (w + v)
+      ≡ plus w (walk r t res stm ps b l up v)
+  walk-plus zero l up w v = unfold walk in (decide (remains stm l up) (λ e. rw e) (λ e. rw e))
+  walk-plus (suc b) l up w v = one (settle stm l up) refl (λ l up v. walk-plus b l up w v)
+    where
+      two : (n : Level) (top : List Level) → settle stm l up ≡ n ∷ top → (g : Turn) → visit r t res stm ps n top ≡ g
+          → ((l : Level) (up : List Level) (v : ℕ) → walk r t res stm ps b l up (w + v)
+          ≡ plus w (walk r t res stm ps b l up v))
+          → walk r t res stm ps (suc b) l up (w + v) ≡ plus w (walk r t res stm ps (suc b) l up v)
+      two n top e bad d ih =
+          rw (walk-bad r t res stm ps l up (w + v) b n top e d, walk-bad r t res stm ps l up v b n top e d)
+      two n top e (go n′ top′) d ih =
+          let k : w + v + 1 ≡ w + (v + 1) = omega arith in
+          rw (
+            walk-go r t res stm ps l up (w + v) b n top n′ top′ e d,
+            walk-go r t res stm ps l up v b n top n′ top′ e d,
+            k,
+          ) (ih n′ top′ (v + 1))
+      two n top e (whole s n′ top′) d ih =
+          let k : w + v + 1 ≡ w + (v + 1) = omega arith in
+          rw (
+            walk-whole r t res stm ps l up (w + v) b n top s n′ top′ e d,
+            walk-whole r t res stm ps l up v b n top s n′ top′ e d,
+            k,
+          )
+
+      one : (k : List Level) → settle stm l up ≡ k
+          → ((l : Level) (up : List Level) (v : ℕ) → walk r t res stm ps b l up (w + v)
+          ≡ plus w (walk r t res stm ps b l up v))
+          → walk r t res stm ps (suc b) l up (w + v) ≡ plus w (walk r t res stm ps (suc b) l up v)
+      one [] e ih = rw (walk-ended r t res stm ps l up (w + v) b e, walk-ended r t res stm ps l up v b e)
+      one (n ∷ top) e ih = two n top e (visit r t res stm ps n top) refl ih
+
+  -- where the first budget is spent, the walk with both goes on as the second
+  abbrev Splits : ℕ → ℕ → Level → List Level → ℕ → ℕ → Place → Type 0
+  Splits b b′ l up v v′ q =
+      (l′ : Level) × (up′ : List Level) × (q ≡ inside l′ up′)
+      × (walk r t res stm ps (b + b′) l up v ≡ walk r t res stm ps b′ l′ up′ v′)
+
+  walk-split : (b b′ : ℕ) (l : Level) (up : List Level) (v v′ : ℕ) (q : Place)
+      → walk r t res stm ps b l up v ≡ spent v′ q → Splits b b′ l up v v′ q
+  walk-split zero b′ l up v v′ q =
+      unfold walk in (decide (remains stm l up)
+      (λ e. rw e (λ d. at-once d))
+      (λ e. rw e (λ d. spent-only (ended v) v′ q refl d)))
+    where
+      at-once : spent v (inside l up) ≡ spent v′ q → Splits 0 b′ l up v v′ q
+      at-once d =
+          let x : v ≡ v′ = cc in
+          let y : inside l up ≡ q = cc in
+          let z : 0 + b′ ≡ b′ = omega arith in (
+            l,
+            up,
+            sym y,
+            ap (λ (k : ℕ). walk r t res stm ps k l up v) z
+                ∙ ap (λ (k : ℕ). walk r t res stm ps b′ l up k) x,
+          )
+  walk-split (suc b) b′ l up v v′ q = one (settle stm l up) refl (λ l up v. walk-split b b′ l up v v′ q)
+    where
+      more : suc b + b′ ≡ suc (b + b′)
+      more = omega arith
+
+      two : (n : Level) (top : List Level) → settle stm l up ≡ n ∷ top → (g : Turn) → visit r t res stm ps n top ≡ g
+          → ((l : Level) (up : List Level) (v : ℕ) → walk r t res stm ps b l up v ≡ spent v′ q
+          → Splits b b′ l up v v′ q)
+          → walk r t res stm ps (suc b) l up v ≡ spent v′ q → Splits (suc b) b′ l up v v′ q
+      two n top e bad d ih k =
+          spent-only (refused Damaged) v′ q refl (sym (walk-bad r t res stm ps l up v b n top e d) ∙ k)
+      two n top e (go n′ top′) d ih k =
+          let w = ih n′ top′ (v + 1) (sym (walk-go r t res stm ps l up v b n top n′ top′ e d) ∙ k) in (
+            w .0,
+            w .1,
+            w .2,
+            ap (λ (z : ℕ). walk r t res stm ps z l up v) more
+                ∙ walk-go r t res stm ps l up v (b + b′) n top n′ top′ e d ∙ w .3,
+          )
+      two n top e (whole s n′ top′) d ih k =
+          spent-only (found s (v + 1) (inside n′ top′)) v′ q refl
+          (sym (walk-whole r t res stm ps l up v b n top s n′ top′ e d) ∙ k)
+
+      one : (k : List Level) → settle stm l up ≡ k
+          → ((l : Level) (up : List Level) (v : ℕ) → walk r t res stm ps b l up v ≡ spent v′ q
+          → Splits b b′ l up v v′ q)
+          → walk r t res stm ps (suc b) l up v ≡ spent v′ q → Splits (suc b) b′ l up v v′ q
+      one [] e ih k = spent-only (ended v) v′ q refl (sym (walk-ended r t res stm ps l up v b e) ∙ k)
+      one (n ∷ top) e ih k = two n top e (visit r t res stm ps n top) refl ih k
+
+  abbrev Resumes : ℕ → ℕ → Place → ℕ → Place → Type 0
+  Resumes b b′ p v q =
+      (l′ : Level) × (up′ : List Level) × (q ≡ inside l′ up′)
+      × (resume r t res stm ps p (b + b′) ≡ walk r t res stm ps b′ l′ up′ v)
+
+  begun-split : (b b′ : ℕ) (g : Turn) (v : ℕ) (q : Place) → begun r t res stm ps b g ≡ spent v q
+      → (l′ : Level) × (up′ : List Level) × (q ≡ inside l′ up′)
+      × (begun r t res stm ps (b + b′) g ≡ walk r t res stm ps b′ l′ up′ v)
+  unfolding begun
+  begun-split b b′ bad v q e = spent-only (refused Damaged) v q refl e
+  begun-split b b′ (go l up) v q e = walk-split b b′ l up 0 v q e
+  begun-split b b′ (whole s l up) v q e = spent-only (refused Damaged) v q refl e
+
+  resume-split : (b b′ : ℕ) (p : Place) (v : ℕ) (q : Place) → resume r t res stm ps p b ≡ spent v q
+      → Resumes b b′ p v q
+  unfolding resume
+  resume-split b b′ start v q =
+      decide (eqb (length ps) 0)
+      (λ e. rw e (λ d. spent-only (found unbound 0 finish) v q refl d))
+      (λ e. rw e (λ d. begun-split b b′ (enter r t res stm ps []) v q d))
+  resume-split b b′ (inside l up) v q =
+      decide (intact stm up)
+      (λ e. rw e (λ d. walk-split b b′ ((pruned stm l up) .0) ((pruned stm l up) .1) 0 v q d))
+      (λ e. rw e (λ d. spent-only (refused Damaged) v q refl d))
+  resume-split b b′ finish v q = λ d. spent-only (ended 0) v q refl d
+
+-- tests passed: the walk is all that is left
+resumes : (c : Counters) (m : Tables) (ws : List ℕ) (q : Place) (b : ℕ) → Passed c m ws q b
+    → answerOf c m ws q b ≡ resume (c .resources) (c .statements) (m .resources) (m .statements) (patternsOf ws) q b
+unfolding answerOf
+resumes c m ws q b P = let n : b ≢ 0 = let h = P .budget in omega arith in
+    rw (P .capacity, P .words, P .place, ne-eqb b 0 n)
+
+isSpentStep : QueryStep → Bool
+isSpentStep Found = false
+isSpentStep Ended = false
+isSpentStep Spent = true
+isSpentStep (Refused e) = false
+
+spent-answer : (a : Answer) → (packed a) .step ≡ Spent → (v : ℕ) × (q : Place) × (a ≡ spent v q)
+unfolding packed isSpentStep
+spent-answer (refused e) d = absurd (false≢true (ap isSpentStep d))
+spent-answer (found s v q) d = absurd (false≢true (ap isSpentStep d))
+spent-answer (ended v) d = absurd (false≢true (ap isSpentStep d))
+spent-answer (spent v q) d = (v, q, refl)
+
+outcome-fine : (r t : ℕ) (res stm : List ℕ) (ps : List QueryPattern) (v₀ b : ℕ) (ss : List Bindings) (w k : ℕ)
+    (a : Answer)
+    → Outcome r t res stm ps v₀ b ss w k a → NotRefused a
+outcome-fine r t res stm ps v₀ b ss w k (refused e) o = o
+outcome-fine r t res stm ps v₀ b ss w k (found s v q) o = tt
+outcome-fine r t res stm ps v₀ b ss w k (ended v) o = tt
+outcome-fine r t res stm ps v₀ b ss w k (spent v q) o = tt
+
+module _ (c : Counters) (m : Tables) (S : Sound c m) (ws : List ℕ) (words : wordsOk (c .resources) ws ≡ true) where
+  abbrev go-on : Place → ℕ → Answer
+  go-on q b = resume (c .resources) (c .statements) (m .resources) (m .statements) (patternsOf ws) q b
+
+  abbrev step-on : ℕ → Level → List Level → ℕ → Answer
+  step-on b l up v = walk (c .resources) (c .statements) (m .resources) (m .statements) (patternsOf ws) b l up v
+
+  abbrev Here : Place → Type 0
+  Here q = Reached (c .resources) (c .statements) (m .resources) (m .statements) (patternsOf ws) q
+
+  -- from a place that calls leave, the walk goes on at once
+  goes-on : (l : Level) (up : List Level) (b : ℕ) → Here (inside l up) → go-on (inside l up) b ≡ step-on b l up 0
+  unfolding resume
+  goes-on l up b R =
+      rw (
+        intact-ok (c .resources) (c .statements) (m .resources) (m .statements) (patternsOf ws) (S .linked)
+            (fit c m S ws words) (low c m S ws words) up (R .1),
+        pruned-same (c .resources) (c .statements) (m .resources) (m .statements) (patternsOf ws) (S .linked)
+            (fit c m S ws words) (low c m S ws words) l up (R .1),
+      )
+
+  step-fine : (l : Level) (up : List Level) (b : ℕ) → Here (inside l up) → NotRefused (step-on b l up 0)
+  step-fine l up b R =
+      outcome-fine (c .resources) (c .statements) (m .resources) (m .statements) (patternsOf ws) 0 b _ _ _
+      (step-on b l up 0)
+      (walk-outcome (c .resources) (c .statements) (m .resources) (m .statements) (patternsOf ws) (S .linked)
+      (fit c m S ws words) (low c m S ws words)
+      b l up 0 (R .0) (R .1))
+
+  -- the second call, from the place the first has left
+  second : (l : Level) (up : List Level) (b v : ℕ) → Here (inside l up)
+      → placeOk (m .statements) (patternsOf ws) (c .resources) (c .statements) (inside l up) ≡ true → 0 < b
+      → packed (step-on b l up v) ≡ moreVisits v (nextQueryOf c m ws (cursorAt (inside l up)) b)
+  unfolding nextQueryOf
+  second l up b v R o h =
+      let P : Passed c m ws (inside l up) b =
+      record { capacity = S .capacity; words = words; place = o; budget = h } in
+      let z : v + 0 ≡ v = omega arith in
+      ap (λ (k : ℕ). packed (step-on b l up k)) (sym z)
+      ∙ ap packed (walk-plus (c .resources) (c .statements) (m .resources) (m .statements) (patternsOf ws) b l up v 0)
+      ∙ packed-plus v (step-on b l up 0) (step-fine l up b R)
+      ∙ ap (λ (a : Answer). moreVisits v (packed a)) (sym (goes-on l up b R) ∙ sym (resumes c m ws (inside l up) b P))
+      ∙ ap (λ (q : Place). moreVisits v (packed (answerOf c m ws q b)))
+      (sym (place-cursor (inside l up) (accepted-shallow c m ws words (inside l up) o)))
+
+  both : (q : Place) (b b′ v : ℕ) (q′ : Place) → Passed c m ws q b → 0 < b′ → answerOf c m ws q b ≡ spent v q′
+      → packed (answerOf c m ws q (b + b′)) ≡ moreVisits v (nextQueryOf c m ws (cursorAt q′) b′)
+  both q b b′ v q′ P h e =
+      let g : Gives (c .resources) (c .statements) (m .resources) (m .statements) (patternsOf ws) q b (spent v q′) =
+      rw e at (answer-gives c m S ws words q b (P .place) (P .budget)) in
+      let P′ : Passed c m ws q (b + b′) =
+      record { capacity = P .capacity; words = P .words; place = P .place; budget = omega (arith, P .budget) } in
+      let w = resume-split (c .resources) (c .statements) (m .resources) (m .statements) (patternsOf ws) b b′ q v q′
+      (sym (resumes c m ws q b P) ∙ e) in
+      ap packed (resumes c m ws q (b + b′) P′ ∙ w .3)
+      ∙ second (w .0) (w .1) b′ v (rw (w .2) at (g .3)) (rw (w .2) at (g .1)) h
+      ∙ ap (λ (p : Place). moreVisits v (nextQueryOf c m ws (cursorAt p) b′)) (sym (w .2))
+
+pub budgets-add : SplitClaim
+unfolding nextQueryOf packed
+budgets-add c m S ws q b b′ h e =
+    let a = answerOf c m ws (placeOf q) b in
+    let k = spent-answer a e in
+    let P = passed c m ws (placeOf q) b (rw (k .2) tt) in
+    both c m S ws (P .words) (placeOf q) b b′ (k .0) (k .1) P h (k .2)
+    ∙ ap (λ (z : Answer). moreVisits ((packed z) .visits)
+    (packed (answerOf c m ws (placeOf ((packed z) .cursor)) b′))) (sym (k .2))

@@ -1,0 +1,310 @@
+-- Closed runs of a query over the tables: the paper's example and the edges of its rules, whole answers and cursors
+-- compared. Assumes nothing.
+use mathlib.Core.Path.{_≡_, refl}
+use mathlib.Core.List.{List, [], _∷_, _++_, map}
+use Prim.Native.Nat.{ℕ, _+_}
+use lib.ListN.{replicate}
+use Rattle.store.specs.declared.Counters.{Counters}
+use Rattle.store.specs.declared.Chain.the-variants.{All, By}
+use Rattle.store.specs.declared.Position.the-variants.{Subject, Predicate, Object}
+use Rattle.store.specs.Triple.{known}
+use Rattle.store.specs.Tables.{Tables, tables, fits, termAt, nextAt, flagAt, tripleAt, firstAt, countAt}
+use Rattle.store.specs.Model.{better, pick}
+use Rattle.store.specs.Walk.{pickChain, pickable, startOf, linkOf, sits, visitable}
+use Rattle.store.specs.Scan.{chainOk, recordOk}
+use Rattle.graph.specs.declared.Level.{Level}
+use Rattle.graph.specs.declared.Progress.the-variants.{Start, Within, End}
+use Rattle.graph.specs.declared.QueryCursor.{QueryCursor}
+use Rattle.graph.specs.Query.{patternsOf, wordOk, allOk, wordsOk, Bindings, resource, valueOf, under, bind}
+use Rattle.graph.specs.Query.{match, level, noLevel, recordAt, past, struck, intact, anyStruck, pruned, settle}
+use Rattle.graph.specs.Query.{remains, nextPattern, binds, asked, enteredOk, placeOk, enter, hit, tried, visit}
+use Rattle.graph.specs.Query.{walk, begun, resume, answerOf, levelsOf, insideOf, placeAs, written, startCursor}
+use Rattle.graph.specs.Query.{cursorAt, openQueryOf, packed, nextQueryOf, readOn}
+use Rattle.graph.specs.Values.{QueryValues, queryOpenedValues, queryValues}
+
+-- ---- stores, cursors and answers as numbers
+
+abbrev v : ℕ → ℕ
+v n = 2147483648 + n
+
+pub record Lent : Type 0 where
+  pub counters : Counters
+  pub lent : Tables
+
+-- R and T, the resource and the statement table; no text is needed
+abbrev store : ℕ → ℕ → List ℕ → List ℕ → Lent
+store r t res stm = record {
+  counters = record { resources = r; statements = t; text = 0 };
+  lent =
+      tables res stm (replicate r 0) [];
+}
+
+-- a resource record: firsts, counts, offset, kind
+abbrev rr : ℕ → ℕ → ℕ → ℕ → ℕ → ℕ → List ℕ → List ℕ
+rr a b c d e f rest = a ∷ b ∷ c ∷ d ∷ e ∷ f ∷ 0 ∷ 1 ∷ rest
+
+-- a statement record: resources, nexts, flag
+abbrev sr : ℕ → ℕ → ℕ → ℕ → ℕ → ℕ → ℕ → List ℕ → List ℕ
+sr a b c d e f g rest = a ∷ b ∷ c ∷ d ∷ e ∷ f ∷ g ∷ rest
+
+-- after the loading program's example: 1 = (1,2,3), 2 = (1,2,4)
+two : Lent
+two = store 4 2 (rr 2 0 0 2 0 0 (rr 0 2 0 0 2 0 (rr 0 0 1 0 0 1 (rr 0 0 2 0 0 1 []))))
+    (sr 1 2 3 0 0 0 0 (sr 1 2 4 1 1 0 0 []))
+
+-- 1 = (1,2,3), 2 = (1,2,4), 3 = (3,2,4); the flag of 1 and the subject's next of 3 as given
+three : ℕ → ℕ → Lent
+three f n =
+    store 4 3 (rr 2 0 0 2 0 0 (rr 0 3 0 0 3 0 (rr 3 0 1 1 0 1 (rr 0 0 3 0 0 2 []))))
+    (sr 1 2 3 0 0 0 f (sr 1 2 4 1 1 0 0 (sr 3 2 4 n 2 2 0 [])))
+
+-- 1 = (1,2,4) alone
+lone : Lent
+lone = store 4 1 (rr 1 0 0 1 0 0 (rr 0 1 0 0 1 0 (rr 0 0 0 0 0 0 (rr 0 0 1 0 0 1 [])))) (sr 1 2 4 0 0 0 0 [])
+
+-- 1 = (1,2,3), and 99 for the count of 3 as subject
+much : Lent
+much = store 4 1 (rr 1 0 0 1 0 0 (rr 0 1 0 0 1 0 (rr 0 0 1 99 0 1 (rr 0 0 0 0 0 0 [])))) (sr 1 2 3 0 0 0 0 [])
+
+-- the cursors: eight levels written out, the first pattern first
+abbrev none : QueryCursor
+none = record {
+  progress = Start;
+  depth = 0;
+  levels =
+      noLevel ∷ noLevel ∷ noLevel ∷ noLevel ∷ noLevel ∷ noLevel ∷ noLevel ∷ noLevel ∷ [];
+}
+
+abbrev end : QueryCursor
+end = record {
+  progress = End;
+  depth = 0;
+  levels =
+      noLevel ∷ noLevel ∷ noLevel ∷ noLevel ∷ noLevel ∷ noLevel ∷ noLevel ∷ noLevel ∷ [];
+}
+
+abbrev in1 : Level → QueryCursor
+in1 a = record {
+  progress = Within;
+  depth = 1;
+  levels =
+      a ∷ noLevel ∷ noLevel ∷ noLevel ∷ noLevel ∷ noLevel ∷ noLevel ∷ noLevel ∷ [];
+}
+
+abbrev in2 : Level → Level → QueryCursor
+in2 a b = record {
+  progress = Within;
+  depth = 2;
+  levels =
+      a ∷ b ∷ noLevel ∷ noLevel ∷ noLevel ∷ noLevel ∷ noLevel ∷ noLevel ∷ [];
+}
+
+abbrev in3 : Level → Level → Level → QueryCursor
+in3 a b d = record {
+  progress = Within;
+  depth = 3;
+  levels =
+      a ∷ b ∷ d ∷ noLevel ∷ noLevel ∷ noLevel ∷ noLevel ∷ noLevel ∷ [];
+}
+
+-- the first two of sixteen
+abbrev sol : ℕ → ℕ → Bindings
+sol a b = resource a ∷ resource b ∷ replicate 14 (resource 0)
+
+abbrev S : ℕ → Level
+S n = level (By Subject) n
+
+abbrev P : ℕ → Level
+P n = level (By Predicate) n
+
+abbrev O : ℕ → Level
+O n = level (By Object) n
+
+abbrev refusedWith : ℕ → QueryValues
+refusedWith n = record { refusal = n; status = 0; visits = 0; solution = record { values = sol 0 0 }; cursor = none }
+
+abbrev found : ℕ → Bindings → QueryCursor → QueryValues
+found n b q = record { refusal = 0; status = 1; visits = n; solution = record { values = b }; cursor = q }
+
+abbrev ended : ℕ → QueryValues
+ended n = record { refusal = 0; status = 2; visits = n; solution = record { values = sol 0 0 }; cursor = end }
+
+abbrev spent : ℕ → QueryCursor → QueryValues
+spent n q = record { refusal = 0; status = 3; visits = n; solution = record { values = sol 0 0 }; cursor = q }
+
+-- open, one next call, calls one after another from the start
+abbrev open′ : Lent → List ℕ → QueryValues
+open′ s ws = queryOpenedValues (openQueryOf (s .counters) (s .lent) ws)
+
+abbrev next : Lent → List ℕ → QueryCursor → ℕ → QueryValues
+next s ws q b = queryValues (nextQueryOf (s .counters) (s .lent) ws q b)
+
+abbrev read : Lent → List ℕ → List ℕ → List QueryValues
+read s ws bs = map queryValues (readOn (s .counters) (s .lent) ws startCursor bs)
+
+-- ---- the runs
+
+-- the paper's question: 2 visits, then 1
+paper : read two (v 0 ∷ 2 ∷ 3 ∷ v 0 ∷ 2 ∷ v 1 ∷ []) (9 ∷ 9 ∷ 9 ∷ 9 ∷ [])
+    ≡ found 2 (sol 1 4) (in2 (O 1) (S 1)) ∷ found 1 (sol 1 3) (in2 (O 1) (S 0)) ∷ ended 0 ∷ ended 0 ∷ []
+unfolding two three lone much wordOk allOk wordsOk patternsOf valueOf under bind match recordAt past struck intact
+    anyStruck pruned settle remains nextPattern binds asked enteredOk placeOk enter hit tried visit walk begun resume
+    answerOf levelsOf insideOf placeAs written cursorAt openQueryOf packed nextQueryOf readOn known better pick termAt
+    nextAt flagAt tripleAt firstAt countAt linkOf startOf sits visitable pickChain pickable chainOk recordOk fits
+paper = refl
+
+-- opening gives the start
+opened : open′ two (v 0 ∷ 2 ∷ 3 ∷ []) ∷ open′ two [] ∷ open′ two (1 ∷ 2 ∷ []) ∷ open′ two
+    (5 ∷ 2 ∷ 3 ∷ []) ∷ open′ two (0 ∷ 2 ∷ 3 ∷ []) ∷ open′ two (v 15 ∷ 2 ∷ 3 ∷ []) ∷ open′ two
+    (v 16 ∷ 2 ∷ 3 ∷ []) ∷ open′ two (2147483647 ∷ 2 ∷ 3 ∷ []) ∷ []
+    ≡ record {
+      refusal = 0;
+      status = 0;
+      visits = 0;
+      solution = record { values = sol 0 0 };
+      cursor =
+          none;
+    } ∷ record {
+      refusal = 0;
+      status = 0;
+      visits = 0;
+      solution = record { values = sol 0 0 };
+      cursor =
+          none;
+    } ∷ refusedWith 8 ∷ refusedWith 8 ∷ refusedWith 8 ∷ record {
+      refusal = 0;
+      status = 0;
+      visits =
+          0;
+      solution = record { values = sol 0 0 };
+      cursor = none;
+    } ∷ refusedWith 8 ∷ refusedWith 8 ∷ []
+unfolding two three lone much wordOk allOk wordsOk patternsOf valueOf under bind match recordAt past struck intact
+    anyStruck pruned settle remains nextPattern binds asked enteredOk placeOk enter hit tried visit walk begun resume
+    answerOf levelsOf insideOf placeAs written cursorAt openQueryOf packed nextQueryOf readOn known better pick termAt
+    nextAt flagAt tripleAt firstAt countAt linkOf startOf sits visitable pickChain pickable chainOk recordOk fits
+opened = refl
+
+-- no patterns: one empty solution, with the end as place; a budget of 0 is refused at the end too; a level is one too
+-- many
+no-patterns : read two [] (1 ∷ 1 ∷ 0 ∷ []) ++ next two [] (in1 (level All 1)) 1 ∷ []
+    ≡ found 0 (sol 0 0) end ∷ ended 0 ∷ refusedWith 7 ∷ refusedWith 6 ∷ []
+unfolding two three lone much wordOk allOk wordsOk patternsOf valueOf under bind match recordAt past struck intact
+    anyStruck pruned settle remains nextPattern binds asked enteredOk placeOk enter hit tried visit walk begun resume
+    answerOf levelsOf insideOf placeAs written cursorAt openQueryOf packed nextQueryOf readOn known better pick termAt
+    nextAt flagAt tripleAt firstAt countAt linkOf startOf sits visitable pickChain pickable chainOk recordOk fits
+no-patterns = refl
+
+-- eight patterns, and nine: a visit at each level
+eight-patterns : next two
+    (1 ∷ 2 ∷ 3 ∷ 1 ∷ 2 ∷ 3 ∷ 1 ∷ 2 ∷ 3 ∷ 1 ∷ 2 ∷ 3 ∷ 1 ∷ 2 ∷ 3 ∷ 1 ∷ 2 ∷ 3 ∷ 1 ∷ 2 ∷ 3 ∷ 1 ∷ 2 ∷ 3 ∷ []) none 9 ∷
+    next two (1 ∷ 2 ∷ 3 ∷ 1 ∷ 2 ∷ 3 ∷ 1 ∷ 2 ∷ 3 ∷ 1 ∷ 2 ∷ 3 ∷ 1 ∷ 2 ∷ 3 ∷ 1 ∷ 2 ∷ 3 ∷ 1 ∷ 2 ∷ 3 ∷ 1 ∷ 2 ∷ 3 ∷ 1 ∷ 2 ∷
+    3 ∷ []) none 9 ∷ []
+    ≡ found 8 (sol 0 0) (record {
+      progress = Within;
+      depth = 8;
+      levels =
+          O 1 ∷ O 1 ∷ O 1 ∷ O 1 ∷ O 1 ∷ O 1 ∷ O 1 ∷ O 0 ∷ [];
+    }) ∷ refusedWith 8 ∷ []
+unfolding two three lone much wordOk allOk wordsOk patternsOf valueOf under bind match recordAt past struck intact
+    anyStruck pruned settle remains nextPattern binds asked enteredOk placeOk enter hit tried visit walk begun resume
+    answerOf levelsOf insideOf placeAs written cursorAt openQueryOf packed nextQueryOf readOn known better pick termAt
+    nextAt flagAt tripleAt firstAt countAt linkOf startOf sits visitable pickChain pickable chainOk recordOk fits
+eight-patterns = refl
+
+-- what stands past the levels is ignored, and within with no levels is the start
+slots-ignored : next two (1 ∷ 2 ∷ 3 ∷ []) (record { progress = Within; depth = 0; levels = replicate 8 (P 77) }) 1 ∷
+    next two (1 ∷ 2 ∷ 3 ∷ []) (record { progress = Start; depth = 5; levels = replicate 8 (P 77) }) 1 ∷ next two
+    (1 ∷ 2 ∷ 3 ∷ []) (record { progress = End; depth = 5; levels = replicate 8 (P 77) }) 1 ∷ next two
+    (1 ∷ 2 ∷ 3 ∷ []) (record { progress = Within; depth = 1; levels = O 1 ∷ replicate 7 (P 77) }) 1 ∷ []
+    ≡ found 1 (sol 0 0) (in1 (O 0)) ∷ found 1 (sol 0 0) (in1 (O 0)) ∷ ended 0 ∷ found 1 (sol 0 0) (in1 (O 0)) ∷ []
+unfolding two three lone much wordOk allOk wordsOk patternsOf valueOf under bind match recordAt past struck intact
+    anyStruck pruned settle remains nextPattern binds asked enteredOk placeOk enter hit tried visit walk begun resume
+    answerOf levelsOf insideOf placeAs written cursorAt openQueryOf packed nextQueryOf readOn known better pick termAt
+    nextAt flagAt tripleAt firstAt countAt linkOf startOf sits visitable pickChain pickable chainOk recordOk fits
+slots-ignored = refl
+
+-- a variable repeated in a pattern is open at the pick: all records are scanned; equality is tested at the match
+variable-thrice : read two (v 0 ∷ v 0 ∷ v 0 ∷ []) (1 ∷ 9 ∷ []) ++ read two (v 0 ∷ 2 ∷ v 0 ∷ []) (9 ∷ [])
+    ≡ spent 1 (in1 (level All 1)) ∷ ended 1 ∷ ended 2 ∷ []
+unfolding two three lone much wordOk allOk wordsOk patternsOf valueOf under bind match recordAt past struck intact
+    anyStruck pruned settle remains nextPattern binds asked enteredOk placeOk enter hit tried visit walk begun resume
+    answerOf levelsOf insideOf placeAs written cursorAt openQueryOf packed nextQueryOf readOn known better pick termAt
+    nextAt flagAt tripleAt firstAt countAt linkOf startOf sits visitable pickChain pickable chainOk recordOk fits
+variable-thrice = refl
+
+-- 6: the chain of each level is a bound position, not one that is open; it need not be the least
+chains-accepted : next (three 0 0) (v 0 ∷ 2 ∷ v 1 ∷ v 1 ∷ 2 ∷ v 2 ∷ []) (in2 (P 1) (O 0)) 9 ∷ next (three 0 0)
+    (v 0 ∷ 2 ∷ v 1 ∷ v 1 ∷ 2 ∷ v 2 ∷ []) (in2 (P 1) (P 3)) 9 ∷ next (three 0 0) (v 0 ∷ 2 ∷ v 1 ∷ v 1 ∷ 2 ∷ v 2 ∷ [])
+    (in2 (level All 1) (P 3)) 9 ∷ next (three 0 0) (v 0 ∷ 2 ∷ v 1 ∷ v 1 ∷ 2 ∷ v 2 ∷ []) (in2 (P 0) (S 0)) 9 ∷ next
+    (three 0 0) (v 0 ∷ 2 ∷ v 1 ∷ v 1 ∷ 2 ∷ v 2 ∷ []) (in2 (P 4) (S 0)) 9 ∷ []
+    ≡ refusedWith 6 ∷ found 1 (resource 1 ∷ resource 3 ∷ resource 4 ∷ replicate 13 (resource 0))
+    (in2 (P 1) (P 2)) ∷ refusedWith 6 ∷ refusedWith 6 ∷ refusedWith 6 ∷ []
+unfolding two three lone much wordOk allOk wordsOk patternsOf valueOf under bind match recordAt past struck intact
+    anyStruck pruned settle remains nextPattern binds asked enteredOk placeOk enter hit tried visit walk begun resume
+    answerOf levelsOf insideOf placeAs written cursorAt openQueryOf packed nextQueryOf readOn known better pick termAt
+    nextAt flagAt tripleAt firstAt countAt linkOf startOf sits visitable pickChain pickable chainOk recordOk fits
+chains-accepted = refl
+
+-- the entered record 1 is struck out since, and nothing is below it on its chain
+struck-since : next (three 1 0) (v 0 ∷ 2 ∷ v 1 ∷ v 1 ∷ 2 ∷ v 2 ∷ []) (in2 (P 1) (S 3)) 9
+    ≡ ended 0
+unfolding two three lone much wordOk allOk wordsOk patternsOf valueOf under bind match recordAt past struck intact
+    anyStruck pruned settle remains nextPattern binds asked enteredOk placeOk enter hit tried visit walk begun resume
+    answerOf levelsOf insideOf placeAs written cursorAt openQueryOf packed nextQueryOf readOn known better pick termAt
+    nextAt flagAt tripleAt firstAt countAt linkOf startOf sits visitable pickChain pickable chainOk recordOk fits
+struck-since = refl
+
+-- entering after the budget's last visit may refuse 9
+enter-refused : next much (1 ∷ 2 ∷ v 0 ∷ v 0 ∷ 2 ∷ v 1 ∷ []) none 1
+    ≡ refusedWith 9
+unfolding two three lone much wordOk allOk wordsOk patternsOf valueOf under bind match recordAt past struck intact
+    anyStruck pruned settle remains nextPattern binds asked enteredOk placeOk enter hit tried visit walk begun resume
+    answerOf levelsOf insideOf placeAs written cursorAt openQueryOf packed nextQueryOf readOn known better pick termAt
+    nextAt flagAt tripleAt firstAt countAt linkOf startOf sits visitable pickChain pickable chainOk recordOk fits
+enter-refused = refl
+
+-- a chain that has run out stays in the place; the call that leaves it pays nothing for that
+run-out-stays : read (three 0 0) (v 0 ∷ 2 ∷ v 1 ∷ v 1 ∷ 2 ∷ v 2 ∷ []) (1 ∷ 1 ∷ [])
+    ≡ spent 1 (in2 (P 3) (S 0)) ∷ spent 1 (in2 (P 2) (S 0)) ∷ []
+unfolding two three lone much wordOk allOk wordsOk patternsOf valueOf under bind match recordAt past struck intact
+    anyStruck pruned settle remains nextPattern binds asked enteredOk placeOk enter hit tried visit walk begun resume
+    answerOf levelsOf insideOf placeAs written cursorAt openQueryOf packed nextQueryOf readOn known better pick termAt
+    nextAt flagAt tripleAt firstAt countAt linkOf startOf sits visitable pickChain pickable chainOk recordOk fits
+run-out-stays = refl
+
+-- no entered chain has a record left when the budget is spent: ended
+nothing-remains : next lone (v 0 ∷ 2 ∷ v 1 ∷ v 1 ∷ 2 ∷ v 2 ∷ []) none 1
+    ≡ ended 1
+unfolding two three lone much wordOk allOk wordsOk patternsOf valueOf under bind match recordAt past struck intact
+    anyStruck pruned settle remains nextPattern binds asked enteredOk placeOk enter hit tried visit walk begun resume
+    answerOf levelsOf insideOf placeAs written cursorAt openQueryOf packed nextQueryOf readOn known better pick termAt
+    nextAt flagAt tripleAt firstAt countAt linkOf startOf sits visitable pickChain pickable chainOk recordOk fits
+nothing-remains = refl
+
+-- found with every chain run out is no end yet
+found-run-out : read two (1 ∷ 2 ∷ 3 ∷ []) (1 ∷ 1 ∷ [])
+    ≡ found 1 (sol 0 0) (in1 (O 0)) ∷ ended 0 ∷ []
+unfolding two three lone much wordOk allOk wordsOk patternsOf valueOf under bind match recordAt past struck intact
+    anyStruck pruned settle remains nextPattern binds asked enteredOk placeOk enter hit tried visit walk begun resume
+    answerOf levelsOf insideOf placeAs written cursorAt openQueryOf packed nextQueryOf readOn known better pick termAt
+    nextAt flagAt tripleAt firstAt countAt linkOf startOf sits visitable pickChain pickable chainOk recordOk fits
+found-run-out = refl
+
+-- 9 before any visit, also below a record struck out since
+damaged-below : next (three 1 3) (v 0 ∷ 2 ∷ v 1 ∷ v 1 ∷ 2 ∷ v 2 ∷ v 2 ∷ 2 ∷ v 3 ∷ []) (in3 (P 1) (S 3) (S 0)) 1
+    ≡ refusedWith 9
+unfolding two three lone much wordOk allOk wordsOk patternsOf valueOf under bind match recordAt past struck intact
+    anyStruck pruned settle remains nextPattern binds asked enteredOk placeOk enter hit tried visit walk begun resume
+    answerOf levelsOf insideOf placeAs written cursorAt openQueryOf packed nextQueryOf readOn known better pick termAt
+    nextAt flagAt tripleAt firstAt countAt linkOf startOf sits visitable pickChain pickable chainOk recordOk fits
+damaged-below = refl
+
+-- a reading to the end: 4 visits, whatever is left of the budget
+large-budget : next (three 0 0) (v 0 ∷ 2 ∷ v 1 ∷ v 1 ∷ 2 ∷ v 2 ∷ v 2 ∷ 2 ∷ v 3 ∷ []) none 4294967295
+    ≡ ended 4
+unfolding two three lone much wordOk allOk wordsOk patternsOf valueOf under bind match recordAt past struck intact
+    anyStruck pruned settle remains nextPattern binds asked enteredOk placeOk enter hit tried visit walk begun resume
+    answerOf levelsOf insideOf placeAs written cursorAt openQueryOf packed nextQueryOf readOn known better pick termAt
+    nextAt flagAt tripleAt firstAt countAt linkOf startOf sits visitable pickChain pickable chainOk recordOk fits
+large-budget = refl

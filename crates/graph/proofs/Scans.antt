@@ -1,0 +1,377 @@
+-- A pattern scan read through on a sound store gives exactly the live triples that match, each once, and ends
+-- (`ScanClaim`). Assumes nothing.
+use mathlib.Core.Path.{_≡_, refl, sym, ap, _∙_}
+use mathlib.Core.Logic.{_≢_, _⊎_, inl, inr}
+use mathlib.Core.Bool.{Bool, true, false, not, _||_, true≢false, false≢true}
+use mathlib.Core.List.{List, [], _∷_, _++_, map, List·Memᴰ, Memᴰ·append-left}
+use mathlib.Core.Option.{some}
+use Prim.Native.Nat.{ℕ, zero, suc, _+_, _-_, _≤_, _<_}
+use native.Mathlib.Omega.{arith}
+use lib.ListN.{length}
+use lib.Dec.{eqb}
+use borrow.Author.Tests.{eqb-true, eqb-false, eq-eqb, ne-eqb, ltb-true, le-leb}
+use Rattle.store.specs.declared.Position.{Position}
+use Rattle.store.specs.declared.Chain.{Chain}
+use Rattle.store.specs.declared.Chain.the-variants.{All, By}
+use Rattle.store.specs.declared.Counters.{Counters}
+use Rattle.store.specs.declared.Triple.{Triple}
+use Rattle.store.specs.declared.ScanCursor.{ScanCursor}
+use Rattle.store.specs.declared.ScanOpened.the-variants.{Cursor}
+use Rattle.store.specs.declared.Scanned.{Scanned}
+use Rattle.store.specs.declared.Scanned.the-variants.{Found as ScanFound, Ended as ScanEnded, Spent as ScanSpent}
+use Rattle.store.specs.Triple.{at, within, agrees, below, head0, prev}
+use Rattle.store.specs.Tables.{Tables, tripleAt, flagAt}
+use Rattle.store.specs.Model.{onChain, matches, Taken, found as took, ended as emptied, spent as stopped, oneMore}
+use Rattle.store.specs.Model.{take-off}
+use Rattle.store.specs.Walk.{entryAt, pickChain}
+use Rattle.store.specs.Dictionary.{nameAt}
+use Rattle.store.specs.Scan.{openOf, cursorAt, chainOk, recordOk, cursorOk, walkFrom, scannedAs, nextOf}
+use Rattle.store.specs.Soundness.{Sound}
+use Rattle.store.proofs.Tests.{decide, and-l, and-r, and-of, all3-at, all3-of, within-high}
+use Rattle.store.proofs.Falling.{below-yes, below-no, below-nil, below-in, below-out, head-le, head-passes}
+use Rattle.store.proofs.Words.{triple-at}
+use Rattle.store.proofs.Walks.{asStep, take-hit, take-miss}
+use Rattle.store.proofs.Picking.{pick-ok}
+use Rattle.store.proofs.Chains.{onWords, pickChain-bound, chain-sits, chain-start, pickable-linked, walk-linked}
+use Rattle.graph.specs.Order.{NoDuplicates}
+use Rattle.graph.specs.Meaning.{RdfTriple, termAt}
+use Rattle.graph.specs.Graph.{named, graphOf}
+use Rattle.graph.specs.Claims.{AllPositive, scanAfter, scanOn, scannedIn, NoScanRefused, scanEnded, namedAt}
+use Rattle.graph.specs.Claims.{Matches, ScanRead, ScanClaim}
+use Rattle.graph.proofs.Names.{named-at, names-apart, live-graph}
+use Rattle.graph.proofs.Solutions.{mem-map, map-mem, map-once}
+
+-- ---- positions
+
+below-once : (f : ℕ → Bool) (n : ℕ) → NoDuplicates (below f n)
+below-once f zero = rw (below-nil f) tt
+below-once f (suc n) =
+    decide (f n)
+    (λ e. rw (below-yes f n e)
+    ((λ k. let r = below-out f n (suc n) k in absurd (omega (arith, r .1, r .2))), below-once f n))
+    (λ e. rw (below-no f n e) (below-once f n))
+
+once-part : {A : Type 0} (xs ys : List A) → NoDuplicates (xs ++ ys) → NoDuplicates xs
+once-part [] ys d = tt
+once-part (x ∷ xs) ys d = ((λ k. d .0 (Memᴰ·append-left ys k)), once-part xs ys (d .1))
+
+nothing-part : {A : Type 0} (xs ys : List A) → xs ++ ys ≡ [] → xs ≡ []
+nothing-part [] ys e = refl
+nothing-part (x ∷ xs) ys e = absurd (omega (arith, ap (λ (z : List _). length z) e))
+
+-- ---- taking positions off a chain, against the positions that pass
+
+module _ (f hit : ℕ → Bool) (on : (i : ℕ) → hit i ≡ true → f i ≡ true) where
+  -- what is taken off the positions below k that are on the chain, with budget b
+  abbrev Takes : ℕ → ℕ → Taken → Type 0
+  Takes b k (took n v r) = (j : ℕ) × (j < k) × (r ≡ below f j) × (below hit k ≡ n ∷ below hit j)
+  Takes b k (emptied v) = below hit k ≡ []
+  Takes b k (stopped v r) = (j : ℕ) × (j + b ≤ k) × (r ≡ below f j) × (below hit k ≡ below hit j)
+
+  takes-more : (b b′ k k′ : ℕ) (z : Taken) → below hit k′ ≡ below hit k → k ≤ k′ → b′ + k ≤ b + k′ → Takes b k z
+      → Takes b′ k′ z
+  takes-more b b′ k k′ (took n v r) e h g t = (t .0, omega (arith, t .1), t .2, e ∙ t .3)
+  takes-more b b′ k k′ (emptied v) e h g t = e ∙ t
+  takes-more b b′ k k′ (stopped v r) e h g t = (t .0, omega (arith, t .1), t .2, e ∙ t .3)
+
+  takes-visit : (b k : ℕ) (z : Taken) → Takes b k z → Takes b k (oneMore z)
+  takes-visit b k (took n v r) t = t
+  takes-visit b k (emptied v) t = t
+  takes-visit b k (stopped v r) t = t
+
+  off : (i : ℕ) → f i ≡ false → hit i ≡ false
+  off i e = decide (hit i) (λ d. absurd (true≢false (sym (on i d) ∙ e))) (λ d. d)
+
+  takes : (b k : ℕ) → Takes b k (take-off hit b (below f k))
+  takes b zero = rw (below-nil f) (none-left b)
+    where
+      none-left : (b : ℕ) → Takes b 0 (take-off hit b [])
+      none-left zero = unfold take-off in (below-nil hit)
+      none-left (suc b) = unfold take-off in (below-nil hit)
+  takes b (suc n) =
+      decide (f n)
+      (λ e. rw (below-yes f n e) (top b e (λ b. takes b n)))
+      (λ e. rw (below-no f n e)
+      (takes-more b b n (suc n) (take-off hit b (below f n)) (below-no hit n (off n e)) (omega arith)
+      (omega arith) (takes b n)))
+    where
+      top : (b : ℕ) → f n ≡ true → ((b : ℕ) → Takes b n (take-off hit b (below f n)))
+          → Takes b (suc n) (take-off hit b (suc n ∷ below f n))
+      top zero e ih = unfold take-off in (suc n, omega arith, sym (below-yes f n e), refl)
+      top (suc b) e ih =
+          decide (hit n)
+          (λ d. rw (take-hit hit b (suc n) (below f n) d) (n, omega arith, refl, below-yes hit n d))
+          (λ d. rw (take-miss hit b (suc n) (below f n) d)
+          (takes-visit (suc b) (suc n) (take-off hit b (below f n))
+          (takes-more b (suc b) n (suc n) (take-off hit b (below f n)) (below-no hit n d) (omega arith) (omega arith)
+          (ih b))))
+
+-- ---- calls one after another
+
+pub record Told (ss : List ℕ) (k : ℕ) (bs : List ℕ) (rs : List Scanned) : Type 0 where
+  pub fine : NoScanRefused rs
+  pub part : (r : List ℕ) × (scannedIn rs ++ r ≡ ss)
+  pub all : scanEnded rs ≡ true → scannedIn rs ≡ ss
+  pub ends : k < length bs → scanEnded rs ≡ true
+
+told-none : (ss : List ℕ) (k : ℕ) → Told ss k [] []
+unfolding scannedIn scanEnded
+told-none ss k = record {
+  fine = tt;
+  part = (ss, refl);
+  all = λ e. absurd (false≢true e);
+  ends =
+      λ h. absurd (omega arith);
+}
+
+told-found : (ss ss′ : List ℕ) (k j b : ℕ) (bs : List ℕ) (rs : List Scanned) (n v : ℕ) (q : ScanCursor)
+    → ss ≡ n ∷ ss′ → j < k → Told ss′ j bs rs
+    → Told ss k (b ∷ bs) (ScanFound (record { 0 = n }) v q ∷ rs)
+unfolding scannedIn scanEnded
+told-found ss ss′ k j b bs rs n v q e h T = record {
+  fine = T .fine;
+  part = (T .part .0, ap (λ (z : List ℕ). n ∷ z) (T .part .1) ∙ sym e);
+  all = λ d. ap (λ (z : List ℕ). n ∷ z) (T .all d) ∙ sym e;
+  ends = λ d. T .ends (omega arith);
+}
+
+told-spent : (ss ss′ : List ℕ) (k j b : ℕ) (bs : List ℕ) (rs : List Scanned) (v : ℕ) (q : ScanCursor) → ss ≡ ss′
+    → j < k → Told ss′ j bs rs
+    → Told ss k (b ∷ bs) (ScanSpent v q ∷ rs)
+unfolding scannedIn scanEnded
+told-spent ss ss′ k j b bs rs v q e h T =
+    record {
+      fine = T .fine;
+      part = (T .part .0, T .part .1 ∙ sym e);
+      all = λ d. T .all d ∙ sym e;
+      ends =
+          λ d. T .ends (omega arith);
+    }
+
+told-ended : (ss : List ℕ) (k b : ℕ) (bs : List ℕ) (rs : List Scanned) (v : ℕ) (q : ScanCursor) → ss ≡ []
+    → Told [] 0 bs rs
+    → Told ss k (b ∷ bs) (ScanEnded v q ∷ rs)
+unfolding scannedIn scanEnded
+told-ended ss k b bs rs v q e T =
+    let n = nothing-part (scannedIn rs) (T .part .0) (T .part .1) in
+    record { fine = T .fine; part = (T .part .0, T .part .1 ∙ sym e); all = λ d. n ∙ sym e; ends = λ d. refl }
+
+module _ (c : Counters) (m : Tables) (S : Sound c m) (x : Triple) (known : within (c .resources) x ≡ true) where
+  abbrev hit : ℕ → Bool
+  hit i = matches x (entryAt (m .statements) i)
+
+  matched : (i : ℕ) → hit i ≡ true → (flagAt (m .statements) i ≢ 1) × (agrees x (tripleAt (m .statements) i) ≡ true)
+  unfolding matches entryAt
+  matched i e = (
+    not-one (flagAt (m .statements) i) (and-l _ _ e),
+    and-r (not (eqb (flagAt (m .statements) i) 1)) _ e,
+  )
+    where
+      not-one : (n : ℕ) → not (eqb n 1) ≡ true → n ≢ 1
+      not-one n e d = false≢true (rw (eq-eqb n 1 d) at e)
+
+  matches-of : (i : ℕ) → flagAt (m .statements) i ≡ 0 → agrees x (tripleAt (m .statements) i) ≡ true → hit i ≡ true
+  unfolding matches entryAt
+  matches-of i e d = let n : flagAt (m .statements) i ≢ 1 = omega arith in
+      rw (ne-eqb (flagAt (m .statements) i) 1 n, d)
+
+  agrees-at : (t : Triple) → agrees x t ≡ true → (p : Position) → (at p x ≡ 0) ⊎ (at p t ≡ at p x)
+  unfolding agrees
+  agrees-at t e p =
+      decide (eqb (at p x) 0)
+      (λ d. inl (eqb-true (at p x) 0 d))
+      (λ d. inr (eqb-true (at p t) (at p x) (rw d at (all3-at (λ p. eqb (at p x) 0 || eqb (at p t) (at p x)) e p))))
+
+  agrees-of : (t : Triple) → ((p : Position) → (at p x ≡ 0) ⊎ (at p t ≡ at p x)) → agrees x t ≡ true
+  unfolding agrees
+  agrees-of t h = all3-of (λ p. eqb (at p x) 0 || eqb (at p t) (at p x)) (λ p. one p (h p))
+    where
+      one : (p : Position) → (at p x ≡ 0) ⊎ (at p t ≡ at p x) → eqb (at p x) 0 || eqb (at p t) (at p x) ≡ true
+      one p (inl e) = rw (eq-eqb (at p x) 0 e)
+      one p (inr e) = rw (eq-eqb (at p t) (at p x) e) (decide (eqb (at p x) 0) (λ d. rw d) (λ d. rw d))
+
+  -- ---- one call, from a cursor on its chain
+
+  module _ (ch : Chain) (picked : chainOk ch x ≡ true) where
+    abbrev F : ℕ → Bool
+    F = onWords (m .statements) ch x
+
+    bound-at : (p : Position) → chainOk (By p) x ≡ true → 0 < at p x
+    unfolding chainOk
+    bound-at p e = ltb-true 0 (at p x) e
+
+    hit-on : (i : ℕ) → hit i ≡ true → F i ≡ true
+    hit-on i e = one ch picked
+      where
+        one : (ch : Chain) → chainOk ch x ≡ true → onWords (m .statements) ch x i ≡ true
+        one All o = unfold onChain in refl
+        one (By p) o = two (agrees-at (tripleAt (m .statements) i) (matched i e .1) p)
+          where
+            two : (at p x ≡ 0) ⊎ (at p (tripleAt (m .statements) i) ≡ at p x) → onWords (m .statements) (By p) x i
+                ≡ true
+            two (inl d) = absurd (omega (arith, bound-at p o, d))
+            two (inr d) = unfold onChain in (eq-eqb _ _ d)
+
+    -- the cursor at the positions below k
+    abbrev here : ℕ → ScanCursor
+    here k = cursorAt x ch (head0 (below F k))
+
+    record-ok : (n : ℕ) → ((i : ℕ) → n ≡ suc i → F i ≡ true) → recordOk (m .statements) ch x n ≡ true
+    unfolding recordOk
+    record-ok zero h = refl
+    record-ok (suc i) h = chain-sits (m .statements) ch x i (h i refl)
+
+    here-ok : (k : ℕ) → k ≤ c .statements → cursorOk c m (here k) ≡ true
+    unfolding cursorOk
+    here-ok k h =
+        and-of _ _ known
+        (and-of _ _ picked
+        (and-of _ _ (le-leb (head0 (below F k)) (c .statements) (omega (arith, head-le F k)))
+        (record-ok (head0 (below F k)) (λ i e. head-passes F k i e))))
+
+    next-is : (k b : ℕ) → k ≤ c .statements → 0 < b
+        → nextOf c m (here k) b ≡ scannedAs (here k) (some (asStep (take-off hit b (below F k))))
+    unfolding nextOf walkFrom
+    next-is k b h g =
+        let n : b ≢ 0 = omega arith in
+        rw (S .capacity, here-ok k h, ne-eqb b 0 n)
+        (ap (scannedAs (here k))
+        (walk-linked (c .resources) (c .statements) (m .resources) (m .statements) (S .linked) ch x hit k b h))
+
+    read-none : (q : ScanCursor) → scanOn c m q [] ≡ []
+    unfolding scanOn
+    read-none q = refl
+
+    read-cons : (q : ScanCursor) (b : ℕ) (bs : List ℕ) (a : Scanned) → nextOf c m q b ≡ a
+        → scanOn c m q (b ∷ bs) ≡ a ∷ scanOn c m (scanAfter q a) bs
+    unfolding scanOn
+    read-cons q b bs a e = rw e
+
+    told : (bs : List ℕ) (k : ℕ) → k ≤ c .statements → AllPositive bs
+        → Told (below hit k) k bs (scanOn c m (here k) bs)
+    told [] k h g = rw (read-none (here k)) (told-none (below hit k) k)
+    told (b ∷ bs) k h g =
+        one (take-off hit b (below F k)) (next-is k b h (g .0)) (takes F hit hit-on b k) (λ j q. told bs j q (g .1))
+      where
+        one : (z : Taken) → nextOf c m (here k) b ≡ scannedAs (here k) (some (asStep z)) → Takes F hit hit-on b k z
+            → ((j : ℕ) → j ≤ c .statements → Told (below hit j) j bs (scanOn c m (here j) bs))
+            → Told (below hit k) k (b ∷ bs) (scanOn c m (here k) (b ∷ bs))
+        one (took n v r) e t ih =
+            rw (read-cons (here k) b bs _ e, t .2)
+            (told-found (below hit k) (below hit (t .0)) k (t .0) b bs _ n v _ (t .3) (t .1)
+            (ih (t .0) (omega (arith, t .1))))
+        one (emptied v) e t ih =
+            rw (read-cons (here k) b bs _ e)
+            (told-ended (below hit k) k b bs _ v _ t (rw (← below-nil hit, ← nil-here) (ih 0 (omega arith))))
+          where
+            nil-here : here 0 ≡ cursorAt x ch 0
+            nil-here = rw (below-nil F)
+        one (stopped v r) e t ih =
+            rw (read-cons (here k) b bs _ e, t .2)
+            (told-spent (below hit k) (below hit (t .0)) k (t .0) b bs _ v _ (t .3) (omega (arith, t .1, g .0))
+            (ih (t .0) (omega (arith, t .1))))
+
+  -- ---- from the opening on
+
+  abbrev picked : Chain
+  picked = pickChain (m .resources) x
+
+  picked-ok : chainOk picked x ≡ true
+  unfolding pickChain
+  picked-ok = pick-ok x _
+
+  opens : openOf c m x ≡ Cursor (here picked picked-ok (c .statements))
+  unfolding openOf
+  opens =
+      rw (
+        S .capacity,
+        known,
+        pickable-linked (c .resources) (c .statements) (m .resources) (m .statements) (S .linked) x
+            (within-high (c .resources) x known),
+        chain-start (c .resources) (c .statements) (m .resources) (m .statements) (S .linked) picked x
+            (pickChain-bound (m .resources) x) (within-high (c .resources) x known),
+      )
+
+  -- a position that passes: a live statement that matches
+  right-at : (n : ℕ) → List·Memᴰ n (below hit (c .statements)) → graphOf c m (namedAt m n) × Matches m x (namedAt m n)
+  right-at n k =
+      let r = below-out hit (c .statements) n k in
+      let i = r .0 in
+      let h = matched i (r .3) in
+      let f = S .linked .flag i (r .2) in
+      let e : prev n ≡ i = ap prev (r .1) in (
+        (i, (r .2, omega (arith, h .0)), ap (λ (z : ℕ). named m (tripleAt (m .statements) z)) (sym e)),
+        (λ p. rw e (one i p (agrees-at (tripleAt (m .statements) i) (h .1) p))),
+      )
+    where
+      one : (i : ℕ) (p : Position) → (at p x ≡ 0) ⊎ (at p (tripleAt (m .statements) i) ≡ at p x)
+          → (at p x ≡ 0) ⊎ (nameAt m (at p x) ≡ termAt p (named m (tripleAt (m .statements) i)))
+      one i p (inl d) = inl d
+      one i p (inr d) = inr (ap (nameAt m) (sym d) ∙ sym (named-at m (tripleAt (m .statements) i) p))
+
+  all-at : (y : RdfTriple) → graphOf c m y → Matches m x y → (n : ℕ) × List·Memᴰ n (below hit (c .statements))
+      × (namedAt m n ≡ y)
+  all-at y g M =
+      let i = g .0 in
+      let t = tripleAt (m .statements) i in
+      let a : agrees x t ≡ true = agrees-of t (λ p. one p (M p)) in
+      (suc i, below-in hit (c .statements) i (g .1 .0) (matches-of i (g .1 .1) a), g .2)
+    where
+      one : (p : Position) → (at p x ≡ 0) ⊎ (nameAt m (at p x) ≡ termAt p y)
+          → (at p x ≡ 0) ⊎ (at p (tripleAt (m .statements) (g .0)) ≡ at p x)
+      one p (inl d) = inl d
+      one p (inr d) =
+          decide (eqb (at p x) 0)
+          (λ e. inl (eqb-true (at p x) 0 e))
+          (λ e. let n : at p x ≢ 0 = eqb-false (at p x) 0 e in
+          inr (sym (names-apart c m S (at p x) (at p (tripleAt (m .statements) (g .0))) (omega arith)
+          (within-high (c .resources) x known p)
+          (rw (triple-at (m .statements) p (g .0)) (S .linked .low p (g .0) (g .1 .0)))
+          (rw (triple-at (m .statements) p (g .0)) (S .linked .high p (g .0) (g .1 .0)))
+          (d ∙ ap (termAt p) (sym (g .2)) ∙ named-at m (tripleAt (m .statements) (g .0)) p))))
+
+  -- two positions that pass, of one triple, are one
+  apart : (n k : ℕ) → List·Memᴰ n (below hit (c .statements)) → List·Memᴰ k (below hit (c .statements))
+      → namedAt m n ≡ namedAt m k → n ≡ k
+  apart n k a b e =
+      let r = below-out hit (c .statements) n a in
+      let s = below-out hit (c .statements) k b in
+      let f = S .linked .flag (r .0) (r .2) in
+      let g = S .linked .flag (s .0) (s .2) in
+      let i : prev n ≡ r .0 = ap prev (r .1) in
+      let j : prev k ≡ s .0 = ap prev (s .1) in
+      let d : r .0 ≡ s .0 = live-graph c m S .once (r .0) (s .0)
+      (r .2, omega (arith, matched (r .0) (r .3) .0)) (s .2, omega (arith, matched (s .0) (s .3) .0))
+      (ap (λ (z : ℕ). named m (tripleAt (m .statements) z)) (sym i) ∙ e
+      ∙ ap (λ (z : ℕ). named m (tripleAt (m .statements) z)) j) in
+      r .1 ∙ ap suc d ∙ sym (s .1)
+
+  reads : (bs : List ℕ) → AllPositive bs → ScanRead c m x (here picked picked-ok (c .statements)) bs
+  reads bs h =
+      let T = told picked picked-ok bs (c .statements) (omega arith) h in
+      let f = scannedIn (scanOn c m (here picked picked-ok (c .statements)) bs) in
+      let e : f ++ T .part .0 ≡ below hit (c .statements) = T .part .1 in
+      let into : (n : ℕ) → List·Memᴰ n f → List·Memᴰ n (below hit (c .statements)) =
+      λ n k. rw e at (Memᴰ·append-left (T .part .0) k) in
+      record {
+        unrefused = T .fine;
+        right = λ y k. right-of y f into k;
+        once = map-once (namedAt m) f (λ n k a b d. apart n k (into n a) (into k b) d)
+            (once-part f (T .part .0) (rw e (below-once hit (c .statements))));
+        all = λ n y g M. let r = all-at y g M in
+            rw (T .all n, ← r .2) (mem-map (namedAt m) (below hit (c .statements)) (r .0) (r .1));
+        ends = λ n. T .ends n;
+      }
+    where
+      right-of : (y : RdfTriple) (f : List ℕ) → ((n : ℕ) → List·Memᴰ n f → List·Memᴰ n (below hit (c .statements)))
+          → List·Memᴰ y (map (namedAt m) f) → graphOf c m y × Matches m x y
+      right-of y f into k =
+          let r = map-mem (namedAt m) f y k in
+          rw (r .2) (right-at (r .0) (into (r .0) (r .1)))
+
+pub scan-reads : ScanClaim
+scan-reads c m S x known = (
+  here c m S x known (picked c m S x known) (picked-ok c m S x known) (c .statements),
+  opens c m S x known,
+  reads c m S x known,
+)

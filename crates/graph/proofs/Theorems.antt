@@ -1,0 +1,32 @@
+-- Every claim of `specs/Claims.antt` with its proof: a declaration of each type. Assumes nothing.
+use Rattle.graph.specs.Claims.{GraphClaim, ReadingClaim, NextClaim, KeptClaim, SplitClaim, ScanClaim}
+use Rattle.graph.specs.Claims.{WriteClaim, LoadClaim}
+use Rattle.graph.proofs.Names as names
+use Rattle.graph.proofs.Calls as calls
+use Rattle.graph.proofs.Onwards as onwards
+use Rattle.graph.proofs.Scans as scans
+use Rattle.graph.proofs.Writes as writes
+
+pub live-graph : GraphClaim
+live-graph = names.live-graph
+
+pub query-reads : ReadingClaim
+query-reads = calls.query-reads
+
+pub next-onwards : NextClaim
+next-onwards = onwards.next-onwards
+
+pub cursor-kept : KeptClaim
+cursor-kept = onwards.cursor-kept
+
+pub budgets-add : SplitClaim
+budgets-add = onwards.budgets-add
+
+pub scan-reads : ScanClaim
+scan-reads = scans.scan-reads
+
+pub graph-writes : WriteClaim
+graph-writes = writes.writes
+
+pub line-loads : LoadClaim
+line-loads = writes.loads

@@ -1,0 +1,355 @@
+-- Open and next of a query, the paper's question (paper 01, "Open a question", "Next of a question"), on tables,
+-- words and cursors that hold anything. Assumes nothing.
+use mathlib.Core.Bool.{Bool, true, false, cond, _&&_, _||_}
+use mathlib.Core.List.{List, [], _∷_}
+use mathlib.Core.Option.{Option, none, some}
+use Prim.Native.Nat.{ℕ, zero, suc, _+_, _*_, _-_}
+use lib.ListN.{length, getD, set, replicate}
+use lib.Dec.{eqb, leb, ltb}
+use Rattle.store.specs.declared.Counters.{Counters}
+use Rattle.store.specs.declared.ResourceId.{ResourceId}
+use Rattle.store.specs.declared.Chain.{Chain}
+use Rattle.store.specs.declared.Chain.the-variants.{All}
+use Rattle.store.specs.declared.Triple.{Triple}
+use Rattle.store.specs.declared.Refusal.{Refusal}
+use Rattle.store.specs.declared.Refusal.the-variants.{Capacity, BadCursor, NoBudget, BadQuery, Damaged}
+use Rattle.store.specs.Triple.{triple, known, prev}
+use Rattle.store.specs.Tables.{Tables, fits, tripleAt, flagAt}
+use Rattle.store.specs.Walk.{pickChain, pickable, startOf, linkOf, visitable}
+use Rattle.store.specs.Scan.{chainOk, recordOk}
+use Rattle.graph.specs.declared.QueryPattern.{QueryPattern}
+use Rattle.graph.specs.declared.Level.{Level}
+use Rattle.graph.specs.declared.Progress.{Progress}
+use Rattle.graph.specs.declared.Progress.the-variants.{Start, Within, End}
+use Rattle.graph.specs.declared.QueryCursor.{QueryCursor}
+use Rattle.graph.specs.declared.Opening.the-variants.{Opened, Refused as NotOpened}
+use Rattle.graph.specs.declared.QueryOpened.{QueryOpened}
+use Rattle.graph.specs.declared.QueryStep.{QueryStep}
+use Rattle.graph.specs.declared.QueryStep.the-variants.{Found, Ended, Spent, Refused as NotAnswered}
+use Rattle.graph.specs.declared.QueryAnswer.{QueryAnswer}
+
+-- ---- the words of a query
+
+-- the limits, each named once; the word of variable 0
+abbrev pub maxPatterns : ℕ
+maxPatterns = 8
+
+abbrev pub variables : ℕ
+variables = 16
+
+abbrev pub firstVariable : ℕ
+firstVariable = 2147483648
+
+abbrev pub isVariable : ℕ → Bool
+isVariable w = leb firstVariable w
+
+abbrev pub pattern : ℕ → ℕ → ℕ → QueryPattern
+pattern s p o = record { subject = s; predicate = p; object = o }
+
+-- three words a pattern; what is left over at the end gives none
+unfoldable pub patternsOf : List ℕ → List QueryPattern
+patternsOf [] = []
+patternsOf (a ∷ []) = []
+patternsOf (a ∷ b ∷ []) = []
+patternsOf (a ∷ b ∷ c ∷ r) = pattern a b c ∷ patternsOf r
+
+-- a resource's number, or a variable
+unfoldable pub wordOk : ℕ → ℕ → Bool
+wordOk r w = (ltb 0 w && leb w r) || (isVariable w && ltb w (firstVariable + variables))
+
+unfoldable pub allOk : ℕ → List ℕ → Bool
+allOk r [] = true
+allOk r (w ∷ ws) = wordOk r w && allOk r ws
+
+-- refusal 8 exactly where this is false
+unfoldable pub wordsOk : ℕ → List ℕ → Bool
+wordsOk r ws = eqb (3 * length (patternsOf ws)) (length ws)
+    && (leb (length (patternsOf ws)) maxPatterns && allOk r ws)
+
+-- ---- what is bound, and a record against a pattern
+
+-- a resource for each variable, 0 where it is open
+abbrev pub Bindings : Type 0
+Bindings = List ResourceId
+
+abbrev pub resource : ℕ → ResourceId
+resource n = record { 0 = n }
+
+abbrev pub unbound : Bindings
+unbound = replicate variables (resource 0)
+
+-- what is bound to the variable v, or 0
+abbrev pub boundTo : Bindings → ℕ → ℕ
+boundTo b v = (getD b v (resource 0)) .0
+
+-- the number a word stands for; 0 where it is an open variable
+unfoldable pub valueOf : Bindings → ℕ → ℕ
+valueOf b w = cond (isVariable w) (boundTo b (w - firstVariable)) w
+
+-- the pattern as a scan's: 0 where a variable is open
+unfoldable pub under : Bindings → QueryPattern → Triple
+under b x = triple (valueOf b (x .subject)) (valueOf b (x .predicate)) (valueOf b (x .object))
+
+-- one word of a pattern meets a resource: an open variable takes it, anything else must be it
+unfoldable pub bind : ℕ → ℕ → Bindings → Option Bindings
+bind w n b =
+    cond (eqb (valueOf b w) 0) (some (set b (w - firstVariable) (resource n)))
+    (cond (eqb (valueOf b w) n) (some b) none)
+
+abbrev pub after : {A B : Type 0} → Option A → (A → Option B) → Option B
+after none f = none
+after (some a) f = f a
+
+abbrev pub orElse : {A : Type 0} → Option A → A → A
+orElse none d = d
+orElse (some a) d = a
+
+abbrev pub isSome : {A : Type 0} → Option A → Bool
+isSome none = false
+isSome (some a) = true
+
+-- a triple meets a pattern, subject, predicate, object in turn: what is then bound
+unfoldable pub match : QueryPattern → Triple → Bindings → Option Bindings
+match x t b =
+    after (bind (x .subject) (t .subject .0) b)
+    (λ b. after (bind (x .predicate) (t .predicate .0) b) (λ b. bind (x .object) (t .object .0) b))
+
+-- ---- the place
+
+abbrev pub level : Chain → ℕ → Level
+level ch n = record { chain = ch; statement = record { 0 = n } }
+
+-- Within: the deepest level, whose record is the next to visit, and those entered before it, the deepest first.
+pub data Place : Type 0 where
+  start : Place
+  inside : Level → List Level → Place
+  finish : Place
+
+module _ (stm : List ℕ) where
+  -- the triple of record n
+  unfoldable pub recordAt : ℕ → Triple
+  recordAt n = tripleAt stm (prev n)
+
+  -- a level after its record, on its chain
+  unfoldable pub past : Level → Level
+  past l = level (l .chain) (linkOf stm (l .chain) (prev (l .statement .0)))
+
+  unfoldable pub struck : Level → Bool
+  struck l = eqb (flagAt stm (prev (l .statement .0))) 1
+
+  -- refusal 9 before any visit, exactly where this is false: flag and link of each entered record
+  unfoldable pub intact : List Level → Bool
+  intact [] = true
+  intact (e ∷ up) =
+      (leb (flagAt stm (prev (e .statement .0))) 1 && leb ((past e) .statement .0) (prev (e .statement .0)))
+      && intact up
+
+  unfoldable pub anyStruck : List Level → Bool
+  anyStruck [] = false
+  anyStruck (e ∷ up) = struck e || anyStruck up
+
+  -- below a record struck out since, the levels are left without a visit
+  unfoldable pub pruned : Level → List Level → Level × List Level
+  pruned l [] = (l, [])
+  pruned l (e ∷ up) = cond (anyStruck (e ∷ up)) (pruned (past e) up) (l, e ∷ up)
+
+  -- a further visit is sought: chains that have run out are left; [] if every chain has
+  unfoldable pub settle : Level → List Level → List Level
+  settle l [] = cond (eqb (l .statement .0) 0) [] (l ∷ [])
+  settle l (e ∷ up) = cond (eqb (l .statement .0) 0) (settle (past e) up) (l ∷ e ∷ up)
+
+  -- a record remains on an entered chain
+  unfoldable pub remains : Level → List Level → Bool
+  remains l [] = ltb 0 (l .statement .0)
+  remains l (e ∷ up) = ltb 0 (l .statement .0) || remains (past e) up
+
+-- the pattern after those entered
+unfoldable pub nextPattern : List QueryPattern → List Level → QueryPattern
+nextPattern ps up = getD ps (length up) (pattern 0 0 0)
+
+module _ (stm : List ℕ) (ps : List QueryPattern) where
+  -- what the entered records bind
+  unfoldable pub binds : List Level → Bindings
+  binds [] = unbound
+  binds (e ∷ up) = orElse (match (nextPattern ps up) (recordAt stm (e .statement .0)) (binds up)) (binds up)
+
+  -- the next pattern under the entered records
+  unfoldable pub asked : List Level → Triple
+  asked up = under (binds up) (nextPattern ps up)
+
+  -- ---- refusal 6
+
+  -- each entered record: a record of the table, a chain that a scan would take, resources in 1..R, a match under the
+  -- earlier ones
+  unfoldable pub enteredOk : (r t : ℕ) → List Level → Bool
+  enteredOk r t [] = true
+  enteredOk r t (e ∷ up) =
+      ((ltb 0 (e .statement .0) && leb (e .statement .0) t)
+      && (chainOk (e .chain) (asked up)
+      && (known r (recordAt stm (e .statement .0))
+      && isSome (match (nextPattern ps up) (recordAt stm (e .statement .0)) (binds up)))))
+      && enteredOk r t up
+
+  -- refusal 6 exactly where this is false
+  unfoldable pub placeOk : (r t : ℕ) → Place → Bool
+  placeOk r t start = true
+  placeOk r t (inside l up) =
+      ltb (length up) (length ps)
+      && (enteredOk r t up
+      && (leb (l .statement .0) t
+      && (chainOk (l .chain) (asked up) && recordOk stm (l .chain) (asked up) (l .statement .0))))
+  placeOk r t finish = true
+
+-- ---- the walk
+
+-- What a visit leads to: refusal 9, another place, a whole solution.
+pub data Turn : Type 0 where
+  bad : Turn
+  go : Level → List Level → Turn
+  whole : Bindings → Level → List Level → Turn
+
+pub data Answer : Type 0 where
+  refused : Refusal → Answer
+  found : Bindings → ℕ → Place → Answer
+  ended : ℕ → Answer
+  spent : ℕ → Place → Answer
+
+module _ (r t : ℕ) (res stm : List ℕ) (ps : List QueryPattern) where
+  -- the next pattern is entered, at no visit: its chain is picked as a scan's; a word above T is refusal 9
+  unfoldable pub enter : List Level → Turn
+  enter up =
+      let x = asked stm ps up in
+      cond (pickable t res x) (go (level (pickChain res x) (startOf t res (pickChain res x) x)) up) bad
+
+  -- what the record to visit binds, if it is live and matches
+  unfoldable pub hit : Level → List Level → Option Bindings
+  hit l up = cond (struck stm l) none (match (nextPattern ps up) (recordAt stm (l .statement .0)) (binds stm ps up))
+
+  -- no match: on along the chain; a match of the last pattern: a whole solution; of an earlier one: the next is
+  -- entered at once
+  unfoldable pub tried : Level → List Level → Option Bindings → Turn
+  tried l up none = go (past stm l) up
+  tried l up (some b) = cond (eqb (suc (length up)) (length ps)) (whole b (past stm l) up) (enter (l ∷ up))
+
+  unfoldable pub visit : Level → List Level → Turn
+  visit l up = cond (visitable r stm (l .chain) (asked stm ps up) (prev (l .statement .0)))
+      (tried l up (hit l up)) bad
+
+  -- the visits that may still be made; the place; those made
+  unfoldable pub walk : ℕ → Level → List Level → ℕ → Answer
+  walk zero l up v = cond (remains stm l up) (spent v (inside l up)) (ended v)
+  walk (suc left) l up v =
+      elim (settle stm l up) [
+        | [] ↦ ended v
+        | n ∷ top ↦
+            elim (visit n top) [
+              | bad ↦ refused Damaged
+              | go n′ top′ ↦ walk left n′ top′ (v + 1)
+              | whole b n′ top′ ↦ found b (v + 1) (inside n′ top′)
+            ]
+      ]
+
+  -- on from the first pattern's entering
+  unfoldable pub begun : ℕ → Turn → Answer
+  begun budget bad = refused Damaged
+  begun budget (go l up) = walk budget l up 0
+  begun budget (whole b l up) = refused Damaged
+
+  -- no patterns give one empty solution, with the end as place
+  unfoldable pub resume : Place → ℕ → Answer
+  resume start budget = cond (eqb (length ps) 0) (found unbound 0 finish) (begun budget (enter []))
+  resume (inside l up) budget =
+      cond (intact stm up) (walk budget ((pruned stm l up) .0) ((pruned stm l up) .1) 0) (refused Damaged)
+  resume finish budget = ended 0
+
+-- Next, from a place: 1; 8; 6; 7; 9; else found, ended or spent
+unfoldable pub answerOf : Counters → Tables → List ℕ → Place → ℕ → Answer
+answerOf c m ws q budget =
+    cond (fits c m)
+    (cond (wordsOk (c .resources) ws)
+    (cond (placeOk (m .statements) (patternsOf ws) (c .resources) (c .statements) q)
+    (cond (eqb budget 0)
+    (refused NoBudget)
+    (resume (c .resources) (c .statements) (m .resources) (m .statements) (patternsOf ws) q budget))
+    (refused BadCursor))
+    (refused BadQuery))
+    (refused Capacity)
+
+-- ---- the place in a cursor's array
+
+abbrev pub noLevel : Level
+noLevel = level All 0
+
+-- the first d levels of an array, the deepest first
+unfoldable pub levelsOf : List Level → ℕ → List Level
+levelsOf ls zero = []
+levelsOf ls (suc d) = getD ls d noLevel ∷ levelsOf ls d
+
+-- d levels entered; none is the start
+unfoldable pub insideOf : List Level → ℕ → Place
+insideOf ls zero = start
+insideOf ls (suc d) = inside (getD ls d noLevel) (levelsOf ls d)
+
+unfoldable pub placeAs : Progress → List Level → ℕ → Place
+placeAs Start ls d = start
+placeAs Within ls d = insideOf ls d
+placeAs End ls d = finish
+
+abbrev pub placeOf : QueryCursor → Place
+placeOf q = placeAs (q .progress) (q .levels) (q .depth)
+
+-- the levels in an array, zeros past them
+unfoldable pub written : List Level → List Level
+written [] = replicate maxPatterns noLevel
+written (e ∷ up) = set (written up) (length up) e
+
+abbrev pub cursorWith : Progress → List Level → QueryCursor
+cursorWith g up = record { progress = g; depth = length up; levels = written up }
+
+abbrev pub startCursor : QueryCursor
+startCursor = cursorWith Start []
+
+unfoldable pub cursorAt : Place → QueryCursor
+cursorAt start = startCursor
+cursorAt (inside l up) = cursorWith Within (l ∷ up)
+cursorAt finish = cursorWith End []
+
+-- ---- the two operations
+
+-- Open: 1; 8; else the start, before the first solution
+unfoldable pub openQueryOf : Counters → Tables → List ℕ → QueryOpened
+openQueryOf c m ws =
+    record {
+      opening = cond (fits c m) (cond (wordsOk (c .resources) ws) Opened (NotOpened BadQuery))
+          (NotOpened Capacity);
+      cursor = startCursor;
+    }
+
+abbrev pub answered : QueryStep → ℕ → Bindings → Place → QueryAnswer
+answered s v b q = record { step = s; visits = v; solution = record { values = b }; cursor = cursorAt q }
+
+-- what a case does not give is zero; ended gives the end
+unfoldable pub packed : Answer → QueryAnswer
+packed (refused e) = answered (NotAnswered e) 0 unbound start
+packed (found b v q) = answered Found v b q
+packed (ended v) = answered Ended v unbound finish
+packed (spent v q) = answered Spent v unbound q
+
+unfoldable pub nextQueryOf : Counters → Tables → List ℕ → QueryCursor → ℕ → QueryAnswer
+nextQueryOf c m ws q budget = packed (answerOf c m ws (placeOf q) budget)
+
+-- ---- calls one after another with no change between, each from the cursor last answered
+
+-- the cursor from now on; a refusal leaves it
+abbrev pub onwards : QueryStep → QueryCursor → QueryCursor → QueryCursor
+onwards Found q q′ = q′
+onwards Ended q q′ = q′
+onwards Spent q q′ = q′
+onwards (NotAnswered e) q q′ = q
+
+abbrev pub cursorAfter : QueryCursor → QueryAnswer → QueryCursor
+cursorAfter q a = onwards (a .step) q (a .cursor)
+
+unfoldable pub readOn : Counters → Tables → List ℕ → QueryCursor → List ℕ → List QueryAnswer
+readOn c m ws q [] = []
+readOn c m ws q (b ∷ bs) = let a = nextQueryOf c m ws q b in a ∷ readOn c m ws (cursorAfter q a) bs

@@ -1,0 +1,59 @@
+-- The paper's number and values for each case of a query's two replies (paper 01, "Operations and refusals"): what a
+-- promise compares. Assumes nothing.
+use Prim.Native.Nat.{ℕ}
+use Rattle.store.specs.Values.{refusalNumber}
+use Rattle.graph.specs.declared.Solution.{Solution}
+use Rattle.graph.specs.declared.QueryCursor.{QueryCursor}
+use Rattle.graph.specs.declared.Opening.{Opening}
+use Rattle.graph.specs.declared.Opening.the-variants.{Opened, Refused as NotOpened}
+use Rattle.graph.specs.declared.QueryOpened.{QueryOpened}
+use Rattle.graph.specs.declared.QueryStep.{QueryStep}
+use Rattle.graph.specs.declared.QueryStep.the-variants.{Found, Ended, Spent, Refused as NotAnswered}
+use Rattle.graph.specs.declared.QueryAnswer.{QueryAnswer}
+use Rattle.graph.specs.Query.{unbound}
+
+-- the refusal's number, or 0; 1 found, 2 ended, 3 spent, or 0; the visits; sixteen resources; the cursor
+pub record QueryValues : Type 0 where
+  pub refusal : ℕ
+  pub status : ℕ
+  pub visits : ℕ
+  pub solution : Solution
+  pub cursor : QueryCursor
+
+abbrev pub openingRefusal : Opening → ℕ
+openingRefusal Opened = 0
+openingRefusal (NotOpened e) = refusalNumber e
+
+abbrev pub queryOpenedValues : QueryOpened → QueryValues
+queryOpenedValues a =
+    record {
+      refusal = openingRefusal (a .opening);
+      status = 0;
+      visits = 0;
+      solution =
+          record { values = unbound };
+      cursor = a .cursor;
+    }
+
+abbrev pub stepRefusal : QueryStep → ℕ
+stepRefusal Found = 0
+stepRefusal Ended = 0
+stepRefusal Spent = 0
+stepRefusal (NotAnswered e) = refusalNumber e
+
+abbrev pub stepStatus : QueryStep → ℕ
+stepStatus Found = 1
+stepStatus Ended = 2
+stepStatus Spent = 3
+stepStatus (NotAnswered e) = 0
+
+abbrev pub queryValues : QueryAnswer → QueryValues
+queryValues a =
+    record {
+      refusal = stepRefusal (a .step);
+      status = stepStatus (a .step);
+      visits = a .visits;
+      solution =
+          a .solution;
+      cursor = a .cursor;
+    }

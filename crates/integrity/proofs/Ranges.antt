@@ -1,0 +1,120 @@
+-- Tests and sums over a range: each number's test; no term falls short where the sums are the same; entries that each hold one number
+-- of 1..r, counted for each number, add up. Assumes nothing.
+use mathlib.Core.Path.{_≡_, refl, sym, ap, ap₂, _∙_}
+use mathlib.Core.Logic.{_≢_}
+use mathlib.Core.Bool.{Bool, true, false, cond, _&&_}
+use mathlib.Core.List.{List, [], _∷_}
+use Prim.Native.Nat.{ℕ, zero, suc, _+_, _≤_, _<_}
+use native.Mathlib.Omega.{arith}
+use native.Mathlib.Numerals.{add-one}
+use lib.ListN.{length}
+use lib.Dec.{eqb}
+use borrow.Author.Tests.{eqb-true, eqb-false, eq-eqb, ne-eqb}
+use Rattle.store.specs.Triple.{below}
+use Rattle.store.proofs.Tests.{decide, and-l, and-r, and-of}
+use Rattle.store.proofs.Falling.{length-suc}
+use Rattle.integrity.specs.Tests.{allBelow, sumTo}
+
+-- ---- tests
+
+pub all-at : (f : ℕ → Bool) (n : ℕ) → allBelow f n ≡ true → (i : ℕ) → i < n → f i ≡ true
+unfolding allBelow
+all-at f zero e i h = absurd (omega arith)
+all-at f (suc n) e i h =
+    decide (eqb i n)
+    (λ q. rw (eqb-true i n q) (and-l (f n) (allBelow f n) e))
+    (λ q. let ne : i ≢ n = eqb-false i n q in all-at f n (and-r (f n) (allBelow f n) e) i (omega arith))
+
+pub all-of : (f : ℕ → Bool) (n : ℕ) → ((i : ℕ) → i < n → f i ≡ true) → allBelow f n ≡ true
+unfolding allBelow
+all-of f zero h = refl
+all-of f (suc n) h = and-of (f n) (allBelow f n) (h n (omega arith)) (all-of f n (λ i q. h i (omega arith)))
+
+pub all-none : (f : ℕ → Bool) → allBelow f 0 ≡ true
+unfolding allBelow
+all-none f = refl
+
+-- one number more
+pub all-more : (f : ℕ → Bool) (i : ℕ) → allBelow f i ≡ true → f i ≡ true → allBelow f (i + 1) ≡ true
+unfolding allBelow
+all-more f i a e = rw (add-one i) (and-of (f i) (allBelow f i) e a)
+
+pub all-fails : (f : ℕ → Bool) (n i : ℕ) → i < n → f i ≡ false → allBelow f n ≡ false
+all-fails f n i h e = decide (allBelow f n) (λ a. absurd (clash (sym (all-at f n a i h) ∙ e))) (λ a. a)
+  where
+    clash : true ≡ false → ⊥
+    clash z = let q : _≡_ {A = ℕ} 0 1 = cc in omega arith
+
+-- ---- sums
+
+abbrev pub Upto : (ℕ → Type 0) → ℕ → Type 0
+Upto P r = (y : ℕ) → 0 < y → y ≤ r → P y
+
+sum-le : (g h : ℕ → ℕ) (r : ℕ) → Upto (λ y. g y ≤ h y) r → sumTo g r ≤ sumTo h r
+unfolding sumTo
+sum-le g h zero a = omega arith
+sum-le g h (suc r) a = omega (arith, sum-le g h r (λ y p q. a y p (omega arith)), a (suc r) (omega arith) (omega arith))
+
+-- no term falls short where the sums are the same
+pub sum-tight : (g h : ℕ → ℕ) (r : ℕ) → Upto (λ y. g y ≤ h y) r → sumTo g r ≡ sumTo h r → Upto (λ y. g y ≡ h y) r
+unfolding sumTo
+sum-tight g h zero a e y p q = absurd (omega arith)
+sum-tight g h (suc r) a e y p q =
+    let s = sum-le g h r (λ y p q. a y p (omega arith)) in
+    let t = a (suc r) (omega arith) (omega arith) in
+    decide (eqb y (suc r))
+    (λ z. rw (eqb-true y (suc r) z) (omega arith))
+    (λ z. let ne : y ≢ suc r = eqb-false y (suc r) z in
+    sum-tight g h r (λ y p q. a y p (omega arith)) (omega arith) y p (omega arith))
+
+pub sum-same : (g h : ℕ → ℕ) (r : ℕ) → Upto (λ y. g y ≡ h y) r → sumTo g r ≡ sumTo h r
+unfolding sumTo
+sum-same g h zero a = refl
+sum-same g h (suc r) a = ap₂ _+_ (sum-same g h r (λ y p q. a y p (omega arith))) (a (suc r) (omega arith) (omega arith))
+
+pub sum-none : (g : ℕ → ℕ) → sumTo g 0 ≡ 0
+unfolding sumTo
+sum-none g = refl
+
+pub sum-more : (g : ℕ → ℕ) (r : ℕ) → sumTo g (r + 1) ≡ sumTo g r + g (r + 1)
+unfolding sumTo
+sum-more g r = rw (add-one r)
+
+-- h is g but for the term at x, which is one higher
+abbrev Raised : (ℕ → ℕ) → (ℕ → ℕ) → ℕ → ℕ → Type 0
+Raised g h x r = Upto (λ y. h y ≡ cond (eqb x y) (suc (g y)) (g y)) r
+
+sum-out : (g h : ℕ → ℕ) (x r : ℕ) → r < x → Raised g h x r → sumTo h r ≡ sumTo g r
+unfolding sumTo
+sum-out g h x zero l a = refl
+sum-out g h x (suc r) l a =
+    ap₂ _+_ (sum-out g h x r (omega arith) (λ y p q. a y p (omega arith)))
+    (a (suc r) (omega arith) (omega arith) ∙ rw (ne-eqb x (suc r) (λ e. omega arith)))
+
+sum-bump : (g h : ℕ → ℕ) (x r : ℕ) → 0 < x → x ≤ r → Raised g h x r → sumTo h r ≡ suc (sumTo g r)
+unfolding sumTo
+sum-bump g h x zero l m a = absurd (omega arith)
+sum-bump g h x (suc r) l m a =
+    decide (eqb x (suc r))
+    (λ z. let e : h (suc r) ≡ suc (g (suc r)) = a (suc r) (omega arith) (omega arith) ∙ rw z in
+    let q = eqb-true x (suc r) z in
+    omega (arith, e, sum-out g h x r (omega arith) (λ y p q. a y p (omega arith))))
+    (λ z. let e : h (suc r) ≡ g (suc r) = a (suc r) (omega arith) (omega arith) ∙ rw z in
+    let ne : x ≢ suc r = eqb-false x (suc r) z in
+    omega (arith, e, sum-bump g h x r l (omega arith) (λ y p q. a y p (omega arith))))
+
+sum-zero : (g : ℕ → ℕ) (r : ℕ) → ((y : ℕ) → g y ≡ 0) → sumTo g r ≡ 0
+unfolding sumTo
+sum-zero g zero a = refl
+sum-zero g (suc r) a = omega (arith, sum-zero g r a, a (suc r))
+
+-- every entry holds one of 1..r, so the entries of all of them are all entries
+pub all-counted : (term : ℕ → ℕ) (r n : ℕ) → ((i : ℕ) → i < n → 0 < term i) → ((i : ℕ) → i < n → term i ≤ r)
+    → sumTo (λ y. length (below (λ i. eqb (term i) y) n)) r ≡ n
+all-counted term r zero lo hi = sum-zero _ r (λ y. unfold below in refl)
+all-counted term r (suc n) lo hi =
+    sum-bump
+    (λ y. length (below (λ i. eqb (term i) y) n))
+    (λ y. length (below (λ i. eqb (term i) y) (suc n)))
+    (term n) r (lo n (omega arith)) (hi n (omega arith)) (λ y p q. length-suc (λ i. eqb (term i) y) n)
+    ∙ ap suc (all-counted term r n (λ i h. lo i (omega arith)) (λ i h. hi i (omega arith)))

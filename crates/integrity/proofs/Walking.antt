@@ -1,0 +1,192 @@
+-- What the passes over the records meet: the ways out of a walk along a chain, and its turn; the tests of a record, of a chain, and the
+-- choice of the shortest. Records are numbered from 1 here, as in the code. Assumes nothing.
+use mathlib.Core.Path.{_≡_, refl, sym, ap, _∙_}
+use mathlib.Core.Logic.{_≢_}
+use mathlib.Core.Bool.{Bool, true, false, cond, not, _&&_}
+use mathlib.Core.List.{List}
+use mathlib.Core.Option.{Option, none, some}
+use Prim.Native.Nat.{ℕ, zero, suc, _+_, _-_, _*_, _≤_, _<_}
+use native.Mathlib.Omega.{arith}
+use native.Mathlib.Numerals.{add-one}
+use lib.Dec.{eqb, leb, ltb}
+use borrow.Author.Tests.{eq-eqb, ne-eqb, le-leb, lt-leb, lt-ltb, le-ltb}
+use Rattle.store.specs.declared.Position.{Position}
+use Rattle.store.specs.declared.Position.the-variants.{Subject, Predicate, Object}
+use Rattle.store.specs.declared.Triple.{Triple}
+use Rattle.store.specs.Triple.{at, same}
+use Rattle.store.specs.Tables.{termAt, nextAt, tripleAt, firstAt, countAt}
+use Rattle.store.specs.Soundness.{holding}
+use Rattle.integrity.specs.Tests.{allBelow, sumTo, chainLength, oneMore, isCount, isSome}
+use Rattle.integrity.specs.Records.{chainOk, chainsOk, shorter, shortest, differs, aloneOn}
+use Rattle.integrity.proofs.Ranges.{all-none, all-more, all-fails, sum-none, sum-more}
+
+-- ---- a walk along a chain
+
+abbrev pub plus : ℕ → Option ℕ → Option ℕ
+plus c none = none
+plus c (some k) = some (c + k)
+
+plus-zero : (o : Option ℕ) → plus 0 o ≡ o
+plus-zero none = refl
+plus-zero (some k) = let e : 0 + k ≡ k = omega arith in rw e
+
+plus-more : (c : ℕ) (o : Option ℕ) → plus c (oneMore o) ≡ plus (c + 1) o
+plus-more c none = refl
+plus-more c (some k) = let e : c + suc k ≡ c + 1 + k = omega arith in rw e
+
+-- the whole walk's length s is the c records met and the walk from record n on
+abbrev pub Going : (ℕ → ℕ) → (ℕ → Bool) → Option ℕ → ℕ → ℕ → Type 0
+Going next f s c n = (g : ℕ) × (n ≤ g) × (s ≡ plus c (chainLength next f g n))
+
+module _ (next : ℕ → ℕ) (f : ℕ → Bool) where
+  pub walk-begin : (t n : ℕ) → n ≤ t → Going next f (chainLength next f t n) 0 n
+  walk-begin t n h = (t, h, sym (plus-zero (chainLength next f t n)))
+
+  -- one record of the walk
+  here : (g n : ℕ) → n ≤ g → (n ≡ 0 → ⊥)
+      → (k : ℕ) × (g ≡ suc k) × (chainLength next f g n ≡ cond (f (n - 1) && leb (next (n - 1)) (n - 1)) (oneMore (chainLength next f k (next (n - 1)))) none)
+  unfolding chainLength
+  here g zero h z = absurd (z refl)
+  here zero (suc i) h z = absurd (omega arith)
+  here (suc k) (suc i) h z = let e : suc i - 1 ≡ i = omega arith in (k, refl, rw e)
+
+  module _ (s : Option ℕ) (c n : ℕ) (G : Going next f s c n) where
+    pub walk-end : n ≡ 0 → s ≡ some c
+    walk-end z = G .2 ∙ stop (G .0) (rw z at (G .1))
+      where
+        at-zero : (g : ℕ) → chainLength next f g 0 ≡ some 0
+        at-zero zero = unfold chainLength in refl
+        at-zero (suc g) = unfold chainLength in refl
+
+        stop : (g : ℕ) → 0 ≤ g → plus c (chainLength next f g n) ≡ some c
+        stop g h = let q : c + 0 ≡ c = omega arith in rw (z, at-zero g, q)
+
+    pub walk-other : (n ≡ 0 → ⊥) → f (n - 1) ≡ false → s ≡ none
+    walk-other z e = let h = here (G .0) n (G .1) z in G .2 ∙ rw (h .2, e)
+
+    pub walk-climbs : (n ≡ 0 → ⊥) → f (n - 1) ≡ true → n ≤ next (n - 1) → s ≡ none
+    walk-climbs z e l =
+        let h = here (G .0) n (G .1) z in
+        G .2 ∙ rw (h .2, e, lt-leb (next (n - 1)) (n - 1) (omega arith))
+
+    pub walk-turn : (n ≡ 0 → ⊥) → f (n - 1) ≡ true → next (n - 1) < n → Going next f s (c + 1) (next (n - 1))
+    walk-turn z e l =
+        let h = here (G .0) n (G .1) z in (
+          h .0,
+          omega (arith, h .1, G .1),
+          G .2 ∙ rw (h .2, e, le-leb (next (n - 1)) (n - 1) (omega arith)) (plus-more c (chainLength next f (h .0) (next (n - 1)))),
+        )
+
+-- ---- the chain of a resource
+
+module _ (stm : List ℕ) (p : Position) (y n : ℕ) where
+  pub holds : termAt stm p (n - 1) ≡ y → holding stm p y (n - 1) ≡ true
+  unfolding holding
+  holds e = eq-eqb (termAt stm p (n - 1)) y e
+
+  pub lacks : (termAt stm p (n - 1) ≡ y → ⊥) → holding stm p y (n - 1) ≡ false
+  unfolding holding
+  lacks e = ne-eqb (termAt stm p (n - 1)) y e
+
+module _ (t : ℕ) (res stm : List ℕ) (p : Position) (y : ℕ) where
+  pub chain-over : t < firstAt res p y → chainOk t res stm p y ≡ false
+  unfolding chainOk
+  chain-over h = rw (lt-leb (firstAt res p y) t h)
+
+  pub chain-within : firstAt res p y ≤ t
+      → chainOk t res stm p y ≡ isCount (chainLength (nextAt stm p) (holding stm p y) t (firstAt res p y)) (countAt res p y)
+  unfolding chainOk
+  chain-within h = rw (le-leb (firstAt res p y) t h)
+
+-- the first y resources pass, and their counts add up to the total
+abbrev pub Passed : ℕ → List ℕ → List ℕ → Position → ℕ → ℕ → Type 0
+Passed t res stm p y total = (allBelow (λ i. chainOk t res stm p (suc i)) y ≡ true) × (total ≡ sumTo (countAt res p) y)
+
+module _ (r t : ℕ) (res stm : List ℕ) (p : Position) where
+  pub passed-none : Passed t res stm p 0 0
+  passed-none = (all-none (λ i. chainOk t res stm p (suc i)), sym (sum-none (countAt res p)))
+
+  pub passed-one : (y total n : ℕ) → Passed t res stm p y total → chainOk t res stm p (y + 1) ≡ true → n ≡ countAt res p (y + 1)
+      → Passed t res stm p (y + 1) (total + n)
+  passed-one y total n P e q =
+      (all-more (λ i. chainOk t res stm p (suc i)) y (P .0) (rw (add-one y) at e), rw (sum-more (countAt res p) y, q, P .1))
+
+  pub passed-fails : (y : ℕ) → y < r → chainOk t res stm p (y + 1) ≡ false → chainsOk r t res stm p ≡ false
+  unfolding chainsOk
+  passed-fails y h e = rw (all-fails (λ i. chainOk t res stm p (suc i)) r y h (rw (add-one y) at e))
+
+  pub passed-all : (y total : ℕ) → Passed t res stm p y total → y ≡ r → chainsOk r t res stm p ≡ eqb total t
+  unfolding chainsOk
+  passed-all y total P e = rw (← e, P .0, P .1)
+
+-- ---- the shortest chain
+
+module _ (res : List ℕ) (x : Triple) where
+  abbrev cost : Position → ℕ
+  cost q = countAt res q (at q x)
+
+  pub short-po : cost Predicate < cost Subject → cost Object < cost Predicate → shortest res x ≡ Object
+  unfolding shortest shorter
+  short-po a b = rw (lt-ltb (cost Predicate) (cost Subject) a, lt-ltb (cost Object) (cost Predicate) b)
+
+  pub short-p : cost Predicate < cost Subject → cost Predicate ≤ cost Object → shortest res x ≡ Predicate
+  unfolding shortest shorter
+  short-p a b = rw (lt-ltb (cost Predicate) (cost Subject) a, le-ltb (cost Object) (cost Predicate) b)
+
+  pub short-o : cost Subject ≤ cost Predicate → cost Object < cost Subject → shortest res x ≡ Object
+  unfolding shortest shorter
+  short-o a b = rw (le-ltb (cost Predicate) (cost Subject) a, lt-ltb (cost Object) (cost Subject) b)
+
+  pub short-s : cost Subject ≤ cost Predicate → cost Subject ≤ cost Object → shortest res x ≡ Subject
+  unfolding shortest shorter
+  short-s a b = rw (le-ltb (cost Predicate) (cost Subject) a, le-ltb (cost Object) (cost Subject) b)
+
+-- ---- the walk below a record
+
+-- the answer a is the rest of the walk, from the link of record n on
+abbrev pub Below : List ℕ → Position → Triple → Bool → ℕ → Type 0
+Below stm p x a n =
+    (g : ℕ) × (n - 1 ≤ g)
+    × (a ≡ leb (nextAt stm p (n - 1)) (n - 1) && isSome (chainLength (nextAt stm p) (differs stm x) g (nextAt stm p (n - 1))))
+
+pub below-begin : (stm : List ℕ) (p : Position) (n : ℕ) → Below stm p (tripleAt stm (n - 1)) (aloneOn stm p (n - 1)) n
+unfolding aloneOn
+below-begin stm p n = (n - 1, omega arith, refl)
+
+module _ (stm : List ℕ) (p : Position) (x : Triple) (a : Bool) (n : ℕ) (h : 1 ≤ n) (B : Below stm p x a n) where
+  abbrev m : ℕ
+  m = nextAt stm p (n - 1)
+
+  pub below-climbs : n ≤ m → a ≡ false
+  below-climbs l = B .2 ∙ rw (lt-leb m (n - 1) (omega arith))
+
+  -- the link falls
+  falls : m < n → a ≡ isSome (chainLength (nextAt stm p) (differs stm x) (B .0) m)
+  falls l = B .2 ∙ rw (le-leb m (n - 1) (omega arith))
+
+  pub below-end : m ≡ 0 → a ≡ true
+  below-end z = falls (omega arith) ∙ rw z (stop (B .0))
+    where
+      stop : (g : ℕ) → isSome (chainLength (nextAt stm p) (differs stm x) g 0) ≡ true
+      stop zero = unfold chainLength in refl
+      stop (suc g) = unfold chainLength in refl
+
+  pub below-met : m < n → (m ≡ 0 → ⊥) → same x (tripleAt stm (m - 1)) ≡ true → a ≡ false
+  unfolding differs
+  below-met l z e =
+      let w = here (nextAt stm p) (differs stm x) (B .0) m (omega (arith, B .1)) z in
+      falls l ∙ rw (w .2, e)
+
+  pub below-turn : m < n → (m ≡ 0 → ⊥) → same x (tripleAt stm (m - 1)) ≡ false → Below stm p x a m
+  unfolding differs
+  below-turn l z e =
+      let w = here (nextAt stm p) (differs stm x) (B .0) m (omega (arith, B .1)) z in (
+        w .0,
+        omega (arith, w .1, B .1),
+        falls l ∙ rw (w .2, e) (some-cond (leb (nextAt stm p (m - 1)) (m - 1)) (chainLength (nextAt stm p) (differs stm x) (w .0) (nextAt stm p (m - 1)))),
+      )
+    where
+      some-cond : (b : Bool) (o : Option ℕ) → isSome (cond b (oneMore o) none) ≡ b && isSome o
+      some-cond true none = refl
+      some-cond true (some k) = refl
+      some-cond false o = refl

@@ -1,0 +1,99 @@
+use Prim.Native.Nat.{ℕ, suc, _+_, _-_, _≤_, _<_}
+use mathlib.Core.Path.{_≡_, refl, sym, ap, _∙_}
+use mathlib.Core.Bool.{true}
+use native.Mathlib.Omega.{arith}
+use denote.Ref.{now}
+use borrow.Author.Tests.{not-true, not-false}
+use Rattle.integrity.specs.Tests.{allBelow}
+use Rattle.integrity.specs.Records.{alone}
+use Rattle.integrity.proofs.Ranges.{all-none, all-more, all-fails}
+use Rattle.integrity.proofs.Decides.{record-known}
+use borrow.Author.Needs.{needs}
+use Rattle.integrity.proofs.alone.all_alone.Statement.{statement}
+use Rattle.integrity.proofs.alone.all_alone.Tie as tie
+use Rattle.integrity.proofs.alone.all_alone.Reads as reads
+use Rattle.integrity.proofs.alone.all_alone.Lts as lts
+use Rattle.integrity.proofs.alone.alone.Reads as alone-reads
+
+abbrev Inv-loop : tie.InvT-loop
+Inv-loop resources statements r t n₀ n = (n ≤ t) × (allBelow (alone resources statements) n ≡ true)
+
+abbrev μ-loop : tie.MeasureT-loop
+μ-loop resources statements r t n₀ n = t - n
+
+loop-holds : tie.Need-loop-holds Inv-loop μ-loop
+loop-holds c =
+    let a = c .before .before .args in
+    let stm = now (a .statements) in
+    let res = now (a .resources) in
+    (omega arith, all-none (alone res stm))
+
+add-alone : tie.Need-add-alone Inv-loop μ-loop
+add-alone c = search needs
+
+alone-requires : tie.Need-alone-requires Inv-loop μ-loop
+alone-requires c κs =
+    let l = c .before .loop in
+    let a = c .before .before .before .before .args in
+    let stm = now (a .statements) in
+    let res = now (a .resources) in
+    let pre = c .before .before .before .before .pre in
+    let e : l .n + 1 - 1 ≡ l .n = omega arith in
+    let h = record-known (a .r) (a .t) res stm (pre .0) (l .n) (omega arith) in
+    let k = rw (← e) at h in
+    search needs
+
+returns : tie.Need-returns Inv-loop μ-loop
+returns c =
+    let l = c .before .before .before .loop in
+    let a = c .before .before .before .before .before .before .args in
+    let stm = now (a .statements) in
+    let res = now (a .resources) in
+    let the-alone = c .before .alone in
+    let if1 = c .if1 in
+    let e : l .n + 1 - 1 ≡ l .n = omega arith in
+    sym
+    (all-fails (alone res stm) (a .t) (l .n) (omega arith)
+    (rw e at (sym (the-alone .ensures) ∙ not-true (the-alone .result) (if1 .taken))))
+
+add-n : tie.Need-add-n Inv-loop μ-loop
+add-n c = search needs
+
+loop-less : tie.Need-loop-less Inv-loop μ-loop
+loop-less c = search needs
+
+loop-again : tie.Need-loop-again Inv-loop μ-loop
+loop-again c =
+    let l = c .before .before .before .loop in
+    let a = c .before .before .before .before .before .before .args in
+    let stm = now (a .statements) in
+    let res = now (a .resources) in
+    let the-alone = c .before .alone in
+    let if1 = c .if1 in
+    let e : l .n + 1 - 1 ≡ l .n = omega arith in (
+      omega arith,
+      all-more (alone res stm) (l .n) (l .inv .1)
+          (rw e at (sym (the-alone .ensures) ∙ not-false (the-alone .result) (if1 .left))),
+    )
+
+returns-2 : tie.Need-returns-2 Inv-loop μ-loop
+returns-2 c =
+    let l = c .before .loop in
+    let a = c .before .before .before .before .args in
+    let e : l .n ≡ a .t = omega arith in
+    sym (rw e at (l .inv .1))
+
+pub all-alone-spec : {M : Type 1} → statement M
+all-alone-spec =
+    tie.close
+    (tie.spec
+    Inv-loop
+    μ-loop
+    loop-holds
+    add-alone
+    alone-requires
+    returns
+    add-n
+    loop-less
+    loop-again
+    returns-2)

@@ -1,0 +1,95 @@
+use Prim.Native.Nat.{ℕ, suc, _+_, _-_, _≤_, _<_}
+use mathlib.Core.Path.{_≡_, refl, sym, ap, _∙_}
+use mathlib.Core.Bool.{true}
+use native.Mathlib.Omega.{arith}
+use denote.Ref.{now}
+use borrow.Author.Tests.{not-true, not-false}
+use Rattle.integrity.specs.Tests.{allBelow}
+use Rattle.integrity.specs.Index.{entryOk}
+use Rattle.integrity.proofs.Ranges.{all-none, all-more, all-fails}
+use borrow.Author.Needs.{needs}
+use Rattle.integrity.proofs.index.entries_ok.Statement.{statement}
+use Rattle.integrity.proofs.index.entries_ok.Tie as tie
+use Rattle.integrity.proofs.index.entries_ok.Reads as reads
+use Rattle.integrity.proofs.index.entries_ok.Lts as lts
+use Rattle.integrity.proofs.in_range.Reads as in-range-reads
+use Rattle.integrity.proofs.wide.Reads as wide-reads
+
+abbrev Inv-loop : tie.InvT-loop
+Inv-loop index r n i₀ i = (i ≤ r) × (allBelow (entryOk r index) i ≡ true)
+
+abbrev μ-loop : tie.MeasureT-loop
+μ-loop index r n i₀ i = r - i
+
+wide-requires : tie.Need-wide-requires Inv-loop μ-loop
+wide-requires c κs = search needs
+
+loop-holds : tie.Need-loop-holds Inv-loop μ-loop
+loop-holds c =
+    let a = c .before .before .args in
+    let idx = now (a .index) in
+    (omega arith, all-none (entryOk (a .r) idx))
+
+mul-in-range : tie.Need-mul-in-range Inv-loop μ-loop
+mul-in-range c = search needs
+
+shared-slice-read-in-range : tie.Need-shared-slice-read-in-range Inv-loop μ-loop
+shared-slice-read-in-range c = search needs
+
+in-range-requires : tie.Need-in-range-requires Inv-loop μ-loop
+in-range-requires c κs = search needs
+
+returns : tie.Need-returns Inv-loop μ-loop
+unfolding entryOk
+returns c =
+    let a = c .before .before .before .before .before .before .before .args in
+    let idx = now (a .index) in
+    let l = c .before .before .before .before .loop in
+    let the-in-range = c .before .in-range in
+    let if1 = c .if1 in
+    sym
+    (all-fails (entryOk (a .r) idx) (a .r) (l .i) (omega arith)
+    (sym (the-in-range .ensures) ∙ not-true (the-in-range .result) (if1 .taken)))
+
+add-i : tie.Need-add-i Inv-loop μ-loop
+add-i c = search needs
+
+loop-less : tie.Need-loop-less Inv-loop μ-loop
+loop-less c = search needs
+
+loop-again : tie.Need-loop-again Inv-loop μ-loop
+unfolding entryOk
+loop-again c =
+    let a = c .before .before .before .before .before .before .before .args in
+    let idx = now (a .index) in
+    let l = c .before .before .before .before .loop in
+    let the-in-range = c .before .in-range in
+    let if1 = c .if1 in (
+      omega arith,
+      all-more (entryOk (a .r) idx) (l .i) (l .inv .1)
+          (sym (the-in-range .ensures) ∙ not-false (the-in-range .result) (if1 .left)),
+    )
+
+returns-2 : tie.Need-returns-2 Inv-loop μ-loop
+returns-2 c =
+    let l = c .before .loop in
+    let a = c .before .before .before .before .args in
+    let e : l .i ≡ a .r = omega arith in
+    sym (rw e at (l .inv .1))
+
+pub entries-ok-spec : {M : Type 1} → statement M
+entries-ok-spec =
+    tie.close
+    (tie.spec
+    Inv-loop
+    μ-loop
+    wide-requires
+    loop-holds
+    mul-in-range
+    shared-slice-read-in-range
+    in-range-requires
+    returns
+    add-i
+    loop-less
+    loop-again
+    returns-2)

@@ -1,0 +1,96 @@
+use Prim.Native.Nat.{ℕ, suc, _+_, _-_, _≤_, _<_}
+use mathlib.Core.Path.{_≡_, refl, sym, ap, _∙_}
+use native.Mathlib.Omega.{arith}
+use native.Mathlib.Numerals.{add-one}
+use denote.Ref.{now}
+use Rattle.integrity.specs.Index.{neighboursRise}
+use Rattle.integrity.proofs.Rising.{entry-low, entry-high}
+use borrow.Author.Needs.{needs}
+use Rattle.integrity.proofs.index.neighbours_rise.Statement.{statement}
+use Rattle.integrity.proofs.index.neighbours_rise.Tie as tie
+use Rattle.integrity.proofs.index.neighbours_rise.Reads as reads
+use Rattle.integrity.proofs.index.neighbours_rise.Lts as lts
+use Rattle.integrity.proofs.index.name_less.Reads as name-less-reads
+use Rattle.integrity.proofs.wide.Reads as wide-reads
+use Rattle.table.proofs.inner.offset_at.Reads as offset-at-reads
+
+mul-x : tie.Need-mul-x
+mul-x c = search needs
+
+shared-slice-read-x : tie.Need-shared-slice-read-x
+shared-slice-read-x c = search needs
+
+add-y : tie.Need-add-y
+add-y c = search needs
+
+mul-y : tie.Need-mul-y
+mul-y c = search needs
+
+shared-slice-read-y : tie.Need-shared-slice-read-y
+shared-slice-read-y c = search needs
+
+offset-at-requires : tie.Need-offset-at-requires
+offset-at-requires c κs =
+    let a = c .before .before .before .before .before .args in
+    let used = now (a .used) in
+    let idx = now (a .index) in
+    let res = now (a .resources) in
+    let pre = c .before .before .before .before .before .pre in
+    let a = a in
+    let h = entry-low (a .r) res idx used (pre .0 .known) (a .i) (omega arith) in
+    let g = entry-high (a .r) res idx used (pre .0 .known) (a .i) (omega arith) in
+    search needs
+
+wide-requires : tie.Need-wide-requires
+wide-requires c κs = search needs
+
+offset-at-requires-2 : tie.Need-offset-at-requires-2
+offset-at-requires-2 c κs =
+    let a = c .before .before .before .before .before .before .before .args in
+    let used = now (a .used) in
+    let idx = now (a .index) in
+    let res = now (a .resources) in
+    let pre = c .before .before .before .before .before .before .before .pre in
+    let a = a in
+    let h = entry-low (a .r) res idx used (pre .0 .known) (a .i + 1) (omega arith) in
+    let g = entry-high (a .r) res idx used (pre .0 .known) (a .i + 1) (omega arith) in
+    search needs
+
+wide-requires-2 : tie.Need-wide-requires-2
+wide-requires-2 c κs = search needs
+
+name-less-requires : tie.Need-name-less-requires
+name-less-requires c κs = search needs
+
+returns : tie.Need-returns
+unfolding neighboursRise
+returns c =
+    let the-name-less = c .name-less in
+    let the-wide2 = c .before .wide2 in
+    let the-offset-at2 = c .before .before .offset-at2 in
+    let the-wide = c .before .before .before .wide in
+    let the-offset-at = c .before .before .before .before .offset-at in
+    rw (
+      ← add-one,
+      the-name-less .ensures,
+      the-wide2 .ensures .0,
+      the-offset-at2 .ensures,
+      the-wide .ensures .0,
+      the-offset-at .ensures,
+    )
+
+pub neighbours-rise-spec : {M : Type 1} → statement M
+neighbours-rise-spec =
+    tie.close
+    (tie.spec
+    mul-x
+    shared-slice-read-x
+    add-y
+    mul-y
+    shared-slice-read-y
+    offset-at-requires
+    wide-requires
+    offset-at-requires-2
+    wide-requires-2
+    name-less-requires
+    returns)

@@ -1,0 +1,89 @@
+use Prim.Native.Nat.{ℕ, suc, _+_, _-_, _≤_, _<_}
+use mathlib.Core.Path.{_≡_, refl, sym, ap, _∙_}
+use mathlib.Core.Bool.{true}
+use native.Mathlib.Omega.{arith}
+use denote.Ref.{now}
+use borrow.Author.Tests.{not-true, not-false}
+use Rattle.integrity.specs.Tests.{allBelow}
+use Rattle.integrity.specs.Records.{recordOk}
+use Rattle.integrity.proofs.Ranges.{all-none, all-more, all-fails}
+use borrow.Author.Needs.{needs}
+use Rattle.integrity.proofs.records.each_ok.Statement.{statement}
+use Rattle.integrity.proofs.records.each_ok.Tie as tie
+use Rattle.integrity.proofs.records.each_ok.Reads as reads
+use Rattle.integrity.proofs.records.each_ok.Lts as lts
+use Rattle.integrity.proofs.records.record_ok.Reads as record-ok-reads
+
+abbrev Inv-loop : tie.InvT-loop
+Inv-loop resources statements r t n₀ n = (n ≤ t) × (allBelow (recordOk r resources statements) n ≡ true)
+
+abbrev μ-loop : tie.MeasureT-loop
+μ-loop resources statements r t n₀ n = t - n
+
+loop-holds : tie.Need-loop-holds Inv-loop μ-loop
+loop-holds c =
+    let a = c .before .before .args in
+    let stm = now (a .statements) in
+    let res = now (a .resources) in
+    (omega arith, all-none (recordOk (a .r) res stm))
+
+add-record-ok : tie.Need-add-record-ok Inv-loop μ-loop
+add-record-ok c = search needs
+
+record-ok-requires : tie.Need-record-ok-requires Inv-loop μ-loop
+record-ok-requires c κs = search needs
+
+returns : tie.Need-returns Inv-loop μ-loop
+returns c =
+    let l = c .before .before .before .loop in
+    let a = c .before .before .before .before .before .before .args in
+    let stm = now (a .statements) in
+    let res = now (a .resources) in
+    let the-record-ok = c .before .record-ok in
+    let if1 = c .if1 in
+    let e : l .n + 1 - 1 ≡ l .n = omega arith in
+    sym
+    (all-fails (recordOk (a .r) res stm) (a .t) (l .n) (omega arith)
+    (rw e at (sym (the-record-ok .ensures) ∙ not-true (the-record-ok .result) (if1 .taken))))
+
+add-n : tie.Need-add-n Inv-loop μ-loop
+add-n c = search needs
+
+loop-less : tie.Need-loop-less Inv-loop μ-loop
+loop-less c = search needs
+
+loop-again : tie.Need-loop-again Inv-loop μ-loop
+loop-again c =
+    let l = c .before .before .before .loop in
+    let a = c .before .before .before .before .before .before .args in
+    let stm = now (a .statements) in
+    let res = now (a .resources) in
+    let the-record-ok = c .before .record-ok in
+    let if1 = c .if1 in
+    let e : l .n + 1 - 1 ≡ l .n = omega arith in (
+      omega arith,
+      all-more (recordOk (a .r) res stm) (l .n) (l .inv .1)
+          (rw e at (sym (the-record-ok .ensures) ∙ not-false (the-record-ok .result) (if1 .left))),
+    )
+
+returns-2 : tie.Need-returns-2 Inv-loop μ-loop
+returns-2 c =
+    let l = c .before .loop in
+    let a = c .before .before .before .before .args in
+    let e : l .n ≡ a .t = omega arith in
+    sym (rw e at (l .inv .1))
+
+pub each-ok-spec : {M : Type 1} → statement M
+each-ok-spec =
+    tie.close
+    (tie.spec
+    Inv-loop
+    μ-loop
+    loop-holds
+    add-record-ok
+    record-ok-requires
+    returns
+    add-n
+    loop-less
+    loop-again
+    returns-2)

@@ -1,0 +1,82 @@
+use mathlib.Core.Path.{_≡_, refl, sym, _∙_}
+use borrow.Author.Tests.{not-true, not-false}
+use Rattle.integrity.specs.Records.{recordOk}
+use borrow.Author.Needs.{needs}
+use Rattle.integrity.proofs.records.record_ok.Statement.{statement}
+use Rattle.integrity.proofs.records.record_ok.Tie as tie
+use Rattle.integrity.proofs.records.record_ok.Reads as reads
+use Rattle.integrity.proofs.records.record_ok.Lts as lts
+use Rattle.integrity.proofs.records.known.Reads as known-reads
+use Rattle.integrity.proofs.records.permitted.Reads as permitted-reads
+use Rattle.table.proofs.inner.flag_at.Reads as flag-at-reads
+use Rattle.table.proofs.inner.triple_at.Reads as triple-at-reads
+
+triple-at-requires : tie.Need-triple-at-requires
+triple-at-requires c κs = search needs
+
+known-requires : tie.Need-known-requires
+known-requires c κs = search needs
+
+returns : tie.Need-returns
+unfolding recordOk
+returns c =
+    let the-triple-at = c .before .before .triple-at in
+    let the-known = c .before .known in
+    let if1 = c .if1 in
+    rw (← the-triple-at .ensures, ← the-known .ensures, not-true (the-known .result) (if1 .taken))
+
+permitted-requires : tie.Need-permitted-requires
+permitted-requires c κs =
+    let the-known = c .before .known in
+    let if1 = c .if1 in
+    let h = sym (the-known .ensures) ∙ not-false (the-known .result) (if1 .left) in
+    search needs
+
+returns-2 : tie.Need-returns-2
+unfolding recordOk
+returns-2 c =
+    let the-triple-at = c .before .before .before .before .triple-at in
+    let the-known = c .before .before .before .known in
+    let if1 = c .before .before .if1 in
+    let the-permitted = c .before .permitted in
+    let if2 = c .if2 in
+    rw (
+      ← the-triple-at .ensures,
+      ← the-known .ensures,
+      not-false (the-known .result) (if1 .left),
+      ← the-permitted .ensures,
+      not-true (the-permitted .result) (if2 .taken),
+    )
+
+flag-at-requires : tie.Need-flag-at-requires
+flag-at-requires c κs = search needs
+
+returns-3 : tie.Need-returns-3
+unfolding recordOk
+returns-3 c =
+    let the-triple-at = c .before .before .before .before .before .triple-at in
+    let the-known = c .before .before .before .before .known in
+    let if1 = c .before .before .before .if1 in
+    let the-permitted = c .before .before .permitted in
+    let if2 = c .before .if2 in
+    let the-flag-at = c .flag-at in
+    rw (
+      ← the-triple-at .ensures,
+      ← the-known .ensures,
+      not-false (the-known .result) (if1 .left),
+      ← the-permitted .ensures,
+      not-false (the-permitted .result) (if2 .left),
+      ← the-flag-at .ensures,
+    )
+
+pub record-ok-spec : {M : Type 1} → statement M
+record-ok-spec =
+    tie.close
+    (tie.spec
+    triple-at-requires
+    known-requires
+    returns
+    permitted-requires
+    returns-2
+    flag-at-requires
+    returns-3)

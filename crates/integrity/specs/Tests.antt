@@ -1,0 +1,39 @@
+-- Tests and sums over a range of numbers, and the walk along a chain that counts its records. Assumes nothing.
+use mathlib.Core.Bool.{Bool, true, false, cond, _&&_}
+use mathlib.Core.Option.{Option, none, some}
+use Prim.Native.Nat.{ℕ, zero, suc, _+_}
+use lib.Dec.{eqb, leb, ltb}
+
+-- a number in 1 .. r
+abbrev pub inRange : ℕ → ℕ → Bool
+inRange r y = ltb 0 y && leb y r
+
+-- a test of 0 .. n - 1
+unfoldable pub allBelow : (ℕ → Bool) → ℕ → Bool
+allBelow f zero = true
+allBelow f (suc n) = f n && allBelow f n
+
+-- the sum over 1 .. r
+unfoldable pub sumTo : (ℕ → ℕ) → ℕ → ℕ
+sumTo g zero = 0
+sumTo g (suc r) = sumTo g r + g (suc r)
+
+abbrev pub oneMore : Option ℕ → Option ℕ
+oneMore none = none
+oneMore (some n) = some (suc n)
+
+-- How many records the walk from record n by `next` meets: `next i` follows entry i, which is record i + 1. none: a record of the
+-- walk fails f, or its next is not below its own number. The fuel is the highest number that the walk may start from.
+unfoldable pub chainLength : (ℕ → ℕ) → (ℕ → Bool) → ℕ → ℕ → Option ℕ
+chainLength next f zero zero = some 0
+chainLength next f zero (suc i) = none
+chainLength next f (suc k) zero = some 0
+chainLength next f (suc k) (suc i) = cond (f i && leb (next i) i) (oneMore (chainLength next f k (next i))) none
+
+abbrev pub isCount : Option ℕ → ℕ → Bool
+isCount none n = false
+isCount (some m) n = eqb m n
+
+abbrev pub isSome : Option ℕ → Bool
+isSome none = false
+isSome (some n) = true

@@ -1,0 +1,98 @@
+// No triple twice: below each record, down the shortest of its three chains, no record has its triple, live or not.
+use store::Position;
+use store::Triple;
+ghost use mathlib.Core.Path.{_≡_};
+ghost use mathlib.Core.Bool.{true};
+ghost use Prim.Native.Nat.{ℕ, _-_, _≤_};
+ghost use Rattle.store.specs.Triple.{known, same};
+ghost use Rattle.store.specs.Tables.{tripleAt};
+ghost use Rattle.integrity.specs.Held.{ResourcesHeld, StatementsHeld};
+ghost use Rattle.integrity.specs.Tests.{allBelow};
+ghost use Rattle.integrity.specs.Records.{recordOk, shortest, aloneOn, alone};
+
+// The position of a triple's shortest chain.
+fn shortest(resources: &[u32], r: u32, x: Triple) -> Position
+    requires { ⌜ ResourcesHeld (now resources) r ⌝ }
+    requires { ⌜ known r x ≡ true ⌝ }
+    ensures { λ p. ⌜ p ≡ shortest (now (resources .entry)) x ⌝ }
+{
+    let s = table::inner::count_at(resources, x.subject.0, Position::Subject);
+    let p = table::inner::count_at(resources, x.predicate.0, Position::Predicate);
+    let o = table::inner::count_at(resources, x.object.0, Position::Object);
+    if p < s {
+        if o < p {
+            return Position::Object;
+        }
+        return Position::Predicate;
+    }
+    if o < s {
+        return Position::Object;
+    }
+    Position::Subject
+}
+
+// Whether two triples have the same three numbers.
+fn same(x: Triple, t: Triple) -> bool
+    ensures { λ b. ⌜ b ≡ same x t ⌝ }
+{
+    if t.subject.0 != x.subject.0 {
+        return false;
+    }
+    if t.predicate.0 != x.predicate.0 {
+        return false;
+    }
+    t.object.0 == x.object.0
+}
+
+// Whether no record below record n on its chain at p has its triple.
+fn alone_on(statements: &[u32], n: u32, p: Position) -> bool
+    requires { ⌜ StatementsHeld (now statements) n ⌝ }
+    requires { ⌜ 1 ≤ n ⌝ }
+    ensures { λ b. ⌜ b ≡ aloneOn (now (statements .entry)) p (n - 1) ⌝ }
+{
+    let x = table::inner::triple_at(statements, n);
+    let mut above = n;
+    loop {
+        let m = table::inner::next_at(statements, above, p);
+        if m >= above {
+            return false;
+        }
+        if m == 0 {
+            return true;
+        }
+        if same(x, table::inner::triple_at(statements, m)) {
+            return false;
+        }
+        above = m;
+    }
+}
+
+// Whether no record below record n has its triple, by its shortest chain.
+fn alone(resources: &[u32], statements: &[u32], r: u32, n: u32) -> bool
+    requires { ⌜ known r (tripleAt (now statements) (n - 1)) ≡ true ⌝ }
+    requires { ⌜ ResourcesHeld (now resources) r ⌝ }
+    requires { ⌜ StatementsHeld (now statements) n ⌝ }
+    requires { ⌜ 1 ≤ n ⌝ }
+    ensures { λ b. ⌜ b ≡ alone (now (resources .entry)) (now (statements .entry)) (n - 1) ⌝ }
+{
+    let x = table::inner::triple_at(statements, n);
+    let p = shortest(resources, r, x);
+    alone_on(statements, n, p)
+}
+
+// Whether no triple stands twice.
+pub fn all_alone(resources: &[u32], statements: &[u32], r: u32, t: u32) -> bool
+    requires { ⌜ allBelow (recordOk r (now resources) (now statements)) t ≡ true ⌝ }
+    requires { ⌜ ResourcesHeld (now resources) r ⌝ }
+    requires { ⌜ StatementsHeld (now statements) t ⌝ }
+    ensures { λ b. ⌜ b ≡ allBelow (alone (now (resources .entry)) (now (statements .entry))) t ⌝ }
+{
+    let mut n: u32 = 0;
+    while n < t {
+        if !alone(resources, statements, r, n + 1) {
+            return false;
+        }
+        n += 1;
+    }
+    true
+}

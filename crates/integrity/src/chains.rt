@@ -1,0 +1,81 @@
+// The pass over the chains at one position: from each resource's first, by next, falling, with the resource in every record, as many
+// as its count says; and the counts add up to the number of records. So every record is on its chain and nothing else is.
+use store::Position;
+ghost use mathlib.Core.Path.{_≡_};
+ghost use Prim.Native.Nat.{ℕ, _≤_};
+ghost use Rattle.store.specs.Triple.{all3};
+ghost use Rattle.store.specs.Tables.{nextAt};
+ghost use Rattle.store.specs.Soundness.{holding};
+ghost use Rattle.integrity.specs.Held.{ResourcesHeld, StatementsHeld};
+ghost use Rattle.integrity.specs.Tests.{chainLength, isCount};
+ghost use Rattle.integrity.specs.Records.{chainOk, chainsOk};
+
+// Whether the chain from record `first` on falls, holds y in every record, and has `count` records.
+fn chain_counts(statements: &[u32], t: u32, p: Position, y: u32, first: u32, count: u32) -> bool
+    requires { ⌜ StatementsHeld (now statements) t ⌝ }
+    requires { ⌜ first ≤ t ⌝ }
+    ensures { λ b. ⌜ b ≡ isCount (chainLength (nextAt (now (statements .entry)) p) (holding (now (statements .entry)) p y) t first) count ⌝ }
+{
+    let mut n = first;
+    let mut met: u32 = 0;
+    while n != 0 {
+        if table::inner::term_at(statements, n, p) != y {
+            return false;
+        }
+        let m = table::inner::next_at(statements, n, p);
+        if m >= n {
+            return false;
+        }
+        met += 1;
+        n = m;
+    }
+    met == count
+}
+
+// Whether the chain of resource y is right.
+fn chain_ok(resources: &[u32], statements: &[u32], r: u32, t: u32, p: Position, y: u32) -> bool
+    requires { ⌜ ResourcesHeld (now resources) r ⌝ }
+    requires { ⌜ StatementsHeld (now statements) t ⌝ }
+    requires { ⌜ (1 ≤ y) × (y ≤ r) ⌝ }
+    ensures { λ b. ⌜ b ≡ chainOk t (now (resources .entry)) (now (statements .entry)) p y ⌝ }
+{
+    let first = table::inner::first_at(resources, y, p);
+    if first > t {
+        return false;
+    }
+    let count = table::inner::count_at(resources, y, p);
+    chain_counts(statements, t, p, y, first, count)
+}
+
+// Whether the chains at a position are right, and hold every record between them.
+fn chains_ok(resources: &[u32], statements: &[u32], r: u32, t: u32, p: Position) -> bool
+    requires { ⌜ ResourcesHeld (now resources) r ⌝ }
+    requires { ⌜ StatementsHeld (now statements) t ⌝ }
+    ensures { λ b. ⌜ b ≡ chainsOk r t (now (resources .entry)) (now (statements .entry)) p ⌝ }
+{
+    let mut y: u32 = 0;
+    let mut total: usize = 0;
+    while y < r {
+        if !chain_ok(resources, statements, r, t, p, y + 1) {
+            return false;
+        }
+        total += crate::wide(table::inner::count_at(resources, y + 1, p));
+        y += 1;
+    }
+    total == crate::wide(t)
+}
+
+// Whether the chains at all three positions are right.
+pub fn all_chains_ok(resources: &[u32], statements: &[u32], r: u32, t: u32) -> bool
+    requires { ⌜ ResourcesHeld (now resources) r ⌝ }
+    requires { ⌜ StatementsHeld (now statements) t ⌝ }
+    ensures { λ b. ⌜ b ≡ all3 (chainsOk r t (now (resources .entry)) (now (statements .entry))) ⌝ }
+{
+    if !chains_ok(resources, statements, r, t, Position::Subject) {
+        return false;
+    }
+    if !chains_ok(resources, statements, r, t, Position::Predicate) {
+        return false;
+    }
+    chains_ok(resources, statements, r, t, Position::Object)
+}

@@ -1,0 +1,59 @@
+// The pass over the used text: each name from where the one before was closed to the next zero byte, with its resource's record.
+ghost use mathlib.Core.Path.{_≡_};
+ghost use Prim.Native.Nat.{ℕ, _+_, _≤_};
+ghost use lib.ListN.{length};
+ghost use Rattle.table.specs.Held.{ResourceHeld};
+ghost use Rattle.integrity.specs.Held.{ResourcesHeld};
+ghost use Rattle.integrity.specs.Names.{nameFrom, nameOk, namesOk};
+
+// Where the name that starts at `from` ends: at the next zero byte, or with the text.
+fn name_end(used: &[u8], from: usize) -> usize
+    requires { ⌜ from ≤ length (now used) ⌝ }
+    ensures { λ e. ⌜ (e ≡ from + length (nameFrom (now (used .entry)) from)) × (e ≤ length (now (used .entry))) ⌝ }
+{
+    let mut i = from;
+    while i < used.len() {
+        if used[i] == 0 {
+            return i;
+        }
+        i += 1;
+    }
+    i
+}
+
+// Whether the name from `from` to `end` is closed and well formed, and resource y has its offset and kind.
+fn name_ok(resources: &[u32], used: &[u8], y: u32, from: usize, end: usize) -> bool
+    requires { ⌜ ResourceHeld (now resources) y ⌝ }
+    requires { ⌜ (end ≡ from + length (nameFrom (now used) from)) × (end ≤ length (now used)) ⌝ }
+    ensures { λ b. ⌜ b ≡ nameOk (now (resources .entry)) (now (used .entry)) y from ⌝ }
+{
+    if end == used.len() {
+        return false;
+    }
+    if crate::wide(table::inner::offset_at(resources, y)) != from {
+        return false;
+    }
+    let kind = term::name_kind(&used[from..end]);
+    if kind == 0 {
+        return false;
+    }
+    table::inner::kind_at(resources, y) == kind
+}
+
+// Whether the used text is exactly the names of the r resources, with right offsets and kinds.
+pub fn names_ok(resources: &[u32], used: &[u8], r: u32) -> bool
+    requires { ⌜ ResourcesHeld (now resources) r ⌝ }
+    ensures { λ b. ⌜ b ≡ namesOk (now (resources .entry)) (now (used .entry)) r 1 0 ⌝ }
+{
+    let mut y: u32 = 1;
+    let mut from: usize = 0;
+    while y <= r {
+        let end = name_end(used, from);
+        if !name_ok(resources, used, y, from, end) {
+            return false;
+        }
+        from = end + 1;
+        y += 1;
+    }
+    from == used.len()
+}

@@ -1,0 +1,68 @@
+// The pass over the statement records, one by one: resources in 1..R, permitted kinds, flag 0 or 1.
+use store::Triple;
+ghost use mathlib.Core.Path.{_≡_};
+ghost use mathlib.Core.Bool.{true};
+ghost use Prim.Native.Nat.{ℕ, _-_, _≤_, _<_};
+ghost use Rattle.store.specs.Triple.{known, permitted};
+ghost use Rattle.store.specs.Tables.{kindAt};
+ghost use Rattle.integrity.specs.Held.{ResourcesHeld, StatementsHeld};
+ghost use Rattle.integrity.specs.Tests.{allBelow};
+ghost use Rattle.integrity.specs.Records.{recordOk};
+
+// Whether a triple's three numbers are in 1..r.
+fn known(r: u32, x: Triple) -> bool
+    ensures { λ b. ⌜ b ≡ known r x ⌝ }
+{
+    if !crate::in_range(r, x.subject.0) {
+        return false;
+    }
+    if !crate::in_range(r, x.predicate.0) {
+        return false;
+    }
+    crate::in_range(r, x.object.0)
+}
+
+// Whether the subject is no literal and the predicate is an IRI.
+fn permitted(resources: &[u32], r: u32, x: Triple) -> bool
+    requires { ⌜ ResourcesHeld (now resources) r ⌝ }
+    requires { ⌜ known r x ≡ true ⌝ }
+    ensures { λ b. ⌜ b ≡ permitted (kindAt (now (resources .entry))) x ⌝ }
+{
+    if table::inner::kind_at(resources, x.subject.0) == 3 {
+        return false;
+    }
+    table::inner::kind_at(resources, x.predicate.0) == 1
+}
+
+// Whether record n is right by itself.
+fn record_ok(resources: &[u32], statements: &[u32], r: u32, n: u32) -> bool
+    requires { ⌜ ResourcesHeld (now resources) r ⌝ }
+    requires { ⌜ StatementsHeld (now statements) n ⌝ }
+    requires { ⌜ 1 ≤ n ⌝ }
+    ensures { λ b. ⌜ b ≡ recordOk r (now (resources .entry)) (now (statements .entry)) (n - 1) ⌝ }
+{
+    let x = table::inner::triple_at(statements, n);
+    if !known(r, x) {
+        return false;
+    }
+    if !permitted(resources, r, x) {
+        return false;
+    }
+    table::inner::flag_at(statements, n) <= 1
+}
+
+// Whether each of the t records is right by itself.
+pub fn each_ok(resources: &[u32], statements: &[u32], r: u32, t: u32) -> bool
+    requires { ⌜ ResourcesHeld (now resources) r ⌝ }
+    requires { ⌜ StatementsHeld (now statements) t ⌝ }
+    ensures { λ b. ⌜ b ≡ allBelow (recordOk r (now (resources .entry)) (now (statements .entry))) t ⌝ }
+{
+    let mut n: u32 = 0;
+    while n < t {
+        if !record_ok(resources, statements, r, n + 1) {
+            return false;
+        }
+        n += 1;
+    }
+    true
+}

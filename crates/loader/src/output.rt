@@ -1,0 +1,73 @@
+// The lines that a load writes to standard output: one for each statement line, and the totals. Each is written at once.
+ghost use Prim.Native.Nat.{ℕ, _≤_};
+ghost use Rattle.io.specs.Counts.{Counts};
+use crate::Outcome;
+use libc::STDOUT_FILENO;
+use store::Counters;
+
+// A line of output fits: at most two numbers of 20 digits and 24 other bytes.
+const OUTPUT_LINE: usize = 64;
+
+// The smaller number.
+fn within(a: usize, b: usize) -> usize
+    ensures { λ r. ⌜ r ≤ b ⌝ }
+{
+    if a < b { a } else { b }
+}
+
+// Appends bytes to what stands before `at`, as far as there is room, and answers where they end.
+fn append(out: &mut [u8], at: usize, bytes: &[u8]) -> usize
+    ensures { λ r. ⌜ Counts r (now (out .exit)) ⌝ }
+{
+    let mut end = within(at, out.len());
+    let mut i = 0;
+    while i < bytes.len() {
+        if end >= out.len() {
+            return end;
+        }
+        out[end] = bytes[i];
+        end += 1;
+        i += 1;
+    }
+    end
+}
+
+// Appends a number's decimal digits.
+fn append_decimal(out: &mut [u8], at: usize, n: u64) -> usize
+    ensures { λ r. ⌜ Counts r (now (out .exit)) ⌝ }
+{
+    let mut digits = [0u8; 20];
+    let k = io::decimal(n, &mut digits);
+    append(out, at, &digits[..k])
+}
+
+// Writes `NUMBER word N`; the word has a space on either side.
+fn write_line(number: u64, word: &[u8], n: u32) {
+    let mut out = [0u8; OUTPUT_LINE];
+    let a = append_decimal(&mut out, 0, number);
+    let b = append(&mut out, a, word);
+    let c = append_decimal(&mut out, b, n as u64);
+    let d = append(&mut out, c, &[b'\n']);
+    io::write_all(STDOUT_FILENO, &out[..d]);
+}
+
+// Reports what a line came to.
+pub fn report(number: u64, outcome: Outcome) {
+    match outcome {
+        Outcome::Nothing => {}
+        Outcome::New(n) => write_line(number, b" new ", n),
+        Outcome::Already(n) => write_line(number, b" already ", n),
+        Outcome::Refused(n) => write_line(number, b" refused ", n),
+    }
+}
+
+// Writes the totals, `resources R statements T`.
+pub fn totals(c: Counters) {
+    let mut out = [0u8; OUTPUT_LINE];
+    let a = append(&mut out, 0, b"resources ");
+    let b = append_decimal(&mut out, a, c.resources as u64);
+    let d = append(&mut out, b, b" statements ");
+    let e = append_decimal(&mut out, d, c.statements as u64);
+    let f = append(&mut out, e, &[b'\n']);
+    io::write_all(STDOUT_FILENO, &out[..f]);
+}
