@@ -10,7 +10,7 @@ use native.Mathlib.Omega.{arith}
 use lib.ListN.{length, getD, take, drop, length-append}
 use lib.Seq.{getD-append-seam}
 use lib.Dec.{eqb}
-use borrow.Author.Tests.{eq-eqb}
+use borrow.Author.Tests.{eq-eqb, ne-eqb}
 use Rattle.store.specs.declared.Position.{Position}
 use Rattle.store.specs.declared.Chain.{Chain}
 use Rattle.store.specs.declared.Chain.the-variants.{All, By}
@@ -25,7 +25,7 @@ use Rattle.store.specs.History.{Store, freshStore, capacitiesOf, callSto
 use Rattle.store.specs.Claims.{Opening, storeThen, opened, Accepted, openingNumber, chainThen, storeNow, visitsOf}
 use Rattle.store.specs.Claims.{visitsSoFar, restNow, reached, liveNow, nextNow, Latest, NoneOf, Exhausts}
 use Rattle.store.specs.Claims.{Shortest, unbound, bound, statementsIn, Finds, EndsOrSpends, VisitsAddUp}
-use Rattle.store.specs.Claims.{takenSoFar, NoneIsMissed}
+use Rattle.store.specs.Claims.{takenSoFar, NoneIsMissed, ReadsOnWithBudget}
 use Rattle.store.proofs.Tests.{decide, off-lt, and-r}
 use Rattle.store.proofs.Falling.{Falling, below-falling, below-in, all-pass}
 use Rattle.store.proofs.Picking.{Picked, pick-picks, Bound, pick-bound}
@@ -61,6 +61,21 @@ next-values : (s : Model) (j b : ℕ) → ((nextModel s j b) .1) .refusal ≡ 0
     → (nextModel s j b) .1 ≡ takenValues (openingOf s j) (takeFrom (s .entries) (openingOf s j) b)
 unfolding nextModel turn
 next-values s j b = decide (eqb b 0) (λ e. rw e (λ h. absurd (omega (arith, h)))) (λ e. rw e (λ h. refl))
+
+taken-accepted : (g : Listing) (z : Taken) → (takenValues g z) .refusal ≡ 0
+taken-accepted g (took n v r) = refl
+taken-accepted g (emptied v) = refl
+taken-accepted g (stopped v r) = refl
+
+-- a next is refused exactly without a budget
+next-budget : (s : Model) (j b : ℕ) → ((nextModel s j b) .1) .refusal ≡ 0 ↔ 0 < b
+unfolding nextModel turn
+next-budget s j zero = (λ h. absurd (omega (arith, h)), λ h. absurd (omega arith))
+next-budget s j (suc b) = (
+  λ h. omega arith,
+  λ h. rw (ne-eqb (suc b) 0 (omega arith))
+      (taken-accepted (openingOf s j) (takeFrom (s .entries) (openingOf s j) (suc b))),
+)
 
 chain-of : (x : Triple) (l : List Entry) → (cursorOf (listing x l)) .chain ≡ pickModel x l
 unfolding listing
@@ -167,14 +182,19 @@ module _ (o : Opening) (acc : Accepted o) where
   abbrev liveAt : ℕ → Bool
   liveAt i = matches (o .pattern) (entry (statementsIn (storeNow o)) i)
 
+  next-same : (b : ℕ) → nextNow o b ≡ (nextModel s2 j b) .1
+  unfolding callModel
+  next-same b = call-agrees k (storeNow o) s2 R2 (next j b) .0
+
+  with-budget : (b : ℕ) → (nextNow o b) .refusal ≡ 0 ↔ 0 < b
+  with-budget b = rw (next-same b) (next-budget s2 j b)
+
   -- what a next answers
   next-is : (b : ℕ) → (nextNow o b) .refusal ≡ 0
       → nextNow o b ≡ takenValues (openingOf s2 j) (take-off liveAt b (restNow o))
-  unfolding callModel
   next-is b h =
-      let same : nextNow o b ≡ (nextModel s2 j b) .1 = call-agrees k (storeNow o) s2 R2 (next j b) .0 in
-      same
-      ∙ next-values s2 j b (sym (ap (λ (v : Values). v .refusal) same) ∙ h)
+      next-same b
+      ∙ next-values s2 j b (sym (ap (λ (v : Values). v .refusal) (next-same b)) ∙ h)
       ∙ ap (takenValues (openingOf s2 j))
       (ap₂ (λ (l : List Entry) (g : Listing). takeFrom l g b) (sym (agreeing-statements k (storeNow o) s2 R2)) at-now
       ∙ take-from (statementsIn (storeNow o)) (o .pattern) (s0 .entries) (restNow o) b)
@@ -302,6 +322,9 @@ picked-shortest x l v e =
     go (By p) h d = bound p (h .1 .bound) d (λ q z. omega (arith, d, h .1 .least q (off-lt q) z))
 
 -- ---- the claims
+
+pub reads-on-with-budget : ReadsOnWithBudget
+reads-on-with-budget o acc b = with-budget o acc b
 
 pub finds : Finds
 finds o acc b h n = finds-by o acc b h n (outcome-now o acc b)

@@ -5,7 +5,7 @@ use Rattle.store.specs.History.{store, freshStore, capacitiesOf}
 use Rattle.store.specs.Claims.{listsOf, HistoriesAgree, HistoriesStaySound, SoundStoresAgree, FreshIsSound}
 use Rattle.store.specs.Claims.{RefusalsChangeNothing, Finds, EndsOrSpends, VisitsAddUp, RoundTrips, KnownMeans}
 use Rattle.store.specs.Claims.{WithinMeans, SameMeans, MatchesMeans, PermittedMeans, BelowMeans, PicksLeast}
-use Rattle.store.specs.Claims.{RefusalsAreBare, NoneIsMissed, FirstIsHighest}
+use Rattle.store.specs.Claims.{RefusalsAreBare, NoneIsMissed, FirstIsHighest, ReadsOnWithBudget}
 use Rattle.store.proofs.Histories.{history-agrees, fresh-agrees}
 use Rattle.store.proofs.Kept.{tidy-history, tidy-fresh, agreeing-sound}
 use Rattle.store.proofs.Held.{agreeing-holds, sound-agrees, sound-tidy}
@@ -37,6 +37,9 @@ pub refusals-change-nothing : RefusalsChangeNothing
 refusals-change-nothing = refusals.refusals-change-nothing
 
 -- ---- openings
+
+pub reads-on-with-budget : ReadsOnWithBudget
+reads-on-with-budget = openings.reads-on-with-budget
 
 pub finds : Finds
 finds = openings.finds

@@ -163,6 +163,10 @@ pub record Latest (test : ℕ → Bool) (l : List ℕ) (n : ℕ) : Type 0 where
 abbrev pub NoneOf : (ℕ → Bool) → List ℕ → Type 0
 NoneOf test l = (i : ℕ) → List·Memᴰ i l → test i ≡ false
 
+-- A listing read on is refused only for want of a budget.
+abbrev pub ReadsOnWithBudget : Type 0
+ReadsOnWithBudget = (o : Opening) → Accepted o → (b : ℕ) → (nextNow o b) .refusal ≡ 0 ↔ 0 < b
+
 -- A listing read on and not refused finds a record exactly when its budget reaches a live match, as of that call, among
 -- the records there at its opening and not yet passed, and gives the latest of these.
 abbrev pub Finds : Type 0
