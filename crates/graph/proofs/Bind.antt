@@ -170,11 +170,9 @@ pub match-matched : (x : QueryPattern) (t : Triple) (b b′ : Bindings) → Fits
     → match x t b ≡ some b′ → Matched x t b b′
 unfolding match under occursIn
 match-matched x t b b′ f k e =
-    let r1 = after-some (bind (x .subject) (t .subject .0) b)
-    (λ b. after (bind (x .predicate) (t .predicate .0) b) (λ b. bind (x .object) (t .object .0) b)) b′ e in
+    let r1 = after-some (bind (x .subject) (t .subject .0) b) _ b′ e in
     let b1 = r1 .0 in
-    let r2 = after-some (bind (x .predicate) (t .predicate .0) b1) (λ b. bind (x .object) (t .object .0) b) b′
-    (r1 .2) in
+    let r2 = after-some (bind (x .predicate) (t .predicate .0) b1) _ b′ (r1 .2) in
     let b2 = r2 .0 in
     let w1 = bind-bound b (x .subject) (t .subject .0) b1 (f Subject) (r1 .1) in
     let w2 = bind-bound b1 (x .predicate) (t .predicate .0) b2 (rw (w1 .len) (f Predicate)) (r2 .1) in

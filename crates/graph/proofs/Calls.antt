@@ -3,7 +3,7 @@
 -- nothing.
 use mathlib.Core.Path.{_≡_, refl, sym, ap, _∙_}
 use mathlib.Core.Logic.{_≢_, _⊎_, inl, inr}
-use mathlib.Core.Bool.{Bool, true, false, _&&_, _||_, true≢false, false≢true}
+use mathlib.Core.Bool.{Bool, true, false, _&&_, true≢false, false≢true}
 use mathlib.Core.List.{List, [], _∷_, _++_, map, List·Memᴰ, Memᴰ·append-left, append-nil}
 use Prim.Native.Nat.{ℕ, suc, _+_, _*_, _-_, _≤_, _<_}
 use native.Mathlib.Omega.{arith}
@@ -30,6 +30,7 @@ use Rattle.graph.specs.Meaning.{Mapping, Solves}
 use Rattle.graph.specs.Graph.{graphOf, queryOf, mappingOf}
 use Rattle.graph.specs.Claims.{AllPositive, solutionsIn, NoneRefused, hasEnded, visitsIn, lastSpent, reading}
 use Rattle.graph.specs.Claims.{statementsIn, Read, Ends, ReadingClaim}
+use Rattle.graph.proofs.Accepted.{or-cases}
 use Rattle.graph.proofs.Laws.{Shallow, place-cursor}
 use Rattle.graph.proofs.Bind.{wordAt, Fit}
 use Rattle.graph.proofs.Solve.{solve, AllFit, solve-descending, statements, numberOf, descending-nodup}
@@ -38,10 +39,6 @@ use Rattle.graph.proofs.Reading.{leftAt, toilAt, visitsAt, Reached, Out
 use Rattle.graph.proofs.Solutions.{mem-map, map-mem, positive, single, exactly, once-as-mappings}
 
 -- ---- words in order
-
-or-cases : (a b : Bool) → a || b ≡ true → (a ≡ true) ⊎ (b ≡ true)
-or-cases true b e = inl refl
-or-cases false b e = inr e
 
 word-fit : (r w : ℕ) → r < firstVariable → wordOk r w ≡ true → Fit variables w × (isVariable w ≡ false → w ≤ r)
 unfolding wordOk

@@ -30,7 +30,7 @@ use Rattle.store.proofs.Chains.{onWords, chain-links, chain-fine, chain-start, 
 use Rattle.graph.specs.declared.QueryPattern.{QueryPattern}
 use Rattle.graph.specs.declared.Level.{Level}
 use Rattle.graph.specs.Query.{firstVariable, isVariable, variables, Bindings, resource, boundTo, pattern}
-use Rattle.graph.specs.Query.{valueOf, under, bind, after, match, level, Turn, bad, go, whole, recordAt, past}
+use Rattle.graph.specs.Query.{valueOf, under, bind, match, level, Turn, bad, go, whole, recordAt, past}
 use Rattle.graph.specs.Query.{struck, settle, remains, nextPattern, binds, asked, enter, hit, tried, visit}
 use Rattle.graph.proofs.Bind.{wordAt, bound-same, bound-other, Fits3, Known3, or-l, or-r, none≢some, some-eq}
 use Rattle.graph.proofs.Bind.{after-some, value-number, value-variable, value-more, match-matched}
@@ -95,10 +95,8 @@ pub match-low : (k : ℕ) (x : QueryPattern) (t : Triple) (b b′ : Bindings) �
     → match x t b ≡ some b′ → Low k b′
 unfolding match
 match-low k x t b b′ h q e =
-    let r1 = after-some (bind (x .subject) (t .subject .0) b)
-    (λ b. after (bind (x .predicate) (t .predicate .0) b) (λ b. bind (x .object) (t .object .0) b)) b′ e in
-    let r2 = after-some (bind (x .predicate) (t .predicate .0) (r1 .0)) (λ b. bind (x .object) (t .object .0) b) b′
-    (r1 .2) in
+    let r1 = after-some (bind (x .subject) (t .subject .0) b) _ b′ e in
+    let r2 = after-some (bind (x .predicate) (t .predicate .0) (r1 .0)) _ b′ (r1 .2) in
     bind-low k (x .object) (t .object .0) (r2 .0) b′
     (bind-low k (x .predicate) (t .predicate .0) (r1 .0) (r2 .0)
     (bind-low k (x .subject) (t .subject .0) b (r1 .0) h (q Subject) (r1 .1)) (q Predicate) (r2 .1)) (q Object)

@@ -7,6 +7,7 @@ pub mod Place
 pub mod Later
 pub mod Names
 pub mod Solutions
+pub mod Accepted
 pub mod Calls
 pub mod Onwards
 pub mod Scans

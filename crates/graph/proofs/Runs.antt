@@ -2,7 +2,7 @@
 -- compared. Assumes nothing.
 use mathlib.Core.Path.{_≡_, refl}
 use mathlib.Core.List.{List, [], _∷_, _++_, map}
-use Prim.Native.Nat.{ℕ, _+_}
+use Prim.Native.Nat.{ℕ, zero, suc, _+_}
 use lib.ListN.{replicate}
 use Rattle.store.specs.declared.Counters.{Counters}
 use Rattle.store.specs.declared.Chain.the-variants.{All, By}
@@ -13,6 +13,7 @@ use Rattle.store.specs.Model.{better, pick}
 use Rattle.store.specs.Walk.{pickChain, pickable, startOf, linkOf, sits, visitable}
 use Rattle.store.specs.Scan.{chainOk, recordOk}
 use Rattle.graph.specs.declared.Level.{Level}
+use Rattle.graph.specs.declared.Progress.{Progress}
 use Rattle.graph.specs.declared.Progress.the-variants.{Start, Within, End}
 use Rattle.graph.specs.declared.QueryCursor.{QueryCursor}
 use Rattle.graph.specs.Query.{patternsOf, wordOk, allOk, wordsOk, Bindings, resource, valueOf, under, bind}
@@ -123,6 +124,9 @@ O n = level (By Object) n
 abbrev refusedWith : ℕ → QueryValues
 refusedWith n = record { refusal = n; status = 0; visits = 0; solution = record { values = sol 0 0 }; cursor = none }
 
+abbrev atStart : QueryValues
+atStart = record { refusal = 0; status = 0; visits = 0; solution = record { values = sol 0 0 }; cursor = none }
+
 abbrev found : ℕ → Bindings → QueryCursor → QueryValues
 found n b q = record { refusal = 0; status = 1; visits = n; solution = record { values = b }; cursor = q }
 
@@ -131,6 +135,18 @@ ended n = record { refusal = 0; status = 2; visits = n; solution = record { valu
 
 abbrev spent : ℕ → QueryCursor → QueryValues
 spent n q = record { refusal = 0; status = 3; visits = n; solution = record { values = sol 0 0 }; cursor = q }
+
+-- (?0,2,?1),(?1,2,?2); the pattern (1,2,3) n times
+abbrev hops : List ℕ
+hops = v 0 ∷ 2 ∷ v 1 ∷ v 1 ∷ 2 ∷ v 2 ∷ []
+
+copies : ℕ → List ℕ
+copies zero = []
+copies (suc n) = 1 ∷ 2 ∷ 3 ∷ copies n
+
+-- a cursor of eight equal levels
+abbrev filled : Progress → ℕ → QueryCursor
+filled g n = record { progress = g; depth = n; levels = replicate 8 (P 77) }
 
 -- open, one next call, calls one after another from the start
 abbrev open′ : Lent → List ℕ → QueryValues
@@ -142,169 +158,151 @@ next s ws q b = queryValues (nextQueryOf (s .counters) (s .lent) ws q b)
 abbrev read : Lent → List ℕ → List ℕ → List QueryValues
 read s ws bs = map queryValues (readOn (s .counters) (s .lent) ws startCursor bs)
 
--- ---- the runs
+-- ---- the table
+
+-- what the definitions answer, and what is due
+pub record Case : Type 0 where
+  pub given : List QueryValues
+  pub due : List QueryValues
 
 -- the paper's question: 2 visits, then 1
-paper : read two (v 0 ∷ 2 ∷ 3 ∷ v 0 ∷ 2 ∷ v 1 ∷ []) (9 ∷ 9 ∷ 9 ∷ 9 ∷ [])
-    ≡ found 2 (sol 1 4) (in2 (O 1) (S 1)) ∷ found 1 (sol 1 3) (in2 (O 1) (S 0)) ∷ ended 0 ∷ ended 0 ∷ []
-unfolding two three lone much wordOk allOk wordsOk patternsOf valueOf under bind match recordAt past struck intact
-    anyStruck pruned settle remains nextPattern binds asked enteredOk placeOk enter hit tried visit walk begun resume
-    answerOf levelsOf insideOf placeAs written cursorAt openQueryOf packed nextQueryOf readOn known better pick termAt
-    nextAt flagAt tripleAt firstAt countAt linkOf startOf sits visitable pickChain pickable chainOk recordOk fits
-paper = refl
+paper : Case
+paper = record {
+  given = read two (v 0 ∷ 2 ∷ 3 ∷ v 0 ∷ 2 ∷ v 1 ∷ []) (9 ∷ 9 ∷ 9 ∷ 9 ∷ []);
+  due = found 2 (sol 1 4) (in2 (O 1) (S 1)) ∷ found 1 (sol 1 3) (in2 (O 1) (S 0)) ∷ ended 0 ∷ ended 0 ∷ [];
+}
 
 -- opening gives the start
-opened : open′ two (v 0 ∷ 2 ∷ 3 ∷ []) ∷ open′ two [] ∷ open′ two (1 ∷ 2 ∷ []) ∷ open′ two
-    (5 ∷ 2 ∷ 3 ∷ []) ∷ open′ two (0 ∷ 2 ∷ 3 ∷ []) ∷ open′ two (v 15 ∷ 2 ∷ 3 ∷ []) ∷ open′ two
-    (v 16 ∷ 2 ∷ 3 ∷ []) ∷ open′ two (2147483647 ∷ 2 ∷ 3 ∷ []) ∷ []
-    ≡ record {
-      refusal = 0;
-      status = 0;
-      visits = 0;
-      solution = record { values = sol 0 0 };
-      cursor =
-          none;
-    } ∷ record {
-      refusal = 0;
-      status = 0;
-      visits = 0;
-      solution = record { values = sol 0 0 };
-      cursor =
-          none;
-    } ∷ refusedWith 8 ∷ refusedWith 8 ∷ refusedWith 8 ∷ record {
-      refusal = 0;
-      status = 0;
-      visits =
-          0;
-      solution = record { values = sol 0 0 };
-      cursor = none;
-    } ∷ refusedWith 8 ∷ refusedWith 8 ∷ []
-unfolding two three lone much wordOk allOk wordsOk patternsOf valueOf under bind match recordAt past struck intact
-    anyStruck pruned settle remains nextPattern binds asked enteredOk placeOk enter hit tried visit walk begun resume
-    answerOf levelsOf insideOf placeAs written cursorAt openQueryOf packed nextQueryOf readOn known better pick termAt
-    nextAt flagAt tripleAt firstAt countAt linkOf startOf sits visitable pickChain pickable chainOk recordOk fits
-opened = refl
+opened : Case
+opened = record {
+  given = open′ two (v 0 ∷ 2 ∷ 3 ∷ [])
+      ∷ open′ two []
+      ∷ open′ two (1 ∷ 2 ∷ [])
+      ∷ open′ two (5 ∷ 2 ∷ 3 ∷ [])
+      ∷ open′ two (0 ∷ 2 ∷ 3 ∷ [])
+      ∷ open′ two (v 15 ∷ 2 ∷ 3 ∷ [])
+      ∷ open′ two (v 16 ∷ 2 ∷ 3 ∷ [])
+      ∷ open′ two (2147483647 ∷ 2 ∷ 3 ∷ []) ∷ [];
+  due = atStart
+      ∷ atStart
+      ∷ refusedWith 8
+      ∷ refusedWith 8
+      ∷ refusedWith 8
+      ∷ atStart
+      ∷ refusedWith 8
+      ∷ refusedWith 8 ∷ [];
+}
 
 -- no patterns: one empty solution, with the end as place; a budget of 0 is refused at the end too; a level is one too
 -- many
-no-patterns : read two [] (1 ∷ 1 ∷ 0 ∷ []) ++ next two [] (in1 (level All 1)) 1 ∷ []
-    ≡ found 0 (sol 0 0) end ∷ ended 0 ∷ refusedWith 7 ∷ refusedWith 6 ∷ []
-unfolding two three lone much wordOk allOk wordsOk patternsOf valueOf under bind match recordAt past struck intact
-    anyStruck pruned settle remains nextPattern binds asked enteredOk placeOk enter hit tried visit walk begun resume
-    answerOf levelsOf insideOf placeAs written cursorAt openQueryOf packed nextQueryOf readOn known better pick termAt
-    nextAt flagAt tripleAt firstAt countAt linkOf startOf sits visitable pickChain pickable chainOk recordOk fits
-no-patterns = refl
+no-patterns : Case
+no-patterns = record {
+  given = read two [] (1 ∷ 1 ∷ 0 ∷ []) ++ next two [] (in1 (level All 1)) 1 ∷ [];
+  due = found 0 (sol 0 0) end ∷ ended 0 ∷ refusedWith 7 ∷ refusedWith 6 ∷ [];
+}
 
 -- eight patterns, and nine: a visit at each level
-eight-patterns : next two
-    (1 ∷ 2 ∷ 3 ∷ 1 ∷ 2 ∷ 3 ∷ 1 ∷ 2 ∷ 3 ∷ 1 ∷ 2 ∷ 3 ∷ 1 ∷ 2 ∷ 3 ∷ 1 ∷ 2 ∷ 3 ∷ 1 ∷ 2 ∷ 3 ∷ 1 ∷ 2 ∷ 3 ∷ []) none 9 ∷
-    next two (1 ∷ 2 ∷ 3 ∷ 1 ∷ 2 ∷ 3 ∷ 1 ∷ 2 ∷ 3 ∷ 1 ∷ 2 ∷ 3 ∷ 1 ∷ 2 ∷ 3 ∷ 1 ∷ 2 ∷ 3 ∷ 1 ∷ 2 ∷ 3 ∷ 1 ∷ 2 ∷ 3 ∷ 1 ∷ 2 ∷
-    3 ∷ []) none 9 ∷ []
-    ≡ found 8 (sol 0 0) (record {
-      progress = Within;
-      depth = 8;
-      levels =
-          O 1 ∷ O 1 ∷ O 1 ∷ O 1 ∷ O 1 ∷ O 1 ∷ O 1 ∷ O 0 ∷ [];
-    }) ∷ refusedWith 8 ∷ []
-unfolding two three lone much wordOk allOk wordsOk patternsOf valueOf under bind match recordAt past struck intact
-    anyStruck pruned settle remains nextPattern binds asked enteredOk placeOk enter hit tried visit walk begun resume
-    answerOf levelsOf insideOf placeAs written cursorAt openQueryOf packed nextQueryOf readOn known better pick termAt
-    nextAt flagAt tripleAt firstAt countAt linkOf startOf sits visitable pickChain pickable chainOk recordOk fits
-eight-patterns = refl
+eight-patterns : Case
+eight-patterns = record {
+  given = next two (copies 8) none 9 ∷ next two (copies 9) none 9 ∷ [];
+  due = found 8 (sol 0 0)
+      (record { progress = Within; depth = 8; levels = O 1 ∷ O 1 ∷ O 1 ∷ O 1 ∷ O 1 ∷ O 1 ∷ O 1 ∷ O 0 ∷ [] })
+      ∷ refusedWith 8 ∷ [];
+}
 
 -- what stands past the levels is ignored, and within with no levels is the start
-slots-ignored : next two (1 ∷ 2 ∷ 3 ∷ []) (record { progress = Within; depth = 0; levels = replicate 8 (P 77) }) 1 ∷
-    next two (1 ∷ 2 ∷ 3 ∷ []) (record { progress = Start; depth = 5; levels = replicate 8 (P 77) }) 1 ∷ next two
-    (1 ∷ 2 ∷ 3 ∷ []) (record { progress = End; depth = 5; levels = replicate 8 (P 77) }) 1 ∷ next two
-    (1 ∷ 2 ∷ 3 ∷ []) (record { progress = Within; depth = 1; levels = O 1 ∷ replicate 7 (P 77) }) 1 ∷ []
-    ≡ found 1 (sol 0 0) (in1 (O 0)) ∷ found 1 (sol 0 0) (in1 (O 0)) ∷ ended 0 ∷ found 1 (sol 0 0) (in1 (O 0)) ∷ []
-unfolding two three lone much wordOk allOk wordsOk patternsOf valueOf under bind match recordAt past struck intact
-    anyStruck pruned settle remains nextPattern binds asked enteredOk placeOk enter hit tried visit walk begun resume
-    answerOf levelsOf insideOf placeAs written cursorAt openQueryOf packed nextQueryOf readOn known better pick termAt
-    nextAt flagAt tripleAt firstAt countAt linkOf startOf sits visitable pickChain pickable chainOk recordOk fits
-slots-ignored = refl
+slots-ignored : Case
+slots-ignored = record {
+  given = next two (1 ∷ 2 ∷ 3 ∷ []) (filled Within 0) 1
+      ∷ next two (1 ∷ 2 ∷ 3 ∷ []) (filled Start 5) 1
+      ∷ next two (1 ∷ 2 ∷ 3 ∷ []) (filled End 5) 1
+      ∷ next two (1 ∷ 2 ∷ 3 ∷ []) (record { progress = Within; depth = 1; levels = O 1 ∷ replicate 7 (P 77) }) 1 ∷ [];
+  due = found 1 (sol 0 0) (in1 (O 0))
+      ∷ found 1 (sol 0 0) (in1 (O 0))
+      ∷ ended 0
+      ∷ found 1 (sol 0 0) (in1 (O 0)) ∷ [];
+}
 
 -- a variable repeated in a pattern is open at the pick: all records are scanned; equality is tested at the match
-variable-thrice : read two (v 0 ∷ v 0 ∷ v 0 ∷ []) (1 ∷ 9 ∷ []) ++ read two (v 0 ∷ 2 ∷ v 0 ∷ []) (9 ∷ [])
-    ≡ spent 1 (in1 (level All 1)) ∷ ended 1 ∷ ended 2 ∷ []
-unfolding two three lone much wordOk allOk wordsOk patternsOf valueOf under bind match recordAt past struck intact
-    anyStruck pruned settle remains nextPattern binds asked enteredOk placeOk enter hit tried visit walk begun resume
-    answerOf levelsOf insideOf placeAs written cursorAt openQueryOf packed nextQueryOf readOn known better pick termAt
-    nextAt flagAt tripleAt firstAt countAt linkOf startOf sits visitable pickChain pickable chainOk recordOk fits
-variable-thrice = refl
+variable-thrice : Case
+variable-thrice = record {
+  given = read two (v 0 ∷ v 0 ∷ v 0 ∷ []) (1 ∷ 9 ∷ []) ++ read two (v 0 ∷ 2 ∷ v 0 ∷ []) (9 ∷ []);
+  due = spent 1 (in1 (level All 1)) ∷ ended 1 ∷ ended 2 ∷ [];
+}
 
 -- 6: the chain of each level is a bound position, not one that is open; it need not be the least
-chains-accepted : next (three 0 0) (v 0 ∷ 2 ∷ v 1 ∷ v 1 ∷ 2 ∷ v 2 ∷ []) (in2 (P 1) (O 0)) 9 ∷ next (three 0 0)
-    (v 0 ∷ 2 ∷ v 1 ∷ v 1 ∷ 2 ∷ v 2 ∷ []) (in2 (P 1) (P 3)) 9 ∷ next (three 0 0) (v 0 ∷ 2 ∷ v 1 ∷ v 1 ∷ 2 ∷ v 2 ∷ [])
-    (in2 (level All 1) (P 3)) 9 ∷ next (three 0 0) (v 0 ∷ 2 ∷ v 1 ∷ v 1 ∷ 2 ∷ v 2 ∷ []) (in2 (P 0) (S 0)) 9 ∷ next
-    (three 0 0) (v 0 ∷ 2 ∷ v 1 ∷ v 1 ∷ 2 ∷ v 2 ∷ []) (in2 (P 4) (S 0)) 9 ∷ []
-    ≡ refusedWith 6 ∷ found 1 (resource 1 ∷ resource 3 ∷ resource 4 ∷ replicate 13 (resource 0))
-    (in2 (P 1) (P 2)) ∷ refusedWith 6 ∷ refusedWith 6 ∷ refusedWith 6 ∷ []
-unfolding two three lone much wordOk allOk wordsOk patternsOf valueOf under bind match recordAt past struck intact
-    anyStruck pruned settle remains nextPattern binds asked enteredOk placeOk enter hit tried visit walk begun resume
-    answerOf levelsOf insideOf placeAs written cursorAt openQueryOf packed nextQueryOf readOn known better pick termAt
-    nextAt flagAt tripleAt firstAt countAt linkOf startOf sits visitable pickChain pickable chainOk recordOk fits
-chains-accepted = refl
+chains-accepted : Case
+chains-accepted = record {
+  given = next (three 0 0) hops (in2 (P 1) (O 0)) 9
+      ∷ next (three 0 0) hops (in2 (P 1) (P 3)) 9
+      ∷ next (three 0 0) hops (in2 (level All 1) (P 3)) 9
+      ∷ next (three 0 0) hops (in2 (P 0) (S 0)) 9
+      ∷ next (three 0 0) hops (in2 (P 4) (S 0)) 9 ∷ [];
+  due = refusedWith 6
+      ∷ found 1 (resource 1 ∷ resource 3 ∷ resource 4 ∷ replicate 13 (resource 0)) (in2 (P 1) (P 2))
+      ∷ refusedWith 6
+      ∷ refusedWith 6
+      ∷ refusedWith 6 ∷ [];
+}
 
 -- the entered record 1 is struck out since, and nothing is below it on its chain
-struck-since : next (three 1 0) (v 0 ∷ 2 ∷ v 1 ∷ v 1 ∷ 2 ∷ v 2 ∷ []) (in2 (P 1) (S 3)) 9
-    ≡ ended 0
-unfolding two three lone much wordOk allOk wordsOk patternsOf valueOf under bind match recordAt past struck intact
-    anyStruck pruned settle remains nextPattern binds asked enteredOk placeOk enter hit tried visit walk begun resume
-    answerOf levelsOf insideOf placeAs written cursorAt openQueryOf packed nextQueryOf readOn known better pick termAt
-    nextAt flagAt tripleAt firstAt countAt linkOf startOf sits visitable pickChain pickable chainOk recordOk fits
-struck-since = refl
+struck-since : Case
+struck-since = record {
+  given = next (three 1 0) hops (in2 (P 1) (S 3)) 9 ∷ [];
+  due = ended 0 ∷ [];
+}
 
 -- entering after the budget's last visit may refuse 9
-enter-refused : next much (1 ∷ 2 ∷ v 0 ∷ v 0 ∷ 2 ∷ v 1 ∷ []) none 1
-    ≡ refusedWith 9
-unfolding two three lone much wordOk allOk wordsOk patternsOf valueOf under bind match recordAt past struck intact
-    anyStruck pruned settle remains nextPattern binds asked enteredOk placeOk enter hit tried visit walk begun resume
-    answerOf levelsOf insideOf placeAs written cursorAt openQueryOf packed nextQueryOf readOn known better pick termAt
-    nextAt flagAt tripleAt firstAt countAt linkOf startOf sits visitable pickChain pickable chainOk recordOk fits
-enter-refused = refl
+enter-refused : Case
+enter-refused = record {
+  given = next much (1 ∷ 2 ∷ v 0 ∷ v 0 ∷ 2 ∷ v 1 ∷ []) none 1 ∷ [];
+  due = refusedWith 9 ∷ [];
+}
 
 -- a chain that has run out stays in the place; the call that leaves it pays nothing for that
-run-out-stays : read (three 0 0) (v 0 ∷ 2 ∷ v 1 ∷ v 1 ∷ 2 ∷ v 2 ∷ []) (1 ∷ 1 ∷ [])
-    ≡ spent 1 (in2 (P 3) (S 0)) ∷ spent 1 (in2 (P 2) (S 0)) ∷ []
-unfolding two three lone much wordOk allOk wordsOk patternsOf valueOf under bind match recordAt past struck intact
-    anyStruck pruned settle remains nextPattern binds asked enteredOk placeOk enter hit tried visit walk begun resume
-    answerOf levelsOf insideOf placeAs written cursorAt openQueryOf packed nextQueryOf readOn known better pick termAt
-    nextAt flagAt tripleAt firstAt countAt linkOf startOf sits visitable pickChain pickable chainOk recordOk fits
-run-out-stays = refl
+run-out-stays : Case
+run-out-stays = record {
+  given = read (three 0 0) hops (1 ∷ 1 ∷ []);
+  due = spent 1 (in2 (P 3) (S 0)) ∷ spent 1 (in2 (P 2) (S 0)) ∷ [];
+}
 
 -- no entered chain has a record left when the budget is spent: ended
-nothing-remains : next lone (v 0 ∷ 2 ∷ v 1 ∷ v 1 ∷ 2 ∷ v 2 ∷ []) none 1
-    ≡ ended 1
-unfolding two three lone much wordOk allOk wordsOk patternsOf valueOf under bind match recordAt past struck intact
-    anyStruck pruned settle remains nextPattern binds asked enteredOk placeOk enter hit tried visit walk begun resume
-    answerOf levelsOf insideOf placeAs written cursorAt openQueryOf packed nextQueryOf readOn known better pick termAt
-    nextAt flagAt tripleAt firstAt countAt linkOf startOf sits visitable pickChain pickable chainOk recordOk fits
-nothing-remains = refl
+nothing-remains : Case
+nothing-remains = record {
+  given = next lone hops none 1 ∷ [];
+  due = ended 1 ∷ [];
+}
 
 -- found with every chain run out is no end yet
-found-run-out : read two (1 ∷ 2 ∷ 3 ∷ []) (1 ∷ 1 ∷ [])
-    ≡ found 1 (sol 0 0) (in1 (O 0)) ∷ ended 0 ∷ []
-unfolding two three lone much wordOk allOk wordsOk patternsOf valueOf under bind match recordAt past struck intact
-    anyStruck pruned settle remains nextPattern binds asked enteredOk placeOk enter hit tried visit walk begun resume
-    answerOf levelsOf insideOf placeAs written cursorAt openQueryOf packed nextQueryOf readOn known better pick termAt
-    nextAt flagAt tripleAt firstAt countAt linkOf startOf sits visitable pickChain pickable chainOk recordOk fits
-found-run-out = refl
+found-run-out : Case
+found-run-out = record {
+  given = read two (1 ∷ 2 ∷ 3 ∷ []) (1 ∷ 1 ∷ []);
+  due = found 1 (sol 0 0) (in1 (O 0)) ∷ ended 0 ∷ [];
+}
 
 -- 9 before any visit, also below a record struck out since
-damaged-below : next (three 1 3) (v 0 ∷ 2 ∷ v 1 ∷ v 1 ∷ 2 ∷ v 2 ∷ v 2 ∷ 2 ∷ v 3 ∷ []) (in3 (P 1) (S 3) (S 0)) 1
-    ≡ refusedWith 9
-unfolding two three lone much wordOk allOk wordsOk patternsOf valueOf under bind match recordAt past struck intact
-    anyStruck pruned settle remains nextPattern binds asked enteredOk placeOk enter hit tried visit walk begun resume
-    answerOf levelsOf insideOf placeAs written cursorAt openQueryOf packed nextQueryOf readOn known better pick termAt
-    nextAt flagAt tripleAt firstAt countAt linkOf startOf sits visitable pickChain pickable chainOk recordOk fits
-damaged-below = refl
+damaged-below : Case
+damaged-below = record {
+  given = next (three 1 3) (v 0 ∷ 2 ∷ v 1 ∷ v 1 ∷ 2 ∷ v 2 ∷ v 2 ∷ 2 ∷ v 3 ∷ []) (in3 (P 1) (S 3) (S 0)) 1 ∷ [];
+  due = refusedWith 9 ∷ [];
+}
 
 -- a reading to the end: 4 visits, whatever is left of the budget
-large-budget : next (three 0 0) (v 0 ∷ 2 ∷ v 1 ∷ v 1 ∷ 2 ∷ v 2 ∷ v 2 ∷ 2 ∷ v 3 ∷ []) none 4294967295
-    ≡ ended 4
-unfolding two three lone much wordOk allOk wordsOk patternsOf valueOf under bind match recordAt past struck intact
-    anyStruck pruned settle remains nextPattern binds asked enteredOk placeOk enter hit tried visit walk begun resume
-    answerOf levelsOf insideOf placeAs written cursorAt openQueryOf packed nextQueryOf readOn known better pick termAt
-    nextAt flagAt tripleAt firstAt countAt linkOf startOf sits visitable pickChain pickable chainOk recordOk fits
-large-budget = refl
+large-budget : Case
+large-budget = record {
+  given = next (three 0 0) (v 0 ∷ 2 ∷ v 1 ∷ v 1 ∷ 2 ∷ v 2 ∷ v 2 ∷ 2 ∷ v 3 ∷ []) none 4294967295 ∷ [];
+  due = ended 4 ∷ [];
+}
+
+cases : List Case
+cases = paper ∷ opened ∷ no-patterns ∷ eight-patterns ∷ slots-ignored ∷ variable-thrice ∷ chains-accepted ∷
+    struck-since ∷ enter-refused ∷ run-out-stays ∷ nothing-remains ∷ found-run-out ∷ damaged-below ∷ large-budget ∷ []
+
+all-as-due : map (λ (x : Case). x .given) cases ≡ map (λ (x : Case). x .due) cases
+unfolding cases paper opened no-patterns eight-patterns slots-ignored variable-thrice chains-accepted struck-since
+    enter-refused run-out-stays nothing-remains found-run-out damaged-below large-budget two three lone much copies
+    wordOk allOk wordsOk patternsOf valueOf under bind match recordAt past struck intact anyStruck pruned settle
+    remains nextPattern binds asked enteredOk placeOk enter hit tried visit walk begun resume answerOf levelsOf
+    insideOf placeAs written cursorAt openQueryOf packed nextQueryOf readOn known better pick termAt nextAt flagAt
+    tripleAt firstAt countAt linkOf startOf sits visitable pickChain pickable chainOk recordOk fits
+all-as-due = refl

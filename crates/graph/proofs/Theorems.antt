@@ -1,7 +1,9 @@
 -- Every claim of `specs/Claims.antt` with its proof: a declaration of each type. Assumes nothing.
-use Rattle.graph.specs.Claims.{GraphClaim, ReadingClaim, NextClaim, KeptClaim, SplitClaim, ScanClaim}
+use Rattle.graph.specs.Claims.{GraphClaim, WordsClaim, ReadingClaim, NextClaim, KeptClaim, SplitClaim}
+use Rattle.graph.specs.Claims.{ScanClaim}
 use Rattle.graph.specs.Claims.{WriteClaim, LoadClaim}
 use Rattle.graph.proofs.Names as names
+use Rattle.graph.proofs.Accepted as accepted
 use Rattle.graph.proofs.Calls as calls
 use Rattle.graph.proofs.Onwards as onwards
 use Rattle.graph.proofs.Scans as scans
@@ -9,6 +11,9 @@ use Rattle.graph.proofs.Writes as writes
 
 pub live-graph : GraphClaim
 live-graph = names.live-graph
+
+pub words-accepted : WordsClaim
+words-accepted = accepted.words-accepted
 
 pub query-reads : ReadingClaim
 query-reads = calls.query-reads

@@ -6,7 +6,7 @@ use mathlib.Core.Path.{_≡_}
 use mathlib.Core.Logic.{_⊎_, _↔_, _≢_}
 use mathlib.Core.Bool.{Bool, true, false, cond}
 use mathlib.Core.List.{List, [], _∷_, map, List·Memᴰ}
-use Prim.Native.Nat.{ℕ, _+_, _≤_, _<_}
+use Prim.Native.Nat.{ℕ, _+_, _*_, _≤_, _<_}
 use lib.ListN.{length}
 use lib.Dec.{eqb}
 use Rattle.store.specs.declared.Position.{Position}
@@ -31,7 +31,8 @@ use Rattle.graph.specs.declared.Opening.the-variants.{Opened}
 use Rattle.graph.specs.declared.QueryStep.{QueryStep}
 use Rattle.graph.specs.declared.QueryStep.the-variants.{Found, Ended, Spent, Refused}
 use Rattle.graph.specs.declared.QueryAnswer.{QueryAnswer}
-use Rattle.graph.specs.Query.{wordsOk, patternsOf, Bindings, placeOf, placeOk, startCursor, openQueryOf}
+use Rattle.graph.specs.Query.{maxPatterns, variables, firstVariable, wordsOk, patternsOf, Bindings, placeOf}
+use Rattle.graph.specs.Query.{placeOk, startCursor, openQueryOf}
 use Rattle.graph.specs.Query.{nextQueryOf, readOn}
 use Rattle.graph.specs.Order.{Descending, NoDuplicates, statementsOf, onwardsOf}
 use Rattle.graph.specs.Meaning.{Term, RdfTriple, termAt, Graph, IsGraph, Mapping, Solves}
@@ -136,6 +137,16 @@ ReadingClaim = (c : Counters) (m : Tables) → Sound c m → (ws : List ℕ) →
     → (openQueryOf c m ws ≡ record { opening = Opened; cursor = startCursor })
     × ((bs : List ℕ) → AllPositive bs → Read c m ws bs)
     × ((n : ℕ) × Ends c m ws n)
+
+-- the words that are accepted: three a pattern, no more patterns than the limit, each a number in 1..R or a variable
+pub record Accepts (r : ℕ) (ws : List ℕ) : Type 0 where
+  pub patterns : ℕ
+  pub three-each : length ws ≡ 3 * patterns
+  pub few : patterns ≤ maxPatterns
+  pub each : (w : ℕ) → List·Memᴰ w ws → ((0 < w) × (w ≤ r)) ⊎ ((v : ℕ) × (v < variables) × (w ≡ firstVariable + v))
+
+abbrev pub WordsClaim : Type 0
+WordsClaim = (r : ℕ) (ws : List ℕ) → wordsOk r ws ≡ true ↔ Accepts r ws
 
 -- ---- 3. Answers come from the solutions holding at the call, at or after the place.
 

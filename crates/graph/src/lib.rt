@@ -1,8 +1,8 @@
 // The types of a query, the paper's question of several patterns: its limits, a solution, the cursor, the replies.
 //
-// A query is a list of words, three a pattern: a resource's number, or `FIRST_VARIABLE` + v for the variable v. What open and next
-// answer is said by the definitions in `specs/Query.antt`, on tables, words and cursors that hold anything; `specs/Values.antt` gives
-// the paper's number and values for each case.
+// A query is a list of words, three a pattern: a resource's number, or `FIRST_VARIABLE` + v for the variable v. What
+// open and next answer is said by the definitions in `specs/Query.antt`, on tables, words and cursors that hold
+// anything; `specs/Values.antt` gives the paper's number and values for each case.
 use store::Chain;
 use store::Refusal;
 use store::ResourceId;
@@ -29,21 +29,23 @@ pub struct Solution {
     pub values: [ResourceId; VARIABLES],
 }
 
-// A pattern entered: its chain, and a record on it; of the deepest level the next record to visit, or 0.
+// A pattern entered: its chain, and a record on it; of the deepest level the next record to visit, or 0. A cursor's arrays
+// of chains and of records are one array of these.
 pub struct Level {
     pub chain: Chain,
     pub statement: StatementId,
 }
 
-// Where a reading stands. A cursor at the start or at the end carries no levels. Within with no levels is the same as the start.
+// Where a reading stands. A cursor at the start or at the end carries no levels. Within with no levels is the same as
+// the start.
 pub enum Progress {
     Start,
     Within,
     End,
 }
 
-// The place of a query: how far it is, how many patterns are entered, and their chains and records, the first pattern first. Words past
-// the levels entered are ignored where a cursor is taken, and zero in a cursor that is answered.
+// The place of a query: how far it is, how many patterns are entered, and their chains and records, the first pattern
+// first. Words past the levels entered are ignored where a cursor is taken, and zero in a cursor that is answered.
 pub struct QueryCursor {
     pub progress: Progress,
     pub depth: u32,
@@ -70,7 +72,8 @@ pub enum QueryStep {
     Refused(Refusal),
 }
 
-// Next of a query: the visits made, the solution found, the cursor from now on; whatever a case does not give is zero.
+// Next of a query: the visits made, the solution found, the cursor from now on; whatever a case does not give is
+// zero.
 pub struct QueryAnswer {
     pub step: QueryStep,
     pub visits: u32,

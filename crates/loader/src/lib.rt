@@ -16,6 +16,7 @@ use store::Refusal;
 use store::ResourceId;
 use store::Triple;
 
+pub mod file;
 pub mod output;
 
 // A line has at most this many bytes, its ending apart.

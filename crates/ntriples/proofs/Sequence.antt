@@ -6,7 +6,7 @@ use mathlib.Core.Bool.{Bool, true, false}
 use mathlib.Core.Logic.{_⊎_, ⊎-elim, inl, inr}
 use lib.Dec.{leb, ltb, eqb}
 use lib.ListN.{length, getD, take, drop, take-append-drop}
-use lib.Seq.{slice, slice-empty, length-slice, length-take-le, take-all, take-suc, drop-cons, drop-append-le}
+use lib.Seq.{slice, slice-empty, length-slice, length-take-le, take-all, take-suc, take-take, drop-cons, drop-append-le}
 use native.Mathlib.Omega.{arith}
 use native.Mathlib.Numerals.{add-one}
 use borrow.Author.Tests.{ltb-true, ltb-false, eqb-true, eqb-false, eq-eqb, ne-eqb}
@@ -262,6 +262,32 @@ eol-begin text i = rw (slice-empty i text) Unbroken.none
 pub eol-turn : (text : List ℕ) (at i : ℕ) → at ≤ i → i < length text → (getD text i 0 ≡ 10 → ⊥) → Unbroken (slice at i text)
     → Unbroken (slice at (i + 1) text)
 eol-turn text at i h k n u = rw (slice-snoc text at i h k) (unbroken-snoc _ _ u (ne-eqb (getD text i 0) 10 n))
+
+-- the same over a block of bytes
+pub block-begin : (text : List ℕ) (i : ℕ) → Unbroken (slice i (i + 0) text)
+block-begin text i = let e : i + 0 ≡ i = omega arith in rw e (eol-begin text i)
+
+pub block-turn : (text : List ℕ) (i j : ℕ) → i + j < length text → (getD text (i + j) 0 ≡ 10 → ⊥) → Unbroken (slice i (i + j) text)
+    → Unbroken (slice i (i + (j + 1)) text)
+block-turn text i j h n u =
+    let e : i + (j + 1) ≡ i + j + 1 = omega arith in rw e (eol-turn text i (i + j) (omega arith) h n u)
+
+unbroken-append : (l k : List ℕ) → Unbroken l → Unbroken k → Unbroken (l ++ k)
+unbroken-append l k Unbroken.none v = v
+unbroken-append l k (Unbroken.byte {s = s} h u) v = Unbroken.byte h (unbroken-append s k u v)
+
+slice-join : (text : List ℕ) (i j k : ℕ) → i ≤ j → j ≤ k → k ≤ length text → slice i k text ≡ slice i j text ++ slice j k text
+slice-join text i j k h l t =
+    let n = length-take-le j text (omega arith) in
+    let m : i ≤ length (take j text) = omega arith in
+    let e : take k text ≡ take j text ++ slice j k text =
+    sym (take-append-drop j (take k text)) ∙ ap (λ (z : List ℕ). z ++ slice j k text) (take-take j k text l)
+    in
+    ap (drop i) e ∙ drop-append-le i (take j text) (slice j k text) m
+
+pub eol-join : (text : List ℕ) (i j k : ℕ) → i ≤ j → j ≤ k → k ≤ length text → Unbroken (slice i j text) → Unbroken (slice j k text)
+    → Unbroken (slice i k text)
+eol-join text i j k h l t u v = rw (slice-join text i j k h l t) (unbroken-append _ _ u v)
 
 -- the line ends at the end of the text
 pub read-last : (text : List ℕ) (i e : ℕ) → i < length text → EolAt text i e → e ≡ length text

@@ -94,6 +94,21 @@ cutOf a stop = pick (ltb (a + 256) stop) (a + 256) stop
 unfoldable pub crDropped : List ℕ → ℕ → ℕ → ℕ
 crDropped text i e = pick (eqb e i) e (pick (eqb (getD text (e - 1) 0) 13) (e - 1) e)
 
+-- r counts the LF b
+pub record LfCount (b r : ℕ) : Type 0 where
+  pub most : r ≤ 1
+  pub none : r ≡ 0 → (b ≡ 10 → ⊥)
+
+-- no LF stands from i up to j, if their count is 0
+pub record BlockCount (text : List ℕ) (i j count : ℕ) : Type 0 where
+  pub none : count ≡ 0 → Unbroken (slice i j text)
+
+-- no LF stands from i up to r
+pub record Passed (text : List ℕ) (i r : ℕ) : Type 0 where
+  pub after : i ≤ r
+  pub before : r ≤ length text
+  pub unbroken : Unbroken (slice i r text)
+
 -- no LF stands from i up to r, and a LF or the end of the text at r
 pub record EolAt (text : List ℕ) (i r : ℕ) : Type 0 where
   pub after : i ≤ r

@@ -6,14 +6,14 @@
 // of one class is one loop, so reading is linear in the line's length.
 //
 // The only refusal is 10, with its offset in the line.
-ghost use Prim.Native.Nat.{_≤_};
+ghost use Prim.Native.Nat.{_+_, _≤_};
 ghost use mathlib.Core.Path.{_≡_};
 ghost use mathlib.Core.List.{[], _∷_};
 ghost use lib.ListN.{length};
 ghost use Rattle.ntriples.specs.Grammar.{white, commentByte};
 ghost use Rattle.ntriples.specs.Reader.{isDot, opens, Begin, Gap, After, Remark};
 ghost use Rattle.ntriples.specs.Text.{answerOf, readOf};
-ghost use Rattle.ntriples.specs.Productions.{Inline, OnLine, TermAt, Dark, Reached, RunEnd, onward, TermEnds, EarlierEnds, ObjectEnds, cutOf, crDropped, EolAt};
+ghost use Rattle.ntriples.specs.Productions.{Inline, OnLine, TermAt, Dark, Reached, RunEnd, onward, TermEnds, EarlierEnds, ObjectEnds, cutOf, crDropped, LfCount, BlockCount, Passed, EolAt};
 use term::Scan;
 
 // A part of the text: the position of its first byte, and the position after its last.
@@ -362,12 +362,51 @@ fn whole_line(text: &[u8], at: usize, stop: usize) -> Line
     triple(text, at, a, stop)
 }
 
+// 1 for a LF, else 0.
+fn lf_count(b: u8) -> u8
+    ensures { λ r. ⌜ LfCount b r ⌝ }
+{
+    if b == b'\n' {
+        return 1;
+    }
+    0
+}
+
+// How many of the 16 bytes from `from` on are LF. All are looked at, so that a machine may test them at once.
+fn block_count(text: &[u8], from: usize) -> u8
+    requires { ⌜ from + 16 ≤ length (now text) ⌝ }
+    ensures { λ r. ⌜ BlockCount (now (text .entry)) from (from + 16) r ⌝ }
+{
+    let mut count = 0;
+    let mut j = 0;
+    while j < 16 {
+        count += lf_count(text[from + j]);
+        j += 1;
+    }
+    count
+}
+
+// A position from `at` on with no LF before it: whole blocks of 16 bytes are passed over.
+fn skip_blocks(text: &[u8], at: usize) -> usize
+    requires { ⌜ at ≤ length (now text) ⌝ }
+    ensures { λ r. ⌜ Passed (now (text .entry)) at r ⌝ }
+{
+    let mut i = at;
+    while text.len() - i >= 16 {
+        if block_count(text, i) != 0 {
+            return i;
+        }
+        i += 16;
+    }
+    i
+}
+
 // The position of the first LF from `at` on, or the text's end.
 fn end_of_line(text: &[u8], at: usize) -> usize
     requires { ⌜ at ≤ length (now text) ⌝ }
     ensures { λ r. ⌜ EolAt (now (text .entry)) at r ⌝ }
 {
-    let mut i = at;
+    let mut i = skip_blocks(text, at);
     while i < text.len() {
         if text[i] == b'\n' {
             return i;

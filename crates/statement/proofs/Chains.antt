@@ -1,31 +1,28 @@
 -- Laws of the pick and the walk: what is picked is bound and starts within T; the walk at each way out of a turn, and its next turn.
 -- Assumes nothing.
 use mathlib.Core.Path.{_≡_, refl, sym, ap, _∙_}
-use mathlib.Core.Bool.{Bool, true, false, cond, _&&_, _||_, false≢true}
-use mathlib.Core.List.{List, []}
+use mathlib.Core.Bool.{Bool, true, false, cond, not, _&&_, _||_, false≢true}
+use mathlib.Core.List.{List}
 use mathlib.Core.Option.{Option, none, some}
 use Prim.Native.Nat.{ℕ, zero, suc, _+_, _-_, _*_, _≤_, _<_}
 use native.Mathlib.Omega.{arith}
 use lib.ListN.{length}
 use lib.Dec.{eqb, leb, ltb}
-use borrow.Author.Tests.{ltb-true, leb-true, eqb-true, eqb-false, lt-ltb, le-leb, eq-eqb, ne-eqb}
+use borrow.Author.Tests.{not-true, not-false, ltb-true, leb-true, eqb-true, eqb-false, lt-ltb, le-leb, eq-eqb, ne-eqb}
 use Rattle.store.specs.declared.Position.{Position}
 use Rattle.store.specs.declared.Position.the-variants.{Subject, Predicate, Object}
 use Rattle.store.specs.declared.Chain.{Chain}
 use Rattle.store.specs.declared.Chain.the-variants.{All, By}
 use Rattle.store.specs.declared.Triple.{Triple}
-use Rattle.store.specs.Triple.{at, all3, known, within, same}
-use Rattle.store.specs.declared.Counters.{Counters}
-use Rattle.store.specs.Tables.{Tables, tables, resourceWords, statementWords, firstAt, countAt, flagAt, tripleAt}
+use Rattle.store.specs.Triple.{at, all3, known, within}
+use Rattle.store.specs.Tables.{resourceWords, statementWords, firstAt, countAt, flagAt, tripleAt}
 use Rattle.store.specs.Model.{better, pick}
 use Rattle.store.specs.Walk.{pickChain, pickable, startOf, linkOf, sits, visitable, walk, Step, found, ended, spent, afterVisit, foundIn}
-use Rattle.store.specs.Statement.{seek, locate}
+use Rattle.store.specs.Scan.{recordOk}
 use Rattle.statement.specs.declared.inner.Sought.{Sought}
-use Rattle.statement.specs.declared.inner.Sought.the-variants.{Same}
-use Rattle.statement.specs.declared.inner.Walked.{Walked}
 use Rattle.statement.specs.declared.inner.Visited.{Visited}
 use Rattle.statement.specs.declared.inner.Visited.the-variants.{Damaged as Torn, Hit, Miss}
-use Rattle.statement.specs.Chains.{PatternHeld, bound, hits, visitOf, stepOf}
+use Rattle.statement.specs.Chains.{PatternHeld, bound, hits, visitOf}
 
 -- ---- tests
 
@@ -47,6 +44,13 @@ pub at-one : (f : Position → Bool) → all3 f ≡ true → (p : Position) → 
 at-one f e Subject = and-l (f Subject) _ e
 at-one f e Predicate = and-l (f Predicate) (f Object) (and-r (f Subject) _ e)
 at-one f e Object = and-r (f Predicate) (f Object) (and-r (f Subject) _ e)
+
+-- the code's value of a test, and the way it took: the test holds, or fails
+pub passed : {b t : Bool} → b ≡ t → not b ≡ false → t ≡ true
+passed {b} e h = sym e ∙ not-false b h
+
+pub failed : {b t : Bool} → b ≡ t → not b ≡ true → t ≡ false
+failed {b} e h = sym e ∙ not-true b h
 
 -- ---- numbers within R
 
@@ -219,7 +223,7 @@ module _ (k : Sought) (r : ℕ) (stm : List ℕ) (ch : Chain) (x : Triple) where
 -- ---- the record found
 
 -- a walk's record, 0 for none
-abbrev numberIn : Option Step → ℕ
+abbrev pub numberIn : Option Step → ℕ
 numberIn none = 0
 numberIn (some s) = foundIn s
 
@@ -230,7 +234,7 @@ number-after (some (ended w)) = refl
 number-after (some (spent w r)) = refl
 
 -- a walk over falling links finds no record above its first
-walk-within : (link : ℕ → ℕ) (ok hit : ℕ → Bool) → ((i : ℕ) → ok i ≡ true → link i ≤ i) → (b n : ℕ) → numberIn (walk link ok hit b n) ≤ n
+pub walk-within : (link : ℕ → ℕ) (ok hit : ℕ → Bool) → ((i : ℕ) → ok i ≡ true → link i ≤ i) → (b n : ℕ) → numberIn (walk link ok hit b n) ≤ n
 unfolding walk
 walk-within link ok hit falls zero zero = omega arith
 walk-within link ok hit falls zero (suc i) = omega arith
@@ -244,62 +248,27 @@ walk-within link ok hit falls (suc b) (suc i) = visited (ok i) (hit i) (falls i)
     visited true false f d = let e = f refl in rw (number-after (walk link ok hit b (link i))) (omega arith)
 
 -- a record that can be visited has a falling link
-falling : (r : ℕ) (stm : List ℕ) (ch : Chain) (x : Triple) (i : ℕ) → visitable r stm ch x i ≡ true → linkOf stm ch i ≤ i
+pub falling : (r : ℕ) (stm : List ℕ) (ch : Chain) (x : Triple) (i : ℕ) → visitable r stm ch x i ≡ true → linkOf stm ch i ≤ i
 unfolding visitable
 falling r stm ch x i e =
     let l = leb (linkOf stm ch i) i in
     let f = leb (flagAt stm i) 1 in
     leb-true (linkOf stm ch i) i (and-l l f (and-r (sits stm ch x i) (l && f) (and-r (known r (tripleAt stm i)) (sits stm ch x i && (l && f)) e)))
 
--- what is located, of what a walk comes to
-abbrev pub located : Option Step → Option ℕ
-located none = none
-located (some s) = some (foundIn s)
+-- ---- a cursor
 
-module _ (c : Counters) (m : Tables) (x : Triple) where
-  pub locate-torn : pickable (c .statements) (m .resources) x ≡ false → locate c m x ≡ none
-  unfolding locate
-  locate-torn e = rw e
+-- a number other than 0 is bound
+pub nonzero : (y : ℕ) → not (eqb y 0) ≡ ltb 0 y
+nonzero zero = refl
+nonzero (suc i) = rw (ne-eqb (suc i) 0 (omega arith), lt-ltb 0 (suc i) (omega arith))
 
-  opened : (s : Option Step) → elim s [ none ↦ none | some s ↦ some (foundIn s) ] ≡ located s
-  opened none = refl
-  opened (some s) = refl
+module _ (stm : List ℕ) (ch : Chain) (x : Triple) where
+  pub record-none : (n : ℕ) → n ≡ 0 → recordOk stm ch x n ≡ true
+  unfolding recordOk
+  record-none zero e = refl
+  record-none (suc i) e = absurd (omega arith)
 
-  locate-seek : pickable (c .statements) (m .resources) x ≡ true → locate c m x ≡ located (seek c m x)
-  unfolding locate
-  locate-seek e = rw e (opened (seek c m x))
-
-  -- the walk that code makes, from the chain picked and its first record
-  pub locate-walk : (a : Walked) (ch : Chain) (n : ℕ) → pickable (c .statements) (m .resources) x ≡ true
-      → ch ≡ pickChain (m .resources) x → n ≡ startOf (c .statements) (m .resources) ch x
-      → stepOf a ≡ walk (linkOf (m .statements) ch) (visitable (c .resources) (m .statements) ch x) (hits Same (m .statements) x) (c .statements) n
-      → locate c m x ≡ located (stepOf a)
-  unfolding seek hits
-  locate-walk a ch n p d e w = let s : stepOf a ≡ seek c m x = w ∙ rw (e, d) in locate-seek p ∙ ap located (sym s)
-
-  pub locate-pickable : (n : ℕ) → locate c m x ≡ some n → pickable (c .statements) (m .resources) x ≡ true
-  unfolding locate
-  locate-pickable n e = shape (pickable (c .statements) (m .resources) x) _ e
-    where
-      shape : (b : Bool) (o : Option ℕ) → cond b o none ≡ some n → b ≡ true
-      shape true o e = refl
-      shape false o e = let z : _≡_ {A = ℕ} 0 1 = cc in absurd (omega arith)
-
-  pub locate-within : (n : ℕ) → locate c m x ≡ some n → n ≤ c .statements
-  unfolding seek
-  locate-within n e =
-      let p = locate-pickable n e in
-      let ch = pickChain (m .resources) x in
-      let s = start-within (c .statements) (m .resources) x p ch (pick-bound (m .resources) x) in
-      let w = walk-within (linkOf (m .statements) ch) (visitable (c .resources) (m .statements) ch x) (λ i. same x (tripleAt (m .statements) i)) (falling (c .resources) (m .statements) ch x) (c .statements) (startOf (c .statements) (m .resources) ch x) in
-      let d = number (seek c m x) (sym (locate-seek p) ∙ e) in
-      omega arith
-    where
-      number : (s : Option Step) → located s ≡ some n → numberIn s ≡ n
-      number none e = let z : _≡_ {A = ℕ} 0 1 = cc in absurd (omega arith)
-      number (some s) e = cc
-
--- the index and the text are not read
-pub locate-any : (c : Counters) (res stm index text : List ℕ) (x : Triple) → locate c (tables res stm index text) x ≡ locate c (tables res stm [] []) x
-unfolding locate seek
-locate-any c res stm index text x = refl
+  pub record-some : (n : ℕ) → (n ≡ 0 → ⊥) → recordOk stm ch x n ≡ sits stm ch x (n - 1)
+  unfolding recordOk
+  record-some zero h = absurd (h refl)
+  record-some (suc i) h = let e : suc i - 1 ≡ i = omega arith in rw e

@@ -1,3 +1,4 @@
 pub mod Chains
+pub mod Locate
 pub mod Operations
 pub mod Records

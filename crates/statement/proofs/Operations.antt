@@ -1,17 +1,16 @@
 -- Laws of the operations: what counters within capacity give, and each operation by what was found before anything is written.
 -- Assumes nothing.
 use mathlib.Core.Path.{_≡_, refl, sym, ap, _∙_}
-use mathlib.Core.Bool.{Bool, true, false, cond, not, _&&_}
+use mathlib.Core.Bool.{Bool, true, false, cond, _&&_}
 use mathlib.Core.List.{List, []}
 use mathlib.Core.Option.{Option, none, some}
 use Prim.Native.Nat.{ℕ, zero, suc, _+_, _-_, _*_, _≤_, _<_}
 use native.Mathlib.Omega.{arith}
 use lib.ListN.{length}
-use lib.Dec.{eqb, leb, ltb}
-use borrow.Author.Tests.{leb-true, ne-eqb, lt-ltb}
+use lib.Dec.{eqb, leb}
+use borrow.Author.Tests.{leb-true, ne-eqb}
 use Rattle.store.specs.declared.Counters.{Counters}
 use Rattle.store.specs.declared.Position.{Position}
-use Rattle.store.specs.declared.Chain.{Chain}
 use Rattle.store.specs.declared.Triple.{Triple}
 use Rattle.store.specs.declared.ScanCursor.{ScanCursor}
 use Rattle.store.specs.declared.StatementId.{StatementId}
@@ -23,18 +22,19 @@ use Rattle.store.specs.declared.Retracted.{Retracted}
 use Rattle.store.specs.declared.Retracted.the-variants.{Refused as NotRetracted}
 use Rattle.store.specs.Triple.{at, known, within, permitted}
 use Rattle.store.specs.Tables.{Tables, fits, resourceWords, statementWords, kindAt, maxStatements}
-use Rattle.store.specs.Walk.{linkOf, sits, visitable, walk}
+use Rattle.store.specs.Walk.{linkOf, visitable, walk}
 use Rattle.store.specs.Statement.{locate, kinded, asserting, assertOf, retracting, retractOf}
 use Rattle.store.specs.Scan.{chainOk, recordOk, cursorOk, walkFrom, scannedAs, nextOf}
 use Rattle.table.specs.Held.{StatementHeld, ResourceHeld}
 use Rattle.table.proofs.Capacity.{Room, fits-room}
 use Rattle.statement.specs.declared.inner.Sought.the-variants.{LiveMatch}
 use Rattle.statement.specs.declared.inner.Walked.{Walked}
-use Rattle.statement.specs.declared.inner.Located.{Located}
-use Rattle.statement.specs.declared.inner.Located.the-variants.{Refused, At}
-use Rattle.statement.specs.Chains.{PatternHeld, TripleHeld, hits, stepOf, locatedAs}
-use Rattle.statement.specs.Operations.{Linkable, Appendable, assertTarget, retractTarget}
-use Rattle.statement.proofs.Chains.{and-l, and-r, known-one, known-most, within-most, held, count-within, locate-pickable, locate-within}
+use Rattle.statement.specs.declared.target.Located.{Located}
+use Rattle.statement.specs.declared.target.Located.the-variants.{Refused, At}
+use Rattle.statement.specs.Chains.{PatternHeld, hits, stepOf}
+use Rattle.statement.specs.Operations.{TripleHeld, locatedAs, Linkable, Appendable, assertTarget, retractTarget}
+use Rattle.statement.proofs.Chains.{and-l, and-r, known-one, known-most, within-most, held, count-within}
+use Rattle.statement.proofs.Locate.{locate-pickable, locate-within}
 
 -- ---- counters within capacity
 
@@ -141,22 +141,6 @@ module _ (c : Counters) (m : Tables) (x : Triple) where
       shape true true (some k) e = (refl, cc)
 
 -- ---- next of a scan
-
--- a number other than 0 is bound
-pub nonzero : (y : ℕ) → not (eqb y 0) ≡ ltb 0 y
-nonzero zero = refl
-nonzero (suc i) = rw (ne-eqb (suc i) 0 (omega arith), lt-ltb 0 (suc i) (omega arith))
-
-module _ (stm : List ℕ) (ch : Chain) (x : Triple) where
-  pub record-none : (n : ℕ) → n ≡ 0 → recordOk stm ch x n ≡ true
-  unfolding recordOk
-  record-none zero e = refl
-  record-none (suc i) e = absurd (omega arith)
-
-  pub record-some : (n : ℕ) → (n ≡ 0 → ⊥) → recordOk stm ch x n ≡ sits stm ch x (n - 1)
-  unfolding recordOk
-  record-some zero h = absurd (h refl)
-  record-some (suc i) h = let e : suc i - 1 ≡ i = omega arith in rw e
 
 module _ (c : Counters) (m : Tables) (q : ScanCursor) where
   -- a cursor that is taken stands within T

@@ -15,10 +15,6 @@ use Rattle.store.specs.Triple.{at, same}
 use Rattle.store.specs.Tables.{resourceWords, tripleAt}
 use Rattle.store.specs.Model.{matches}
 use Rattle.store.specs.Walk.{entryAt, linkOf, visitable, Step, found, ended, spent}
-use Rattle.store.specs.declared.Refusal.the-variants.{Damaged as Damage}
-use Rattle.table.specs.Held.{ResourceHeld}
-use Rattle.statement.specs.declared.inner.Located.{Located}
-use Rattle.statement.specs.declared.inner.Located.the-variants.{Refused, At}
 use Rattle.statement.specs.declared.inner.Sought.{Sought}
 use Rattle.statement.specs.declared.inner.Sought.the-variants.{Same, LiveMatch}
 use Rattle.statement.specs.declared.inner.Visited.{Visited}
@@ -29,10 +25,6 @@ use Rattle.statement.specs.declared.inner.Walked.the-variants.{Found, En
 -- each resource that the pattern binds lies in the table
 pub record PatternHeld (res : List ℕ) (x : Triple) : Type 0 where
   pub each : (p : Position) → resourceWords * at p x ≤ length res
-
--- each resource of the triple lies in the table
-pub record TripleHeld (res : List ℕ) (x : Triple) : Type 0 where
-  pub each : (p : Position) → ResourceHeld res (at p x)
 
 -- a chain by a position is by a bound one
 unfoldable pub bound : Chain → Triple → Bool
@@ -55,8 +47,3 @@ stepOf (Found n v m) = some (found (n .0) v (m .0))
 stepOf (Ended v) = some (ended v)
 stepOf (Spent v m) = some (spent v (m .0))
 stepOf Damaged = none
-
--- the record with a triple, its number or 0; refusal 9 where a word is damaged
-abbrev pub locatedAs : Option ℕ → Located
-locatedAs none = Refused Damage
-locatedAs (some n) = At (record { 0 = n })

@@ -1,6 +1,7 @@
 -- What assert and retract find before anything is written, and what a new record asks. Assumes nothing.
 use mathlib.Core.Bool.{Bool, true, false, cond}
 use mathlib.Core.List.{List}
+use mathlib.Core.Option.{Option, none, some}
 use mathlib.Core.Path.{_≡_}
 use Prim.Native.Nat.{ℕ, _≤_}
 use Rattle.store.specs.declared.Counters.{Counters}
@@ -16,9 +17,12 @@ use Rattle.store.specs.Tables.{Tables, tables, after, fits, maxStatements, coun
 use Rattle.store.specs.Statement.{locate, kinded, asserting, retracting}
 use Rattle.store.specs.Scan.{cursorOk}
 use Rattle.table.specs.Held.{ResourceHeld}
-use Rattle.statement.specs.Chains.{locatedAs}
-use Rattle.statement.specs.declared.inner.Located.{Located}
-use Rattle.statement.specs.declared.inner.Located.the-variants.{Refused, At}
+use Rattle.statement.specs.declared.target.Located.{Located}
+use Rattle.statement.specs.declared.target.Located.the-variants.{Refused, At}
+
+-- each resource of the triple lies in the table
+pub record TripleHeld (res : List ℕ) (x : Triple) : Type 0 where
+  pub each : (p : Position) → ResourceHeld res (at p x)
 
 -- what one position of a new record asks: the resource lies in the table, and its count can grow
 pub record Linkable (res : List ℕ) (p : Position) (y : ℕ) : Type 0 where
@@ -49,6 +53,11 @@ pub record CursorTested (c : Counters) (stm : List ℕ) (q : ScanCursor) (b : Bo
   pub tells : (res index text : List ℕ) → b ≡ cursorOk c (tables res stm index text) q
 
 -- ---- what is found before anything is written
+
+-- the record with a triple, its number or 0; refusal 9 where a word is damaged
+abbrev pub locatedAs : Option ℕ → Located
+locatedAs none = Refused Damaged
+locatedAs (some n) = At (record { 0 = n })
 
 -- assert up to the record: 1; 4; 9 if a kind is outside 1..3; 5; 9
 unfoldable pub assertTarget : Counters → Tables → Triple → Located

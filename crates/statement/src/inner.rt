@@ -4,40 +4,30 @@
 // that the records it reads lie in their tables, and nothing of what they hold: a word out of range is an answer.
 use crate::triple::agrees;
 use crate::triple::at;
-use crate::triple::in_range;
 use crate::triple::known;
 use crate::triple::same;
 use store::Chain;
-use store::Counters;
 use store::Position;
-use store::Refusal;
 use store::StatementId;
 use store::Triple;
 use table::inner::count_at;
 use table::inner::first_at;
 use table::inner::flag_at;
-use table::inner::kind_at;
 use table::inner::next_at;
 use table::inner::term_at;
 use table::inner::triple_at;
 ghost use mathlib.Core.Path.{_≡_};
 ghost use mathlib.Core.Bool.{true, _&&_, _||_};
-ghost use mathlib.Core.List.{[]};
 ghost use Prim.Native.Nat.{ℕ, _-_, _*_, _≤_};
 ghost use lib.ListN.{length};
 ghost use lib.Dec.{eqb, leb};
-ghost use Rattle.store.specs.Triple.{at, permitted};
-ghost use Rattle.store.specs.Tables.{tables, statementWords, firstAt, countAt, kindAt};
+ghost use Rattle.store.specs.Triple.{at};
+ghost use Rattle.store.specs.Tables.{statementWords, firstAt, countAt};
 ghost use Rattle.store.specs.Model.{better};
 ghost use Rattle.store.specs.Walk.{pickChain, pickable, startOf, linkOf, sits, visitable, walk};
-ghost use Rattle.store.specs.Statement.{locate, kinded};
+ghost use Rattle.store.specs.Scan.{chainOk, recordOk};
 ghost use Rattle.table.specs.Held.{StatementHeld};
-ghost use Rattle.statement.specs.Chains.{PatternHeld, TripleHeld, bound, hits, visitOf, stepOf, locatedAs};
-
-// Kinds of names: an IRI is 1, a literal 3, a blank node between them.
-pub const IRI: u32 = 1;
-
-pub const LITERAL: u32 = 3;
+ghost use Rattle.statement.specs.Chains.{PatternHeld, bound, hits, visitOf, stepOf};
 
 // What a walk seeks: the record with the pattern's three numbers, retracted or not, or the first live match of a pattern.
 pub enum Sought {
@@ -58,12 +48,6 @@ pub enum Walked {
     Ended(u32),
     Spent(u32, StatementId),
     Damaged,
-}
-
-// Where the record with a triple is: its number, 0 for none; or why the operation refuses.
-pub enum Located {
-    Refused(Refusal),
-    At(StatementId),
 }
 
 // One position more to pick from: the bound one of less count, ties to the earlier.
@@ -257,58 +241,34 @@ pub fn walk(
     Walked::Found(found, visits, StatementId(n))
 }
 
-// The record with a triple, by the chain that a scan would take, retracted or not. T visits reach every record.
-pub fn locate(c: Counters, resources: &[u32], statements: &[u32], x: Triple) -> Located
-    requires { ⌜ PatternHeld (now resources) x × (statementWords * c .statements ≤ length (now statements)) ⌝ }
-    ensures { λ r. ⌜ r ≡ locatedAs (locate c (tables (now (resources .entry)) (now (statements .entry)) [] []) x) ⌝ }
+// Whether a cursor on a pattern may be on a chain: by a bound position, or all records where nothing is bound.
+pub fn chain_ok(chain: Chain, x: Triple) -> bool
+    ensures { λ b. ⌜ b ≡ chainOk chain x ⌝ }
 {
-    if !pickable(c.statements, resources, x) {
-        return Located::Refused(Refusal::Damaged);
-    }
-    let chain = pick_chain(resources, x);
-    let first = start_of(c.statements, resources, chain, x);
-    match walk(
-        statements,
-        c.resources,
-        chain,
-        x,
-        Sought::Same,
-        StatementId(first),
-        c.statements,
-    ) {
-        Walked::Found(n, visits, next) => Located::At(n),
-        Walked::Ended(visits) => Located::At(StatementId(0)),
-        Walked::Spent(visits, next) => Located::At(StatementId(0)),
-        Walked::Damaged => Located::Refused(Refusal::Damaged),
+    match chain {
+        Chain::All => {
+            if x.subject.0 != 0 {
+                return false;
+            }
+            if x.predicate.0 != 0 {
+                return false;
+            }
+            x.object.0 == 0
+        }
+        Chain::By(p) => {
+            let y = at(p, x);
+            y != 0
+        }
     }
 }
 
-// Whether the kinds of all three resources are in 1..=3.
-pub fn kinded(resources: &[u32], x: Triple) -> bool
-    requires { ⌜ TripleHeld (now resources) x ⌝ }
-    ensures { λ b. ⌜ b ≡ kinded (now (resources .entry)) x ⌝ }
+// Whether a cursor's next record, if it has one, has the chain's resource at the chain's position.
+pub fn record_ok(statements: &[u32], chain: Chain, x: Triple, n: u32) -> bool
+    requires { ⌜ statementWords * n ≤ length (now statements) ⌝ }
+    ensures { λ b. ⌜ b ≡ recordOk (now (statements .entry)) chain x n ⌝ }
 {
-    let s = kind_at(resources, x.subject.0);
-    if !in_range(LITERAL, s) {
-        return false;
+    if n == 0 {
+        return true;
     }
-    let p = kind_at(resources, x.predicate.0);
-    if !in_range(LITERAL, p) {
-        return false;
-    }
-    let o = kind_at(resources, x.object.0);
-    in_range(LITERAL, o)
-}
-
-// Whether the subject is no literal and the predicate is an IRI.
-pub fn permitted(resources: &[u32], x: Triple) -> bool
-    requires { ⌜ TripleHeld (now resources) x ⌝ }
-    ensures { λ b. ⌜ b ≡ permitted (kindAt (now (resources .entry))) x ⌝ }
-{
-    let s = kind_at(resources, x.subject.0);
-    if s == LITERAL {
-        return false;
-    }
-    let p = kind_at(resources, x.predicate.0);
-    p == IRI
+    sits(statements, chain, x, n)
 }

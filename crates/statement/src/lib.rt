@@ -2,26 +2,23 @@
 //
 // Each operation takes the counters and all four tables and answers on any words in them: what it answers and what it writes is its
 // definition in `store`. Refusals are tested in the paper's order, and beside a refusal nothing is written. Assert, retract and the scan
-// share one pick of a chain, one visit and one walk (`inner`), so each touches the records of the shortest chain only.
-use crate::inner::Located;
+// share one pick, one visit and one walk of a chain (`inner`), so each touches the records of the shortest chain only.
 use crate::inner::Sought;
 use crate::inner::Walked;
-use crate::inner::kinded;
-use crate::inner::locate;
-use crate::inner::permitted;
+use crate::inner::chain_ok;
 use crate::inner::pick_chain;
 use crate::inner::pickable;
-use crate::inner::sits;
+use crate::inner::record_ok;
 use crate::inner::start_of;
 use crate::inner::walk;
 use crate::record::append;
 use crate::record::revive;
 use crate::record::strike;
-use crate::triple::at;
-use crate::triple::known;
+use crate::target::Located;
+use crate::target::assert_target;
+use crate::target::retract_target;
 use crate::triple::within;
 use store::Asserted;
-use store::Chain;
 use store::Counters;
 use store::Refusal;
 use store::Retracted;
@@ -36,38 +33,13 @@ ghost use Prim.Native.Nat.{ℕ, _-_, _*_, _≤_};
 ghost use lib.ListN.{length};
 ghost use Rattle.store.specs.Tables.{after, tables, statementWords};
 ghost use Rattle.store.specs.Statement.{assertOf, retractOf};
-ghost use Rattle.store.specs.Scan.{cursorAt, openOf, chainOk, recordOk, nextOf};
-ghost use Rattle.statement.specs.Operations.{CursorTested, assertTarget, retractTarget};
+ghost use Rattle.store.specs.Scan.{cursorAt, openOf, nextOf};
+ghost use Rattle.statement.specs.Operations.{CursorTested};
 
 pub mod inner;
 mod record;
+mod target;
 pub mod triple;
-
-// What assert finds before it writes: the record with the triple, or a refusal.
-fn assert_target(
-    c: Counters,
-    resources: &[u32],
-    statements: &[u32],
-    index: &[u32],
-    text: &[u8],
-    x: Triple,
-) -> Located
-    ensures { λ r. ⌜ r ≡ assertTarget c (tables (now (resources .entry)) (now (statements .entry)) (now (index .entry)) (now (text .entry))) x ⌝ }
-{
-    if !fits(c, resources, statements, index, text) {
-        return Located::Refused(Refusal::Capacity);
-    }
-    if !known(c.resources, x) {
-        return Located::Refused(Refusal::UnknownNumber);
-    }
-    if !kinded(resources, x) {
-        return Located::Refused(Refusal::Damaged);
-    }
-    if !permitted(resources, x) {
-        return Located::Refused(Refusal::KindNotPermitted);
-    }
-    locate(c, resources, statements, x)
-}
 
 // Assert: new, already or revived, with the statement's number and the counters from now on.
 pub fn assert(
@@ -89,26 +61,6 @@ pub fn assert(
             revive(c, statements, n)
         }
     }
-}
-
-// What retract finds before it writes: the record with the triple, or a refusal.
-fn retract_target(
-    c: Counters,
-    resources: &[u32],
-    statements: &[u32],
-    index: &[u32],
-    text: &[u8],
-    x: Triple,
-) -> Located
-    ensures { λ r. ⌜ r ≡ retractTarget c (tables (now (resources .entry)) (now (statements .entry)) (now (index .entry)) (now (text .entry))) x ⌝ }
-{
-    if !fits(c, resources, statements, index, text) {
-        return Located::Refused(Refusal::Capacity);
-    }
-    if !known(c.resources, x) {
-        return Located::Refused(Refusal::UnknownNumber);
-    }
-    locate(c, resources, statements, x)
 }
 
 // Retract: the number of the statement that was live until now, if there was one.
@@ -157,41 +109,6 @@ pub fn scan_open(
     })
 }
 
-// Whether a chain is by a bound position, or takes all records where nothing is bound.
-fn chain_ok(chain: Chain, x: Triple) -> bool
-    ensures { λ b. ⌜ b ≡ chainOk chain x ⌝ }
-{
-    match chain {
-        Chain::All => {
-            if x.subject.0 != 0 {
-                return false;
-            }
-            if x.predicate.0 != 0 {
-                return false;
-            }
-            x.object.0 == 0
-        }
-        Chain::By(p) => {
-            let y = at(p, x);
-            y != 0
-        }
-    }
-}
-
-// Whether a cursor's next record, if it has one, has the chain's resource.
-fn record_ok(statements: &[u32], q: ScanCursor) -> bool
-    requires { ⌜ statementWords * q .next .0 ≤ length (now statements) ⌝ }
-    ensures { λ b. ⌜ b ≡ recordOk (now (statements .entry)) (q .chain) (q .pattern) (q .next .0) ⌝ }
-{
-    let n = q.next.0;
-    if n == 0 {
-        return true;
-    }
-    let chain = q.chain;
-    let x = q.pattern;
-    sits(statements, chain, x, n)
-}
-
 // Whether a next call takes the cursor; where not, it refuses 6.
 fn cursor_ok(c: Counters, statements: &[u32], q: ScanCursor) -> bool
     requires { ⌜ statementWords * c .statements ≤ length (now statements) ⌝ }
@@ -208,7 +125,7 @@ fn cursor_ok(c: Counters, statements: &[u32], q: ScanCursor) -> bool
     if q.next.0 > c.statements {
         return false;
     }
-    record_ok(statements, q)
+    record_ok(statements, chain, x, q.next.0)
 }
 
 // The cursor with another next record.

@@ -24,8 +24,7 @@ ghost use lib.Dec.{ltb};
 ghost use Rattle.store.specs.Tables.{statementWords, maxStatements};
 ghost use Rattle.store.specs.Statement.{appendRecord, linkFirst, linkRecord};
 ghost use Rattle.table.specs.Held.{StatementHeld};
-ghost use Rattle.statement.specs.Chains.{TripleHeld};
-ghost use Rattle.statement.specs.Operations.{Linkable, Appendable, Appended, Revived, Struck};
+ghost use Rattle.statement.specs.Operations.{TripleHeld, Linkable, Appendable, Appended, Revived, Struck};
 
 // The flag of record n.
 pub fn set_flag(statements: &mut [u32], n: u32, flag: u32)

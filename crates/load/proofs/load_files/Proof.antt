@@ -7,7 +7,7 @@ use Rattle.load.proofs.load_files.Statement.{statement}
 use Rattle.load.proofs.load_files.Tie as tie
 use Rattle.load.proofs.load_files.Reads as reads
 use Rattle.load.proofs.load_files.Lts as lts
-use Rattle.load.proofs.load_file.Reads as load-file-reads
+use Rattle.loader.proofs.file.load_argument.Reads as load-argument-reads
 use Rattle.os.proofs.arg_count.Reads as arg-count-reads
 
 abbrev Inv-loop : tie.InvT-loop
@@ -24,8 +24,8 @@ arg-count-requires c κs = search needs
 loop-holds : tie.Need-loop-holds Inv-loop μ-loop
 loop-holds c = search needs
 
-load-file-requires : tie.Need-load-file-requires Inv-loop μ-loop
-load-file-requires c κs = search needs
+load-argument-requires : tie.Need-load-argument-requires Inv-loop μ-loop
+load-argument-requires c κs = search needs
 
 add-i : tie.Need-add-i Inv-loop μ-loop
 add-i c = search needs
@@ -62,7 +62,7 @@ load-files-spec =
     μ-loop
     arg-count-requires
     loop-holds
-    load-file-requires
+    load-argument-requires
     add-i
     loop-less
     loop-again

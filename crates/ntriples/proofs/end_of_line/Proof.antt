@@ -3,12 +3,13 @@ use lib.ListN.{length, getD}
 use lib.Seq.{slice}
 use native.Mathlib.Omega.{arith}
 use Rattle.ntriples.specs.Text.{Unbroken}
-use Rattle.ntriples.proofs.Sequence.{eol-begin, eol-turn}
+use Rattle.ntriples.proofs.Sequence.{eol-turn}
 use borrow.Author.Needs.{needs}
 use Rattle.ntriples.proofs.end_of_line.Statement.{statement}
 use Rattle.ntriples.proofs.end_of_line.Tie as tie
 use Rattle.ntriples.proofs.end_of_line.Reads as reads
 use Rattle.ntriples.proofs.end_of_line.Lts as lts
+use Rattle.ntriples.proofs.skip_blocks.Reads as skip-blocks-reads
 
 abbrev Inv-loop : tie.InvT-loop
 Inv-loop text at i₀ i = (at ≤ i) × (i ≤ length text) × Unbroken (slice at i text)
@@ -16,8 +17,11 @@ Inv-loop text at i₀ i = (at ≤ i) × (i ≤ length text) × Unbroken (slice a
 abbrev μ-loop : tie.MeasureT-loop
 μ-loop text at i₀ i = length text - i
 
+skip-blocks-requires : tie.Need-skip-blocks-requires Inv-loop μ-loop
+skip-blocks-requires c κs = search needs
+
 loop-holds : tie.Need-loop-holds Inv-loop μ-loop
-loop-holds c = let a = c .args in let h = c .pre in (omega arith, omega arith, eol-begin (a .text .now) (a .at))
+loop-holds c = let e = c .skip-blocks .ensures in (e .after, e .before, e .unbroken)
 
 shared-slice-read-if1 : tie.Need-shared-slice-read-if1 Inv-loop μ-loop
 shared-slice-read-if1 c = let t = c .before .loop-test .taken in omega arith
@@ -37,7 +41,7 @@ loop-less c = search needs
 loop-again : tie.Need-loop-again Inv-loop μ-loop
 loop-again c =
     let l = c .before .before .before .loop in
-    let a = c .before .before .before .before .args in
+    let a = c .before .before .before .before .before .before .args in
     let t = c .before .before .loop-test .taken in
     (omega arith, omega arith, eol-turn (a .text .now) (a .at) (l .i) (l .inv .0) t (c .if1 .left) (l .inv .2))
 
@@ -53,6 +57,7 @@ end-of-line-spec =
     (tie.spec
     Inv-loop
     μ-loop
+    skip-blocks-requires
     loop-holds
     shared-slice-read-if1
     returns

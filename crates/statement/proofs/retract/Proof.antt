@@ -8,7 +8,7 @@ use Rattle.statement.proofs.retract.Tie as tie
 use Rattle.statement.proofs.retract.Reads as reads
 use Rattle.statement.proofs.retract.Lts as lts
 use Rattle.statement.proofs.record.strike.Reads as strike-reads
-use Rattle.statement.proofs.retract_target.Reads as retract-target-reads
+use Rattle.statement.proofs.target.retract_target.Reads as retract-target-reads
 
 retract-target-requires : tie.Need-retract-target-requires
 retract-target-requires c κs = search needs
@@ -22,15 +22,17 @@ enum-known-n c = search needs
 strike-requires : tie.Need-strike-requires
 strike-requires c κs =
     let a = c .before .before .before .before .before .before .before .before .before .before .args in
+    let m = tables (now (a .resources)) (now (a .statements)) (now (a .index)) (now (a .text)) in
     let n = c .before .before .n .given .0 .0 in
-    let f = retract-found (a .c) (tables (now (a .resources)) (now (a .statements)) (now (a .index)) (now (a .text))) (a .x) n (sym (c .before .before .before .before .retract-target .ensures) ∙ c .before .before .n .given .1) in
-    located-in (a .c) (tables (now (a .resources)) (now (a .statements)) (now (a .index)) (now (a .text))) (f .0) (a .x) (n .0) (f .1)
+    let f = retract-found (a .c) m (a .x) n (sym (c .before .before .before .before .retract-target .ensures) ∙ c .before .before .n .given .1) in
+    located-in (a .c) m (f .0) (a .x) (n .0) (f .1)
 
 same-length : tie.Need-same-length
 same-length c = search needs
 
 returns : tie.Need-returns
-returns c = let a = c .before .before .before .before .before .before .before .before .before .args in retract-refused (a .c) (tables (now (a .resources)) (now (a .statements)) (now (a .index)) (now (a .text))) (a .x) (c .before .e .given .0 .0) (sym (c .before .before .before .retract-target .ensures) ∙ c .before .e .given .1)
+returns c = let a = c .before .before .before .before .before .before .before .before .before .args in
+    let m = tables (now (a .resources)) (now (a .statements)) (now (a .index)) (now (a .text)) in retract-refused (a .c) m (a .x) (c .before .e .given .0 .0) (sym (c .before .before .before .retract-target .ensures) ∙ c .before .e .given .1)
 
 same-length-2 : tie.Need-same-length-2
 same-length-2 c = search needs
@@ -38,8 +40,9 @@ same-length-2 c = search needs
 returns-2 : tie.Need-returns-2
 returns-2 c =
     let a = c .before .before .before .before .before .before .before .before .before .before .before .before .before .args in
+    let m = tables (now (a .resources)) (now (a .statements)) (now (a .index)) (now (a .text)) in
     let n = c .before .before .before .before .before .n .given .0 .0 in
-    c .before .before .strike .ensures .leaves (now (a .resources)) (now (a .index)) (now (a .text)) ∙ retract-at (a .c) (tables (now (a .resources)) (now (a .statements)) (now (a .index)) (now (a .text))) (a .x) n (sym (c .before .before .before .before .before .before .before .retract-target .ensures) ∙ c .before .before .before .before .before .n .given .1)
+    c .before .before .strike .ensures .leaves (now (a .resources)) (now (a .index)) (now (a .text)) ∙ retract-at (a .c) m (a .x) n (sym (c .before .before .before .before .before .before .before .retract-target .ensures) ∙ c .before .before .before .before .before .n .given .1)
 
 pub retract-spec : {M : Type 1} → statement M
 retract-spec =

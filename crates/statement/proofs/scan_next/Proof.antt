@@ -1,7 +1,8 @@
+use Rattle.statement.proofs.Chains.{passed, failed}
 use native.Mathlib.Omega.{arith}
 use mathlib.Core.Path.{sym, _∙_, ap}
 use denote.Ref.{now}
-use borrow.Author.Tests.{not-true, not-false, eq-eqb}
+use borrow.Author.Tests.{eq-eqb}
 use Rattle.statement.proofs.Operations.{statements-in, cursor-within, next-walk}
 use Rattle.statement.specs.Chains.{stepOf}
 use Rattle.statement.specs.declared.inner.Walked.{Walked}
@@ -23,29 +24,31 @@ fits-requires c κs = search needs
 
 returns : tie.Need-returns
 unfolding nextOf
-returns c = simp (← c .before .fits2 .ensures, not-true (c .before .fits2 .result) (c .if1 .taken))
+returns c = simp (failed (c .before .fits2 .ensures) (c .if1 .taken))
 
 cursor-ok-requires : tie.Need-cursor-ok-requires
-cursor-ok-requires c κs = let a = c .before .before .before .before .before .before .args in statements-in (a .c) (tables (now (a .resources)) (now (a .statements)) (now (a .index)) (now (a .text))) (sym (c .before .fits2 .ensures) ∙ not-false (c .before .fits2 .result) (c .if1 .left))
+cursor-ok-requires c κs = let a = c .before .before .before .before .before .before .args in
+    let m = tables (now (a .resources)) (now (a .statements)) (now (a .index)) (now (a .text)) in statements-in (a .c) m (passed (c .before .fits2 .ensures) (c .if1 .left))
 
 returns-2 : tie.Need-returns-2
 unfolding nextOf
 returns-2 c =
     let a = c .before .before .before .before .before .before .before .before .args in
-    rw (← c .before .before .before .fits2 .ensures, not-false (c .before .before .before .fits2 .result) (c .before .before .if1 .left), ← c .before .cursor-ok .ensures .tells (now (a .resources)) (now (a .index)) (now (a .text)), not-true (c .before .cursor-ok .result) (c .if2 .taken))
+    rw (passed (c .before .before .before .fits2 .ensures) (c .before .before .if1 .left), failed (c .before .cursor-ok .ensures .tells (now (a .resources)) (now (a .index)) (now (a .text))) (c .if2 .taken))
 
 returns-3 : tie.Need-returns-3
 unfolding nextOf
 returns-3 c =
     let a = c .before .before .before .before .before .before .before .before .before .args in
-    rw (← c .before .before .before .before .fits2 .ensures, not-false (c .before .before .before .before .fits2 .result) (c .before .before .before .if1 .left), ← c .before .before .cursor-ok .ensures .tells (now (a .resources)) (now (a .index)) (now (a .text)), not-false (c .before .before .cursor-ok .result) (c .before .if2 .left), eq-eqb _ _ (c .if3 .taken))
+    rw (passed (c .before .before .before .before .fits2 .ensures) (c .before .before .before .if1 .left), passed (c .before .before .cursor-ok .ensures .tells (now (a .resources)) (now (a .index)) (now (a .text))) (c .before .if2 .left), eq-eqb _ _ (c .if3 .taken))
 
 walk-requires : tie.Need-walk-requires
 walk-requires c κs =
     let a = c .before .before .before .before .before .before .before .before .before .before .args in
-    let f = sym (c .before .before .before .before .before .fits2 .ensures) ∙ not-false (c .before .before .before .before .before .fits2 .result) (c .before .before .before .before .if1 .left) in
-    let k = cursor-within (a .c) (tables (now (a .resources)) (now (a .statements)) (now (a .index)) (now (a .text))) (a .q) (sym (c .before .before .before .cursor-ok .ensures .tells (now (a .resources)) (now (a .index)) (now (a .text))) ∙ not-false (c .before .before .before .cursor-ok .result) (c .before .before .if2 .left)) in
-    let s = statements-in (a .c) (tables (now (a .resources)) (now (a .statements)) (now (a .index)) (now (a .text))) f in
+    let m = tables (now (a .resources)) (now (a .statements)) (now (a .index)) (now (a .text)) in
+    let f = passed (c .before .before .before .before .before .fits2 .ensures) (c .before .before .before .before .if1 .left) in
+    let k = cursor-within (a .c) m (a .q) (passed (c .before .before .before .cursor-ok .ensures .tells (now (a .resources)) (now (a .index)) (now (a .text))) (c .before .before .if2 .left)) in
+    let s = statements-in (a .c) m f in
     omega arith
 
 enum-known-n : tie.Need-enum-known-n
@@ -70,16 +73,20 @@ enum-told : tie.Need-enum-told
 enum-told c = search needs
 
 returns-4 : tie.Need-returns-4
-returns-4 c = let a = c .before .before .before .before .before .before .before .before .before .before .before .before .before .before .before .args in rw (c .moved .ensures) (sym (next-walk (a .c) (tables (now (a .resources)) (now (a .statements)) (now (a .index)) (now (a .text))) (a .q) (c .before .before .before .before .walk .result) (a .budget) (sym (c .before .before .before .before .before .before .before .before .before .before .fits2 .ensures) ∙ not-false (c .before .before .before .before .before .before .before .before .before .before .fits2 .result) (c .before .before .before .before .before .before .before .before .before .if1 .left)) (sym (c .before .before .before .before .before .before .before .before .cursor-ok .ensures .tells (now (a .resources)) (now (a .index)) (now (a .text))) ∙ not-false (c .before .before .before .before .before .before .before .before .cursor-ok .result) (c .before .before .before .before .before .before .before .if2 .left)) (c .before .before .before .before .before .before .if3 .left) (c .before .before .before .before .walk .ensures) ∙ ap (λ (w : Walked). scannedAs (a .q) (stepOf w)) (c .before .before .n .given .1)))
+returns-4 c = let a = c .before .before .before .before .before .before .before .before .before .before .before .before .before .before .before .args in
+    let m = tables (now (a .resources)) (now (a .statements)) (now (a .index)) (now (a .text)) in rw (c .moved .ensures) (sym (next-walk (a .c) m (a .q) (c .before .before .before .before .walk .result) (a .budget) (passed (c .before .before .before .before .before .before .before .before .before .before .fits2 .ensures) (c .before .before .before .before .before .before .before .before .before .if1 .left)) (passed (c .before .before .before .before .before .before .before .before .cursor-ok .ensures .tells (now (a .resources)) (now (a .index)) (now (a .text))) (c .before .before .before .before .before .before .before .if2 .left)) (c .before .before .before .before .before .before .if3 .left) (c .before .before .before .before .walk .ensures) ∙ ap (λ (w : Walked). scannedAs (a .q) (stepOf w)) (c .before .before .n .given .1)))
 
 returns-5 : tie.Need-returns-5
-returns-5 c = let a = c .before .before .before .before .before .before .before .before .before .before .before .before .before .before .before .args in rw (c .moved2 .ensures) (sym (next-walk (a .c) (tables (now (a .resources)) (now (a .statements)) (now (a .index)) (now (a .text))) (a .q) (c .before .before .before .before .walk .result) (a .budget) (sym (c .before .before .before .before .before .before .before .before .before .before .fits2 .ensures) ∙ not-false (c .before .before .before .before .before .before .before .before .before .before .fits2 .result) (c .before .before .before .before .before .before .before .before .before .if1 .left)) (sym (c .before .before .before .before .before .before .before .before .cursor-ok .ensures .tells (now (a .resources)) (now (a .index)) (now (a .text))) ∙ not-false (c .before .before .before .before .before .before .before .before .cursor-ok .result) (c .before .before .before .before .before .before .before .if2 .left)) (c .before .before .before .before .before .before .if3 .left) (c .before .before .before .before .walk .ensures) ∙ ap (λ (w : Walked). scannedAs (a .q) (stepOf w)) (c .before .before .visits .given .1)))
+returns-5 c = let a = c .before .before .before .before .before .before .before .before .before .before .before .before .before .before .before .args in
+    let m = tables (now (a .resources)) (now (a .statements)) (now (a .index)) (now (a .text)) in rw (c .moved2 .ensures) (sym (next-walk (a .c) m (a .q) (c .before .before .before .before .walk .result) (a .budget) (passed (c .before .before .before .before .before .before .before .before .before .before .fits2 .ensures) (c .before .before .before .before .before .before .before .before .before .if1 .left)) (passed (c .before .before .before .before .before .before .before .before .cursor-ok .ensures .tells (now (a .resources)) (now (a .index)) (now (a .text))) (c .before .before .before .before .before .before .before .if2 .left)) (c .before .before .before .before .before .before .if3 .left) (c .before .before .before .before .walk .ensures) ∙ ap (λ (w : Walked). scannedAs (a .q) (stepOf w)) (c .before .before .visits .given .1)))
 
 returns-6 : tie.Need-returns-6
-returns-6 c = let a = c .before .before .before .before .before .before .before .before .before .before .before .before .before .before .before .args in rw (c .moved3 .ensures) (sym (next-walk (a .c) (tables (now (a .resources)) (now (a .statements)) (now (a .index)) (now (a .text))) (a .q) (c .before .before .before .before .walk .result) (a .budget) (sym (c .before .before .before .before .before .before .before .before .before .before .fits2 .ensures) ∙ not-false (c .before .before .before .before .before .before .before .before .before .before .fits2 .result) (c .before .before .before .before .before .before .before .before .before .if1 .left)) (sym (c .before .before .before .before .before .before .before .before .cursor-ok .ensures .tells (now (a .resources)) (now (a .index)) (now (a .text))) ∙ not-false (c .before .before .before .before .before .before .before .before .cursor-ok .result) (c .before .before .before .before .before .before .before .if2 .left)) (c .before .before .before .before .before .before .if3 .left) (c .before .before .before .before .walk .ensures) ∙ ap (λ (w : Walked). scannedAs (a .q) (stepOf w)) (c .before .before .visits2 .given .1)))
+returns-6 c = let a = c .before .before .before .before .before .before .before .before .before .before .before .before .before .before .before .args in
+    let m = tables (now (a .resources)) (now (a .statements)) (now (a .index)) (now (a .text)) in rw (c .moved3 .ensures) (sym (next-walk (a .c) m (a .q) (c .before .before .before .before .walk .result) (a .budget) (passed (c .before .before .before .before .before .before .before .before .before .before .fits2 .ensures) (c .before .before .before .before .before .before .before .before .before .if1 .left)) (passed (c .before .before .before .before .before .before .before .before .cursor-ok .ensures .tells (now (a .resources)) (now (a .index)) (now (a .text))) (c .before .before .before .before .before .before .before .if2 .left)) (c .before .before .before .before .before .before .if3 .left) (c .before .before .before .before .walk .ensures) ∙ ap (λ (w : Walked). scannedAs (a .q) (stepOf w)) (c .before .before .visits2 .given .1)))
 
 returns-7 : tie.Need-returns-7
-returns-7 c = let a = c .before .before .before .before .before .before .before .before .before .before .before .before .before .args in sym (next-walk (a .c) (tables (now (a .resources)) (now (a .statements)) (now (a .index)) (now (a .text))) (a .q) (c .before .before .walk .result) (a .budget) (sym (c .before .before .before .before .before .before .before .before .fits2 .ensures) ∙ not-false (c .before .before .before .before .before .before .before .before .fits2 .result) (c .before .before .before .before .before .before .before .if1 .left)) (sym (c .before .before .before .before .before .before .cursor-ok .ensures .tells (now (a .resources)) (now (a .index)) (now (a .text))) ∙ not-false (c .before .before .before .before .before .before .cursor-ok .result) (c .before .before .before .before .before .if2 .left)) (c .before .before .before .before .if3 .left) (c .before .before .walk .ensures) ∙ ap (λ (w : Walked). scannedAs (a .q) (stepOf w)) (c .enum-told .given .1))
+returns-7 c = let a = c .before .before .before .before .before .before .before .before .before .before .before .before .before .args in
+    let m = tables (now (a .resources)) (now (a .statements)) (now (a .index)) (now (a .text)) in sym (next-walk (a .c) m (a .q) (c .before .before .walk .result) (a .budget) (passed (c .before .before .before .before .before .before .before .before .fits2 .ensures) (c .before .before .before .before .before .before .before .if1 .left)) (passed (c .before .before .before .before .before .before .cursor-ok .ensures .tells (now (a .resources)) (now (a .index)) (now (a .text))) (c .before .before .before .before .before .if2 .left)) (c .before .before .before .before .if3 .left) (c .before .before .walk .ensures) ∙ ap (λ (w : Walked). scannedAs (a .q) (stepOf w)) (c .enum-told .given .1))
 
 pub scan-next-spec : {M : Type 1} → statement M
 scan-next-spec =

@@ -1,7 +1,7 @@
 use mathlib.Core.Path.{sym, _∙_}
 use Rattle.statement.proofs.Chains.{bound-at, better-unbound}
 use Rattle.store.specs.Model.{better}
-use borrow.Author.Tests.{ltb-true, ne-eqb, lt-ltb, le-ltb}
+use borrow.Author.Tests.{ne-eqb, lt-ltb, le-ltb}
 use Rattle.statement.specs.Chains.{bound}
 use native.Mathlib.Omega.{arith}
 use borrow.Author.Needs.{needs}

@@ -1,5 +1,5 @@
+use Rattle.statement.proofs.Chains.{failed, passed}
 use Rattle.store.specs.Walk.{pickable}
-use borrow.Author.Tests.{not-false, not-true}
 use borrow.Author.Needs.{needs}
 use Rattle.statement.proofs.inner.pickable.Statement.{statement}
 use Rattle.statement.proofs.inner.pickable.Tie as tie
@@ -12,21 +12,21 @@ pickable-at-requires c κs = search needs
 
 returns : tie.Need-returns
 unfolding pickable
-returns c = simp (← c .before .pickable-at .ensures, not-true (c .before .pickable-at .result) (c .if1 .taken))
+returns c = simp (failed (c .before .pickable-at .ensures) (c .if1 .taken))
 
 pickable-at-requires-2 : tie.Need-pickable-at-requires-2
 pickable-at-requires-2 c κs = search needs
 
 returns-2 : tie.Need-returns-2
 unfolding pickable
-returns-2 c = simp (← c .before .before .before .pickable-at .ensures, not-false (c .before .before .before .pickable-at .result) (c .before .before .if1 .left), ← c .before .pickable-at2 .ensures, not-true (c .before .pickable-at2 .result) (c .if2 .taken))
+returns-2 c = simp (passed (c .before .before .before .pickable-at .ensures) (c .before .before .if1 .left), failed (c .before .pickable-at2 .ensures) (c .if2 .taken))
 
 pickable-at-requires-3 : tie.Need-pickable-at-requires-3
 pickable-at-requires-3 c κs = search needs
 
 returns-3 : tie.Need-returns-3
 unfolding pickable
-returns-3 c = simp (← c .before .before .before .before .pickable-at .ensures, not-false (c .before .before .before .before .pickable-at .result) (c .before .before .before .if1 .left), ← c .before .before .pickable-at2 .ensures, not-false (c .before .before .pickable-at2 .result) (c .before .if2 .left), ← c .pickable-at3 .ensures)
+returns-3 c = simp (passed (c .before .before .before .before .pickable-at .ensures) (c .before .before .before .if1 .left), passed (c .before .before .pickable-at2 .ensures) (c .before .if2 .left), ← c .pickable-at3 .ensures)
 
 pub pickable-spec : {M : Type 1} → statement M
 pickable-spec =

@@ -1,7 +1,6 @@
 use Rattle.statement.proofs.Chains.{bound-at}
 use Rattle.store.specs.Walk.{startOf}
 use native.Mathlib.Omega.{arith}
-use borrow.Author.Tests.{ltb-true}
 use Rattle.statement.specs.Chains.{bound}
 use borrow.Author.Needs.{needs}
 use Rattle.statement.proofs.inner.start_of.Statement.{statement}

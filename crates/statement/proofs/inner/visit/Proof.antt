@@ -1,5 +1,5 @@
+use Rattle.statement.proofs.Chains.{failed, passed}
 use Rattle.statement.specs.Chains.{visitOf}
-use borrow.Author.Tests.{not-false, not-true}
 use borrow.Author.Needs.{needs}
 use Rattle.statement.proofs.inner.visit.Statement.{statement}
 use Rattle.statement.proofs.inner.visit.Tie as tie
@@ -14,7 +14,7 @@ visitable-requires c κs = search needs
 
 returns : tie.Need-returns
 unfolding visitOf
-returns c = simp (← c .before .visitable .ensures, not-true (c .before .visitable .result) (c .if1 .taken))
+returns c = simp (failed (c .before .visitable .ensures) (c .if1 .taken))
 
 link-of-requires : tie.Need-link-of-requires
 link-of-requires c κs = search needs
@@ -24,11 +24,11 @@ hits-requires c κs = search needs
 
 returns-2 : tie.Need-returns-2
 unfolding visitOf
-returns-2 c = simp (← c .before .before .before .before .visitable .ensures, not-false (c .before .before .before .before .visitable .result) (c .before .before .before .if1 .left), ← c .before .before .link-of .ensures, ← c .before .hits .ensures, c .if2 .taken)
+returns-2 c = simp (passed (c .before .before .before .before .visitable .ensures) (c .before .before .before .if1 .left), ← c .before .before .link-of .ensures, ← c .before .hits .ensures, c .if2 .taken)
 
 returns-3 : tie.Need-returns-3
 unfolding visitOf
-returns-3 c = simp (← c .before .before .before .before .visitable .ensures, not-false (c .before .before .before .before .visitable .result) (c .before .before .before .if1 .left), ← c .before .before .link-of .ensures, ← c .before .hits .ensures, c .if2 .left)
+returns-3 c = simp (passed (c .before .before .before .before .visitable .ensures) (c .before .before .before .if1 .left), ← c .before .before .link-of .ensures, ← c .before .hits .ensures, c .if2 .left)
 
 pub visit-spec : {M : Type 1} → statement M
 visit-spec =

@@ -1,7 +1,8 @@
+use Rattle.statement.proofs.Chains.{failed, passed}
 use native.Mathlib.Omega.{arith}
 use Prim.Native.Nat.{_-_}
 use Rattle.store.specs.Walk.{visitable}
-use borrow.Author.Tests.{not-false, not-true, lt-leb, le-leb}
+use borrow.Author.Tests.{lt-leb, le-leb}
 use borrow.Author.Needs.{needs}
 use Rattle.statement.proofs.inner.visitable.Statement.{statement}
 use Rattle.statement.proofs.inner.visitable.Tie as tie
@@ -21,28 +22,28 @@ known-requires c κs = search needs
 
 returns : tie.Need-returns
 unfolding visitable
-returns c = simp (← c .before .before .triple-at .ensures, ← c .before .known .ensures, not-true (c .before .known .result) (c .if1 .taken))
+returns c = simp (← c .before .before .triple-at .ensures, failed (c .before .known .ensures) (c .if1 .taken))
 
 sits-requires : tie.Need-sits-requires
 sits-requires c κs = search needs
 
 returns-2 : tie.Need-returns-2
 unfolding visitable
-returns-2 c = simp (← c .before .before .before .before .triple-at .ensures, ← c .before .before .before .known .ensures, not-false (c .before .before .before .known .result) (c .before .before .if1 .left), ← c .before .sits .ensures, not-true (c .before .sits .result) (c .if2 .taken))
+returns-2 c = simp (← c .before .before .before .before .triple-at .ensures, passed (c .before .before .before .known .ensures) (c .before .before .if1 .left), failed (c .before .sits .ensures) (c .if2 .taken))
 
 link-of-requires : tie.Need-link-of-requires
 link-of-requires c κs = search needs
 
 returns-3 : tie.Need-returns-3
 unfolding visitable
-returns-3 c = simp (← c .before .before .before .before .before .before .triple-at .ensures, ← c .before .before .before .before .before .known .ensures, not-false (c .before .before .before .before .before .known .result) (c .before .before .before .before .if1 .left), ← c .before .before .before .sits .ensures, not-false (c .before .before .before .sits .result) (c .before .before .if2 .left), ← c .before .link-of .ensures, lt-leb (c .before .link-of .result) (c .before .before .before .before .before .before .before .before .args .n - 1) (omega arith))
+returns-3 c = simp (← c .before .before .before .before .before .before .triple-at .ensures, passed (c .before .before .before .before .before .known .ensures) (c .before .before .before .before .if1 .left), passed (c .before .before .before .sits .ensures) (c .before .before .if2 .left), ← c .before .link-of .ensures, lt-leb (c .before .link-of .result) (c .before .before .before .before .before .before .before .before .args .n - 1) (omega arith))
 
 flag-at-requires : tie.Need-flag-at-requires
 flag-at-requires c κs = search needs
 
 returns-4 : tie.Need-returns-4
 unfolding visitable
-returns-4 c = simp (← c .before .before .before .before .before .before .before .triple-at .ensures, ← c .before .before .before .before .before .before .known .ensures, not-false (c .before .before .before .before .before .before .known .result) (c .before .before .before .before .before .if1 .left), ← c .before .before .before .before .sits .ensures, not-false (c .before .before .before .before .sits .result) (c .before .before .before .if2 .left), ← c .before .before .link-of .ensures, le-leb (c .before .before .link-of .result) (c .before .before .before .before .before .before .before .before .before .args .n - 1) (omega arith), ← c .flag-at .ensures)
+returns-4 c = simp (← c .before .before .before .before .before .before .before .triple-at .ensures, passed (c .before .before .before .before .before .before .known .ensures) (c .before .before .before .before .before .if1 .left), passed (c .before .before .before .before .sits .ensures) (c .before .before .before .if2 .left), ← c .before .before .link-of .ensures, le-leb (c .before .before .link-of .result) (c .before .before .before .before .before .before .before .before .before .args .n - 1) (omega arith), ← c .flag-at .ensures)
 
 pub visitable-spec : {M : Type 1} → statement M
 visitable-spec =

@@ -1,6 +1,6 @@
+use Rattle.statement.proofs.Chains.{failed, passed}
 use mathlib.Core.Path.{sym, _∙_}
 use denote.Ref.{now}
-use borrow.Author.Tests.{not-true, not-false}
 use Rattle.statement.proofs.Records.{full, new, room-in}
 use Prim.Native.Nat.{suc, _+_, _/_, min}
 use lib.ListN.{length}
@@ -21,10 +21,10 @@ same-length : tie.Need-same-length
 same-length c = search needs
 
 returns : tie.Need-returns
-returns c = record { leaves = λ i t. let a = c .before .before .before .before .before .args in full (now (a .resources)) (now (a .statements)) i t (a .c) (a .x) (sym (c .before .has-room .ensures) ∙ not-true (c .before .has-room .result) (c .if1 .taken)) }
+returns c = record { leaves = λ i t. let a = c .before .before .before .before .before .args in full (now (a .resources)) (now (a .statements)) i t (a .c) (a .x) (failed (c .before .has-room .ensures) (c .if1 .taken)) }
 
 write-record-requires : tie.Need-write-record-requires
-write-record-requires c κs = let a = c .before .before .before .before .before .before .before .args in (record { each = λ p. c .before .before .before .before .before .before .before .pre .each p .resource-in }, room-in (a .c .statements) (length (now (a .statements))) (sym (c .before .before .before .has-room .ensures) ∙ not-false (c .before .before .before .has-room .result) (c .before .before .if1 .left)))
+write-record-requires c κs = let a = c .before .before .before .before .before .before .before .args in (record { each = λ p. c .before .before .before .before .before .before .before .pre .each p .resource-in }, room-in (a .c .statements) (length (now (a .statements))) (passed (c .before .before .before .has-room .ensures) (c .before .before .if1 .left)))
 
 link-record-requires : tie.Need-link-record-requires
 link-record-requires c κs = search needs
@@ -41,7 +41,7 @@ same-length-3 c = search needs
 returns-2 : tie.Need-returns-2
 returns-2 c =
     let a = c .before .before .before .before .before .before .before .before .before .before .before .before .before .before .before .args in
-    record { leaves = λ i t. rw (c .before .before .before .link-record .ensures, c .before .before .before .before .before .before .before .write-record .ensures) (new (now (a .resources)) (now (a .statements)) i t (a .c) (a .x) (a .c .statements + 1) (sym (c .before .before .before .before .before .before .before .before .before .before .before .has-room .ensures) ∙ not-false (c .before .before .before .before .before .before .before .before .before .before .before .has-room .result) (c .before .before .before .before .before .before .before .before .before .before .if1 .left)) (omega arith)) }
+    record { leaves = λ i t. rw (c .before .before .before .link-record .ensures, c .before .before .before .before .before .before .before .write-record .ensures) (new (now (a .resources)) (now (a .statements)) i t (a .c) (a .x) (a .c .statements + 1) (passed (c .before .before .before .before .before .before .before .before .before .before .before .has-room .ensures) (c .before .before .before .before .before .before .before .before .before .before .if1 .left)) (omega arith)) }
 
 pub append-spec : {M : Type 1} → statement M
 append-spec =

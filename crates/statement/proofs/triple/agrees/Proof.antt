@@ -1,5 +1,5 @@
+use Rattle.statement.proofs.Chains.{failed, passed}
 use Rattle.store.specs.Triple.{agrees}
-use borrow.Author.Tests.{not-false, not-true}
 use borrow.Author.Needs.{needs}
 use Rattle.statement.proofs.triple.agrees.Statement.{statement}
 use Rattle.statement.proofs.triple.agrees.Tie as tie
@@ -12,21 +12,21 @@ admits-requires c κs = search needs
 
 returns : tie.Need-returns
 unfolding agrees
-returns c = simp (← c .before .admits .ensures, not-true (c .before .admits .result) (c .if1 .taken))
+returns c = simp (failed (c .before .admits .ensures) (c .if1 .taken))
 
 admits-requires-2 : tie.Need-admits-requires-2
 admits-requires-2 c κs = search needs
 
 returns-2 : tie.Need-returns-2
 unfolding agrees
-returns-2 c = simp (← c .before .before .before .admits .ensures, not-false (c .before .before .before .admits .result) (c .before .before .if1 .left), ← c .before .admits2 .ensures, not-true (c .before .admits2 .result) (c .if2 .taken))
+returns-2 c = simp (passed (c .before .before .before .admits .ensures) (c .before .before .if1 .left), failed (c .before .admits2 .ensures) (c .if2 .taken))
 
 admits-requires-3 : tie.Need-admits-requires-3
 admits-requires-3 c κs = search needs
 
 returns-3 : tie.Need-returns-3
 unfolding agrees
-returns-3 c = simp (← c .before .before .before .before .admits .ensures, not-false (c .before .before .before .before .admits .result) (c .before .before .before .if1 .left), ← c .before .before .admits2 .ensures, not-false (c .before .before .admits2 .result) (c .before .if2 .left), ← c .admits3 .ensures)
+returns-3 c = simp (passed (c .before .before .before .before .admits .ensures) (c .before .before .before .if1 .left), passed (c .before .before .admits2 .ensures) (c .before .if2 .left), ← c .admits3 .ensures)
 
 pub agrees-spec : {M : Type 1} → statement M
 agrees-spec =
