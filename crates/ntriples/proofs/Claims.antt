@@ -70,7 +70,8 @@ data Read (m i : ℕ) (l : List ℕ) : Outcome → Type 0 where
   triple : (d : Triple l) → Within m d → Read m i l (Terms (partsOf i d))
   refused : (k : ℕ) → Underivable m l → Longest m l k → Read m i l (Fails (i + k))
 
-read-terms : (m i : ℕ) (l : List ℕ) (ms : List Span) → Derives i l (Terms ms) → ShortParts m (i + length l) ms → Read m i l (Terms ms)
+read-terms : (m i : ℕ) (l : List ℕ) (ms : List Span) → Derives i l (Terms ms) → ShortParts m (i + length l) ms
+    → Read m i l (Terms ms)
 read-terms m i l ms (Derives.triple r) h =
     let d = derivation r in rw (d .1) (Read.triple (d .0) (within-back m i (d .0) (rw (d .1) at h)))
 
@@ -83,7 +84,8 @@ longest-stop m i l k h s =
       long = refl;
       viable = viable-is m i (s .front) .1 (continued m i (s .front) h .1 (s .whole));
       longest = λ b t e v.
-          never (sym (continued m i (s .front ++ (b ∷ [])) h .0 (viable-is m i (s .front ++ (b ∷ [])) .0 v)) ∙ s .breaks b t e);
+          never (sym (continued m i (s .front ++ (b ∷ [])) h .0 (viable-is m i (s .front ++ (b ∷ [])) .0 v))
+          ∙ s .breaks b t e);
     }
 
 empty-fails : {C : Type 0} (k : ℕ) → Empty ≡ Fails k → C
@@ -119,7 +121,8 @@ read-line m i l h = read-by m i l h (lineOf m i l) refl
 fewer : {l : List ℕ} (m c c′ : ℕ) (d : Triple l) → c′ ≤ c → ShortTerms m c d → ShortTerms m c′ d
 fewer m c c′ d h w = let x = w .0 in let y = w .1 in let z = w .2 in (omega arith, omega arith, omega arith)
 
-fewer-line : {l : List ℕ} (m c c′ : ℕ) → c′ ≤ c → Trail l ⊎ ((d : Triple l) × ShortTerms m c d) → Trail l ⊎ ((d : Triple l) × ShortTerms m c′ d)
+fewer-line : {l : List ℕ} (m c c′ : ℕ) → c′ ≤ c → Trail l ⊎ ((d : Triple l) × ShortTerms m c d)
+    → Trail l ⊎ ((d : Triple l) × ShortTerms m c′ d)
 fewer-line m c c′ h (inl t) = inl t
 fewer-line m c c′ h (inr w) = inr (w .0, fewer m c c′ (w .0) h (w .1))
 
@@ -131,7 +134,8 @@ viable-prefix : (m : ℕ) (p q : List ℕ) → Viable m (p ++ q) → Viable m p
 viable-prefix m p q v =
     record {
       rest = q ++ v .rest;
-      line = shorter m (length (p ++ q)) (length p) (append-assoc p q (v .rest)) (let e = length-append p q in omega arith) (v .line);
+      line = shorter m (length (p ++ q)) (length p) (append-assoc p q (v .rest))
+          (let e = length-append p q in omega arith) (v .line);
     }
 
 -- of two fronts of one list, the shorter and one byte more begin the longer
@@ -153,14 +157,22 @@ further (x ∷ f) b (y ∷ f′) b′ e h =
     let e′ : f ++ b ≡ f′ ++ b′ = cc in
     let xy : x ≡ y = cc in
     let w = further f b f′ b′ e′ (omega arith) in
-    record { byte = w .byte; later = w .later; more = w .more; back = w .back; front = cons-both y x f′ _ (sym xy) (w .front) }
+    record {
+      byte = w .byte;
+      later = w .later;
+      more = w .more;
+      back = w .back;
+      front = cons-both y x f′ _ (sym xy)
+          (w .front);
+    }
 
 not-longer : (m : ℕ) (l : List ℕ) (k k′ : ℕ) → Longest m l k → Longest m l k′ → k < k′ → ⊥
 not-longer m l k k′ x y h =
     let a = x .long in
     let b = y .long in
     let w = further (x .front) (x .back) (y .front) (y .back) (sym (x .splits) ∙ y .splits) (omega arith) in
-    x .longest (w .byte) (w .later) (w .back) (viable-prefix m (x .front ++ (w .byte ∷ [])) (w .more) (rw (w .front) at (y .viable)))
+    x .longest (w .byte) (w .later) (w .back) (viable-prefix m (x .front ++ (w .byte ∷ [])) (w .more) (rw
+    (w .front) at (y .viable)))
 
 apart : (a b : ℕ) → (a < b → ⊥) → (b < a → ⊥) → a ≡ b
 apart a b f h = omega arith
@@ -187,7 +199,8 @@ nothing-refused k e = refused-nothing k (sym e)
 triple-refused : {C : Type 0} (k : ℕ) (s p o : Span) → answer.Triple s p o ≡ answer.Refused k → C
 triple-refused k s p o e = refused-triple k s p o (sym e)
 
-derived-by : (m i : ℕ) (l : List ℕ) (s p o : Span) (r : Outcome) → Read m i l r → answerOf i r ≡ answer.Triple s p o → Derived m i l s p o
+derived-by : (m i : ℕ) (l : List ℕ) (s p o : Span) (r : Outcome) → Read m i l r
+    → answerOf i r ≡ answer.Triple s p o → Derived m i l s p o
 unfolding answerOf
 derived-by m i l s p o r (Read.nothing t) e = nothing-triple s p o e
 derived-by m i l s p o r (Read.triple d w) e =
@@ -198,7 +211,8 @@ triple-answer : (i : ℕ) (s p o : Span) → answerOf i (Terms (s ∷ (p ∷ (o 
 unfolding answerOf
 triple-answer i s p o = refl
 
-derived-reads : (m i : ℕ) (l : List ℕ) (s p o : Span) → 1 ≤ m → Derived m i l s p o → answerOf i (lineOf m i l) ≡ answer.Triple s p o
+derived-reads : (m i : ℕ) (l : List ℕ) (s p o : Span) → 1 ≤ m → Derived m i l s p o
+    → answerOf i (lineOf m i l) ≡ answer.Triple s p o
 derived-reads m i l s p o h d =
     ap (answerOf i) (triple-reads m i h (d .derivation) (d .within))
     ∙ (triple-answer i _ _ _ ∙ rw (d .subjectAt, d .predicateAt, d .objectAt))
@@ -216,7 +230,8 @@ nothing-reads m i l h t = rw (trail-reads m i h t)
 back-off : (i k : ℕ) → i + k - i ≡ k
 back-off i k = omega arith
 
-refused-by : (m i : ℕ) (l : List ℕ) (k : ℕ) (r : Outcome) → Read m i l r → answerOf i r ≡ answer.Refused k → Underivable m l × Longest m l k
+refused-by : (m i : ℕ) (l : List ℕ) (k : ℕ) (r : Outcome) → Read m i l r → answerOf i r ≡ answer.Refused k
+    → Underivable m l × Longest m l k
 unfolding answerOf
 refused-by m i l k r (Read.nothing t) e = nothing-refused k e
 refused-by m i l k r (Read.triple d w) e = triple-refused k _ _ _ e
@@ -224,7 +239,8 @@ refused-by m i l k r (Read.refused j u x) e =
     let q : i + j - i ≡ k = cc in
     (u, rw (sym (back-off i j) ∙ q) at x)
 
-refused-reads : (m i : ℕ) (l : List ℕ) (k : ℕ) (r : Outcome) → Read m i l r → Underivable m l × Longest m l k → answerOf i r ≡ answer.Refused k
+refused-reads : (m i : ℕ) (l : List ℕ) (k : ℕ) (r : Outcome) → Read m i l r → Underivable m l × Longest m l k
+    → answerOf i r ≡ answer.Refused k
 unfolding answerOf
 refused-reads m i l k r (Read.nothing t) u = absurd (u .0 .notNothing t)
 refused-reads m i l k r (Read.triple d w) u = absurd (u .0 .noTriple d w)
@@ -236,7 +252,8 @@ ten-by m i l r (Read.nothing t) e = absurd (omega arith)
 ten-by m i l r (Read.triple d w) e = absurd (omega arith)
 ten-by m i l r (Read.refused k u x) e = u
 
-ten-reads : (m i : ℕ) (l : List ℕ) (r : Outcome) → Read m i l r → Underivable m l → valuesOf (answerOf i r) .refusal ≡ 10
+ten-reads : (m i : ℕ) (l : List ℕ) (r : Outcome) → Read m i l r → Underivable m l
+    → valuesOf (answerOf i r) .refusal ≡ 10
 unfolding answerOf valuesOf
 ten-reads m i l r (Read.nothing t) u = absurd (u .notNothing t)
 ten-reads m i l r (Read.triple d w) u = absurd (u .noTriple d w)
@@ -281,7 +298,8 @@ object-kind {t} m (Object.iri h) k = inl (kinds m 1 t (omega arith) .1 (k, g.Nam
 object-kind {t} m (Object.blank h) k = inr (inl (kinds m 2 t (omega arith) .1 (k, g.Name.blank h)))
 object-kind {t} m (Object.literal h) k = inr (inr (kinds m 3 t (omega arith) .1 (k, g.Name.literal h)))
 
-enterable : (m : ℕ) (text : List ℕ) (i : ℕ) (l r : List ℕ) (s p o : Span) → drop i text ≡ l ++ r → Derived m i l s p o → Enterable m text s p o
+enterable : (m : ℕ) (text : List ℕ) (i : ℕ) (l r : List ℕ) (s p o : Span) → drop i text ≡ l ++ r
+    → Derived m i l s p o → Enterable m text s p o
 enterable m text i l r s p o e h =
     let d = h .derivation in
     let b = spelled text i d r e in
@@ -291,16 +309,20 @@ enterable m text i l r s p o e h =
       objectKind = rw (← h .objectAt, b .object) (object-kind m (d .isObject) (h .within .2));
     }
 
-meant : (m : ℕ) (text : List ℕ) (i : ℕ) (l r : List ℕ) (s p o : Span) → drop i text ≡ l ++ r → Derived m i l s p o → Meant l text s p o
+meant : (m : ℕ) (text : List ℕ) (i : ℕ) (l r : List ℕ) (s p o : Span) → drop i text ≡ l ++ r → Derived m i l s p o
+    → Meant l text s p o
 meant m text i l r s p o e h =
     let d = h .derivation in
     let b = spelled text i d r e in
     record {
       derivation = d;
-      subjectMeans = ap (λ (z : Span). termOf (bytesOf text z)) (sym (h .subjectAt)) ∙ (ap termOf (b .subject) ∙ subject-is (d .isSubject));
+      subjectMeans = ap (λ (z : Span). termOf (bytesOf text z)) (sym (h .subjectAt)) ∙ (ap termOf (b .subject)
+          ∙ subject-is (d .isSubject));
       predicateMeans =
-          ap (λ (z : Span). termOf (bytesOf text z)) (sym (h .predicateAt)) ∙ (ap termOf (b .predicate) ∙ predicate-is (d .isPredicate));
-      objectMeans = ap (λ (z : Span). termOf (bytesOf text z)) (sym (h .objectAt)) ∙ (ap termOf (b .object) ∙ object-is (d .isObject));
+          ap (λ (z : Span). termOf (bytesOf text z)) (sym (h .predicateAt)) ∙ (ap termOf (b .predicate) ∙ predicate-is
+          (d .isPredicate));
+      objectMeans = ap (λ (z : Span). termOf (bytesOf text z)) (sym (h .objectAt)) ∙ (ap termOf (b .object)
+          ∙ object-is (d .isObject));
     }
 
 pub read-at : (m : ℕ) (text : List ℕ) (i : ℕ) (l : List ℕ) (n : ℕ) → i < length text → FirstLine (drop i text) l n
@@ -308,7 +330,8 @@ pub read-at : (m : ℕ) (text : List ℕ) (i : ℕ) (l : List ℕ) (n : ℕ) →
 unfolding readOf
 read-at m text i l n h f = let w = line-found (drop i text) l n f in rw (lt-leb (length text) i h, w .0, w .1)
 
-line-answered : (m : ℕ) (text : List ℕ) (i : ℕ) (l : List ℕ) (n : ℕ) → 1 ≤ m → i < length text → FirstLine (drop i text) l n
+line-answered : (m : ℕ) (text : List ℕ) (i : ℕ) (l : List ℕ) (n : ℕ) → 1 ≤ m → i < length text
+    → FirstLine (drop i text) l n
     → LineAnswered m text i l n
 line-answered m text i l n h k f =
     let e = read-at m text i l n k f in
@@ -357,7 +380,8 @@ dark-dot : {C : Type 0} (b : ℕ) → white b ≡ true → 46 ≡ b → C
 unfolding white among
 dark-dot b h e = never (rw (← e) at h)
 
-first-dot : {a b : List ℕ} (s t : List ℕ) → WhiteSpace a → WhiteSpace b → a ++ (46 ∷ s) ≡ b ++ (46 ∷ t) → (a ≡ b) × (s ≡ t)
+first-dot : {a b : List ℕ} (s t : List ℕ) → WhiteSpace a → WhiteSpace b → a ++ (46 ∷ s) ≡ b ++ (46 ∷ t)
+    → (a ≡ b) × (s ≡ t)
 first-dot s t WhiteSpace.none WhiteSpace.none e = (refl, cc)
 first-dot s t WhiteSpace.none (WhiteSpace.more {b = y} h v) e = dark-dot y h (cc)
 first-dot s t (WhiteSpace.more {b = x} h u) WhiteSpace.none e = dark-dot x h (cc)
@@ -375,7 +399,8 @@ record SameLengths {l : List ℕ} (d e : Triple l) : Type 0 where
   between₂ : length (d .between₂) ≡ length (e .between₂)
   object : length (d .object) ≡ length (e .object)
 
-same-spans : (s p o s′ p′ o′ : Span) → Terms (s ∷ (p ∷ (o ∷ []))) ≡ Terms (s′ ∷ (p′ ∷ (o′ ∷ []))) → (s ≡ s′) × (p ≡ p′) × (o ≡ o′)
+same-spans : (s p o s′ p′ o′ : Span) → Terms (s ∷ (p ∷ (o ∷ []))) ≡ Terms (s′ ∷ (p′ ∷ (o′ ∷ [])))
+    → (s ≡ s′) × (p ≡ p′) × (o ≡ o′)
 same-spans s p o s′ p′ o′ e = (cc, cc, cc)
 
 same-lengths : {l : List ℕ} (d e : Triple l) → SameLengths d e
@@ -426,5 +451,6 @@ terms-empty ms e = let z : _≡_ {A = ℕ} 0 1 = cc in absurd (omega arith)
 pub one-derivation : OneDerivation
 one-derivation l d = (
   λ e. same-strings d e,
-  λ t. terms-empty (partsOf 0 d) (unique 0 l (Terms (partsOf 0 d)) Empty (Derives.triple (rest-of 0 d)) (Derives.nothing t)),
+  λ t. terms-empty (partsOf 0 d) (unique 0 l (Terms (partsOf 0 d)) Empty (Derives.triple (rest-of 0 d))
+      (Derives.nothing t)),
 )

@@ -78,7 +78,8 @@ abbrev pub partsOf : {l : List ℕ} → ℕ → Triple l → List Span
 partsOf i d = subjectSpan i d ∷ (predicateSpan i d ∷ (objectSpan i d ∷ []))
 
 -- spaces before the rest of a line
-pad : {w : List ℕ} (n i : ℕ) (s : List ℕ) (ms : List Span) → WhiteSpace w → Rest n (i + length w) s ms → Rest n i (w ++ s) ms
+pad : {w : List ℕ} (n i : ℕ) (s : List ℕ) (ms : List Span) → WhiteSpace w → Rest n (i + length w) s ms
+    → Rest n i (w ++ s) ms
 pad n i s ms WhiteSpace.none r = rw (plus-zero i) at r
 pad n i s ms (WhiteSpace.more {s = w} e v) r = Rest.space e (pad n (i + 1) s ms v (rw (shift i (length w)) r))
 
@@ -161,7 +162,8 @@ last-dot (Rest.space {b = b} e r) =
       trail = t .trail;
       parts = t .parts;
     }
-last-dot (Rest.dot {s = s} t) = record { gap = []; tail = s; splits = refl; blank = WhiteSpace.none; trail = t; parts = refl }
+last-dot (Rest.dot {s =
+    s} t) = record { gap = []; tail = s; splits = refl; blank = WhiteSpace.none; trail = t; parts = refl }
 
 join : (l s t : List ℕ) (w x : List ℕ) → l ≡ w ++ (x ++ s) → s ≡ t → l ≡ w ++ (x ++ t)
 join l s t w x e f = e ∙ rw f
@@ -211,7 +213,8 @@ short-back m c i d h =
     (omega arith, omega arith, omega arith)
 
 -- in a whole line, short parts are parts of at most m bytes
-pub rest-fits : {n i : ℕ} {l : List ℕ} {ms : List Span} (m c : ℕ) → Rest n i l ms → c ≡ i + length l → ShortParts m c ms → Fit m ms
+pub rest-fits : {n i : ℕ} {l : List ℕ} {ms : List Span} (m c : ℕ) → Rest n i l ms → c ≡ i + length l
+    → ShortParts m c ms → Fit m ms
 rest-fits m c (Rest.space e r) z h = rest-fits m c r (omega arith) h
 rest-fits m c (Rest.term t s e k p r) z h =
     let w = ap length e ∙ length-append t s in
@@ -231,7 +234,8 @@ within-forth m i c d h =
     (omega arith, (omega arith, (omega arith, tt)))
 
 -- viability is the same at every position
-viable-forth : (m i : ℕ) (p rest : List ℕ) → Trail (p ++ rest) ⊎ ((d : Triple (p ++ rest)) × ShortTerms m (length p) d) → Continued m i p
+viable-forth : (m i : ℕ) (p rest : List ℕ)
+    → Trail (p ++ rest) ⊎ ((d : Triple (p ++ rest)) × ShortTerms m (length p) d) → Continued m i p
 viable-forth m i p rest v =
     ⊎-elim (λ t. record { rest = rest; gives = Empty; line = Derives.nothing t; short = tt })
     (λ w. record {
@@ -241,10 +245,12 @@ viable-forth m i p rest v =
       short = short-forth m (length p) i (w .0) (w .1);
     }) v
 
-viable-back : (m i : ℕ) (p rest : List ℕ) (r : Outcome) → Derives i (p ++ rest) r → ShortOutcome m (i + length p) r → Viable m p
+viable-back : (m i : ℕ) (p rest : List ℕ) (r : Outcome) → Derives i (p ++ rest) r → ShortOutcome m (i + length p) r
+    → Viable m p
 viable-back m i p rest r (Derives.nothing t) h = record { rest = rest; line = inl t }
 viable-back m i p rest r (Derives.triple t) h =
     let d = derivation t in record { rest = rest; line = inr (d .0, short-back m (length p) i (d .0) (rw (d .1) at h)) }
 
 pub viable-is : (m i : ℕ) (p : List ℕ) → Viable m p ↔ Continued m i p
-viable-is m i p = (λ v. viable-forth m i p (v .rest) (v .line), λ c. viable-back m i p (c .rest) (c .gives) (c .line) (c .short))
+viable-is m i p =
+    (λ v. viable-forth m i p (v .rest) (v .line), λ c. viable-back m i p (c .rest) (c .gives) (c .line) (c .short))

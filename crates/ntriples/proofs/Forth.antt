@@ -14,13 +14,66 @@ use Rattle.term.specs.Scanner.{stepOf, runOf, wholeOf, isBad, firstKindOf}
 use Rattle.term.specs.Grammar.{Name}
 use Rattle.term.specs.Grammar as names
 use Rattle.term.specs.declared.Scan.{Scan}
-use Rattle.term.specs.declared.Scan.the-variants.{Start, IriOpen, Iri, Closed, Under, Colon, Label, Dot, Dots, Text, Escape, Quote, At, Tag, Hyphen, Group, Caret, Carets, Bad}
+use Rattle.term.specs.declared.Scan.the-variants.{
+  Start,
+  IriOpen,
+  Iri,
+  Closed,
+  Under,
+  Colon,
+  Label,
+  Dot,
+  Dots,
+  Text,
+  Escape,
+  Quote,
+  At,
+  Tag,
+  Hyphen,
+  Group,
+  Caret,
+  Carets,
+  Bad,
+}
 use Rattle.term.proofs.Names.{Accepts, never, bad, name-back, name-forth, name-kind}
 use Rattle.ntriples.specs.declared.Span.{Span}
 use Rattle.ntriples.specs.Grammar.{span, white, commentByte, Trail, Comment, Short}
 use Rattle.ntriples.proofs.Rest.{Rest, Derives, ShortParts, ShortOutcome, Continued}
-use Rattle.ntriples.specs.Reader.{Outcome, Empty, Terms, Fails, permitted, Place, Begin, Gap, Inside, After, Noted, Remark, Broken, isDot, opens, dotted, afterOf, enterOf, gapOf, goesOnOf, leaveOf, advanceOf}
-use Rattle.ntriples.proofs.Residual.{Following, Going, Dotting, Residual, cases, shift, plus-zero, back-one, dotted-facts}
+use Rattle.ntriples.specs.Reader.{
+  Outcome,
+  Empty,
+  Terms,
+  Fails,
+  permitted,
+  Place,
+  Begin,
+  Gap,
+  Inside,
+  After,
+  Noted,
+  Remark,
+  Broken,
+  isDot,
+  opens,
+  dotted,
+  afterOf,
+  enterOf,
+  gapOf,
+  goesOnOf,
+  leaveOf,
+  advanceOf,
+}
+use Rattle.ntriples.proofs.Residual.{
+  Following,
+  Going,
+  Dotting,
+  Residual,
+  cases,
+  shift,
+  plus-zero,
+  back-one,
+  dotted-facts,
+}
 
 -- what holds of a place that a reading reaches: the parts so far are short, and a predicate is scanned as an IRI
 unfoldable pub iriish : Scan → Bool
@@ -69,7 +122,8 @@ white-byte b f g h =
     cases (λ x. x ≡ true) (eqb b 32) true _ (λ e _. f (eqb-true b 32 e))
     (λ _ k. cases (λ x. x ≡ true) (eqb b 9) true false (λ e _. g (eqb-true b 9 e)) (λ _ z. never z) k) h
 
-pub opening : {C : Type 0} (n b : ℕ) → (b ≡ 60 → C) → (b ≡ 95 → permitted n 2 ≡ true → C) → (b ≡ 34 → permitted n 3 ≡ true → C) → opens n b ≡ true → C
+pub opening : {C : Type 0} (n b : ℕ) → (b ≡ 60 → C) → (b ≡ 95 → permitted n 2 ≡ true → C)
+    → (b ≡ 34 → permitted n 3 ≡ true → C) → opens n b ≡ true → C
 unfolding opens firstKindOf
 opening n b f g k h =
     let P : ℕ → Type 0 = λ x. pick (eqb x 0) false (permitted n x) ≡ true in
@@ -104,7 +158,8 @@ dark-dot = refl
 
 -- a whole name does not go on with a space, a tab or `<`, nor with a dot if it is no label
 whole-ends : (q : Scan) → wholeOf q ≡ true
-    → (isBad (stepOf q 32) ≡ true) × (isBad (stepOf q 9) ≡ true) × (isBad (stepOf q 60) ≡ true) × ((isBad (stepOf q 46) ≡ true) ⊎ (q ≡ Label))
+    → (isBad (stepOf q 32) ≡ true) × (isBad (stepOf q 9) ≡ true) × (isBad (stepOf q 60) ≡ true) × ((isBad
+    (stepOf q 46) ≡ true) ⊎ (q ≡ Label))
 unfolding stepOf isBad wholeOf iriByte textByte pairByte firstByte labelByte letter alnum among
 whole-ends Start h = never h
 whole-ends IriOpen h = never h
@@ -197,7 +252,8 @@ accepts-alive Caret s h = refl
 accepts-alive Carets s h = refl
 accepts-alive Bad s h = bad s h
 
-after-forth : (i : ℕ) (ms : List Span) (b : ℕ) (l : List ℕ) (r : Outcome) → Trail (b ∷ l) → r ≡ Terms ms → Residual (i + 1) (afterOf i ms b) l r
+after-forth : (i : ℕ) (ms : List Span) (b : ℕ) (l : List ℕ) (r : Outcome) → Trail (b ∷ l) → r ≡ Terms ms
+    → Residual (i + 1) (afterOf i ms b) l r
 unfolding afterOf
 after-forth i ms b l r (Trail.space e t) g = rw e (t, g)
 after-forth i ms b l r (Trail.comment t) g = rw dark-hash (t, g)
@@ -211,7 +267,8 @@ pub enter-eq : (i : ℕ) (ms : List Span) (n b : ℕ) → opens n b ≡ true →
 unfolding enterOf
 enter-eq i ms n b e = rw e
 
-pub gap-enter : (i : ℕ) (ms : List Span) (n b : ℕ) → opens n b ≡ true → gapOf i ms (suc n) b ≡ Inside ms n (stepOf Start b) i
+pub gap-enter : (i : ℕ) (ms : List Span) (n b : ℕ) → opens n b ≡ true
+    → gapOf i ms (suc n) b ≡ Inside ms n (stepOf Start b) i
 unfolding gapOf
 gap-enter i ms n b e = rw (opens-dark n b e, enter-eq i ms n b e)
 
@@ -233,8 +290,10 @@ unfolding opens
 name-opens n k b s h e = let q : firstKindOf (b ∷ []) ≡ k = same-kind b s ∙ name-kind h in rw (q, kind-some h) e
 
 -- a term's first byte, in a list that begins with b
-term-forth : (i : ℕ) (ms parts : List Span) (n k b : ℕ) (l t s : List ℕ) (r : Outcome) → b ∷ l ≡ t ++ s → Name k t → permitted n k ≡ true
-    → Rest n (i + length t) s parts → r ≡ Terms (ms ++ (span i (i + length t) ∷ parts)) → Residual (i + 1) (gapOf i ms (suc n) b) l r
+term-forth : (i : ℕ) (ms parts : List Span) (n k b : ℕ) (l t s : List ℕ) (r : Outcome) → b ∷ l ≡ t ++ s → Name k t
+    → permitted n k ≡ true
+    → Rest n (i + length t) s parts → r ≡ Terms (ms ++ (span i (i + length t) ∷ parts))
+    → Residual (i + 1) (gapOf i ms (suc n) b) l r
 unfolding runOf
 term-forth i ms parts n k b l [] s r e h p rest g = no-empty h
 term-forth i ms parts n k b l (c ∷ t) s r e h p rest g =
@@ -248,14 +307,24 @@ term-forth i ms parts n k b l (c ∷ t) s r e h p rest g =
       tail = s;
       splits = el;
       whole = a;
-      follows = record { parts = parts; rest = rw (shift i (length t)) rest; gives = rw (shift i (length t), append-assoc) g };
+      follows = record {
+        parts = parts;
+        rest = rw (shift i (length t)) rest;
+        gives = rw (
+          shift i
+              (length t),
+          append-assoc,
+        ) g;
+      };
     })
 
-gap-forth : (i : ℕ) (ms parts : List Span) (n b : ℕ) (l : List ℕ) (r : Outcome) → Rest n i (b ∷ l) parts → r ≡ Terms (ms ++ parts)
+gap-forth : (i : ℕ) (ms parts : List Span) (n b : ℕ) (l : List ℕ) (r : Outcome) → Rest n i (b ∷ l) parts
+    → r ≡ Terms (ms ++ parts)
     → Residual (i + 1) (gapOf i ms n b) l r
 unfolding gapOf
 gap-forth i ms parts n b l r (Rest.space e t) g = rw (gap-space i ms n b e) record { parts = parts; rest = t; gives = g }
-gap-forth i ms parts n b l r (Rest.term {n = n′} {k = k} {ms = ps} t s e h p rest) g = term-forth i ms ps n′ k b l t s r e h p rest g
+gap-forth i ms parts n b l r (Rest.term {n =
+    n′} {k = k} {ms = ps} t s e h p rest) g = term-forth i ms ps n′ k b l t s r e h p rest g
 gap-forth i ms parts n b l r (Rest.dot t) g = rw dark-dot (t, rw append-nil at g)
 
 first-opens : (n k b : ℕ) (l t s : List ℕ) → b ∷ l ≡ t ++ s → Name k t → permitted n k ≡ true → opens n b ≡ true
@@ -270,8 +339,10 @@ open-stops (suc (suc n)) b q w s o = absurd (let h = s .few in omega arith)
 
 stops : (i n b : ℕ) (q : Scan) (l : List ℕ) (parts : List Span) → wholeOf q ≡ true → Sane n q → Rest n i (b ∷ l) parts
     → (isBad (stepOf q b) ≡ true) ⊎ ((n ≡ 0) × (q ≡ Label) × (b ≡ 46) × Trail l × (parts ≡ []))
-stops i n b q l parts w s (Rest.space e t) = inl (white-byte b (λ z. rw z (whole-ends q w .0)) (λ z. rw z (whole-ends q w .1)) e)
-stops i n b q l parts w s (Rest.term {n = n′} {k = k} t u e h p rest) = inl (open-stops n′ b q w s (first-opens n′ k b l t u e h p))
+stops i n b q l parts w s (Rest.space e t) =
+    inl (white-byte b (λ z. rw z (whole-ends q w .0)) (λ z. rw z (whole-ends q w .1)) e)
+stops i n b q l parts w s (Rest.term {n =
+    n′} {k = k} t u e h p rest) = inl (open-stops n′ b q w s (first-opens n′ k b l t u e h p))
 stops i n b q l parts w s (Rest.dot t) = ⊎-elim (λ z. inl z) (λ z. inr (refl, z, refl, t, refl)) (whole-ends q w .3)
 
 pub on-leave : (m i : ℕ) (ms : List Span) (n : ℕ) (q : Scan) (a b : ℕ) → isBad (stepOf q b) ≡ true → wholeOf q ≡ true
@@ -298,7 +369,8 @@ dot-lone : dotted 0 Dot ≡ true
 unfolding dotted isDot
 dot-lone = refl
 
-dot-case : (c : Bool) (i : ℕ) (ms : List Span) (a : ℕ) (l : List ℕ) (r : Outcome) → Trail l → r ≡ Terms (ms ++ (span a i ∷ []))
+dot-case : (c : Bool) (i : ℕ) (ms : List Span) (a : ℕ) (l : List ℕ) (r : Outcome) → Trail l
+    → r ≡ Terms (ms ++ (span a i ∷ []))
     → Residual (i + 1) (pick c (Inside ms 0 Dot a) (After (ms ++ (span a i ∷ [])))) l r
 dot-case true i ms a l r t g = inr record { lone = dot-lone; trail = t; gives = rw (back-one i) g }
 dot-case false i ms a l r t g = (t, g)
@@ -308,20 +380,25 @@ trail-stops {b} (Trail.space e t) = white-byte b (λ z. rw z (dot-ends .0)) (λ 
 trail-stops (Trail.comment t) = dot-ends .2
 
 -- the bound of the term that is being read
-short-mid : (m c : ℕ) (xs : List Span) (p : Span) (ys : List Span) → ShortParts m c ((xs ++ (p ∷ [])) ++ ys) → min (p .end) c ≤ p .start + m
+short-mid : (m c : ℕ) (xs : List Span) (p : Span) (ys : List Span) → ShortParts m c ((xs ++ (p ∷ [])) ++ ys)
+    → min (p .end) c ≤ p .start + m
 short-mid m c [] p ys h = h .0
 short-mid m c (x ∷ xs) p ys h = short-mid m c xs p ys (h .1)
 
-ended-forth : (m i : ℕ) (ms : List Span) (n : ℕ) (q : Scan) (a b : ℕ) (l : List ℕ) (r : Outcome) → wholeOf q ≡ true → Sane n q
+ended-forth : (m i : ℕ) (ms : List Span) (n : ℕ) (q : Scan) (a b : ℕ) (l : List ℕ) (r : Outcome) → wholeOf q ≡ true
+    → Sane n q
     → Following i (ms ++ (span a i ∷ [])) n (b ∷ l) r → Residual (i + 1) (advanceOf m i (Inside ms n q a) b) l r
 ended-forth m i ms n q a b l r w s f =
-    ⊎-elim (λ e. rw (on-leave m i ms n q a b e w) (gap-forth i (ms ++ (span a i ∷ [])) (f .parts) n b l r (f .rest) (f .gives)))
+    ⊎-elim (λ e. rw (on-leave m i ms n q a b e w) (gap-forth i (ms ++ (span a i ∷ [])) (f .parts) n b l r (f .rest)
+    (f .gives)))
     (λ z. let g : r ≡ Terms (ms ++ (span a i ∷ [])) = rw (z .4, append-nil) at (f .gives) in
     rw (z .0, z .1, z .2, on-dot m i ms a) (dot-case (ltb i (a + m)) i ms a l r (z .3) g))
     (stops i n b q l (f .parts) w s (f .rest))
 
-going-forth : (m c i : ℕ) (ms : List Span) (n : ℕ) (q : Scan) (a b : ℕ) (l : List ℕ) (r : Outcome) → Sane n q → ShortOutcome m c r → i < c
-    → (t s : List ℕ) → b ∷ l ≡ t ++ s → Accepts q t → Following (i + length t) (ms ++ (span a (i + length t) ∷ [])) n s r
+going-forth : (m c i : ℕ) (ms : List Span) (n : ℕ) (q : Scan) (a b : ℕ) (l : List ℕ) (r : Outcome) → Sane n q
+    → ShortOutcome m c r → i < c
+    → (t s : List ℕ) → b ∷ l ≡ t ++ s → Accepts q t
+    → Following (i + length t) (ms ++ (span a (i + length t) ∷ [])) n s r
     → Residual (i + 1) (advanceOf m i (Inside ms n q a) b) l r
 unfolding runOf
 going-forth m c i ms n q a b l r sane short h [] s e w f =
@@ -339,7 +416,8 @@ dotting-forth : (m i : ℕ) (ms : List Span) (n : ℕ) (q : Scan) (a b : ℕ) (l
     → Dotting i ms n q a (b ∷ l) r → Residual (i + 1) (advanceOf m i (Inside ms n q a) b) l r
 dotting-forth m i ms n q a b l r d =
     let k = dotted-facts n q (d .lone) in
-    rw (k .0, is-dot q (k .1), on-dotted m i ms a b (trail-stops (d .trail))) (after-forth i (ms ++ (span a (i - 1) ∷ [])) b l r (d .trail) (d .gives))
+    rw (k .0, is-dot q (k .1), on-dotted m i ms a b (trail-stops (d .trail))) (after-forth i (ms ++ (span a
+    (i - 1) ∷ [])) b l r (d .trail) (d .gives))
 
 pub opens-hash : (n b : ℕ) → opens n b ≡ true → eqb b 35 ≡ false
 opens-hash n b h = opening n b (λ e. rw e) (λ e _. rw e) (λ e _. rw e) h
@@ -353,26 +431,32 @@ unfolding advanceOf
 begin-trail m i b l (Trail.space e t) = rw e (Derives.nothing t)
 begin-trail m i b l (Trail.comment t) = rw dark-hash (t, refl)
 
-begin-rest : (m i b : ℕ) (l : List ℕ) (parts : List Span) → Rest 3 i (b ∷ l) parts → Residual (i + 1) (advanceOf m i Begin b) l (Terms parts)
+begin-rest : (m i b : ℕ) (l : List ℕ) (parts : List Span) → Rest 3 i (b ∷ l) parts
+    → Residual (i + 1) (advanceOf m i Begin b) l (Terms parts)
 unfolding advanceOf
 begin-rest m i b l parts (Rest.space e t) = rw e (Derives.triple t)
 begin-rest m i b l parts (Rest.term {k = k} {ms = ps} t s e h p rest) =
-    rw (← begin-enter m i b (first-opens 2 k b l t s e h p)) (term-forth i [] ps 2 k b l t s (Terms parts) e h p rest refl)
+    rw (← begin-enter m i b (first-opens 2 k b l t s e h p)) (term-forth i [] ps 2 k b l t s
+    (Terms parts) e h p rest refl)
 
-begin-forth : (m i b : ℕ) (l : List ℕ) (r : Outcome) → Derives i (b ∷ l) r → Residual (i + 1) (advanceOf m i Begin b) l r
+begin-forth : (m i b : ℕ) (l : List ℕ) (r : Outcome) → Derives i (b ∷ l) r
+    → Residual (i + 1) (advanceOf m i Begin b) l r
 begin-forth m i b l r (Derives.nothing t) = begin-trail m i b l t
 begin-forth m i b l r (Derives.triple {ms = parts} t) = begin-rest m i b l parts t
 
-note-forth : (m i : ℕ) (ms : List Span) (b : ℕ) (l : List ℕ) (r : Outcome) → Comment (b ∷ l) → r ≡ Terms ms → Residual (i + 1) (advanceOf m i (Noted ms) b) l r
+note-forth : (m i : ℕ) (ms : List Span) (b : ℕ) (l : List ℕ) (r : Outcome) → Comment (b ∷ l) → r ≡ Terms ms
+    → Residual (i + 1) (advanceOf m i (Noted ms) b) l r
 unfolding advanceOf
 note-forth m i ms b l r (Comment.byte e t) g = rw e (t, g)
 
-remark-forth : (m i : ℕ) (b : ℕ) (l : List ℕ) (r : Outcome) → Comment (b ∷ l) → r ≡ Empty → Residual (i + 1) (advanceOf m i Remark b) l r
+remark-forth : (m i : ℕ) (b : ℕ) (l : List ℕ) (r : Outcome) → Comment (b ∷ l) → r ≡ Empty
+    → Residual (i + 1) (advanceOf m i Remark b) l r
 unfolding advanceOf
 remark-forth m i b l r (Comment.byte e t) g = rw e (t, g)
 
--- FORTH
-pub advance-forth : (m c i : ℕ) (p : Place) (b : ℕ) (l : List ℕ) (r : Outcome) → Good m i p → ShortOutcome m c r → i < c → Residual i p (b ∷ l) r
+-- What may follow b may follow after b, if no term is too long so far.
+pub advance-forth : (m c i : ℕ) (p : Place) (b : ℕ) (l : List ℕ) (r : Outcome) → Good m i p → ShortOutcome m c r
+    → i < c → Residual i p (b ∷ l) r
     → Residual (i + 1) (advanceOf m i p b) l r
 unfolding advanceOf
 advance-forth m c i Begin b l r g s h d = begin-forth m i b l r d

@@ -84,29 +84,36 @@ pub record Halted (text : List ℕ) (stop cut a i : ℕ) (q : Scan) (h : Halt) :
   pub low : i ≤ h .at
   pub high : h .at ≤ cut
   pub stuck : h .at < cut → isBad (stepOf (h .state) (getD text (h .at) 0)) ≡ true
-  pub same : (ms : List Span) (n : ℕ) → onward text stop i (Inside ms n q a) ≡ onward text stop (h .at) (Inside ms n (h .state) a)
+  pub same : (ms : List Span) (n : ℕ) → onward text stop i (Inside ms n q a) ≡ onward text stop (h .at) (Inside ms n
+      (h .state) a)
 
-halt-none : (text : List ℕ) (i cut : ℕ) (q : Scan) → cut ≤ i → haltOf q i (slice i cut text) ≡ record { state = q; at = i }
+halt-none : (text : List ℕ) (i cut : ℕ) (q : Scan) → cut ≤ i → haltOf q i (slice i cut text) ≡ record
+    { state = q; at = i }
 unfolding haltOf
 halt-none text i cut q h = rw (slice-none text i cut h)
 
-halt-bad : (text : List ℕ) (i cut : ℕ) (q : Scan) → i < cut → cut ≤ length text → isBad (stepOf q (getD text i 0)) ≡ true
+halt-bad : (text : List ℕ) (i cut : ℕ) (q : Scan) → i < cut → cut ≤ length text
+    → isBad (stepOf q (getD text i 0)) ≡ true
     → haltOf q i (slice i cut text) ≡ record { state = q; at = i }
 unfolding haltOf
 halt-bad text i cut q h k e = rw (slice-next text i cut h k, haltOf, e)
 
-halt-next : (text : List ℕ) (i cut : ℕ) (q : Scan) → i < cut → cut ≤ length text → isBad (stepOf q (getD text i 0)) ≡ false
+halt-next : (text : List ℕ) (i cut : ℕ) (q : Scan) → i < cut → cut ≤ length text
+    → isBad (stepOf q (getD text i 0)) ≡ false
     → haltOf q i (slice i cut text) ≡ haltOf (stepOf q (getD text i 0)) (i + 1) (slice (i + 1) cut text)
 unfolding haltOf
 halt-next text i cut q h k e = rw (slice-next text i cut h k, haltOf, e)
 
-inside-next : (text : List ℕ) (stop a i : ℕ) (ms : List Span) (n : ℕ) (q : Scan) → i < stop → stop ≤ length text → i < a + 255
+inside-next : (text : List ℕ) (stop a i : ℕ) (ms : List Span) (n : ℕ) (q : Scan) → i < stop → stop ≤ length text
+    → i < a + 255
     → isBad (stepOf q (getD text i 0)) ≡ false
     → onward text stop i (Inside ms n q a) ≡ onward text stop (i + 1) (Inside ms n (stepOf q (getD text i 0)) a)
 inside-next text stop a i ms n q h k l e =
-    onward-next text stop i (Inside ms n q a) h k ∙ ap (onward text stop (i + 1)) (on-go 255 i ms n q a (getD text i 0) e l)
+    onward-next text stop i (Inside ms n q a) h k ∙ ap (onward text stop (i + 1)) (on-go 255 i ms n q a
+    (getD text i 0) e l)
 
-halted-next : (text : List ℕ) (stop cut a i : ℕ) (q : Scan) (h : Halt) → i < cut → cut ≤ stop → stop ≤ length text → cut ≤ a + 255
+halted-next : (text : List ℕ) (stop cut a i : ℕ) (q : Scan) (h : Halt) → i < cut → cut ≤ stop → stop ≤ length text
+    → cut ≤ a + 255
     → isBad (stepOf q (getD text i 0)) ≡ false → Halted text stop cut a (i + 1) (stepOf q (getD text i 0)) h
     → Halted text stop cut a i q h
 halted-next text stop cut a i q h lt c t l z w =
@@ -119,7 +126,8 @@ halted-next text stop cut a i q h lt c t l z w =
     }
 
 -- the scan goes by fuel, the bytes up to `cut`
-pub halted : (k : ℕ) (text : List ℕ) (stop cut a i : ℕ) (q : Scan) → i + k ≡ cut → cut ≤ stop → stop ≤ length text → cut ≤ a + 255
+pub halted : (k : ℕ) (text : List ℕ) (stop cut a i : ℕ) (q : Scan) → i + k ≡ cut → cut ≤ stop → stop ≤ length text
+    → cut ≤ a + 255
     → Halted text stop cut a i q (haltOf q i (slice i cut text))
 halted zero text stop cut a i q e c t l =
     rw (halt-none text i cut q (omega arith))
@@ -143,7 +151,8 @@ pub record TermHalted (text : List ℕ) (stop a : ℕ) (h : Halt) : Type 0 where
   pub same : (ms : List Span) (n : ℕ) → opens n (getD text a 0) ≡ true
       → onward text stop a (Gap ms (suc n)) ≡ onward text stop (h .at) (Inside ms n (h .state) a)
 
-gap-inside : (text : List ℕ) (stop a : ℕ) (ms : List Span) (n : ℕ) → a < stop → stop ≤ length text → opens n (getD text a 0) ≡ true
+gap-inside : (text : List ℕ) (stop a : ℕ) (ms : List Span) (n : ℕ) → a < stop → stop ≤ length text
+    → opens n (getD text a 0) ≡ true
     → onward text stop a (Gap ms (suc n)) ≡ onward text stop (a + 1) (Inside ms n (stepOf Start (getD text a 0)) a)
 unfolding advanceOf
 gap-inside text stop a ms n h k o =
@@ -175,7 +184,8 @@ unfolding nearCut cutOf
 cut-far a stop e =
     let z = ltb-true (a + 255) stop e in (
       rw e,
-      ⊎-elim (λ f. rw f (omega arith)) (λ f. let y = ltb-false (a + 256) stop f in rw f (omega arith)) (decide (ltb (a + 256) stop)),
+      ⊎-elim (λ f. rw f (omega arith)) (λ f. let y = ltb-false (a + 256) stop f in rw f (omega arith)) (decide (ltb
+          (a + 256) stop)),
     )
 
 pub cut-near : (a stop : ℕ) → stop ≤ a + 255 → cutOf a stop ≡ stop
@@ -223,7 +233,8 @@ unfolding onward endOf
 onward-broken text stop i k = rw (stays 255 i k (slice i stop text))
 
 -- the reading after the byte at i, if it comes to the place p there
-pub step-to : (text : List ℕ) (stop i : ℕ) (p r : Place) → i < stop → stop ≤ length text → advanceOf 255 i p (getD text i 0) ≡ r
+pub step-to : (text : List ℕ) (stop i : ℕ) (p r : Place) → i < stop → stop ≤ length text
+    → advanceOf 255 i p (getD text i 0) ≡ r
     → onward text stop i p ≡ onward text stop (i + 1) r
 step-to text stop i p r h k e = onward-next text stop i p h k ∙ ap (onward text stop (i + 1)) e
 
@@ -243,32 +254,39 @@ lone-dot : (q : Scan) → isDot q ≡ true → dotted 0 q ≡ true
 unfolding dotted
 lone-dot q h = h
 
-pub at-end : (text : List ℕ) (stop i : ℕ) (p : Place) (r : Outcome) → stop ≤ i → endOf stop p ≡ r → onward text stop i p ≡ r
+pub at-end : (text : List ℕ) (stop i : ℕ) (p : Place) (r : Outcome) → stop ≤ i → endOf stop p ≡ r
+    → onward text stop i p ≡ r
 at-end text stop i p r h e = onward-end text stop i p h ∙ e
 
 by-end : {C : Type 0} (i stop : ℕ) → (i < stop → C) → (stop ≤ i → C) → C
 by-end i stop f g = ⊎-elim (λ e. f (ltb-true i stop e)) (λ e. g (ltb-false i stop e)) (decide (ltb i stop))
 
-end-whole : (text : List ℕ) (stop a i : ℕ) (ms : List Span) (n : ℕ) (q : Scan) → i ≤ stop → stop ≤ length text → wholeOf q ≡ true
+end-whole : (text : List ℕ) (stop a i : ℕ) (ms : List Span) (n : ℕ) (q : Scan) → i ≤ stop → stop ≤ length text
+    → wholeOf q ≡ true
     → (i < stop → isBad (stepOf q (getD text i 0)) ≡ true)
     → onward text stop i (Inside ms n q a) ≡ onward text stop i (Gap (ms ++ (span a i ∷ [])) n)
 unfolding endOf advanceOf
 end-whole text stop a i ms n q l k w b =
     by-end i stop
-    (λ h. step-to text stop i (Inside ms n q a) (gapOf i (ms ++ (span a i ∷ [])) n (getD text i 0)) h k (on-leave 255 i ms n q a (getD text i 0) (b h) w)
-    ∙ sym (step-to text stop i (Gap (ms ++ (span a i ∷ [])) n) (gapOf i (ms ++ (span a i ∷ [])) n (getD text i 0)) h k refl))
+    (λ h. step-to text stop i (Inside ms n q a) (gapOf i (ms ++ (span a i ∷ [])) n (getD text i 0)) h k
+    (on-leave 255 i ms n q a (getD text i 0) (b h) w)
+    ∙ sym (step-to text stop i (Gap (ms ++ (span a i ∷ [])) n) (gapOf i (ms ++ (span a i ∷ [])) n
+    (getD text i 0)) h k refl))
     (λ h. at-end text stop i (Inside ms n q a) (Fails stop) h (rw (whole-dotless n q w))
     ∙ sym (at-end text stop i (Gap (ms ++ (span a i ∷ [])) n) (Fails stop) h refl))
 
-end-fails : (text : List ℕ) (stop a i : ℕ) (ms : List Span) (n : ℕ) (q : Scan) → i ≤ stop → stop ≤ length text → wholeOf q ≡ false
-    → dotted n q ≡ false → (i < stop → isBad (stepOf q (getD text i 0)) ≡ true) → onward text stop i (Inside ms n q a) ≡ Fails i
+end-fails : (text : List ℕ) (stop a i : ℕ) (ms : List Span) (n : ℕ) (q : Scan) → i ≤ stop → stop ≤ length text
+    → wholeOf q ≡ false
+    → dotted n q ≡ false → (i < stop → isBad (stepOf q (getD text i 0)) ≡ true)
+    → onward text stop i (Inside ms n q a) ≡ Fails i
 unfolding endOf advanceOf leaveOf
 end-fails text stop a i ms n q l k w d b =
     by-end i stop
     (λ h. step-to text stop i (Inside ms n q a) (Broken i) h k (rw (b h, w, d)) ∙ onward-broken text stop (i + 1) i)
     (λ h. let e : stop ≡ i = omega arith in at-end text stop i (Inside ms n q a) (Fails i) h (rw d (ap Fails e)))
 
-end-over : (text : List ℕ) (stop a i : ℕ) (ms : List Span) (n : ℕ) (q : Scan) → stop ≤ length text → Over text stop a i q
+end-over : (text : List ℕ) (stop a i : ℕ) (ms : List Span) (n : ℕ) (q : Scan) → stop ≤ length text
+    → Over text stop a i q
     → dotted n (stepOf q (getD text i 0)) ≡ false → onward text stop i (Inside ms n q a) ≡ Fails i
 unfolding advanceOf goesOnOf
 end-over text stop a i ms n q k o d =
@@ -276,7 +294,8 @@ end-over text stop a i ms n q k o d =
     ∙ onward-broken text stop (i + 1) i
 
 over-dot : (text : List ℕ) (stop a i : ℕ) (ms : List Span) (q : Scan) → stop ≤ length text → Over text stop a i q
-    → isDot (stepOf q (getD text i 0)) ≡ true → onward text stop i (Inside ms 0 q a) ≡ onward text stop (i + 1) (After (ms ++ (span a i ∷ [])))
+    → isDot (stepOf q (getD text i 0)) ≡ true
+    → onward text stop i (Inside ms 0 q a) ≡ onward text stop (i + 1) (After (ms ++ (span a i ∷ [])))
 unfolding advanceOf goesOnOf
 over-dot text stop a i ms q k o d =
     step-to text stop i (Inside ms 0 q a) (After (ms ++ (span a i ∷ []))) (o .before) k
@@ -293,15 +312,21 @@ unfolding endOf advanceOf leaveOf
 end-dot text stop a i ms q l k d b =
     let r = ms ++ (span a (i - 1) ∷ []) in
     by-end i stop
-    (λ h. step-to text stop i (Inside ms 0 q a) (afterOf i r (getD text i 0)) h k (rw (b h, dot-not-whole q d, lone-dot q d))
+    (λ h. step-to text stop i (Inside ms 0 q a) (afterOf i r (getD text i 0)) h k (rw
+    (b h, dot-not-whole q d, lone-dot q d))
     ∙ sym (step-to text stop i (After r) (afterOf i r (getD text i 0)) h k refl))
     (λ h. let e : stop ≡ i = omega arith in
-    at-end text stop i (Inside ms 0 q a) (Terms r) h (rw (lone-dot q d, e)) ∙ sym (at-end text stop i (After r) (Terms r) h refl))
+    at-end text stop i (Inside ms 0 q a) (Terms r) h (rw (lone-dot q d, e)) ∙ sym (at-end text stop i (After r)
+    (Terms r) h refl))
 
 -- A scan over one byte more: it takes that byte, or halts where it halted.
 more : List ℕ → ℕ → Halt → Halt
 more text c h =
-    pick (eqb (h .at) c) (pick (isBad (stepOf (h .state) (getD text c 0))) h record { state = stepOf (h .state) (getD text c 0); at = c + 1 }) h
+    pick (eqb (h .at) c) (pick (isBad (stepOf (h .state) (getD text c 0))) h record {
+      state = stepOf (h .state)
+          (getD text c 0);
+      at = c + 1;
+    }) h
 
 more-bad : (text : List ℕ) (c i : ℕ) (q : Scan) → isBad (stepOf q (getD text i 0)) ≡ true
     → more text c record { state = q; at = i } ≡ record { state = q; at = i }
@@ -323,7 +348,8 @@ halt-more zero text c i q e t =
     let none : c ≤ i = omega arith in
     let end : c + 1 ≤ i + 1 = omega arith in
     ⊎-elim
-    (λ z. halt-bad text i (c + 1) q lt le z ∙ (sym (more-bad text c i q z) ∙ ap (more text c) (sym (halt-none text i c q none))))
+    (λ z. halt-bad text i (c + 1) q lt le z ∙ (sym (more-bad text c i q z) ∙ ap (more text c) (sym
+    (halt-none text i c q none))))
     (λ z. halt-next text i (c + 1) q lt le z
     ∙ (halt-none text (i + 1) (c + 1) (stepOf q (getD text i 0)) end
     ∙ (rw y (sym (more-here text c q (rw y at z))) ∙ ap (more text c) (sym (halt-none text i c q none)))))
@@ -334,20 +360,24 @@ halt-more (suc k) text c i q e t =
     let lt′ : i < c = omega arith in
     let le′ : c ≤ length text = omega arith in
     ⊎-elim
-    (λ z. halt-bad text i (c + 1) q lt le z ∙ (sym (more-bad text c i q z) ∙ ap (more text c) (sym (halt-bad text i c q lt′ le′ z))))
+    (λ z. halt-bad text i (c + 1) q lt le z ∙ (sym (more-bad text c i q z) ∙ ap (more text c) (sym
+    (halt-bad text i c q lt′ le′ z))))
     (λ z. halt-next text i (c + 1) q lt le z
-    ∙ (halt-more k text c (i + 1) (stepOf q (getD text i 0)) (omega arith) t ∙ ap (more text c) (sym (halt-next text i c q lt′ le′ z))))
+    ∙ (halt-more k text c (i + 1) (stepOf q (getD text i 0)) (omega arith) t ∙ ap (more text c) (sym
+    (halt-next text i c q lt′ le′ z))))
     (decide (isBad (stepOf q (getD text i 0))))
 
 more-away : (text : List ℕ) (c : ℕ) (h : Halt) → eqb (h .at) c ≡ false → more text c h ≡ h
 unfolding more
 more-away text c h e = rw e
 
-more-stuck : (text : List ℕ) (c : ℕ) (h : Halt) → eqb (h .at) c ≡ true → isBad (stepOf (h .state) (getD text c 0)) ≡ true → more text c h ≡ h
+more-stuck : (text : List ℕ) (c : ℕ) (h : Halt) → eqb (h .at) c ≡ true
+    → isBad (stepOf (h .state) (getD text c 0)) ≡ true → more text c h ≡ h
 unfolding more
 more-stuck text c h e z = rw (e, z)
 
-more-goes : (text : List ℕ) (c : ℕ) (h : Halt) → eqb (h .at) c ≡ true → isBad (stepOf (h .state) (getD text c 0)) ≡ false
+more-goes : (text : List ℕ) (c : ℕ) (h : Halt) → eqb (h .at) c ≡ true
+    → isBad (stepOf (h .state) (getD text c 0)) ≡ false
     → more text c h ≡ record { state = stepOf (h .state) (getD text c 0); at = c + 1 }
 unfolding more
 more-goes text c h e z = rw (e, z)
@@ -409,7 +439,8 @@ scanned-more text stop a h k t =
     rw (more-away text (a + 255) h e) (scanned-near text stop a h t (λ u. t .stuck u l)))
     (decide (eqb (h .at) (a + 255)))
 
-scanned : (text : List ℕ) (stop a : ℕ) → TermAt text a stop → TermScanned text stop a (haltOf Start a (slice a (cutOf a stop) text))
+scanned : (text : List ℕ) (stop a : ℕ) → TermAt text a stop
+    → TermScanned text stop a (haltOf Start a (slice a (cutOf a stop) text))
 scanned text stop a t =
     let w = term-halted text stop a 0 (t .before) (t .inText) (t .opening) in
     ⊎-elim
@@ -422,7 +453,8 @@ scanned text stop a t =
     rw (f .1) (scanned-end text stop a _ y (rw (f .0) at w)))
     (decide (ltb (a + 255) stop))
   where
-    scanned-end : (text : List ℕ) (stop a : ℕ) (h : Halt) → stop ≤ a + 255 → TermHalted text stop a h → TermScanned text stop a h
+    scanned-end : (text : List ℕ) (stop a : ℕ) (h : Halt) → stop ≤ a + 255 → TermHalted text stop a h
+        → TermScanned text stop a h
     scanned-end text stop a h y t = scanned-near text stop a h t (λ u. t .stuck u (omega arith))
 
 -- What the code cites: the scan, and how the term ends where it halts.
@@ -433,11 +465,15 @@ term-scanned text stop a cut h t e f = rw (f, e) (scanned text stop a t)
 pub term-over : (text : List ℕ) (stop a n : ℕ) (h : Halt) → TermScanned text stop a h → stop ≤ length text → 1 ≤ n
     → opens n (getD text a 0) ≡ true → a + 255 < h .at → TermEnds text stop n a (term.Broken (a + 255))
 term-over text stop a n h t k j o l =
-    let g = t .far l in
-    (omega arith, λ ms. g .halted .same ms n o ∙ end-over text stop a (a + 255) ms n (g .place) k (g .over) (later-dotless n _ j))
+    let g = t .far l in (
+      omega arith,
+      λ ms. g .halted .same ms n o ∙ end-over text stop a (a + 255) ms n (g .place) k (g .over)
+          (later-dotless n _ j),
+    )
 
 pub term-whole : (text : List ℕ) (stop a n : ℕ) (h : Halt) → TermScanned text stop a h → stop ≤ length text
-    → opens n (getD text a 0) ≡ true → h .at ≤ a + 255 → wholeOf (h .state) ≡ true → TermEnds text stop n a (term.Whole (h .at))
+    → opens n (getD text a 0) ≡ true → h .at ≤ a + 255 → wholeOf (h .state) ≡ true
+    → TermEnds text stop n a (term.Whole (h .at))
 term-whole text stop a n h t k o l w =
     let x = t .low in (
       omega arith,
@@ -446,7 +482,8 @@ term-whole text stop a n h t k o l w =
     )
 
 pub term-broken : (text : List ℕ) (stop a n : ℕ) (h : Halt) → TermScanned text stop a h → stop ≤ length text → 1 ≤ n
-    → opens n (getD text a 0) ≡ true → h .at ≤ a + 255 → wholeOf (h .state) ≡ false → TermEnds text stop n a (term.Broken (h .at))
+    → opens n (getD text a 0) ≡ true → h .at ≤ a + 255 → wholeOf (h .state) ≡ false
+    → TermEnds text stop n a (term.Broken (h .at))
 term-broken text stop a n h t k j o l w =
     let x = t .low in (
       omega arith,
@@ -455,7 +492,8 @@ term-broken text stop a n h t k j o l w =
     )
 
 pub object-over-dot : (text : List ℕ) (stop a : ℕ) (h : Halt) → TermScanned text stop a h → stop ≤ length text
-    → opens 0 (getD text a 0) ≡ true → a + 255 < h .at → isDot (h .state) ≡ true → ObjectEnds text stop a (object.Dotted (a + 255))
+    → opens 0 (getD text a 0) ≡ true → a + 255 < h .at → isDot (h .state) ≡ true
+    → ObjectEnds text stop a (object.Dotted (a + 255))
 object-over-dot text stop a h t k o l d =
     let g = t .far l in
     let x = g .over .before in (
@@ -465,19 +503,23 @@ object-over-dot text stop a h t k o l d =
     )
 
 pub object-over : (text : List ℕ) (stop a : ℕ) (h : Halt) → TermScanned text stop a h → stop ≤ length text
-    → opens 0 (getD text a 0) ≡ true → a + 255 < h .at → isDot (h .state) ≡ false → ObjectEnds text stop a (object.Broken (a + 255))
+    → opens 0 (getD text a 0) ≡ true → a + 255 < h .at → isDot (h .state) ≡ false
+    → ObjectEnds text stop a (object.Broken (a + 255))
 object-over text stop a h t k o l d =
     let g = t .far l in (
       omega arith,
-      λ ms. g .halted .same ms 0 o ∙ end-over text stop a (a + 255) ms 0 (g .place) k (g .over) (dotless 0 _ (rw (g .next) d)),
+      λ ms. g .halted .same ms 0 o ∙ end-over text stop a (a + 255) ms 0 (g .place) k (g .over) (dotless 0 _ (rw
+          (g .next) d)),
     )
 
 pub object-whole : (text : List ℕ) (stop a : ℕ) (h : Halt) → TermScanned text stop a h → stop ≤ length text
-    → opens 0 (getD text a 0) ≡ true → h .at ≤ a + 255 → wholeOf (h .state) ≡ true → ObjectEnds text stop a (object.Whole (h .at))
+    → opens 0 (getD text a 0) ≡ true → h .at ≤ a + 255 → wholeOf (h .state) ≡ true
+    → ObjectEnds text stop a (object.Whole (h .at))
 object-whole text stop a h t k o l w = term-whole text stop a 0 h t k o l w
 
 pub object-dot : (text : List ℕ) (stop a : ℕ) (h : Halt) → TermScanned text stop a h → stop ≤ length text
-    → opens 0 (getD text a 0) ≡ true → h .at ≤ a + 255 → isDot (h .state) ≡ true → ObjectEnds text stop a (object.Dotted (h .at - 1))
+    → opens 0 (getD text a 0) ≡ true → h .at ≤ a + 255 → isDot (h .state) ≡ true
+    → ObjectEnds text stop a (object.Dotted (h .at - 1))
 object-dot text stop a h t k o l d =
     let x = t .low in
     let u = t .high in
@@ -493,5 +535,6 @@ pub object-broken : (text : List ℕ) (stop a : ℕ) (h : Halt) → TermScanned 
 object-broken text stop a h t k o l w d =
     let x = t .low in (
       omega arith,
-      λ ms. t .near l .same ms 0 o ∙ end-fails text stop a (h .at) ms 0 (h .state) (t .high) k w (dotless 0 (h .state) d) (t .ends l),
+      λ ms. t .near l .same ms 0 o ∙ end-fails text stop a (h .at) ms 0 (h .state) (t .high) k w (dotless 0
+          (h .state) d) (t .ends l),
     )

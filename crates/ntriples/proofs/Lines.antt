@@ -51,8 +51,11 @@ line-found s l n (FirstLine.lf k r e u c) =
     let h = until-lf k r u in
     (rw (e, h .1, h .0) (keep-cr k c), rw (e, h .1, h .0))
 line-found s l n (FirstLine.crlf k r e u) =
-    let h = until-lf (k ++ (13 ∷ [])) r (snoc-unbroken k u) in
-    (rw (e, ← snoc-cons k r, h .1, h .0) (drop-cr k), rw (e, ← snoc-cons k r, h .1, h .0) (omega (arith, length-append k (13 ∷ []))))
+    let h = until-lf (k ++ (13 ∷ [])) r (snoc-unbroken k u) in (
+      rw (e, ← snoc-cons k r, h .1, h .0) (drop-cr k),
+      rw (e, ← snoc-cons k r, h .1, h .0) (omega
+          (arith, length-append k (13 ∷ []))),
+    )
 line-found s l n (FirstLine.last u) = let h = until-end l u in (rw (h .1, h .0), rw (h .1, h .0) (omega arith))
 
 -- every text has a first line: split at the first LF, or none
@@ -64,7 +67,8 @@ split : (s : List ℕ) → ((l : List ℕ) × (r : List ℕ) × (s ≡ l ++ (10 
 split [] = inr Unbroken.none
 split (b ∷ s) =
     ⊎-elim (λ e. inl ([], s, rw (eqb-true b 10 e), Unbroken.none))
-    (λ e. ⊎-elim (λ w. inl (b ∷ w .0, w .1, ap (λ (z : List ℕ). b ∷ z) (w .2), Unbroken.byte e (w .3))) (λ u. inr (Unbroken.byte e u)) (split s))
+    (λ e. ⊎-elim (λ w. inl (b ∷ w .0, w .1, ap (λ (z : List ℕ). b ∷ z) (w .2), Unbroken.byte e (w .3))) (λ u. inr
+    (Unbroken.byte e u)) (split s))
     (decide (eqb b 10))
 
 last-cr : (l : List ℕ) → Unbroken l → endsInCr l ≡ true → (k : List ℕ) × (l ≡ k ++ (13 ∷ [])) × Unbroken k
@@ -80,7 +84,12 @@ pub line-exists : (s : List ℕ) → (l : List ℕ) × (n : ℕ) × FirstLine s 
 line-exists s =
     ⊎-elim
     (λ w. ⊎-elim
-    (λ h. let k = last-cr (w .0) (w .3) h in (k .0, _, FirstLine.crlf (k .0) (w .1) (cr-lf s (w .0) (k .0) (w .1) (w .2) (k .1)) (k .2)))
+    (λ h. let k = last-cr (w .0) (w .3) h in (
+      k .0,
+      _,
+      FirstLine.crlf (k .0) (w .1) (cr-lf s (w .0) (k .0) (w .1)
+          (w .2) (k .1)) (k .2),
+    ))
     (λ h. (w .0, _, FirstLine.lf (w .0) (w .1) (w .2) (w .3) h)) (decide (endsInCr (w .0))))
     (λ u. (s, _, FirstLine.last u)) (split s)
 

@@ -14,14 +14,82 @@ use Rattle.term.specs.Scanner.{stepOf, runOf, wholeOf, isBad, firstKindOf}
 use Rattle.term.specs.Grammar.{Name}
 use Rattle.term.specs.Grammar as names
 use Rattle.term.specs.declared.Scan.{Scan}
-use Rattle.term.specs.declared.Scan.the-variants.{Start, IriOpen, Iri, Closed, Under, Colon, Label, Dot, Dots, Text, Escape, Quote, At, Tag, Hyphen, Group, Caret, Carets, Bad}
+use Rattle.term.specs.declared.Scan.the-variants.{
+  Start,
+  IriOpen,
+  Iri,
+  Closed,
+  Under,
+  Colon,
+  Label,
+  Dot,
+  Dots,
+  Text,
+  Escape,
+  Quote,
+  At,
+  Tag,
+  Hyphen,
+  Group,
+  Caret,
+  Carets,
+  Bad,
+}
 use Rattle.term.proofs.Names.{Accepts, never, bad, name-back, name-forth, name-kind}
 use Rattle.ntriples.specs.declared.Span.{Span}
 use Rattle.ntriples.specs.Grammar.{span, white, commentByte, Trail, Comment, Short}
 use Rattle.ntriples.proofs.Rest.{Rest, Derives, ShortParts, ShortOutcome, Continued}
-use Rattle.ntriples.specs.Reader.{Outcome, Empty, Terms, Fails, permitted, Place, Begin, Gap, Inside, After, Noted, Remark, Broken, isDot, opens, dotted, afterOf, enterOf, gapOf, goesOnOf, leaveOf, advanceOf, placeOf, endOf, lineOf}
-use Rattle.ntriples.proofs.Residual.{Following, Going, Dotting, Residual, cases, shift, plus-zero, back-one, dotted-facts, advance-back}
-use Rattle.ntriples.proofs.Forth.{iriish, Sane, Fit, Good, opening, opens-one, opens-alive, no-empty, advance-forth, kind-some}
+use Rattle.ntriples.specs.Reader.{
+  Outcome,
+  Empty,
+  Terms,
+  Fails,
+  permitted,
+  Place,
+  Begin,
+  Gap,
+  Inside,
+  After,
+  Noted,
+  Remark,
+  Broken,
+  isDot,
+  opens,
+  dotted,
+  afterOf,
+  enterOf,
+  gapOf,
+  goesOnOf,
+  leaveOf,
+  advanceOf,
+  placeOf,
+  endOf,
+  lineOf,
+}
+use Rattle.ntriples.proofs.Residual.{
+  Following,
+  Going,
+  Dotting,
+  Residual,
+  cases,
+  shift,
+  plus-zero,
+  back-one,
+  dotted-facts,
+  advance-back,
+}
+use Rattle.ntriples.proofs.Forth.{
+  iriish,
+  Sane,
+  Fit,
+  Good,
+  opening,
+  opens-one,
+  opens-alive,
+  no-empty,
+  advance-forth,
+  kind-some,
+}
 
 -- a fact of a place by a test
 both : {A : Type 0} (P : A → Type 0) (c : Bool) (x y : A) → (c ≡ true → P x) → (c ≡ false → P y) → P (pick c x y)
@@ -70,14 +138,17 @@ enter-good m i ms n b h f k =
 gap-good : (m i : ℕ) (ms : List Span) (n b : ℕ) → 1 ≤ m → Fit m ms → n ≤ 2 → Good m (i + 1) (gapOf i ms n b)
 unfolding gapOf
 gap-good m i ms zero b h f k =
-    both (Good m (i + 1)) (white b) (Gap ms zero) _ (λ _. (f, k)) (λ _. both (Good m (i + 1)) (eqb b 46) (After ms) (Broken i) (λ _. f) (λ _. tt))
+    both (Good m (i + 1)) (white b) (Gap ms zero) _ (λ _. (f, k)) (λ _. both (Good m (i + 1)) (eqb b 46) (After ms)
+    (Broken i) (λ _. f) (λ _. tt))
 gap-good m i ms (suc n) b h f k =
-    both (Good m (i + 1)) (white b) (Gap ms (suc n)) (enterOf i ms n b) (λ _. (f, k)) (λ _. enter-good m i ms n b h f (omega arith))
+    both (Good m (i + 1)) (white b) (Gap ms (suc n)) (enterOf i ms n b) (λ _. (f, k)) (λ _. enter-good m i ms n b h f
+    (omega arith))
 
 after-good : (m i : ℕ) (ms : List Span) (b : ℕ) → Fit m ms → Good m (i + 1) (afterOf i ms b)
 unfolding afterOf
 after-good m i ms b f =
-    both (Good m (i + 1)) (white b) (After ms) _ (λ _. f) (λ _. both (Good m (i + 1)) (eqb b 35) (Noted ms) (Broken i) (λ _. f) (λ _. tt))
+    both (Good m (i + 1)) (white b) (After ms) _ (λ _. f) (λ _. both (Good m (i + 1)) (eqb b 35) (Noted ms) (Broken i)
+    (λ _. f) (λ _. tt))
 
 inside-good : (m i : ℕ) (ms : List Span) (n : ℕ) (q : Scan) (a b : ℕ) → 1 ≤ m → Fit m ms → i ≤ a + m → Sane n q
     → Good m (i + 1) (advanceOf m i (Inside ms n q a) b)
@@ -90,14 +161,25 @@ inside-good m i ms n q a b h f k s =
     (λ _. both P (dotted n q) (afterOf i (ms ++ (span a (i - 1) ∷ [])) b) (Broken i)
     (λ _. after-good m i (ms ++ (span a (i - 1) ∷ [])) b (fit-snoc m ms (span a (i - 1)) f (omega arith))) (λ _. tt)))
     (λ e. both P (ltb i (a + m)) (Inside ms n (stepOf q b) a) _
-    (λ z. (f, (let y = ltb-true i (a + m) z in omega arith), record { alive = e; iri = λ w. iri-step q b (s .iri w) e; few = s .few }))
-    (λ _. both P (dotted n (stepOf q b)) (After (ms ++ (span a i ∷ []))) (Broken i) (λ _. fit-snoc m ms (span a i) f k) (λ _. tt)))
+    (λ z. (
+      f,
+      (let y = ltb-true i (a + m) z in omega arith),
+      record {
+        alive = e;
+        iri = λ w. iri-step q b
+            (s .iri w) e;
+        few = s .few;
+      },
+    ))
+    (λ _. both P (dotted n (stepOf q b)) (After (ms ++ (span a i ∷ []))) (Broken i) (λ _. fit-snoc m ms
+    (span a i) f k) (λ _. tt)))
 
 good-step : (m i : ℕ) (p : Place) (b : ℕ) → 1 ≤ m → Good m i p → Good m (i + 1) (advanceOf m i p b)
 unfolding advanceOf
 good-step m i Begin b h g =
     both (Good m (i + 1)) (white b) Begin _ (λ _. tt)
-    (λ _. both (Good m (i + 1)) (eqb b 35) Remark (enterOf i [] 2 b) (λ _. tt) (λ _. enter-good m i [] 2 b h tt (omega arith)))
+    (λ _. both (Good m (i + 1)) (eqb b 35) Remark (enterOf i [] 2 b) (λ _. tt) (λ _. enter-good m i [] 2 b h tt
+    (omega arith)))
 good-step m i (Gap ms n) b h g = gap-good m i ms n b h (g .0) (g .1)
 good-step m i (Inside ms n q a) b h g = inside-good m i ms n q a b h (g .0) (g .1) (g .2)
 good-step m i (After ms) b h g = after-good m i ms b g
@@ -105,7 +187,7 @@ good-step m i (Noted ms) b h g = both (Good m (i + 1)) (commentByte b) (Noted ms
 good-step m i Remark b h g = both (Good m (i + 1)) (commentByte b) Remark (Broken i) (λ _. tt) (λ _. tt)
 good-step m i (Broken k) b h g = tt
 
--- COMPLETION: each place that is not broken is completed to a line
+-- Each place that is not broken is completed to a line.
 completion : Scan → List ℕ
 completion Start = 60 ∷ (97 ∷ (62 ∷ []))
 completion IriOpen = 97 ∷ (62 ∷ [])
@@ -162,8 +244,12 @@ permitted-iri (suc (suc n)) = refl
 complete-rest : (n i : ℕ) → (l : List ℕ) × (ms : List Span) × Rest n i l ms
 complete-rest zero i = (46 ∷ [], [], Rest.dot Trail.end)
 complete-rest (suc n) i =
-    let r = complete-rest n (i + 3) in
-    (60 ∷ (97 ∷ (62 ∷ r .0)), span i (i + 3) ∷ r .1, Rest.term (60 ∷ (97 ∷ (62 ∷ []))) (r .0) refl an-iri (permitted-iri n) (r .2))
+    let r = complete-rest n (i + 3) in (
+      60 ∷ (97 ∷ (62 ∷ r .0)),
+      span i (i + 3) ∷ r .1,
+      Rest.term (60 ∷ (97 ∷ (62 ∷ []))) (r .0) refl an-iri
+          (permitted-iri n) (r .2),
+    )
 
 -- parts that begin at or after c have no byte among the first c
 rest-later : {n i : ℕ} {l : List ℕ} {ms : List Span} (m c : ℕ) → Rest n i l ms → c ≤ i → ShortParts m c ms
@@ -188,7 +274,8 @@ broken (Noted ms) = false
 broken Remark = false
 broken (Broken k) = true
 
-complete : (m i : ℕ) (p : Place) → broken p ≡ false → Good m i p → (l : List ℕ) × (r : Outcome) × Residual i p l r × ShortOutcome m i r
+complete : (m i : ℕ) (p : Place) → broken p ≡ false → Good m i p
+    → (l : List ℕ) × (r : Outcome) × Residual i p l r × ShortOutcome m i r
 unfolding broken
 complete m i Begin h g = ([], Empty, Derives.nothing Trail.end, tt)
 complete m i (Gap ms n) h g =
@@ -204,9 +291,17 @@ complete m i (Inside ms n q a) h g =
     let k = g .1 in (
       t ++ r .0,
       Terms ((ms ++ (span a (i + length t) ∷ [])) ++ r .1),
-      inl record { word = t; tail = r .0; splits = refl; whole = completes q (g .2 .alive); follows = record { parts = r .1; rest = r .2; gives = refl } },
+      inl record {
+        word = t;
+        tail = r .0;
+        splits = refl;
+        whole = completes q (g .2 .alive);
+        follows = record
+            { parts = r .1; rest = r .2; gives = refl };
+      },
       short-append m i (ms ++ (span a (i + length t) ∷ [])) (r .1)
-          (short-append m i ms (span a (i + length t) ∷ []) (fit-short m i ms (g .0)) (omega arith, tt)) (rest-later m i (r .2) (omega arith)),
+          (short-append m i ms (span a (i + length t) ∷ []) (fit-short m i ms (g .0)) (omega arith, tt))
+          (rest-later m i (r .2) (omega arith)),
     )
 complete m i (After ms) h g = ([], Terms ms, (Trail.end, refl), fit-short m i ms g)
 complete m i (Noted ms) h g = ([], Terms ms, (Comment.end, refl), fit-short m i ms g)
@@ -227,19 +322,22 @@ unfolding placeOf
 run-good m i p [] h g = g
 run-good m i p (b ∷ s) h g = run-good m (i + 1) (advanceOf m i p b) s h (good-step m i p b h g)
 
-run-back : (m i : ℕ) (p : Place) (s l : List ℕ) (r : Outcome) → Residual (reach i s) (placeOf m i p s) l r → Residual i p (s ++ l) r
+run-back : (m i : ℕ) (p : Place) (s l : List ℕ) (r : Outcome) → Residual (reach i s) (placeOf m i p s) l r
+    → Residual i p (s ++ l) r
 unfolding placeOf
 run-back m i p [] l r h = h
 run-back m i p (b ∷ s) l r h = advance-back m i p b (s ++ l) r (run-back m (i + 1) (advanceOf m i p b) s l r h)
 
-run-forth : (m c i : ℕ) (p : Place) (s l : List ℕ) (r : Outcome) → 1 ≤ m → Good m i p → ShortOutcome m c r → reach i s ≤ c → Residual i p (s ++ l) r
+run-forth : (m c i : ℕ) (p : Place) (s l : List ℕ) (r : Outcome) → 1 ≤ m → Good m i p → ShortOutcome m c r
+    → reach i s ≤ c → Residual i p (s ++ l) r
     → Residual (reach i s) (placeOf m i p s) l r
 unfolding placeOf
 run-forth m c i p [] l r h g k e d = d
 run-forth m c i p (b ∷ s) l r h g k e d =
     let z = reach-is (i + 1) s in
     let lt : i < c = omega arith in
-    run-forth m c (i + 1) (advanceOf m i p b) s l r h (good-step m i p b h g) k e (advance-forth m c i p b (s ++ l) r g k lt d)
+    run-forth m c (i + 1) (advanceOf m i p b) s l r h (good-step m i p b h g) k e (advance-forth m c i p b
+    (s ++ l) r g k lt d)
 
 residual-whole : (i : ℕ) (p : Place) (l : List ℕ) (r : Outcome) → Residual i p l r → broken p ≡ false
 unfolding broken
@@ -251,7 +349,8 @@ residual-whole i (Noted ms) l r d = refl
 residual-whole i Remark l r d = refl
 residual-whole i (Broken k) l r d = absurd d
 
-completed : (m i : ℕ) (p l : List ℕ) (r : Outcome) → Residual (reach i p) (placeOf m i Begin p) l r → ShortOutcome m (reach i p) r
+completed : (m i : ℕ) (p l : List ℕ) (r : Outcome) → Residual (reach i p) (placeOf m i Begin p) l r
+    → ShortOutcome m (reach i p) r
     → Continued m i p
 completed m i p l r d s =
     record { rest = l; gives = r; line = run-back m i Begin p l r d; short = rw (reach-is i p) at s }
@@ -260,7 +359,8 @@ completed m i p l r d s =
 pub continued : (m i : ℕ) (p : List ℕ) → 1 ≤ m → Continued m i p ↔ (broken (placeOf m i Begin p) ≡ false)
 continued m i p h = (
   λ v. residual-whole (reach i p) (placeOf m i Begin p) (v .rest) (v .gives)
-      (run-forth m (i + length p) i Begin p (v .rest) (v .gives) h tt (v .short) (let e = reach-is i p in omega arith) (v .line)),
+      (run-forth m (i + length p) i Begin p (v .rest) (v .gives) h tt (v .short) (let e = reach-is i p in omega arith)
+      (v .line)),
   λ e. let c = complete m (reach i p) (placeOf m i Begin p) e (run-good m i Begin p h tt) in
       completed m i p (c .0) (c .1) (c .2) (c .3),
 )
@@ -294,7 +394,8 @@ unfolding endOf
 end-forth i Begin r d = line-end i r d
 end-forth i (Gap ms n) r d = rest-no-end refl (d .rest)
 end-forth i (Inside ms n q a) r d =
-    ⊎-elim (λ v. rest-no-end (append-end (v .word) (v .tail) (v .splits)) (v .follows .rest)) (λ v. rw (v .lone) (sym (v .gives))) d
+    ⊎-elim (λ v. rest-no-end (append-end (v .word) (v .tail) (v .splits)) (v .follows .rest)) (λ v. rw (v .lone) (sym
+    (v .gives))) d
 end-forth i (After ms) r d = sym (d .1)
 end-forth i (Noted ms) r d = sym (d .1)
 end-forth i Remark r d = sym (d .1)
@@ -338,10 +439,12 @@ unfolding lineOf
 reads m i l r h a = (
   λ e. (
     rw append-nil at (run-back m i Begin l [] r (end-back (reach i l) (placeOf m i Begin l) r a (rw (reach-is i l) e))),
-    rw e at (end-short m (i + length l) (i + length l) (placeOf m i Begin l) (rw (reach-is i l) at (run-good m i Begin l h tt))),
+    rw e at (end-short m (i + length l) (i + length l) (placeOf m i Begin l) (rw (reach-is i l) at
+        (run-good m i Begin l h tt))),
   ),
   λ d. rw (reach-is i l) at (end-forth (reach i l) (placeOf m i Begin l) r
-      (run-forth m (i + length l) i Begin l [] r h tt (d .1) (let e = reach-is i l in omega arith) (rw append-nil (d .0)))),
+      (run-forth m (i + length l) i Begin l [] r h tt (d .1) (let e = reach-is i l in omega arith) (rw append-nil
+      (d .0)))),
 )
 
 wide : (c : ℕ) (ms : List Span) → ShortParts (suc c) c ms
@@ -383,7 +486,8 @@ gap-breaks i ms zero b =
     (λ _. both (BreaksAt i) (eqb b 46) (After ms) (Broken i) (λ _. sound i (After ms) refl) (λ _. here i))
 gap-breaks i ms (suc n) b =
     both (BreaksAt i) (white b) (Gap ms (suc n)) _ (λ _. sound i (Gap ms (suc n)) refl)
-    (λ _. both (BreaksAt i) (opens n b) (Inside ms n (stepOf Start b) i) (Broken i) (λ _. sound i (Inside ms n (stepOf Start b) i) refl) (λ _. here i))
+    (λ _. both (BreaksAt i) (opens n b) (Inside ms n (stepOf Start b) i) (Broken i) (λ _. sound i (Inside ms n
+    (stepOf Start b) i) refl) (λ _. here i))
 
 after-breaks : (i : ℕ) (ms : List Span) (b : ℕ) → BreaksAt i (afterOf i ms b)
 unfolding afterOf broken
@@ -396,17 +500,22 @@ unfolding advanceOf leaveOf goesOnOf enterOf broken
 breaks-here m i Begin b h =
     both (BreaksAt i) (white b) Begin _ (λ _. sound i Begin refl)
     (λ _. both (BreaksAt i) (eqb b 35) Remark _ (λ _. sound i Remark refl)
-    (λ _. both (BreaksAt i) (opens 2 b) (Inside [] 2 (stepOf Start b) i) (Broken i) (λ _. sound i (Inside [] 2 (stepOf Start b) i) refl) (λ _. here i)))
+    (λ _. both (BreaksAt i) (opens 2 b) (Inside [] 2 (stepOf Start b) i) (Broken i) (λ _. sound i (Inside [] 2
+    (stepOf Start b) i) refl) (λ _. here i)))
 breaks-here m i (Gap ms n) b h = gap-breaks i ms n b
 breaks-here m i (Inside ms n q a) b h =
     both (BreaksAt i) (isBad (stepOf q b)) (leaveOf i ms n q a b) (goesOnOf m i ms n (stepOf q b) a)
-    (λ _. both (BreaksAt i) (wholeOf q) (gapOf i (ms ++ (span a i ∷ [])) n b) _ (λ _. gap-breaks i (ms ++ (span a i ∷ [])) n b)
+    (λ _. both (BreaksAt i) (wholeOf q) (gapOf i (ms ++ (span a i ∷ [])) n b) _ (λ _. gap-breaks i (ms ++
+    (span a i ∷ [])) n b)
     (λ _. both (BreaksAt i) (dotted n q) (afterOf i (ms ++ (span a (i - 1) ∷ [])) b) (Broken i)
     (λ _. after-breaks i (ms ++ (span a (i - 1) ∷ [])) b) (λ _. here i)))
-    (λ _. both (BreaksAt i) (ltb i (a + m)) (Inside ms n (stepOf q b) a) _ (λ _. sound i (Inside ms n (stepOf q b) a) refl)
-    (λ _. both (BreaksAt i) (dotted n (stepOf q b)) (After (ms ++ (span a i ∷ []))) (Broken i) (λ _. sound i (After (ms ++ (span a i ∷ []))) refl) (λ _. here i)))
+    (λ _. both (BreaksAt i) (ltb i (a + m)) (Inside ms n (stepOf q b) a) _ (λ _. sound i (Inside ms n
+    (stepOf q b) a) refl)
+    (λ _. both (BreaksAt i) (dotted n (stepOf q b)) (After (ms ++ (span a i ∷ []))) (Broken i) (λ _. sound i (After
+    (ms ++ (span a i ∷ []))) refl) (λ _. here i)))
 breaks-here m i (After ms) b h = after-breaks i ms b
-breaks-here m i (Noted ms) b h = both (BreaksAt i) (commentByte b) (Noted ms) (Broken i) (λ _. sound i (Noted ms) refl) (λ _. here i)
+breaks-here m i (Noted ms) b h =
+    both (BreaksAt i) (commentByte b) (Noted ms) (Broken i) (λ _. sound i (Noted ms) refl) (λ _. here i)
 breaks-here m i Remark b h = both (BreaksAt i) (commentByte b) Remark (Broken i) (λ _. sound i Remark refl) (λ _. here i)
 breaks-here m i (Broken k) b h = never (sym h)
 
@@ -451,7 +560,16 @@ find m i p (b ∷ s) k h e =
     let y : w .0 ≡ k = cc in
     record { front = []; byte = b; back = s; splits = refl; at = sym j ∙ y; whole = h; breaks = z })
     (λ z. let f = find m (i + 1) (advanceOf m i p b) s k z e in
-    record { front = b ∷ f .front; byte = f .byte; back = f .back; splits = ap (λ (x : List ℕ). b ∷ x) (f .splits); at = f .at; whole = f .whole; breaks = f .breaks })
+    record {
+      front = b ∷ f .front;
+      byte = f .byte;
+      back = f .back;
+      splits = ap (λ (x : List ℕ). b ∷ x)
+          (f .splits);
+      at = f .at;
+      whole = f .whole;
+      breaks = f .breaks;
+    })
     (decide (broken (advanceOf m i p b)))
 
 end-refused : (i : ℕ) (p : Place) (k : ℕ) → broken p ≡ false → endOf i p ≡ Fails k → i ≡ k

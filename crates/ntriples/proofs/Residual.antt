@@ -13,12 +13,55 @@ use Rattle.term.specs.Bytes.{pick, among, iriByte, textByte, pairByte, firstByt
 use Rattle.term.specs.Scanner.{stepOf, runOf, wholeOf, isBad, firstKindOf}
 use Rattle.term.specs.Grammar.{Name}
 use Rattle.term.specs.declared.Scan.{Scan}
-use Rattle.term.specs.declared.Scan.the-variants.{Start, IriOpen, Iri, Closed, Under, Colon, Label, Dot, Dots, Text, Escape, Quote, At, Tag, Hyphen, Group, Caret, Carets, Bad}
+use Rattle.term.specs.declared.Scan.the-variants.{
+  Start,
+  IriOpen,
+  Iri,
+  Closed,
+  Under,
+  Colon,
+  Label,
+  Dot,
+  Dots,
+  Text,
+  Escape,
+  Quote,
+  At,
+  Tag,
+  Hyphen,
+  Group,
+  Caret,
+  Carets,
+  Bad,
+}
 use Rattle.term.proofs.Names.{Accepts, never, bad, name-back, name-forth, name-kind}
 use Rattle.ntriples.specs.declared.Span.{Span}
 use Rattle.ntriples.specs.Grammar.{span, white, commentByte, Trail, Comment, Short}
 use Rattle.ntriples.proofs.Rest.{Rest, Derives, ShortParts, ShortOutcome, Continued}
-use Rattle.ntriples.specs.Reader.{Outcome, Empty, Terms, Fails, permitted, Place, Begin, Gap, Inside, After, Noted, Remark, Broken, isDot, opens, dotted, afterOf, enterOf, gapOf, goesOnOf, leaveOf, advanceOf}
+use Rattle.ntriples.specs.Reader.{
+  Outcome,
+  Empty,
+  Terms,
+  Fails,
+  permitted,
+  Place,
+  Begin,
+  Gap,
+  Inside,
+  After,
+  Noted,
+  Remark,
+  Broken,
+  isDot,
+  opens,
+  dotted,
+  afterOf,
+  enterOf,
+  gapOf,
+  goesOnOf,
+  leaveOf,
+  advanceOf,
+}
 
 -- between terms: n terms are still to come, after the parts ms
 pub record Following (i : ℕ) (ms : List Span) (n : ℕ) (l : List ℕ) (r : Outcome) : Type 0 where
@@ -50,7 +93,8 @@ Residual i Remark l r = Comment l × (r ≡ Empty)
 Residual i (Broken k) l r = ⊥
 
 -- the two cases of a value by a test
-pub cases : {A C : Type 0} (P : A → Type 0) (c : Bool) (x y : A) → (c ≡ true → P x → C) → (c ≡ false → P y → C) → P (pick c x y) → C
+pub cases : {A C : Type 0} (P : A → Type 0) (c : Bool) (x y : A) → (c ≡ true → P x → C) → (c ≡ false → P y → C)
+    → P (pick c x y) → C
 cases P true x y f g h = f refl h
 cases P false x y f g h = g refl h
 
@@ -64,29 +108,48 @@ no-dot q e h = never (sym e ∙ h)
 
 pub to-dot : (q : Scan) (b : ℕ) → isDot (stepOf q b) ≡ true → (q ≡ Label) × (b ≡ 46)
 unfolding stepOf isDot
-to-dot Start b h = no-dot (pick (eqb b 60) IriOpen (pick (eqb b 95) Under (pick (eqb b 34) Text Bad))) (dotless (eqb b 60) IriOpen (pick (eqb b 95) Under (pick (eqb b 34) Text Bad)) refl (dotless (eqb b 95) Under (pick (eqb b 34) Text Bad) refl (dotless (eqb b 34) Text Bad refl refl))) h
+to-dot Start b h =
+    no-dot (pick (eqb b 60) IriOpen (pick (eqb b 95) Under (pick (eqb b 34) Text Bad))) (dotless (eqb b 60) IriOpen
+    (pick (eqb b 95) Under (pick (eqb b 34) Text Bad)) refl (dotless (eqb b 95) Under (pick
+    (eqb b 34) Text Bad) refl (dotless (eqb b 34) Text Bad refl refl))) h
 to-dot IriOpen b h = no-dot (pick (iriByte b) Iri Bad) (dotless (iriByte b) Iri Bad refl refl) h
-to-dot Iri b h = no-dot (pick (iriByte b) Iri (pick (eqb b 62) Closed Bad)) (dotless (iriByte b) Iri (pick (eqb b 62) Closed Bad) refl (dotless (eqb b 62) Closed Bad refl refl)) h
+to-dot Iri b h =
+    no-dot (pick (iriByte b) Iri (pick (eqb b 62) Closed Bad)) (dotless (iriByte b) Iri (pick
+    (eqb b 62) Closed Bad) refl (dotless (eqb b 62) Closed Bad refl refl)) h
 to-dot Closed b h = no-dot Bad refl h
 to-dot Under b h = no-dot (pick (eqb b 58) Colon Bad) (dotless (eqb b 58) Colon Bad refl refl) h
 to-dot Colon b h = no-dot (pick (firstByte b) Label Bad) (dotless (firstByte b) Label Bad refl refl) h
 to-dot Label b h =
     cases (λ q. isDot q ≡ true) (labelByte b) Label _ (λ _ w. never w)
     (λ _ k. cases (λ q. isDot q ≡ true) (eqb b 46) Dot Bad (λ e w. (refl, eqb-true b 46 e)) (λ _ w. never w) k) h
-to-dot Dot b h = no-dot (pick (labelByte b) Label (pick (eqb b 46) Dots Bad)) (dotless (labelByte b) Label (pick (eqb b 46) Dots Bad) refl (dotless (eqb b 46) Dots Bad refl refl)) h
-to-dot Dots b h = no-dot (pick (labelByte b) Label (pick (eqb b 46) Dots Bad)) (dotless (labelByte b) Label (pick (eqb b 46) Dots Bad) refl (dotless (eqb b 46) Dots Bad refl refl)) h
-to-dot Text b h = no-dot (pick (textByte b) Text (pick (eqb b 34) Quote (pick (eqb b 92) Escape Bad))) (dotless (textByte b) Text (pick (eqb b 34) Quote (pick (eqb b 92) Escape Bad)) refl (dotless (eqb b 34) Quote (pick (eqb b 92) Escape Bad) refl (dotless (eqb b 92) Escape Bad refl refl))) h
+to-dot Dot b h =
+    no-dot (pick (labelByte b) Label (pick (eqb b 46) Dots Bad)) (dotless (labelByte b) Label (pick
+    (eqb b 46) Dots Bad) refl (dotless (eqb b 46) Dots Bad refl refl)) h
+to-dot Dots b h =
+    no-dot (pick (labelByte b) Label (pick (eqb b 46) Dots Bad)) (dotless (labelByte b) Label (pick
+    (eqb b 46) Dots Bad) refl (dotless (eqb b 46) Dots Bad refl refl)) h
+to-dot Text b h =
+    no-dot (pick (textByte b) Text (pick (eqb b 34) Quote (pick (eqb b 92) Escape Bad))) (dotless (textByte b) Text
+    (pick (eqb b 34) Quote (pick (eqb b 92) Escape Bad)) refl (dotless (eqb b 34) Quote (pick
+    (eqb b 92) Escape Bad) refl (dotless (eqb b 92) Escape Bad refl refl))) h
 to-dot Escape b h = no-dot (pick (pairByte b) Text Bad) (dotless (pairByte b) Text Bad refl refl) h
-to-dot Quote b h = no-dot (pick (eqb b 64) At (pick (eqb b 94) Caret Bad)) (dotless (eqb b 64) At (pick (eqb b 94) Caret Bad) refl (dotless (eqb b 94) Caret Bad refl refl)) h
+to-dot Quote b h =
+    no-dot (pick (eqb b 64) At (pick (eqb b 94) Caret Bad)) (dotless (eqb b 64) At (pick (eqb b 94) Caret Bad) refl
+    (dotless (eqb b 94) Caret Bad refl refl)) h
 to-dot At b h = no-dot (pick (letter b) Tag Bad) (dotless (letter b) Tag Bad refl refl) h
-to-dot Tag b h = no-dot (pick (letter b) Tag (pick (eqb b 45) Hyphen Bad)) (dotless (letter b) Tag (pick (eqb b 45) Hyphen Bad) refl (dotless (eqb b 45) Hyphen Bad refl refl)) h
+to-dot Tag b h =
+    no-dot (pick (letter b) Tag (pick (eqb b 45) Hyphen Bad)) (dotless (letter b) Tag (pick
+    (eqb b 45) Hyphen Bad) refl (dotless (eqb b 45) Hyphen Bad refl refl)) h
 to-dot Hyphen b h = no-dot (pick (alnum b) Group Bad) (dotless (alnum b) Group Bad refl refl) h
-to-dot Group b h = no-dot (pick (alnum b) Group (pick (eqb b 45) Hyphen Bad)) (dotless (alnum b) Group (pick (eqb b 45) Hyphen Bad) refl (dotless (eqb b 45) Hyphen Bad refl refl)) h
+to-dot Group b h =
+    no-dot (pick (alnum b) Group (pick (eqb b 45) Hyphen Bad)) (dotless (alnum b) Group (pick
+    (eqb b 45) Hyphen Bad) refl (dotless (eqb b 45) Hyphen Bad refl refl)) h
 to-dot Caret b h = no-dot (pick (eqb b 94) Carets Bad) (dotless (eqb b 94) Carets Bad refl refl) h
 to-dot Carets b h = no-dot (pick (eqb b 60) IriOpen Bad) (dotless (eqb b 60) IriOpen Bad refl refl) h
 to-dot Bad b h = no-dot Bad refl h
 
-after-back : (i : ℕ) (ms : List Span) (b : ℕ) (l : List ℕ) (r : Outcome) → Residual (i + 1) (afterOf i ms b) l r → Trail (b ∷ l) × (r ≡ Terms ms)
+after-back : (i : ℕ) (ms : List Span) (b : ℕ) (l : List ℕ) (r : Outcome) → Residual (i + 1) (afterOf i ms b) l r
+    → Trail (b ∷ l) × (r ≡ Terms ms)
 unfolding afterOf
 after-back i ms b l r h =
     cases (λ p. Residual (i + 1) p l r) (white b) (After ms) _ (λ e w. (Trail.space e (w .0), w .1))
@@ -95,39 +158,49 @@ after-back i ms b l r h =
 
 opens-permitted : (n b : ℕ) (w : List ℕ) → opens n b ≡ true → permitted n (firstKindOf (b ∷ w)) ≡ true
 unfolding opens firstKindOf
-opens-permitted n b w h = cases (λ x. x ≡ true) (eqb (firstKindOf (b ∷ [])) 0) false (permitted n (firstKindOf (b ∷ []))) (λ _ z. never z) (λ _ z. z) h
+opens-permitted n b w h =
+    cases (λ x. x ≡ true) (eqb (firstKindOf (b ∷ [])) 0) false (permitted n (firstKindOf (b ∷ []))) (λ _ z. never z)
+    (λ _ z. z) h
 
 start-no-dot : (n b : ℕ) → dotted n (stepOf Start b) ≡ true → ⊥
 unfolding dotted
 start-no-dot n b h =
-    cases (λ x. x ≡ true) (eqb n 0) (isDot (stepOf Start b)) false (λ _ z. let e : Start ≡ Label = to-dot Start b z .0 in let z : _≡_ {A = ℕ} 0 1 = cc in omega arith) (λ _ z. never z) h
+    cases (λ x. x ≡ true) (eqb n 0) (isDot (stepOf Start b)) false
+    (λ _ z. let e : Start ≡ Label = to-dot Start b z .0 in let z : _≡_ {A = ℕ} 0 1 = cc in omega arith)
+    (λ _ z. never z) h
 
 pub shift : (i k : ℕ) → (i + 1) + k ≡ i + suc k
 shift i k = omega arith
 
 -- a term that b opens
-enter-back : (i : ℕ) (ms : List Span) (n b : ℕ) (l : List ℕ) (r : Outcome) → Residual (i + 1) (enterOf i ms n b) l r → Following i ms (suc n) (b ∷ l) r
+enter-back : (i : ℕ) (ms : List Span) (n b : ℕ) (l : List ℕ) (r : Outcome)
+    → Residual (i + 1) (enterOf i ms n b) l r → Following i ms (suc n) (b ∷ l) r
 unfolding enterOf runOf
 enter-back i ms n b l r h =
     cases (λ p. Residual (i + 1) p l r) (opens n b) (Inside ms n (stepOf Start b) i) (Broken i)
     (λ e w. ⊎-elim
     (λ v. record {
       parts = span i (i + length (b ∷ v .word)) ∷ v .follows .parts;
-      rest = Rest.term (b ∷ v .word) (v .tail) (ap (λ (k : List ℕ). b ∷ k) (v .splits)) (name-back (b ∷ v .word) (v .whole))
+      rest = Rest.term (b ∷ v .word) (v .tail) (ap (λ (k : List ℕ). b ∷ k) (v .splits)) (name-back (b ∷ v .word)
+          (v .whole))
           (opens-permitted n b (v .word) e) (rw (shift i (length (v .word))) at (v .follows .rest));
       gives = v .follows .gives ∙ rw (append-assoc, shift i (length (v .word)));
     })
     (λ v. absurd (start-no-dot n b (v .lone))) w)
     (λ _ w. absurd w) h
 
-gap-back : (i : ℕ) (ms : List Span) (n b : ℕ) (l : List ℕ) (r : Outcome) → Residual (i + 1) (gapOf i ms n b) l r → Following i ms n (b ∷ l) r
+gap-back : (i : ℕ) (ms : List Span) (n b : ℕ) (l : List ℕ) (r : Outcome) → Residual (i + 1) (gapOf i ms n b) l r
+    → Following i ms n (b ∷ l) r
 unfolding gapOf
 gap-back i ms zero b l r h =
-    cases (λ p. Residual (i + 1) p l r) (white b) (Gap ms zero) _ (λ e w. record { parts = w .parts; rest = Rest.space e (w .rest); gives = w .gives })
+    cases (λ p. Residual (i + 1) p l r) (white b) (Gap ms zero) _ (λ e w. record
+    { parts = w .parts; rest = Rest.space e (w .rest); gives = w .gives })
     (λ _ k. cases (λ p. Residual (i + 1) p l r) (eqb b 46) (After ms) (Broken i)
-    (λ e w. record { parts = []; rest = rw (eqb-true b 46 e) (Rest.dot (w .0)); gives = rw append-nil (w .1) }) (λ _ w. absurd w) k) h
+    (λ e w. record { parts = []; rest = rw (eqb-true b 46 e) (Rest.dot (w .0)); gives = rw append-nil (w .1) })
+    (λ _ w. absurd w) k) h
 gap-back i ms (suc n) b l r h =
-    cases (λ p. Residual (i + 1) p l r) (white b) (Gap ms (suc n)) _ (λ e w. record { parts = w .parts; rest = Rest.space e (w .rest); gives = w .gives })
+    cases (λ p. Residual (i + 1) p l r) (white b) (Gap ms (suc n)) _ (λ e w. record
+    { parts = w .parts; rest = Rest.space e (w .rest); gives = w .gives })
     (λ _ k. enter-back i ms n b l r k) h
 
 pub dotted-facts : (n : ℕ) (q : Scan) → dotted n q ≡ true → (n ≡ 0) × (isDot q ≡ true)
@@ -149,7 +222,8 @@ ended i ms n q a l r e f =
     record { word = []; tail = l; splits = refl; whole = e; follows = rw (plus-zero i) f }
 
 -- b is a dot after an object's label, and the line's
-label-dot : (i : ℕ) (ms : List Span) (n : ℕ) (q : Scan) (a b : ℕ) (l : List ℕ) (r : Outcome) → dotted n (stepOf q b) ≡ true → Trail l
+label-dot : (i : ℕ) (ms : List Span) (n : ℕ) (q : Scan) (a b : ℕ) (l : List ℕ) (r : Outcome)
+    → dotted n (stepOf q b) ≡ true → Trail l
     → r ≡ Terms (ms ++ (span a i ∷ [])) → Going i ms n q a (b ∷ l) r
 unfolding wholeOf
 label-dot i ms n q a b l r h t e =
@@ -159,7 +233,8 @@ label-dot i ms n q a b l r h t e =
     record { parts = []; rest = rw (d .0, k .1) (Rest.dot t); gives = rw append-nil e }
 
 inside-back : (m i : ℕ) (ms : List Span) (n : ℕ) (q : Scan) (a b : ℕ) (l : List ℕ) (r : Outcome)
-    → Residual (i + 1) (advanceOf m i (Inside ms n q a) b) l r → Going i ms n q a (b ∷ l) r ⊎ Dotting i ms n q a (b ∷ l) r
+    → Residual (i + 1) (advanceOf m i (Inside ms n q a) b) l r
+    → Going i ms n q a (b ∷ l) r ⊎ Dotting i ms n q a (b ∷ l) r
 unfolding advanceOf leaveOf goesOnOf runOf
 inside-back m i ms n q a b l r h =
     let P : Place → Type 0 = λ p. Residual (i + 1) p l r in
@@ -167,7 +242,8 @@ inside-back m i ms n q a b l r h =
     (λ _ k. cases P (wholeOf q) (gapOf i (ms ++ (span a i ∷ [])) n b) _
     (λ e w. inl (ended i ms n q a (b ∷ l) r e (gap-back i (ms ++ (span a i ∷ [])) n b l r w)))
     (λ _ j. cases P (dotted n q) (afterOf i (ms ++ (span a (i - 1) ∷ [])) b) (Broken i)
-    (λ e w. let u = after-back i (ms ++ (span a (i - 1) ∷ [])) b l r w in inr record { lone = e; trail = u .0; gives = u .1 })
+    (λ e w. let u = after-back i (ms ++ (span a (i - 1) ∷ [])) b l r w in inr record
+    { lone = e; trail = u .0; gives = u .1 })
     (λ _ w. absurd w) j) k)
     (λ _ k. cases P (ltb i (a + m)) (Inside ms n (stepOf q b) a) _
     (λ _ w. ⊎-elim
@@ -186,19 +262,23 @@ line-space : (i b : ℕ) (l : List ℕ) (r : Outcome) → white b ≡ true → D
 line-space i b l r e (Derives.nothing t) = Derives.nothing (Trail.space e t)
 line-space i b l r e (Derives.triple t) = Derives.triple (Rest.space e t)
 
--- BACK: what may follow after b may follow b
-pub advance-back : (m i : ℕ) (p : Place) (b : ℕ) (l : List ℕ) (r : Outcome) → Residual (i + 1) (advanceOf m i p b) l r → Residual i p (b ∷ l) r
+-- What may follow after b may follow b.
+pub advance-back : (m i : ℕ) (p : Place) (b : ℕ) (l : List ℕ) (r : Outcome)
+    → Residual (i + 1) (advanceOf m i p b) l r → Residual i p (b ∷ l) r
 unfolding advanceOf
 advance-back m i Begin b l r h =
     let P : Place → Type 0 = λ p. Residual (i + 1) p l r in
     cases P (white b) Begin _ (λ e w. line-space i b l r e w)
-    (λ _ k. cases P (eqb b 35) Remark (enterOf i [] 2 b) (λ e w. rw (w .1, eqb-true b 35 e) (Derives.nothing (Trail.comment (w .0))))
+    (λ _ k. cases P (eqb b 35) Remark (enterOf i [] 2 b) (λ e w. rw (w .1, eqb-true b 35 e) (Derives.nothing
+    (Trail.comment (w .0))))
     (λ _ w. let f = enter-back i [] 2 b l r w in rw (f .gives) (Derives.triple (f .rest))) k) h
 advance-back m i (Gap ms n) b l r h = gap-back i ms n b l r h
 advance-back m i (Inside ms n q a) b l r h = inside-back m i ms n q a b l r h
 advance-back m i (After ms) b l r h = after-back i ms b l r h
 advance-back m i (Noted ms) b l r h =
-    cases (λ p. Residual (i + 1) p l r) (commentByte b) (Noted ms) (Broken i) (λ e w. (Comment.byte e (w .0), w .1)) (λ _ w. absurd w) h
+    cases (λ p. Residual (i + 1) p l r) (commentByte b) (Noted ms) (Broken i) (λ e w. (Comment.byte e (w .0), w .1))
+    (λ _ w. absurd w) h
 advance-back m i Remark b l r h =
-    cases (λ p. Residual (i + 1) p l r) (commentByte b) Remark (Broken i) (λ e w. (Comment.byte e (w .0), w .1)) (λ _ w. absurd w) h
+    cases (λ p. Residual (i + 1) p l r) (commentByte b) Remark (Broken i) (λ e w. (Comment.byte e (w .0), w .1))
+    (λ _ w. absurd w) h
 advance-back m i (Broken k) b l r h = h

@@ -1,5 +1,4 @@
--- Runs of one class of bytes, one byte at a time, and that a place which a class does not leave is the same at the run's end.
--- Assumes nothing.
+-- Runs of one class of bytes, and reading on, one byte at a time. Assumes nothing.
 use Prim.Native.Nat.{ℕ, zero, suc, _+_, _-_, _≤_, _<_}
 use mathlib.Core.Path.{_≡_, refl, sym, _∙_, ap}
 use mathlib.Core.List.{List, [], _∷_, _++_}

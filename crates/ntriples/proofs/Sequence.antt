@@ -50,7 +50,8 @@ use Rattle.ntriples.proofs.Claims.{read-at}
 abbrev Stays : (ℕ → Bool) → Place → Type 0
 Stays f p = (i b : ℕ) → f b ≡ true → advanceOf 255 i p b ≡ p
 
-over-run : (k : ℕ) (f : ℕ → Bool) (text : List ℕ) (stop i : ℕ) (p : Place) → Stays f p → i + k ≡ stop → stop ≤ length text
+over-run : (k : ℕ) (f : ℕ → Bool) (text : List ℕ) (stop i : ℕ) (p : Place) → Stays f p → i + k ≡ stop
+    → stop ≤ length text
     → onward text stop i p ≡ onward text stop (runEnd f i (slice i stop text)) p
 over-run zero f text stop i p s e t =
     let h : stop ≤ i = omega arith in rw (run-end f text i stop h)
@@ -58,11 +59,13 @@ over-run (suc k) f text stop i p s e t =
     let h : i < stop = omega arith in
     ⊎-elim
     (λ z. step-to text stop i p p h t (s i (getD text i 0) z)
-    ∙ (over-run k f text stop (i + 1) p s (omega arith) t ∙ ap (λ (r : ℕ). onward text stop r p) (sym (run-turn f text i stop h t z))))
+    ∙ (over-run k f text stop (i + 1) p s (omega arith) t ∙ ap (λ (r : ℕ). onward text stop r p) (sym
+    (run-turn f text i stop h t z))))
     (λ z. rw (run-out f text i stop h t z))
     (decide (f (getD text i 0)))
 
-skipped : (f : ℕ → Bool) (text : List ℕ) (stop i r : ℕ) (p : Place) → Stays f p → i ≤ stop → stop ≤ length text → RunEnd f text i stop r
+skipped : (f : ℕ → Bool) (text : List ℕ) (stop i r : ℕ) (p : Place) → Stays f p → i ≤ stop → stop ≤ length text
+    → RunEnd f text i stop r
     → onward text stop i p ≡ onward text stop r p
 skipped f text stop i r p s h t e =
     over-run (stop - i) f text stop i p s (omega arith) t ∙ ap (λ (z : ℕ). onward text stop z p) (sym (e .end))
@@ -88,42 +91,52 @@ unfolding advanceOf
 remark-stays i b e = rw e
 
 -- a byte at which the reading breaks
-breaks : (text : List ℕ) (stop i : ℕ) (p : Place) → i < stop → stop ≤ length text → advanceOf 255 i p (getD text i 0) ≡ Broken i
+breaks : (text : List ℕ) (stop i : ℕ) (p : Place) → i < stop → stop ≤ length text
+    → advanceOf 255 i p (getD text i 0) ≡ Broken i
     → onward text stop i p ≡ Fails i
 breaks text stop i p h t e = step-to text stop i p (Broken i) h t e ∙ onward-broken text stop (i + 1) i
 
--- COMMENTS
-pub remark-end : (text : List ℕ) (stop i r : ℕ) → i ≤ stop → stop ≤ length text → RunEnd commentByte text i stop r → stop ≤ r
+-- A comment, on its own and after the dot.
+pub remark-end : (text : List ℕ) (stop i r : ℕ) → i ≤ stop → stop ≤ length text → RunEnd commentByte text i stop r
+    → stop ≤ r
     → onward text stop i Remark ≡ Empty
 unfolding endOf
-remark-end text stop i r h t e k = skipped commentByte text stop i r Remark remark-stays h t e ∙ at-end text stop r Remark Empty k refl
+remark-end text stop i r h t e k =
+    skipped commentByte text stop i r Remark remark-stays h t e ∙ at-end text stop r Remark Empty k refl
 
-pub remark-odd : (text : List ℕ) (stop i r : ℕ) → i ≤ stop → stop ≤ length text → RunEnd commentByte text i stop r → r < stop
+pub remark-odd : (text : List ℕ) (stop i r : ℕ) → i ≤ stop → stop ≤ length text → RunEnd commentByte text i stop r
+    → r < stop
     → onward text stop i Remark ≡ Fails r
 unfolding advanceOf
 remark-odd text stop i r h t e k =
     skipped commentByte text stop i r Remark remark-stays h t e ∙ breaks text stop r Remark k t (rw (e .out k))
 
-pub noted-end : (text : List ℕ) (stop i r : ℕ) (ms : List Span) → i ≤ stop → stop ≤ length text → RunEnd commentByte text i stop r
+pub noted-end : (text : List ℕ) (stop i r : ℕ) (ms : List Span) → i ≤ stop → stop ≤ length text
+    → RunEnd commentByte text i stop r
     → stop ≤ r → onward text stop i (Noted ms) ≡ Terms ms
 unfolding endOf
 noted-end text stop i r ms h t e k =
     skipped commentByte text stop i r (Noted ms) (noted-stays ms) h t e ∙ at-end text stop r (Noted ms) (Terms ms) k refl
 
-pub noted-odd : (text : List ℕ) (stop i r : ℕ) (ms : List Span) → i ≤ stop → stop ≤ length text → RunEnd commentByte text i stop r
+pub noted-odd : (text : List ℕ) (stop i r : ℕ) (ms : List Span) → i ≤ stop → stop ≤ length text
+    → RunEnd commentByte text i stop r
     → r < stop → onward text stop i (Noted ms) ≡ Fails r
 unfolding advanceOf
 noted-odd text stop i r ms h t e k =
-    skipped commentByte text stop i r (Noted ms) (noted-stays ms) h t e ∙ breaks text stop r (Noted ms) k t (rw (e .out k))
+    skipped commentByte text stop i r (Noted ms) (noted-stays ms) h t e ∙ breaks text stop r (Noted ms) k t (rw
+    (e .out k))
 
--- AFTER THE DOT
-pub after-end : (text : List ℕ) (stop i r : ℕ) (ms : List Span) → i ≤ stop → stop ≤ length text → RunEnd white text i stop r → r ≡ stop
+-- After the dot.
+pub after-end : (text : List ℕ) (stop i r : ℕ) (ms : List Span) → i ≤ stop → stop ≤ length text
+    → RunEnd white text i stop r → r ≡ stop
     → onward text stop i (After ms) ≡ Terms ms
 unfolding endOf
 after-end text stop i r ms h t e k =
-    skipped white text stop i r (After ms) (after-stays ms) h t e ∙ at-end text stop r (After ms) (Terms ms) (omega arith) refl
+    skipped white text stop i r (After ms) (after-stays ms) h t e ∙ at-end text stop r (After ms) (Terms ms)
+    (omega arith) refl
 
-pub after-odd : (text : List ℕ) (stop i r : ℕ) (ms : List Span) → i ≤ stop → stop ≤ length text → RunEnd white text i stop r
+pub after-odd : (text : List ℕ) (stop i r : ℕ) (ms : List Span) → i ≤ stop → stop ≤ length text
+    → RunEnd white text i stop r
     → (r ≡ stop → ⊥) → (getD text r 0 ≡ 35 → ⊥) → onward text stop i (After ms) ≡ Fails r
 unfolding advanceOf afterOf
 after-odd text stop i r ms h t e n b =
@@ -131,7 +144,8 @@ after-odd text stop i r ms h t e n b =
     skipped white text stop i r (After ms) (after-stays ms) h t e
     ∙ breaks text stop r (After ms) k t (rw (e .out k, ne-eqb (getD text r 0) 35 b))
 
-pub after-note : (text : List ℕ) (stop i r : ℕ) (ms : List Span) → i ≤ stop → stop ≤ length text → RunEnd white text i stop r
+pub after-note : (text : List ℕ) (stop i r : ℕ) (ms : List Span) → i ≤ stop → stop ≤ length text
+    → RunEnd white text i stop r
     → (r ≡ stop → ⊥) → getD text r 0 ≡ 35 → onward text stop i (After ms) ≡ onward text stop (r + 1) (Noted ms)
 unfolding advanceOf afterOf
 after-note text stop i r ms h t e n b =
@@ -139,28 +153,32 @@ after-note text stop i r ms h t e n b =
     skipped white text stop i r (After ms) (after-stays ms) h t e
     ∙ step-to text stop r (After ms) (Noted ms) k t (rw (e .out k, eq-eqb (getD text r 0) 35 b))
 
--- BETWEEN TERMS
-pub gap-skipped : (text : List ℕ) (stop i r : ℕ) (ms : List Span) (n : ℕ) → i ≤ stop → stop ≤ length text → RunEnd white text i stop r
+-- Between terms.
+pub gap-skipped : (text : List ℕ) (stop i r : ℕ) (ms : List Span) (n : ℕ) → i ≤ stop → stop ≤ length text
+    → RunEnd white text i stop r
     → onward text stop i (Gap ms n) ≡ onward text stop r (Gap ms n)
 gap-skipped text stop i r ms n h t e = skipped white text stop i r (Gap ms n) (gap-stays ms n) h t e
 
 pub run-dark : (text : List ℕ) (stop i r : ℕ) → stop ≤ length text → RunEnd white text i stop r → Dark text r stop
 run-dark text stop i r t e = record { before = e .before; inText = t; dark = e .out }
 
-pub dot-none : (text : List ℕ) (stop i r : ℕ) (ms : List Span) → i ≤ stop → stop ≤ length text → RunEnd white text i stop r → r ≡ stop
+pub dot-none : (text : List ℕ) (stop i r : ℕ) (ms : List Span) → i ≤ stop → stop ≤ length text
+    → RunEnd white text i stop r → r ≡ stop
     → onward text stop i (Gap ms 0) ≡ Fails r
 unfolding endOf
 dot-none text stop i r ms h t e k =
     gap-skipped text stop i r ms 0 h t e ∙ at-end text stop r (Gap ms 0) (Fails r) (omega arith) (ap Fails (sym k))
 
-pub dot-odd : (text : List ℕ) (stop i r : ℕ) (ms : List Span) → i ≤ stop → stop ≤ length text → RunEnd white text i stop r
+pub dot-odd : (text : List ℕ) (stop i r : ℕ) (ms : List Span) → i ≤ stop → stop ≤ length text
+    → RunEnd white text i stop r
     → (r ≡ stop → ⊥) → (getD text r 0 ≡ 46 → ⊥) → onward text stop i (Gap ms 0) ≡ Fails r
 unfolding advanceOf gapOf
 dot-odd text stop i r ms h t e n b =
     let k = strictly r stop (e .before) n in
     gap-skipped text stop i r ms 0 h t e ∙ breaks text stop r (Gap ms 0) k t (rw (e .out k, ne-eqb (getD text r 0) 46 b))
 
-pub dot-read : (text : List ℕ) (stop i r : ℕ) (ms : List Span) → i ≤ stop → stop ≤ length text → RunEnd white text i stop r
+pub dot-read : (text : List ℕ) (stop i r : ℕ) (ms : List Span) → i ≤ stop → stop ≤ length text
+    → RunEnd white text i stop r
     → (r ≡ stop → ⊥) → getD text r 0 ≡ 46 → onward text stop i (Gap ms 0) ≡ onward text stop (r + 1) (After ms)
 unfolding advanceOf gapOf
 dot-read text stop i r ms h t e n b =
@@ -189,20 +207,23 @@ pub object-closed : (text : List ℕ) (stop a : ℕ) → Dark text a stop → (a
 object-closed text stop a d h o = term-closed text stop a 0 d h o
 
 -- how a term ends, by the answer of its function
-pub term-told : (text : List ℕ) (stop n a : ℕ) (r r′ : TermEnd) → r ≡ r′ → TermEnds text stop n a r → TermEnds text stop n a r′
+pub term-told : (text : List ℕ) (stop n a : ℕ) (r r′ : TermEnd) → r ≡ r′ → TermEnds text stop n a r
+    → TermEnds text stop n a r′
 term-told text stop n a r r′ e h = rw e at h
 
-pub object-told : (text : List ℕ) (stop a : ℕ) (r r′ : ObjectEnd) → r ≡ r′ → ObjectEnds text stop a r → ObjectEnds text stop a r′
+pub object-told : (text : List ℕ) (stop a : ℕ) (r r′ : ObjectEnd) → r ≡ r′ → ObjectEnds text stop a r
+    → ObjectEnds text stop a r′
 object-told text stop a r r′ e h = rw e at h
 
--- THE LINE'S BEGINNING
+-- The line's beginning.
 pub begin-end : (text : List ℕ) (stop i r : ℕ) → i ≤ stop → stop ≤ length text → RunEnd white text i stop r → r ≡ stop
     → onward text stop i Begin ≡ Empty
 unfolding endOf
 begin-end text stop i r h t e k =
     skipped white text stop i r Begin begin-stays h t e ∙ at-end text stop r Begin Empty (omega arith) refl
 
-pub begin-note : (text : List ℕ) (stop i r : ℕ) → i ≤ stop → stop ≤ length text → RunEnd white text i stop r → (r ≡ stop → ⊥)
+pub begin-note : (text : List ℕ) (stop i r : ℕ) → i ≤ stop → stop ≤ length text → RunEnd white text i stop r
+    → (r ≡ stop → ⊥)
     → getD text r 0 ≡ 35 → onward text stop i Begin ≡ onward text stop (r + 1) Remark
 unfolding advanceOf
 begin-note text stop i r h t e n b =
@@ -210,7 +231,8 @@ begin-note text stop i r h t e n b =
     skipped white text stop i r Begin begin-stays h t e
     ∙ step-to text stop r Begin Remark k t (rw (e .out k, eq-eqb (getD text r 0) 35 b))
 
-pub begin-term : (text : List ℕ) (stop i r : ℕ) → i ≤ stop → stop ≤ length text → RunEnd white text i stop r → (r ≡ stop → ⊥)
+pub begin-term : (text : List ℕ) (stop i r : ℕ) → i ≤ stop → stop ≤ length text → RunEnd white text i stop r
+    → (r ≡ stop → ⊥)
     → (getD text r 0 ≡ 35 → ⊥) → onward text stop i Begin ≡ onward text stop r (Gap [] 3)
 unfolding advanceOf gapOf
 begin-term text stop i r h t e n b =
@@ -220,8 +242,9 @@ begin-term text stop i r h t e n b =
     ∙ (step-to text stop r Begin q k t (rw (e .out k, ne-eqb (getD text r 0) 35 b))
     ∙ sym (step-to text stop r (Gap [] 3) q k t (rw (e .out k))))
 
--- THE TEXT
-whole-line : (text : List ℕ) (i stop : ℕ) → i ≤ stop → stop ≤ length text → lineOf 255 i (slice i stop text) ≡ onward text stop i Begin
+-- The text: where its first line ends.
+whole-line : (text : List ℕ) (i stop : ℕ) → i ≤ stop → stop ≤ length text
+    → lineOf 255 i (slice i stop text) ≡ onward text stop i Begin
 unfolding lineOf onward
 whole-line text i stop h t =
     let e = length-slice i stop text t in
@@ -237,7 +260,8 @@ slice-append text i e h k =
 drop-next : (text : List ℕ) (e : ℕ) → e < length text → drop e text ≡ getD text e 0 ∷ drop (e + 1) text
 drop-next text e k = rw (add-one e) (drop-cons text e 0 k)
 
-slice-snoc : (text : List ℕ) (i e : ℕ) → i ≤ e → e < length text → slice i (e + 1) text ≡ slice i e text ++ (getD text e 0 ∷ [])
+slice-snoc : (text : List ℕ) (i e : ℕ) → i ≤ e → e < length text
+    → slice i (e + 1) text ≡ slice i e text ++ (getD text e 0 ∷ [])
 slice-snoc text i e h k =
     let n = length-take-le e text (omega arith) in
     let j : i ≤ length (take e text) = omega arith in
@@ -259,7 +283,8 @@ ends-snoc (x ∷ (y ∷ l)) b = ends-snoc (y ∷ l) b
 pub eol-begin : (text : List ℕ) (i : ℕ) → Unbroken (slice i i text)
 eol-begin text i = rw (slice-empty i text) Unbroken.none
 
-pub eol-turn : (text : List ℕ) (at i : ℕ) → at ≤ i → i < length text → (getD text i 0 ≡ 10 → ⊥) → Unbroken (slice at i text)
+pub eol-turn : (text : List ℕ) (at i : ℕ) → at ≤ i → i < length text → (getD text i 0 ≡ 10 → ⊥)
+    → Unbroken (slice at i text)
     → Unbroken (slice at (i + 1) text)
 eol-turn text at i h k n u = rw (slice-snoc text at i h k) (unbroken-snoc _ _ u (ne-eqb (getD text i 0) 10 n))
 
@@ -267,7 +292,8 @@ eol-turn text at i h k n u = rw (slice-snoc text at i h k) (unbroken-snoc _ _ u 
 pub block-begin : (text : List ℕ) (i : ℕ) → Unbroken (slice i (i + 0) text)
 block-begin text i = let e : i + 0 ≡ i = omega arith in rw e (eol-begin text i)
 
-pub block-turn : (text : List ℕ) (i j : ℕ) → i + j < length text → (getD text (i + j) 0 ≡ 10 → ⊥) → Unbroken (slice i (i + j) text)
+pub block-turn : (text : List ℕ) (i j : ℕ) → i + j < length text → (getD text (i + j) 0 ≡ 10 → ⊥)
+    → Unbroken (slice i (i + j) text)
     → Unbroken (slice i (i + (j + 1)) text)
 block-turn text i j h n u =
     let e : i + (j + 1) ≡ i + j + 1 = omega arith in rw e (eol-turn text i (i + j) (omega arith) h n u)
@@ -276,7 +302,8 @@ unbroken-append : (l k : List ℕ) → Unbroken l → Unbroken k → Unbroken (l
 unbroken-append l k Unbroken.none v = v
 unbroken-append l k (Unbroken.byte {s = s} h u) v = Unbroken.byte h (unbroken-append s k u v)
 
-slice-join : (text : List ℕ) (i j k : ℕ) → i ≤ j → j ≤ k → k ≤ length text → slice i k text ≡ slice i j text ++ slice j k text
+slice-join : (text : List ℕ) (i j k : ℕ) → i ≤ j → j ≤ k → k ≤ length text
+    → slice i k text ≡ slice i j text ++ slice j k text
 slice-join text i j k h l t =
     let n = length-take-le j text (omega arith) in
     let m : i ≤ length (take j text) = omega arith in
@@ -285,7 +312,8 @@ slice-join text i j k h l t =
     in
     ap (drop i) e ∙ drop-append-le i (take j text) (slice j k text) m
 
-pub eol-join : (text : List ℕ) (i j k : ℕ) → i ≤ j → j ≤ k → k ≤ length text → Unbroken (slice i j text) → Unbroken (slice j k text)
+pub eol-join : (text : List ℕ) (i j k : ℕ) → i ≤ j → j ≤ k → k ≤ length text → Unbroken (slice i j text)
+    → Unbroken (slice j k text)
     → Unbroken (slice i k text)
 eol-join text i j k h l t u v = rw (slice-join text i j k h l t) (unbroken-append _ _ u v)
 
@@ -301,12 +329,15 @@ read-last text i e h t k =
     let j : i + length l ≡ e = omega arith in
     read-at 255 text i l (length l) h f ∙ rw (whole-line text i e (t .after) (t .before), j)
 
-at-lf : (text : List ℕ) (i e : ℕ) → EolAt text i e → e < length text → drop i text ≡ slice i e text ++ (10 ∷ drop (e + 1) text)
+at-lf : (text : List ℕ) (i e : ℕ) → EolAt text i e → e < length text
+    → drop i text ≡ slice i e text ++ (10 ∷ drop (e + 1) text)
 at-lf text i e t k =
-    slice-append text i e (t .after) (t .before) ∙ ap (λ (z : List ℕ). slice i e text ++ z) (drop-next text e k ∙ rw (t .lf k))
+    slice-append text i e (t .after) (t .before) ∙ ap (λ (z : List ℕ). slice i e text ++ z) (drop-next text e k ∙ rw
+    (t .lf k))
 
 -- the line ends at a LF with no CR before it
-read-lf : (text : List ℕ) (i e : ℕ) → i < length text → EolAt text i e → e < length text → endsInCr (slice i e text) ≡ false
+read-lf : (text : List ℕ) (i e : ℕ) → i < length text → EolAt text i e → e < length text
+    → endsInCr (slice i e text) ≡ false
     → readOf 255 text i ≡ record { line = answerOf i (onward text e i Begin); next = e + 1 }
 read-lf text i e h t k c =
     let l = slice i e text in
@@ -317,7 +348,8 @@ read-lf text i e h t k c =
     read-at 255 text i l (length l + 1) h f ∙ rw (whole-line text i e (t .after) (t .before), j)
 
 -- the line ends at a CR and a LF
-read-crlf : (text : List ℕ) (i e : ℕ) → i < length text → EolAt text i e → e < length text → i < e → getD text (e - 1) 0 ≡ 13
+read-crlf : (text : List ℕ) (i e : ℕ) → i < length text → EolAt text i e → e < length text → i < e
+    → getD text (e - 1) 0 ≡ 13
     → readOf 255 text i ≡ record { line = answerOf i (onward text (e - 1) i Begin); next = e + 1 }
 read-crlf text i e h t k m c =
     let d = e - 1 in
@@ -347,7 +379,8 @@ dropped-none : (text : List ℕ) (i e : ℕ) → eqb e i ≡ true → crDropped 
 unfolding crDropped
 dropped-none text i e z = rw z
 
-dropped-cr : (text : List ℕ) (i e : ℕ) → eqb e i ≡ false → eqb (getD text (e - 1) 0) 13 ≡ true → crDropped text i e ≡ e - 1
+dropped-cr : (text : List ℕ) (i e : ℕ) → eqb e i ≡ false → eqb (getD text (e - 1) 0) 13 ≡ true
+    → crDropped text i e ≡ e - 1
 unfolding crDropped
 dropped-cr text i e z w = rw (z, w)
 
@@ -372,6 +405,7 @@ pub dropped-facts : (text : List ℕ) (i e : ℕ) → i ≤ e → (i ≤ crDropp
 dropped-facts text i e h =
     ⊎-elim (λ z. rw (dropped-none text i e z) (omega arith, omega arith))
     (λ z. let y = eqb-false e i z in
-    ⊎-elim (λ w. rw (dropped-cr text i e z w) (omega arith, omega arith)) (λ w. rw (dropped-no text i e z w) (omega arith, omega arith))
+    ⊎-elim (λ w. rw (dropped-cr text i e z w) (omega arith, omega arith)) (λ w. rw (dropped-no text i e z w)
+    (omega arith, omega arith))
     (decide (eqb (getD text (e - 1) 0) 13)))
     (decide (eqb e i))

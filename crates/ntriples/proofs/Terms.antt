@@ -100,7 +100,7 @@ object-is (Object.iri h) = iri-is h
 object-is (Object.blank h) = blank-is h
 object-is (Object.literal h) = literal-is h
 
--- TWO NAMES, TWO TERMS. An IRI and a blank node are spelled by their terms.
+-- Two names have two terms. An IRI and a blank node are spelled by their terms.
 iri-rest-spelled : {s : List ℕ} (r : g.IriRest s) → s ≡ iriRest r ++ (62 ∷ [])
 iri-rest-spelled (g.IriRest.byte {b = b} e r) = ap (λ (z : List ℕ). b ∷ z) (iri-rest-spelled r)
 iri-rest-spelled g.IriRest.close = refl
@@ -162,12 +162,14 @@ writes-later b s h w = h (b ∷ w .0, ap (λ (z : List ℕ). b ∷ z) (w .1))
 
 -- a datatype that is xsd:string is written out
 typed-writes : {s : List ℕ} (i : g.Iri s) → iriOf i ≡ xsdString → WritesString (94 ∷ (94 ∷ s))
-typed-writes {s} i e = ([], ap (λ (z : List ℕ). 94 ∷ (94 ∷ z)) (iri-spelled i ∙ ap (λ (z : List ℕ). 60 ∷ (z ++ (62 ∷ []))) e))
+typed-writes {s} i e =
+    ([], ap (λ (z : List ℕ). 94 ∷ (94 ∷ z)) (iri-spelled i ∙ ap (λ (z : List ℕ). 60 ∷ (z ++ (62 ∷ []))) e))
 
 same-iri : {s t : List ℕ} (h : g.Iri s) (k : g.Iri t) → iriOf h ≡ iriOf k → s ≡ t
 same-iri h k e = iri-spelled h ∙ (ap (λ (z : List ℕ). 60 ∷ (z ++ (62 ∷ []))) e ∙ sym (iri-spelled k))
 
-same-suffix : {s t : List ℕ} (x y : List ℕ) (h : g.Suffix s) (k : g.Suffix t) → (WritesString s → ⊥) → (WritesString t → ⊥)
+same-suffix : {s t : List ℕ} (x y : List ℕ) (h : g.Suffix s) (k : g.Suffix t) → (WritesString s → ⊥)
+    → (WritesString t → ⊥)
     → suffixed x h ≡ suffixed y k → s ≡ t
 same-suffix x y g.Suffix.none g.Suffix.none u v e = refl
 same-suffix x y g.Suffix.none (g.Suffix.tag f r) u v e = tag-no-type x y _ _ e
@@ -183,18 +185,22 @@ same-suffix x y (g.Suffix.datatype i) (g.Suffix.datatype j) u v e =
 cons-same : (b c : ℕ) (s t : List ℕ) → b ≡ c → s ≡ t → b ∷ s ≡ c ∷ t
 cons-same b c s t e f = cc
 
-same-text : {s t : List ℕ} (x y : List ℕ) (h : g.TextRest s) (k : g.TextRest t) → (WritesString s → ⊥) → (WritesString t → ⊥)
+same-text : {s t : List ℕ} (x y : List ℕ) (h : g.TextRest s) (k : g.TextRest t) → (WritesString s → ⊥)
+    → (WritesString t → ⊥)
     → lexicalOf h ≡ lexicalOf k → textOf x h ≡ textOf y k → s ≡ t
 same-text x y (g.TextRest.byte {b = b} {s = s} p h) (g.TextRest.byte {b = c} {s = t} q k) u v e f =
     cons-same b c s t (first-of _ _ _ _ e)
     (same-text x y h k (writes-later b s u) (writes-later c t v) (rest-of _ _ _ _ e) f)
-same-text x y (g.TextRest.byte {b = b} p h) (g.TextRest.pair {b = c} q k) u v e f = byte-no-pair b c p q (first-of _ _ _ _ e)
+same-text x y (g.TextRest.byte {b =
+    b} p h) (g.TextRest.pair {b = c} q k) u v e f = byte-no-pair b c p q (first-of _ _ _ _ e)
 same-text x y (g.TextRest.byte {b = b} p h) (g.TextRest.close k) u v e f = no-cons _ _ e
-same-text x y (g.TextRest.pair {b = b} p h) (g.TextRest.byte {b = c} q k) u v e f = byte-no-pair c b q p (sym (first-of _ _ _ _ e))
+same-text x y (g.TextRest.pair {b =
+    b} p h) (g.TextRest.byte {b = c} q k) u v e f = byte-no-pair c b q p (sym (first-of _ _ _ _ e))
 same-text x y (g.TextRest.pair {b = b} {s = s} p h) (g.TextRest.pair {b = c} {s = t} q k) u v e f =
     ap (λ (z : List ℕ). 92 ∷ z)
     (cons-same b c s t (same-pair b c p q (first-of _ _ _ _ e))
-    (same-text x y h k (writes-later b s (writes-later 92 (b ∷ s) u)) (writes-later c t (writes-later 92 (c ∷ t) v)) (rest-of _ _ _ _ e) f))
+    (same-text x y h k (writes-later b s (writes-later 92 (b ∷ s) u)) (writes-later c t (writes-later 92 (c ∷ t) v))
+    (rest-of _ _ _ _ e) f))
 same-text x y (g.TextRest.pair p h) (g.TextRest.close k) u v e f = no-cons _ _ e
 same-text x y (g.TextRest.close h) (g.TextRest.byte q k) u v e f = no-cons _ _ (sym e)
 same-text x y (g.TextRest.close h) (g.TextRest.pair q k) u v e f = no-cons _ _ (sym e)
@@ -223,7 +229,8 @@ same-literal : {s t : List ℕ} (h : g.Literal s) (k : g.Literal t) → (WritesS
     → literalOf h ≡ literalOf k → s ≡ t
 same-literal (g.Literal.open′ {s = s} h) (g.Literal.open′ {s = t} k) u v e =
     let x = sym (text-lexical (lexicalOf h) h) ∙ (ap lexicalIn e ∙ text-lexical (lexicalOf k) k) in
-    ap (λ (z : List ℕ). 34 ∷ z) (same-text (lexicalOf h) (lexicalOf k) h k (writes-later 34 s u) (writes-later 34 t v) x e)
+    ap (λ (z : List ℕ). 34 ∷ z) (same-text (lexicalOf h) (lexicalOf k) h k (writes-later 34 s u)
+    (writes-later 34 t v) x e)
 
 -- the kind of a term
 sortOf : Term → ℕ

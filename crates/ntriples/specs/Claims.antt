@@ -91,4 +91,5 @@ WritesString s = (x : List ℕ) × (s ≡ x ++ (94 ∷ (94 ∷ (60 ∷ (xsdStrin
 
 abbrev pub DistinctTerms : Type 0
 DistinctTerms =
-    (k j : ℕ) (a b : List ℕ) → Name k a → Name j b → (WritesString a → ⊥) → (WritesString b → ⊥) → termOf a ≡ termOf b → a ≡ b
+    (k j : ℕ) (a b : List ℕ) → Name k a → Name j b → (WritesString a → ⊥) → (WritesString b → ⊥) → termOf a ≡ termOf b
+    → a ≡ b

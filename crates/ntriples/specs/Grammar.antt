@@ -58,7 +58,8 @@ pub record Triple (l : List ℕ) : Type 0 where
   pub object : List ℕ
   pub between₃ : List ℕ
   pub after : List ℕ
-  pub spells : l ≡ before ++ (subject ++ (between₁ ++ (predicate ++ (between₂ ++ (object ++ (between₃ ++ (46 ∷ after)))))))
+  pub spells : l ≡ before ++ (subject ++ (between₁ ++ (predicate ++ (between₂ ++ (object ++ (between₃ ++
+      (46 ∷ after)))))))
   pub white₀ : WhiteSpace before
   pub isSubject : Subject subject
   pub white₁ : WhiteSpace between₁

@@ -41,7 +41,7 @@ pub record Dark (text : List ℕ) (i stop : ℕ) : Type 0 where
   pub inText : stop ≤ length text
   pub dark : i < stop → white (getD text i 0) ≡ false
 
--- both
+-- the line began at `at`, and i is such a position of it
 pub record Reached (text : List ℕ) (at i stop : ℕ) : Type 0 where
   pub begun : at ≤ i
   pub before : i ≤ stop
@@ -64,7 +64,7 @@ pub record RunEnd (f : ℕ → Bool) (text : List ℕ) (i stop r : ℕ) : Type 0
 unfoldable pub onward : List ℕ → ℕ → ℕ → Place → Outcome
 onward text stop i p = endOf stop (placeOf 255 i p (slice i stop text))
 
--- The subject or the predicate that begins at a, of which n more terms follow, ends before e: the reading is between terms
+-- The subject or the predicate that begins at a, after which n more terms follow, ends before e: the reading is between terms
 -- there. Or no line goes on at k.
 abbrev pub TermEnds : List ℕ → ℕ → ℕ → ℕ → TermEnd → Type 0
 TermEnds text stop n a (term.Whole e) =

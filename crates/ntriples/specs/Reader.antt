@@ -116,7 +116,8 @@ leaveOf i ms n q a b =
 unfoldable pub advanceOf : ℕ → ℕ → Place → ℕ → Place
 advanceOf limit i Begin b = pick (white b) Begin (pick (eqb b 35) Remark (enterOf i [] 2 b))
 advanceOf limit i (Gap ms n) b = gapOf i ms n b
-advanceOf limit i (Inside ms n q a) b = pick (isBad (stepOf q b)) (leaveOf i ms n q a b) (goesOnOf limit i ms n (stepOf q b) a)
+advanceOf limit i (Inside ms n q a) b =
+    pick (isBad (stepOf q b)) (leaveOf i ms n q a b) (goesOnOf limit i ms n (stepOf q b) a)
 advanceOf limit i (After ms) b = afterOf i ms b
 advanceOf limit i (Noted ms) b = pick (commentByte b) (Noted ms) (Broken i)
 advanceOf limit i Remark b = pick (commentByte b) Remark (Broken i)

@@ -97,4 +97,5 @@ literalWith x (b ∷ s) = pick (eqb b 64) (tagged x s) (literal x (inner (drop 2
 unfoldable pub termOf : List ℕ → Term
 termOf [] = blank []
 termOf (b ∷ s) =
-    pick (eqb b 60) (iri (inner s)) (pick (eqb b 95) (blank (drop 1 s)) (literalWith (lexicalFrom false s) (suffixFrom false s)))
+    pick (eqb b 60) (iri (inner s)) (pick (eqb b 95) (blank (drop 1 s)) (literalWith (lexicalFrom false s)
+    (suffixFrom false s)))

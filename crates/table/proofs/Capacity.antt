@@ -8,17 +8,8 @@ use lib.ListN.{length}
 use lib.Dec.{leb}
 use borrow.Author.Tests.{leb-true, leb-false, le-leb, lt-leb}
 use Rattle.store.specs.declared.Counters.{Counters}
+use Rattle.store.proofs.Tests.{and-l, and-r}
 use Rattle.store.specs.Tables.{Tables, fits, resourceCapacity, statementCapacity, textCapacity, maxResources, maxStatements, maxText, resourceWords, statementWords}
-
--- ---- both halves of a test
-
-pub and-l : (a b : Bool) → a && b ≡ true → a ≡ true
-and-l true b e = refl
-and-l false b e = e
-
-pub and-r : (a b : Bool) → a && b ≡ true → b ≡ true
-and-r true b e = e
-and-r false b e = absurd (false≢true e)
 
 -- ---- refusal 1
 

@@ -9,7 +9,8 @@ use Rattle.store.specs.declared.Counters.{Counters}
 use Rattle.store.specs.Tables.{Tables, fits}
 use Rattle.store.specs.Reading.{inRange}
 use Rattle.table.specs.Held.{StatementHeld, ResourceHeld}
-use Rattle.table.proofs.Capacity.{and-l, and-r, fits-room}
+use Rattle.store.proofs.Tests.{and-l, and-r}
+use Rattle.table.proofs.Capacity.{fits-room}
 
 pub from-one : (n x : ℕ) → inRange n x ≡ true → 0 < x
 unfolding inRange

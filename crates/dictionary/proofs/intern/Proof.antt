@@ -222,7 +222,8 @@ returns-6 c =
     let b = formed w (name-kind .result) (name-kind .ensures) (if2 .left) in
     let s = sym (at .given .1) ∙ search .ensures in
     let g = (rw (one-name-more .ensures) at (sym (fits3 .ensures) ∙ not-false (fits3 .result) (if3 .left))) in
-    intern-new (a .c) m w f b _ (name-kind .result) _ _ _ _ s g (one-name-more .ensures) (name-kind .ensures) (append .ensures)
+    intern-new (a .c) m w f b _ (name-kind .result) _ _ _ _ s g (one-name-more .ensures) (name-kind .ensures)
+    (append .ensures)
 
 pub intern-spec : {M : Type 1} → statement M
 intern-spec =

@@ -18,81 +18,129 @@ white-space-requires : tie.Need-white-space-requires
 white-space-requires c κs = record { before = c .before .pre .before; inText = c .before .pre .inText }
 
 object-requires : tie.Need-object-requires
-object-requires c κs = run-dark (c .before .before .args .text .now) (c .before .before .args .stop) (c .before .before .args .from) _ (c .before .before .pre .inText) (c .white-space .ensures)
+object-requires c κs =
+    run-dark (c .before .before .args .text .now) (c .before .before .args .stop) (c .before .before .args .from) _
+    (c .before .before .pre .inText) (c .white-space .ensures)
 
 enum-known-e : tie.Need-enum-known-e
 enum-known-e c = search needs
 
 after-object-requires : tie.Need-after-object-requires
 after-object-requires c κs =
-    let a = c .before .before .before .before .before .before .args in
-    let t = object-told (a .text .now) (a .stop) _ _ (Whole (c .before .e .given .0 .0)) (c .before .e .given .1) (c .before .before .before .object .ensures) in
+    let c3 = c .before .before .before in
+    let c4 = c .before .before .before .before in
+    let c6 = c .before .before .before .before .before .before in
+    let a = c6 .args in
+    let t =
+    object-told (a .text .now) (a .stop) _ _ (Whole (c .before .e .given .0 .0)) (c .before .e .given .1)
+    (c3 .object .ensures)
+    in
     let x = t .0 in
-    let w = c .before .before .before .before .white-space .ensures .after in
-    let g = c .before .before .before .before .before .before .pre .begun in
-    record { begun = omega arith; before = t .1; inText = c .before .before .before .before .before .before .pre .inText }
+    let w = c4 .white-space .ensures .after in
+    let g = c6 .pre .begun in
+    record { begun = omega arith; before = t .1; inText = c6 .pre .inText }
 
 enum-known-e-2 : tie.Need-enum-known-e-2
 enum-known-e-2 c = search needs
 
 add-after-dot : tie.Need-add-after-dot
 add-after-dot c =
-    let a = c .before .before .before .before .before .before .args in
-    let t = object-told (a .text .now) (a .stop) _ _ (Dotted (c .before .e2 .given .0 .0)) (c .before .e2 .given .1) (c .before .before .before .object .ensures) in
+    let c3 = c .before .before .before in
+    let c6 = c .before .before .before .before .before .before in
+    let a = c6 .args in
+    let t =
+    object-told (a .text .now) (a .stop) _ _ (Dotted (c .before .e2 .given .0 .0)) (c .before .e2 .given .1)
+    (c3 .object .ensures)
+    in
     let x = t .1 in
-    let y = c .before .before .before .before .before .before .pre .inText in
+    let y = c6 .pre .inText in
     search needs
 
 after-dot-requires : tie.Need-after-dot-requires
 after-dot-requires c κs =
-    let a = c .before .before .before .before .before .before .args in
-    let t = object-told (a .text .now) (a .stop) _ _ (Dotted (c .before .e2 .given .0 .0)) (c .before .e2 .given .1) (c .before .before .before .object .ensures) in
+    let c3 = c .before .before .before in
+    let c4 = c .before .before .before .before in
+    let c6 = c .before .before .before .before .before .before in
+    let a = c6 .args in
+    let t =
+    object-told (a .text .now) (a .stop) _ _ (Dotted (c .before .e2 .given .0 .0)) (c .before .e2 .given .1)
+    (c3 .object .ensures)
+    in
     let x = t .0 in
     let y = t .1 in
-    let w = c .before .before .before .before .white-space .ensures .after in
-    let g = c .before .before .before .before .before .before .pre .begun in
-    record { begun = omega arith; before = omega arith; inText = c .before .before .before .before .before .before .pre .inText }
+    let w = c4 .white-space .ensures .after in
+    let g = c6 .pre .begun in
+    record { begun = omega arith; before = omega arith; inText = c6 .pre .inText }
 
 enum-known-k : tie.Need-enum-known-k
 enum-known-k c = search needs
 
 sub-t16 : tie.Need-sub-t16
 sub-t16 c =
-    let a = c .before .before .before .before .before .before .args in
-    let t = object-told (a .text .now) (a .stop) _ _ (Broken (c .before .k .given .0 .0)) (c .before .k .given .1) (c .before .before .before .object .ensures) in
+    let c3 = c .before .before .before in
+    let c4 = c .before .before .before .before in
+    let c6 = c .before .before .before .before .before .before in
+    let a = c6 .args in
+    let t =
+    object-told (a .text .now) (a .stop) _ _ (Broken (c .before .k .given .0 .0)) (c .before .k .given .1)
+    (c3 .object .ensures)
+    in
     let x = t .0 in
-    let w = c .before .before .before .before .white-space .ensures .after in
-    let g = c .before .before .before .before .before .before .pre .begun in
+    let w = c4 .white-space .ensures .after in
+    let g = c6 .pre .begun in
     omega arith
 
 returns : tie.Need-returns
 returns c =
-    let a = c .before .before .before .before .before .before .before .args in
-    let p = c .before .before .before .before .before .before .before .pre in
-    let t = object-told (a .text .now) (a .stop) _ _ (Whole (c .before .before .e .given .0 .0)) (c .before .before .e .given .1) (c .before .before .before .before .object .ensures) in
+    let c4 = c .before .before .before .before in
+    let c5 = c .before .before .before .before .before in
+    let c7 = c .before .before .before .before .before .before .before in
+    let a = c7 .args in
+    let p = c7 .pre in
+    let t =
+    object-told (a .text .now) (a .stop) _ _ (Whole (c .before .before .e .given .0 .0))
+    (c .before .before .e .given .1)
+    (c4 .object .ensures)
+    in
     c .after-object .ensures
     ∙ sym (ap (answerOf (a .at))
-    (gap-skipped (a .text .now) (a .stop) (a .from) _ (a .s ∷ (a .p ∷ [])) 1 (p .before) (p .inText) (c .before .before .before .before .before .white-space .ensures)
+    (gap-skipped (a .text .now) (a .stop) (a .from) _ (a .s ∷ (a .p ∷ [])) 1 (p .before) (p .inText)
+    (c5 .white-space .ensures)
     ∙ t .2 (a .s ∷ (a .p ∷ []))))
 
 returns-2 : tie.Need-returns-2
 returns-2 c =
-    let a = c .before .before .before .before .before .before .before .args in
-    let p = c .before .before .before .before .before .before .before .pre in
-    let t = object-told (a .text .now) (a .stop) _ _ (Dotted (c .before .before .e2 .given .0 .0)) (c .before .before .e2 .given .1) (c .before .before .before .before .object .ensures) in
+    let c4 = c .before .before .before .before in
+    let c5 = c .before .before .before .before .before in
+    let c7 = c .before .before .before .before .before .before .before in
+    let a = c7 .args in
+    let p = c7 .pre in
+    let t =
+    object-told (a .text .now) (a .stop) _ _ (Dotted (c .before .before .e2 .given .0 .0))
+    (c .before .before .e2 .given .1)
+    (c4 .object .ensures)
+    in
     c .after-dot .ensures
     ∙ sym (ap (answerOf (a .at))
-    (gap-skipped (a .text .now) (a .stop) (a .from) _ (a .s ∷ (a .p ∷ [])) 1 (p .before) (p .inText) (c .before .before .before .before .before .white-space .ensures)
+    (gap-skipped (a .text .now) (a .stop) (a .from) _ (a .s ∷ (a .p ∷ [])) 1 (p .before) (p .inText)
+    (c5 .white-space .ensures)
     ∙ t .2 (a .s ∷ (a .p ∷ []))))
 
 returns-3 : tie.Need-returns-3
 unfolding answerOf
 returns-3 c =
-    let a = c .before .before .before .before .before .before .args in
-    let p = c .before .before .before .before .before .before .pre in
-    let t = object-told (a .text .now) (a .stop) _ _ (Broken (c .before .k .given .0 .0)) (c .before .k .given .1) (c .before .before .before .object .ensures) in
+    let c3 = c .before .before .before in
+    let c4 = c .before .before .before .before in
+    let c6 = c .before .before .before .before .before .before in
+    let a = c6 .args in
+    let p = c6 .pre in
+    let t =
+    object-told (a .text .now) (a .stop) _ _ (Broken (c .before .k .given .0 .0)) (c .before .k .given .1)
+    (c3 .object .ensures)
+    in
     sym (ap (answerOf (a .at))
-    (gap-skipped (a .text .now) (a .stop) (a .from) _ (a .s ∷ (a .p ∷ [])) 1 (p .before) (p .inText) (c .before .before .before .before .white-space .ensures)
+    (gap-skipped (a .text .now) (a .stop) (a .from) _ (a .s ∷ (a .p ∷ [])) 1 (p .before) (p .inText)
+    (c4 .white-space .ensures)
     ∙ t .1 (a .s ∷ (a .p ∷ []))))
 
 pub after-predicate-spec : {M : Type 1} → statement M

@@ -22,16 +22,29 @@ loop-holds : tie.Need-loop-holds Inv-loop μ-loop
 loop-holds c = let a = c .before .args in (omega arith, omega arith, λ _. block-begin (a .text .now) (a .from))
 
 add-lf-count : tie.Need-add-lf-count Inv-loop μ-loop
-add-lf-count c = let p = c .before .before .before .pre in let t = c .loop-test .taken in search needs
+add-lf-count c =
+    let c3 = c .before .before .before in
+    let p = c3 .pre in
+    let t = c .loop-test .taken in
+    search needs
 
 shared-slice-read-lf-count : tie.Need-shared-slice-read-lf-count Inv-loop μ-loop
-shared-slice-read-lf-count c = let p = c .before .before .before .before .pre in let t = c .before .loop-test .taken in omega arith
+shared-slice-read-lf-count c =
+    let c4 = c .before .before .before .before in
+    let p = c4 .pre in
+    let t = c .before .loop-test .taken in
+    omega arith
 
 lf-count-requires : tie.Need-lf-count-requires Inv-loop μ-loop
 lf-count-requires c κs = search needs
 
 add-count : tie.Need-add-count Inv-loop μ-loop
-add-count c = let i = c .before .before .before .loop .inv .0 in let t = c .before .before .loop-test .taken in let m = c .lf-count .ensures .most in omega arith
+add-count c =
+    let c3 = c .before .before .before in
+    let i = c3 .loop .inv .0 in
+    let t = c .before .before .loop-test .taken in
+    let m = c .lf-count .ensures .most in
+    omega arith
 
 add-j : tie.Need-add-j Inv-loop μ-loop
 add-j c = search needs
@@ -41,9 +54,11 @@ loop-less c = search needs
 
 loop-again : tie.Need-loop-again Inv-loop μ-loop
 loop-again c =
-    let l = c .before .before .before .loop in
-    let a = c .before .before .before .before .before .args in
-    let p = c .before .before .before .before .before .pre in
+    let c3 = c .before .before .before in
+    let c5 = c .before .before .before .before .before in
+    let l = c3 .loop in
+    let a = c5 .args in
+    let p = c5 .pre in
     let t = c .before .before .loop-test .taken in
     let r = c .lf-count .ensures in
     let m = r .most in
@@ -55,8 +70,9 @@ loop-again c =
 
 returns : tie.Need-returns Inv-loop μ-loop
 returns c =
+    let c3 = c .before .before .before in
     let l = c .before .loop in
-    let a = c .before .before .before .args in
+    let a = c3 .args in
     let t = c .loop-test .left in
     let i = l .inv .1 in
     let e : l .j ≡ 16 = omega arith in

@@ -44,7 +44,8 @@ returns c =
     sym (c .before .is-comment-byte .ensures) ∙ not-true (c .before .is-comment-byte .result) (c .if1 .taken)
     in
     record {
-      end = sym (l .inv .2 ∙ run-out commentByte (a .text .now) (l .i) (a .stop) (c .before .before .before .loop-test .taken) h e);
+      end = sym (l .inv .2 ∙ run-out commentByte (a .text .now) (l .i) (a .stop)
+          (c .before .before .before .loop-test .taken) h e);
       after = l .inv .0;
       before = l .inv .1;
       out = λ _. e;

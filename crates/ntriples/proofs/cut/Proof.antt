@@ -12,7 +12,9 @@ sub-if1 : tie.Need-sub-if1
 sub-if1 c = search needs
 
 returns : tie.Need-returns
-returns c = let t = c .if1 .taken in let p = c .before .pre in sym (cut-near (c .before .args .a) (c .before .args .stop) (omega arith))
+returns c =
+    let t = c .if1 .taken in let p = c .before .pre in sym (cut-near (c .before .args .a) (c .before .args .stop)
+    (omega arith))
 
 add-result : tie.Need-add-result
 add-result c = search needs

@@ -16,18 +16,27 @@ sub-if2 : tie.Need-sub-if2
 sub-if2 c = let h = c .before .pre .before in let n = c .if1 .left in omega arith
 
 shared-slice-read-if2 : tie.Need-shared-slice-read-if2
-shared-slice-read-if2 c = let h = c .before .before .pre .inText in let k = c .before .before .pre .before in let n = c .before .if1 .left in omega arith
+shared-slice-read-if2 c =
+    let h = c .before .before .pre .inText in let k = c .before .before .pre .before in let n = c .before .if1 .left in omega arith
 
 sub-result : tie.Need-sub-result
-sub-result c = let k = c .before .before .before .pre .before in let n = c .before .before .if1 .left in omega arith
+sub-result c =
+    let c3 = c .before .before .before in
+    let k = c3 .pre .before in
+    let n = c .before .before .if1 .left in
+    omega arith
 
 returns-2 : tie.Need-returns-2
 unfolding crDropped
-returns-2 c = rw (ne-eqb (c .before .before .before .args .lf) (c .before .before .before .args .at) (c .before .before .if1 .left), eq-eqb _ 13 (c .if2 .taken))
+returns-2 c =
+    let c3 = c .before .before .before in
+    rw (ne-eqb (c3 .args .lf) (c3 .args .at) (c .before .before .if1 .left), eq-eqb _ 13 (c .if2 .taken))
 
 returns-3 : tie.Need-returns-3
 unfolding crDropped
-returns-3 c = rw (ne-eqb (c .before .before .before .args .lf) (c .before .before .before .args .at) (c .before .before .if1 .left), ne-eqb _ 13 (c .if2 .left))
+returns-3 c =
+    let c3 = c .before .before .before in
+    rw (ne-eqb (c3 .args .lf) (c3 .args .at) (c .before .before .if1 .left), ne-eqb _ 13 (c .if2 .left))
 
 pub drop-cr-spec : {M : Type 1} → statement M
 drop-cr-spec =

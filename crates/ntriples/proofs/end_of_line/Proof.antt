@@ -28,7 +28,8 @@ shared-slice-read-if1 c = let t = c .before .loop-test .taken in omega arith
 
 returns : tie.Need-returns Inv-loop μ-loop
 returns c =
-    let l = c .before .before .before .loop in
+    let c3 = c .before .before .before in
+    let l = c3 .loop in
     let e = c .if1 .taken in
     record { after = l .inv .0; before = l .inv .1; unbroken = l .inv .2; lf = λ _. e }
 
@@ -40,8 +41,10 @@ loop-less c = search needs
 
 loop-again : tie.Need-loop-again Inv-loop μ-loop
 loop-again c =
-    let l = c .before .before .before .loop in
-    let a = c .before .before .before .before .before .before .args in
+    let c3 = c .before .before .before in
+    let c6 = c .before .before .before .before .before .before in
+    let l = c3 .loop in
+    let a = c6 .args in
     let t = c .before .before .loop-test .taken in
     (omega arith, omega arith, eol-turn (a .text .now) (a .at) (l .i) (l .inv .0) t (c .if1 .left) (l .inv .2))
 

@@ -14,22 +14,36 @@ returns : tie.Need-returns
 returns c = let a = c .before .before .args in object-none (a .text .now) (a .stop) (a .a) (c .if1 .taken)
 
 shared-slice-read-opens-object : tie.Need-shared-slice-read-opens-object
-shared-slice-read-opens-object c = let h = c .before .before .before .pre .before in let k = c .before .before .before .pre .inText in let n = c .before .if1 .left in omega arith
+shared-slice-read-opens-object c =
+    let c3 = c .before .before .before in
+    let h = c3 .pre .before in
+    let k = c3 .pre .inText in
+    let n = c .before .if1 .left in
+    omega arith
 
 opens-object-requires : tie.Need-opens-object-requires
 opens-object-requires c κs = search needs
 
 returns-2 : tie.Need-returns-2
 returns-2 c =
-    let a = c .before .before .before .before .before .args in
-    object-closed (a .text .now) (a .stop) (a .a) (c .before .before .before .before .before .pre) (c .before .before .before .if1 .left)
+    let c3 = c .before .before .before in
+    let c5 = c .before .before .before .before .before in
+    let a = c5 .args in
+    object-closed (a .text .now) (a .stop) (a .a) (c5 .pre) (c3 .if1 .left)
     (sym (c .before .opens-object .ensures) ∙ not-true (c .before .opens-object .result) (c .if2 .taken))
 
 object-end-requires : tie.Need-object-end-requires
 object-end-requires c κs =
-    let h = c .before .before .before .before .before .pre .before in
-    let n = c .before .before .before .if1 .left in
-    record { before = omega arith; inText = c .before .before .before .before .before .pre .inText; opening = (sym (c .before .opens-object .ensures) ∙ not-false (c .before .opens-object .result) (c .if2 .left)) }
+    let c3 = c .before .before .before in
+    let c5 = c .before .before .before .before .before in
+    let h = c5 .pre .before in
+    let n = c3 .if1 .left in
+    record {
+      before = omega arith;
+      inText = c5 .pre .inText;
+      opening = (sym (c .before .opens-object .ensures)
+          ∙ not-false (c .before .opens-object .result) (c .if2 .left));
+    }
 
 returns-3 : tie.Need-returns-3
 returns-3 c = c .object-end .ensures

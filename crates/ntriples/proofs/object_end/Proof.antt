@@ -20,8 +20,12 @@ scan-term-requires c κs = search needs
 
 sub-if1 : tie.Need-sub-if1
 sub-if1 c =
-    let a = c .before .before .before .args in
-    let t = term-scanned (a .text .now) (a .stop) (a .a) (c .before .cut .result) (c .scan-term .result) (c .before .before .before .pre) (c .before .cut .ensures) (c .scan-term .ensures) in
+    let c3 = c .before .before .before in
+    let a = c3 .args in
+    let t =
+    term-scanned (a .text .now) (a .stop) (a .a) (c .before .cut .result) (c .scan-term .result) (c3 .pre)
+    (c .before .cut .ensures) (c .scan-term .ensures)
+    in
     let l = t .low in
     omega arith
 
@@ -33,10 +37,17 @@ add-t10 c = search needs
 
 returns : tie.Need-returns
 returns c =
-    let a = c .before .before .before .before .before .before .args in
-    let t = term-scanned (a .text .now) (a .stop) (a .a) (c .before .before .before .before .cut .result) (c .before .before .before .scan-term .result) (c .before .before .before .before .before .before .pre) (c .before .before .before .before .cut .ensures) (c .before .before .before .scan-term .ensures) in
+    let c3 = c .before .before .before in
+    let c4 = c .before .before .before .before in
+    let c6 = c .before .before .before .before .before .before in
+    let a = c6 .args in
+    let t =
+    term-scanned (a .text .now) (a .stop) (a .a) (c4 .cut .result) (c3 .scan-term .result) (c6 .pre)
+    (c4 .cut .ensures) (c3 .scan-term .ensures)
+    in
     let x = c .before .before .if1 .taken in
-    object-over-dot (a .text .now) (a .stop) (a .a) (c .before .before .before .scan-term .result) t (c .before .before .before .before .before .before .pre .inText) (c .before .before .before .before .before .before .pre .opening) (omega arith)
+    object-over-dot (a .text .now) (a .stop) (a .a) (c3 .scan-term .result) t (c6 .pre .inText) (c6 .pre .opening)
+    (omega arith)
     (sym (c .before .is-dot .ensures) ∙ c .if2 .taken)
 
 add-t11 : tie.Need-add-t11
@@ -44,10 +55,17 @@ add-t11 c = search needs
 
 returns-2 : tie.Need-returns-2
 returns-2 c =
-    let a = c .before .before .before .before .before .before .args in
-    let t = term-scanned (a .text .now) (a .stop) (a .a) (c .before .before .before .before .cut .result) (c .before .before .before .scan-term .result) (c .before .before .before .before .before .before .pre) (c .before .before .before .before .cut .ensures) (c .before .before .before .scan-term .ensures) in
+    let c3 = c .before .before .before in
+    let c4 = c .before .before .before .before in
+    let c6 = c .before .before .before .before .before .before in
+    let a = c6 .args in
+    let t =
+    term-scanned (a .text .now) (a .stop) (a .a) (c4 .cut .result) (c3 .scan-term .result) (c6 .pre)
+    (c4 .cut .ensures) (c3 .scan-term .ensures)
+    in
     let x = c .before .before .if1 .taken in
-    object-over (a .text .now) (a .stop) (a .a) (c .before .before .before .scan-term .result) t (c .before .before .before .before .before .before .pre .inText) (c .before .before .before .before .before .before .pre .opening) (omega arith)
+    object-over (a .text .now) (a .stop) (a .a) (c3 .scan-term .result) t (c6 .pre .inText) (c6 .pre .opening)
+    (omega arith)
     (sym (c .before .is-dot .ensures) ∙ c .if2 .left)
 
 whole-requires : tie.Need-whole-requires
@@ -55,10 +73,17 @@ whole-requires c κs = search needs
 
 returns-3 : tie.Need-returns-3
 returns-3 c =
-    let a = c .before .before .before .before .before .before .args in
-    let t = term-scanned (a .text .now) (a .stop) (a .a) (c .before .before .before .before .cut .result) (c .before .before .before .scan-term .result) (c .before .before .before .before .before .before .pre) (c .before .before .before .before .cut .ensures) (c .before .before .before .scan-term .ensures) in
+    let c3 = c .before .before .before in
+    let c4 = c .before .before .before .before in
+    let c6 = c .before .before .before .before .before .before in
+    let a = c6 .args in
+    let t =
+    term-scanned (a .text .now) (a .stop) (a .a) (c4 .cut .result) (c3 .scan-term .result) (c6 .pre)
+    (c4 .cut .ensures) (c3 .scan-term .ensures)
+    in
     let x = c .before .before .if1 .left in
-    object-whole (a .text .now) (a .stop) (a .a) (c .before .before .before .scan-term .result) t (c .before .before .before .before .before .before .pre .inText) (c .before .before .before .before .before .before .pre .opening) (omega arith)
+    object-whole (a .text .now) (a .stop) (a .a) (c3 .scan-term .result) t (c6 .pre .inText) (c6 .pre .opening)
+    (omega arith)
     (sym (c .before .whole .ensures) ∙ c .if3 .taken)
 
 is-dot-requires-2 : tie.Need-is-dot-requires-2
@@ -66,26 +91,49 @@ is-dot-requires-2 c κs = search needs
 
 sub-t14 : tie.Need-sub-t14
 sub-t14 c =
-    let a = c .before .before .before .before .before .before .before .before .args in
-    let t = term-scanned (a .text .now) (a .stop) (a .a) (c .before .before .before .before .before .before .cut .result) (c .before .before .before .before .before .scan-term .result) (c .before .before .before .before .before .before .before .before .pre) (c .before .before .before .before .before .before .cut .ensures) (c .before .before .before .before .before .scan-term .ensures) in
+    let c5 = c .before .before .before .before .before in
+    let c6 = c .before .before .before .before .before .before in
+    let c8 = c .before .before .before .before .before .before .before .before in
+    let a = c8 .args in
+    let t =
+    term-scanned (a .text .now) (a .stop) (a .a) (c6 .cut .result) (c5 .scan-term .result) (c8 .pre)
+    (c6 .cut .ensures) (c5 .scan-term .ensures)
+    in
     let l = t .low in
     omega arith
 
 returns-4 : tie.Need-returns-4
 returns-4 c =
-    let a = c .before .before .before .before .before .before .before .before .args in
-    let t = term-scanned (a .text .now) (a .stop) (a .a) (c .before .before .before .before .before .before .cut .result) (c .before .before .before .before .before .scan-term .result) (c .before .before .before .before .before .before .before .before .pre) (c .before .before .before .before .before .before .cut .ensures) (c .before .before .before .before .before .scan-term .ensures) in
-    let x = c .before .before .before .before .if1 .left in
-    object-dot (a .text .now) (a .stop) (a .a) (c .before .before .before .before .before .scan-term .result) t (c .before .before .before .before .before .before .before .before .pre .inText) (c .before .before .before .before .before .before .before .before .pre .opening) (omega arith)
+    let c4 = c .before .before .before .before in
+    let c5 = c .before .before .before .before .before in
+    let c6 = c .before .before .before .before .before .before in
+    let c8 = c .before .before .before .before .before .before .before .before in
+    let a = c8 .args in
+    let t =
+    term-scanned (a .text .now) (a .stop) (a .a) (c6 .cut .result) (c5 .scan-term .result) (c8 .pre)
+    (c6 .cut .ensures) (c5 .scan-term .ensures)
+    in
+    let x = c4 .if1 .left in
+    object-dot (a .text .now) (a .stop) (a .a) (c5 .scan-term .result) t (c8 .pre .inText) (c8 .pre .opening)
+    (omega arith)
     (sym (c .before .is-dot2 .ensures) ∙ c .if4 .taken)
 
 returns-5 : tie.Need-returns-5
 returns-5 c =
-    let a = c .before .before .before .before .before .before .before .before .args in
-    let t = term-scanned (a .text .now) (a .stop) (a .a) (c .before .before .before .before .before .before .cut .result) (c .before .before .before .before .before .scan-term .result) (c .before .before .before .before .before .before .before .before .pre) (c .before .before .before .before .before .before .cut .ensures) (c .before .before .before .before .before .scan-term .ensures) in
-    let x = c .before .before .before .before .if1 .left in
-    object-broken (a .text .now) (a .stop) (a .a) (c .before .before .before .before .before .scan-term .result) t (c .before .before .before .before .before .before .before .before .pre .inText) (c .before .before .before .before .before .before .before .before .pre .opening) (omega arith)
-    (sym (c .before .before .before .whole .ensures) ∙ c .before .before .if3 .left) (sym (c .before .is-dot2 .ensures) ∙ c .if4 .left)
+    let c3 = c .before .before .before in
+    let c4 = c .before .before .before .before in
+    let c5 = c .before .before .before .before .before in
+    let c6 = c .before .before .before .before .before .before in
+    let c8 = c .before .before .before .before .before .before .before .before in
+    let a = c8 .args in
+    let t =
+    term-scanned (a .text .now) (a .stop) (a .a) (c6 .cut .result) (c5 .scan-term .result) (c8 .pre)
+    (c6 .cut .ensures) (c5 .scan-term .ensures)
+    in
+    let x = c4 .if1 .left in
+    object-broken (a .text .now) (a .stop) (a .a) (c5 .scan-term .result) t (c8 .pre .inText) (c8 .pre .opening)
+    (omega arith)
+    (sym (c3 .whole .ensures) ∙ c .before .before .if3 .left) (sym (c .before .is-dot2 .ensures) ∙ c .if4 .left)
 
 pub object-end-spec : {M : Type 1} → statement M
 object-end-spec =

@@ -14,7 +14,8 @@ returns c = sym (at-keys eqBool same-bool (opens 0) _ (34 ∷ (60 ∷ (95 ∷ []
 returns-2 : tie.Need-returns-2
 unfolding opens permitted firstKindOf
 returns-2 c =
-    sym (at-range eqBool same-bool (opens 0) _ 0 255 ((34 ∷ (60 ∷ (95 ∷ []))) ∷ []) (c .before .args .b) tt (omega arith) (omega arith) (c .match .rest))
+    sym (at-range eqBool same-bool (opens 0) _ 0 255 ((34 ∷ (60 ∷ (95 ∷ []))) ∷ []) (c .before .args .b) tt
+    (omega arith) (omega arith) (c .match .rest))
 
 pub opens-object-spec : {M : Type 1} → statement M
 opens-object-spec = tie.close (tie.spec returns returns-2)

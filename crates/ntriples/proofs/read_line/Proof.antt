@@ -25,17 +25,21 @@ whole-line-requires c κs = let e = c .before .end-of-line .ensures in record { 
 
 returns-2 : tie.Need-returns-2
 returns-2 c =
-    let a = c .before .before .before .before .before .args in
+    let c3 = c .before .before .before in
+    let c5 = c .before .before .before .before .before in
+    let a = c5 .args in
     let w = c .whole-line .ensures in
-    let n = c .before .before .before .if1 .left in
-    rw w (sym (read-last (a .text .now) (a .at) _ (omega arith) (c .before .before .end-of-line .ensures) (c .before .if2 .taken)))
+    let n = c3 .if1 .left in
+    rw w (sym (read-last (a .text .now) (a .at) _ (omega arith) (c .before .before .end-of-line .ensures)
+    (c .before .if2 .taken)))
 
 drop-cr-requires : tie.Need-drop-cr-requires
 drop-cr-requires c κs = let e = c .before .end-of-line .ensures in record { before = e .after; inText = e .before }
 
 whole-line-requires-2 : tie.Need-whole-line-requires-2
 whole-line-requires-2 c κs =
-    let a = c .before .before .before .before .before .args in
+    let c5 = c .before .before .before .before .before in
+    let a = c5 .args in
     let e = c .before .before .end-of-line .ensures in
     let b = e .before in
     let f = dropped-facts (a .text .now) (a .at) (c .before .before .end-of-line .result) (e .after) in
@@ -45,14 +49,22 @@ whole-line-requires-2 c κs =
     record { before = omega arith; inText = omega arith }
 
 add-t7 : tie.Need-add-t7
-add-t7 c = let e = c .before .before .before .end-of-line .ensures .before in let n = c .before .before .if2 .left in search needs
+add-t7 c =
+    let c3 = c .before .before .before in
+    let e = c3 .end-of-line .ensures .before in
+    let n = c .before .before .if2 .left in
+    search needs
 
 returns-3 : tie.Need-returns-3
 returns-3 c =
-    let a = c .before .before .before .before .before .before .args in
+    let c3 = c .before .before .before in
+    let c4 = c .before .before .before .before in
+    let c6 = c .before .before .before .before .before .before in
+    let a = c6 .args in
     let w = c .whole-line2 .ensures in
-    let n = c .before .before .before .before .if1 .left in
-    rw (w, c .before .drop-cr .ensures) (sym (read-broken (a .text .now) (a .at) _ (omega arith) (c .before .before .before .end-of-line .ensures) (c .before .before .if2 .left)))
+    let n = c4 .if1 .left in
+    rw (w, c .before .drop-cr .ensures) (sym (read-broken (a .text .now) (a .at) _ (omega arith)
+    (c3 .end-of-line .ensures) (c .before .before .if2 .left)))
 
 pub read-line-spec : {M : Type 1} → statement M
 read-line-spec =

@@ -18,7 +18,8 @@ abbrev μ-loop : tie.MeasureT-loop
 μ-loop text at i₀ i = length text - i
 
 loop-holds : tie.Need-loop-holds Inv-loop μ-loop
-loop-holds c = let a = c .before .args in let h = c .before .pre in (omega arith, omega arith, eol-begin (a .text .now) (a .at))
+loop-holds c =
+    let a = c .before .args in let h = c .before .pre in (omega arith, omega arith, eol-begin (a .text .now) (a .at))
 
 sub-loop : tie.Need-sub-loop Inv-loop μ-loop
 sub-loop c = let h = c .loop .inv .1 in omega arith
@@ -27,7 +28,10 @@ block-count-requires : tie.Need-block-count-requires Inv-loop μ-loop
 block-count-requires c κs = let t = c .loop-test .taken in let h = c .before .loop .inv .1 in omega arith
 
 returns : tie.Need-returns Inv-loop μ-loop
-returns c = let l = c .before .before .before .loop in record { after = l .inv .0; before = l .inv .1; unbroken = l .inv .2 }
+returns c =
+    let c3 = c .before .before .before in
+    let l = c3 .loop in
+    record { after = l .inv .0; before = l .inv .1; unbroken = l .inv .2 }
 
 add-i : tie.Need-add-i Inv-loop μ-loop
 add-i c = search needs
@@ -37,8 +41,10 @@ loop-less c = search needs
 
 loop-again : tie.Need-loop-again Inv-loop μ-loop
 loop-again c =
-    let l = c .before .before .before .loop in
-    let a = c .before .before .before .before .before .args in
+    let c3 = c .before .before .before in
+    let c5 = c .before .before .before .before .before in
+    let l = c3 .loop in
+    let a = c5 .args in
     let t = c .before .before .loop-test .taken in
     let h = l .inv .0 in
     let k = l .inv .1 in (

@@ -19,8 +19,12 @@ scan-term-requires c κs = search needs
 
 sub-if1 : tie.Need-sub-if1
 sub-if1 c =
-    let a = c .before .before .before .args in
-    let t = term-scanned (a .text .now) (a .stop) (a .a) (c .before .cut .result) (c .scan-term .result) (c .before .before .before .pre) (c .before .cut .ensures) (c .scan-term .ensures) in
+    let c3 = c .before .before .before in
+    let a = c3 .args in
+    let t =
+    term-scanned (a .text .now) (a .stop) (a .a) (c .before .cut .result) (c .scan-term .result) (c3 .pre)
+    (c .before .cut .ensures) (c .scan-term .ensures)
+    in
     let l = t .low in
     omega arith
 
@@ -29,28 +33,46 @@ add-t9 c = search needs
 
 returns : tie.Need-returns
 returns c =
-    let a = c .before .before .before .before .args in
-    let t = term-scanned (a .text .now) (a .stop) (a .a) (c .before .before .cut .result) (c .before .scan-term .result) (c .before .before .before .before .pre) (c .before .before .cut .ensures) (c .before .scan-term .ensures) in
+    let c4 = c .before .before .before .before in
+    let a = c4 .args in
+    let t =
+    term-scanned (a .text .now) (a .stop) (a .a) (c .before .before .cut .result) (c .before .scan-term .result)
+    (c4 .pre)
+    (c .before .before .cut .ensures) (c .before .scan-term .ensures)
+    in
     let x = c .if1 .taken in
-    λ n h o. term-over (a .text .now) (a .stop) (a .a) n (c .before .scan-term .result) t (c .before .before .before .before .pre .inText) h o (omega arith)
+    λ n h o. term-over (a .text .now) (a .stop) (a .a) n (c .before .scan-term .result) t (c4 .pre .inText) h o
+    (omega arith)
 
 whole-requires : tie.Need-whole-requires
 whole-requires c κs = search needs
 
 returns-2 : tie.Need-returns-2
 returns-2 c =
-    let a = c .before .before .before .before .before .before .args in
-    let t = term-scanned (a .text .now) (a .stop) (a .a) (c .before .before .before .before .cut .result) (c .before .before .before .scan-term .result) (c .before .before .before .before .before .before .pre) (c .before .before .before .before .cut .ensures) (c .before .before .before .scan-term .ensures) in
+    let c3 = c .before .before .before in
+    let c4 = c .before .before .before .before in
+    let c6 = c .before .before .before .before .before .before in
+    let a = c6 .args in
+    let t =
+    term-scanned (a .text .now) (a .stop) (a .a) (c4 .cut .result) (c3 .scan-term .result) (c6 .pre)
+    (c4 .cut .ensures) (c3 .scan-term .ensures)
+    in
     let x = c .before .before .if1 .left in
-    λ n h o. term-whole (a .text .now) (a .stop) (a .a) n (c .before .before .before .scan-term .result) t (c .before .before .before .before .before .before .pre .inText) o (omega arith)
+    λ n h o. term-whole (a .text .now) (a .stop) (a .a) n (c3 .scan-term .result) t (c6 .pre .inText) o (omega arith)
     (sym (c .before .whole .ensures) ∙ c .if2 .taken)
 
 returns-3 : tie.Need-returns-3
 returns-3 c =
-    let a = c .before .before .before .before .before .before .args in
-    let t = term-scanned (a .text .now) (a .stop) (a .a) (c .before .before .before .before .cut .result) (c .before .before .before .scan-term .result) (c .before .before .before .before .before .before .pre) (c .before .before .before .before .cut .ensures) (c .before .before .before .scan-term .ensures) in
+    let c3 = c .before .before .before in
+    let c4 = c .before .before .before .before in
+    let c6 = c .before .before .before .before .before .before in
+    let a = c6 .args in
+    let t =
+    term-scanned (a .text .now) (a .stop) (a .a) (c4 .cut .result) (c3 .scan-term .result) (c6 .pre)
+    (c4 .cut .ensures) (c3 .scan-term .ensures)
+    in
     let x = c .before .before .if1 .left in
-    λ n h o. term-broken (a .text .now) (a .stop) (a .a) n (c .before .before .before .scan-term .result) t (c .before .before .before .before .before .before .pre .inText) h o (omega arith)
+    λ n h o. term-broken (a .text .now) (a .stop) (a .a) n (c3 .scan-term .result) t (c6 .pre .inText) h o (omega arith)
     (sym (c .before .whole .ensures) ∙ c .if2 .left)
 
 pub term-end-spec : {M : Type 1} → statement M

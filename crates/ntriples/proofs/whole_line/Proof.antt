@@ -17,44 +17,63 @@ white-space-requires c κs = c .before .pre
 returns : tie.Need-returns
 unfolding answerOf
 returns c =
-    let a = c .before .before .before .args in
-    let p = c .before .before .before .pre in
-    sym (ap (answerOf (a .at)) (begin-end (a .text .now) (a .stop) (a .at) _ (p .before) (p .inText) (c .before .white-space .ensures) (c .if1 .taken)))
+    let c3 = c .before .before .before in
+    let a = c3 .args in
+    let p = c3 .pre in
+    sym (ap (answerOf (a .at)) (begin-end (a .text .now) (a .stop) (a .at) _ (p .before) (p .inText)
+    (c .before .white-space .ensures) (c .if1 .taken)))
 
 shared-slice-read-if2 : tie.Need-shared-slice-read-if2
-shared-slice-read-if2 c = let w = c .before .before .white-space .ensures .before in let n = c .before .if1 .left in let t = c .before .before .before .before .pre .inText in omega arith
+shared-slice-read-if2 c =
+    let c4 = c .before .before .before .before in
+    let w = c .before .before .white-space .ensures .before in
+    let n = c .before .if1 .left in
+    let t = c4 .pre .inText in
+    omega arith
 
 add-comment-line : tie.Need-add-comment-line
 add-comment-line c = search needs
 
 comment-line-requires : tie.Need-comment-line-requires
 comment-line-requires c κs =
-    let w = c .before .before .before .white-space .ensures in
+    let c3 = c .before .before .before in
+    let c5 = c .before .before .before .before .before in
+    let w = c3 .white-space .ensures in
     let b = w .before in
     let f = w .after in
     let n = c .before .before .if1 .left in
-    record { begun = omega arith; before = omega arith; inText = c .before .before .before .before .before .pre .inText }
+    record { begun = omega arith; before = omega arith; inText = c5 .pre .inText }
 
 returns-2 : tie.Need-returns-2
 returns-2 c =
-    let a = c .before .before .before .before .before .before .args in
-    let p = c .before .before .before .before .before .before .pre in
+    let c3 = c .before .before .before in
+    let c4 = c .before .before .before .before in
+    let c6 = c .before .before .before .before .before .before in
+    let a = c6 .args in
+    let p = c6 .pre in
     c .comment-line .ensures
     ∙ sym (ap (answerOf (a .at))
-    (begin-note (a .text .now) (a .stop) (a .at) _ (p .before) (p .inText) (c .before .before .before .before .white-space .ensures) (c .before .before .before .if1 .left) (c .before .if2 .taken)))
+    (begin-note (a .text .now) (a .stop) (a .at) _ (p .before) (p .inText) (c4 .white-space .ensures) (c3 .if1 .left)
+    (c .before .if2 .taken)))
 
 triple-requires : tie.Need-triple-requires
 triple-requires c κs =
-    let w = c .before .before .before .white-space .ensures in
-    record { begun = w .after; before = w .before; inText = c .before .before .before .before .before .pre .inText; dark = w .out }
+    let c3 = c .before .before .before in
+    let c5 = c .before .before .before .before .before in
+    let w = c3 .white-space .ensures in
+    record { begun = w .after; before = w .before; inText = c5 .pre .inText; dark = w .out }
 
 returns-3 : tie.Need-returns-3
 returns-3 c =
-    let a = c .before .before .before .before .before .before .args in
-    let p = c .before .before .before .before .before .before .pre in
+    let c3 = c .before .before .before in
+    let c4 = c .before .before .before .before in
+    let c6 = c .before .before .before .before .before .before in
+    let a = c6 .args in
+    let p = c6 .pre in
     c .triple .ensures
     ∙ sym (ap (answerOf (a .at))
-    (begin-term (a .text .now) (a .stop) (a .at) _ (p .before) (p .inText) (c .before .before .before .before .white-space .ensures) (c .before .before .before .if1 .left) (c .before .if2 .left)))
+    (begin-term (a .text .now) (a .stop) (a .at) _ (p .before) (p .inText) (c4 .white-space .ensures) (c3 .if1 .left)
+    (c .before .if2 .left)))
 
 pub whole-line-spec : {M : Type 1} → statement M
 whole-line-spec =

@@ -45,7 +45,8 @@ part-result-end c =
     let a = c .before .before .before .before .before .before .before .before .args in
     let name-span = c .before .before .before .name-span in
     let start = c .before .start in
-    let i = name-in (a .c) (tables (now (a .resources)) (now (a .statements)) (now (a .index)) (now (a .text))) (a .n) _ _ (sym (name-span .ensures) ∙ start .given .1) in omega arith
+    let i = name-in (a .c) (tables (now (a .resources)) (now (a .statements)) (now (a .index)) (now (a .text)))
+    (a .n) _ _ (sym (name-span .ensures) ∙ start .given .1) in omega arith
 
 returns : tie.Need-returns
 returns c =
@@ -58,7 +59,9 @@ returns-2 c =
     let a = c .before .before .before .before .before .before .before .before .before .args in
     let name-span = c .before .before .before .before .name-span in
     let start = c .before .before .start in
-    rw (← name-span .ensures, start .given .1) (ap (λ (k : ℕ). take k (drop (start .given .0 .0) (now (a .text)))) (add-sub-cancel-left (start .given .0 .0) (start .given .0 .1 .0)))
+    rw (← name-span .ensures, start .given .1)
+    (ap (λ (k : ℕ). take k (drop (start .given .0 .0) (now (a .text))))
+    (add-sub-cancel-left (start .given .0 .0) (start .given .0 .1 .0)))
 
 pub name-spec : {M : Type 1} → statement M
 name-spec =

@@ -36,7 +36,11 @@ returns-2 c =
     let if1 = c .before .before .if1 in
     let in-range = c .before .in-range in
     let if2 = c .if2 in
-    rw (sym (fits2 .ensures) ∙ not-false (fits2 .result) (if1 .left), sym (in-range .ensures) ∙ not-true (in-range .result) (if2 .taken))
+    rw (
+      sym (fits2 .ensures) ∙ not-false (fits2 .result) (if1 .left),
+      sym (in-range .ensures) ∙ not-true
+          (in-range .result) (if2 .taken),
+    )
 
 offset-at-requires : tie.Need-offset-at-requires
 offset-at-requires c κs =
@@ -45,14 +49,17 @@ offset-at-requires c κs =
     let if1 = c .before .before .if1 in
     let in-range = c .before .in-range in
     let if2 = c .if2 in
-    resource-held (a .c) (tables (now (a .resources)) (now (a .statements)) (now (a .index)) (now (a .text))) (sym (fits2 .ensures) ∙ not-false (fits2 .result) (if1 .left)) (a .n .0) (sym (in-range .ensures) ∙ not-false (in-range .result) (if2 .left))
+    resource-held (a .c) (tables (now (a .resources)) (now (a .statements)) (now (a .index)) (now (a .text)))
+    (sym (fits2 .ensures) ∙ not-false (fits2 .result) (if1 .left)) (a .n .0)
+    (sym (in-range .ensures) ∙ not-false (in-range .result) (if2 .left))
 
 span-at-requires : tie.Need-span-at-requires
 span-at-requires c κs =
     let a = c .before .before .before .before .before .before .before .before .before .args in
     let fits2 = c .before .before .before .before .fits2 in
     let if1 = c .before .before .before .if1 in
-    fits-room (a .c) (tables (now (a .resources)) (now (a .statements)) (now (a .index)) (now (a .text))) (sym (fits2 .ensures) ∙ not-false (fits2 .result) (if1 .left)) .in-text
+    fits-room (a .c) (tables (now (a .resources)) (now (a .statements)) (now (a .index)) (now (a .text)))
+    (sym (fits2 .ensures) ∙ not-false (fits2 .result) (if1 .left)) .in-text
 
 returns-3 : tie.Need-returns-3
 unfolding nameSpanOf
@@ -63,7 +70,12 @@ returns-3 c =
     let if2 = c .before .before .if2 in
     let offset-at = c .before .offset-at in
     let span-at = c .span-at in
-    rw (sym (fits2 .ensures) ∙ not-false (fits2 .result) (if1 .left), sym (in-range .ensures) ∙ not-false (in-range .result) (if2 .left), ← offset-at .ensures) (span-at .ensures)
+    rw (
+      sym (fits2 .ensures) ∙ not-false (fits2 .result) (if1 .left),
+      sym (in-range .ensures) ∙ not-false
+          (in-range .result) (if2 .left),
+      ← offset-at .ensures,
+    ) (span-at .ensures)
 
 pub name-span-spec : {M : Type 1} → statement M
 name-span-spec =

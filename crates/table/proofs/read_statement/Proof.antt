@@ -36,7 +36,11 @@ returns-2 c =
     let if1 = c .before .before .if1 in
     let in-range = c .before .in-range in
     let if2 = c .if2 in
-    rw (sym (fits2 .ensures) ∙ not-false (fits2 .result) (if1 .left), sym (in-range .ensures) ∙ not-true (in-range .result) (if2 .taken))
+    rw (
+      sym (fits2 .ensures) ∙ not-false (fits2 .result) (if1 .left),
+      sym (in-range .ensures) ∙ not-true
+          (in-range .result) (if2 .taken),
+    )
 
 triple-at-requires : tie.Need-triple-at-requires
 triple-at-requires c κs =
@@ -45,7 +49,9 @@ triple-at-requires c κs =
     let if1 = c .before .before .if1 in
     let in-range = c .before .in-range in
     let if2 = c .if2 in
-    statement-held (a .c) (tables (now (a .resources)) (now (a .statements)) (now (a .index)) (now (a .text))) (sym (fits2 .ensures) ∙ not-false (fits2 .result) (if1 .left)) (a .n .0) (sym (in-range .ensures) ∙ not-false (in-range .result) (if2 .left))
+    statement-held (a .c) (tables (now (a .resources)) (now (a .statements)) (now (a .index)) (now (a .text)))
+    (sym (fits2 .ensures) ∙ not-false (fits2 .result) (if1 .left)) (a .n .0)
+    (sym (in-range .ensures) ∙ not-false (in-range .result) (if2 .left))
 
 known-requires : tie.Need-known-requires
 known-requires c κs = search needs
@@ -60,7 +66,14 @@ returns-3 c =
     let triple-at = c .before .before .triple-at in
     let known = c .before .known in
     let if3 = c .if3 in
-    rw (sym (fits2 .ensures) ∙ not-false (fits2 .result) (if1 .left), sym (in-range .ensures) ∙ not-false (in-range .result) (if2 .left), ← triple-at .ensures, sym (known .ensures) ∙ not-true (known .result) (if3 .taken))
+    rw (
+      sym (fits2 .ensures) ∙ not-false (fits2 .result) (if1 .left),
+      sym (in-range .ensures) ∙ not-false
+          (in-range .result) (if2 .left),
+      ← triple-at .ensures,
+      sym (known .ensures) ∙ not-true (known .result)
+          (if3 .taken),
+    )
 
 flag-at-requires : tie.Need-flag-at-requires
 flag-at-requires c κs =
@@ -69,7 +82,9 @@ flag-at-requires c κs =
     let if1 = c .before .before .before .before .before .if1 in
     let in-range = c .before .before .before .before .in-range in
     let if2 = c .before .before .before .if2 in
-    statement-held (a .c) (tables (now (a .resources)) (now (a .statements)) (now (a .index)) (now (a .text))) (sym (fits2 .ensures) ∙ not-false (fits2 .result) (if1 .left)) (a .n .0) (sym (in-range .ensures) ∙ not-false (in-range .result) (if2 .left))
+    statement-held (a .c) (tables (now (a .resources)) (now (a .statements)) (now (a .index)) (now (a .text)))
+    (sym (fits2 .ensures) ∙ not-false (fits2 .result) (if1 .left)) (a .n .0)
+    (sym (in-range .ensures) ∙ not-false (in-range .result) (if2 .left))
 
 returns-4 : tie.Need-returns-4
 unfolding statementOf
@@ -83,7 +98,16 @@ returns-4 c =
     let if3 = c .before .before .if3 in
     let flag-at = c .before .flag-at in
     let if4 = c .if4 in
-    rw (sym (fits2 .ensures) ∙ not-false (fits2 .result) (if1 .left), sym (in-range .ensures) ∙ not-false (in-range .result) (if2 .left), ← triple-at .ensures, sym (known .ensures) ∙ not-false (known .result) (if3 .left), ← flag-at .ensures, lt-leb _ _ (if4 .taken))
+    rw (
+      sym (fits2 .ensures) ∙ not-false (fits2 .result) (if1 .left),
+      sym (in-range .ensures) ∙ not-false
+          (in-range .result) (if2 .left),
+      ← triple-at .ensures,
+      sym (known .ensures) ∙ not-false (known .result)
+          (if3 .left),
+      ← flag-at .ensures,
+      lt-leb _ _ (if4 .taken),
+    )
 
 returns-5 : tie.Need-returns-5
 unfolding statementOf
@@ -97,7 +121,16 @@ returns-5 c =
     let if3 = c .before .before .if3 in
     let flag-at = c .before .flag-at in
     let if4 = c .if4 in
-    rw (sym (fits2 .ensures) ∙ not-false (fits2 .result) (if1 .left), sym (in-range .ensures) ∙ not-false (in-range .result) (if2 .left), ← triple-at .ensures, sym (known .ensures) ∙ not-false (known .result) (if3 .left), ← flag-at .ensures, le-leb _ _ (if4 .left))
+    rw (
+      sym (fits2 .ensures) ∙ not-false (fits2 .result) (if1 .left),
+      sym (in-range .ensures) ∙ not-false
+          (in-range .result) (if2 .left),
+      ← triple-at .ensures,
+      sym (known .ensures) ∙ not-false (known .result)
+          (if3 .left),
+      ← flag-at .ensures,
+      le-leb _ _ (if4 .left),
+    )
 
 pub read-statement-spec : {M : Type 1} → statement M
 read-statement-spec =

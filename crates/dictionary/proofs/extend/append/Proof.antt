@@ -35,7 +35,12 @@ returns c =
     let write-record = c .before .before .before .before .before .before .before .before .before .before .before .write-record in
     let write-name = c .before .before .before .before .before .before .before .write-name in
     let insert = c .before .before .insert in
-    record { new-record = write-record .ensures; new-entry = rw (← add-one (a .c .resources)) (insert .ensures); new-name = write-name .ensures }
+    record {
+      new-record = write-record .ensures;
+      new-entry = rw (← add-one (a .c .resources))
+          (insert .ensures);
+      new-name = write-name .ensures;
+    }
 
 pub append-spec : {M : Type 1} → statement M
 append-spec =

@@ -50,8 +50,12 @@ loop-again : tie.Need-loop-again Inv-loop μ-loop
 loop-again c =
     let a = c .before .before .before .args in
     let loop = c .before .before .loop in
-    let loop-test = c .before .loop-test in
-    (omega arith, simp length-set (loop .inv .1), move-turn (now (a .words)) (loop .words) (loop .i) (loop .inv .2) (loop-test .taken) (omega arith))
+    let loop-test = c .before .loop-test in (
+      omega arith,
+      simp length-set (loop .inv .1),
+      move-turn (now (a .words)) (loop .words) (loop .i) (loop .inv .2)
+          (loop-test .taken) (omega arith),
+    )
 
 slice-write-words-2 : tie.Need-slice-write-words-2 Inv-loop μ-loop
 slice-write-words-2 c = search needs
@@ -64,7 +68,8 @@ returns c =
     let a = c .before .before .args in
     let loop = c .before .loop in
     let loop-test = c .loop-test in
-    move-end (now (a .words)) (loop .words) (loop .i) (a .v) (omega arith) (loop .inv .2) (omega (arith, loop-test .left))
+    move-end (now (a .words)) (loop .words) (loop .i) (a .v) (omega arith) (loop .inv .2)
+    (omega (arith, loop-test .left))
 
 pub push-front-spec : {M : Type 1} → statement M
 push-front-spec =

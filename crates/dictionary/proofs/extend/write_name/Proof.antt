@@ -40,8 +40,12 @@ loop-again : tie.Need-loop-again Inv-loop μ-loop
 loop-again c =
     let a = c .before .before .before .args in
     let loop = c .before .before .loop in
-    let loop-test = c .before .loop-test in
-    (omega arith, simp length-set (loop .inv .1), name-turn (loop .text) (now (a .text)) (now (a .name)) (a .b) (loop .i) (loop .inv .2) (loop-test .taken))
+    let loop-test = c .before .loop-test in (
+      omega arith,
+      simp length-set (loop .inv .1),
+      name-turn (loop .text) (now (a .text)) (now (a .name)) (a .b)
+          (loop .i) (loop .inv .2) (loop-test .taken),
+    )
 
 add-text-2 : tie.Need-add-text-2 Inv-loop μ-loop
 add-text-2 c = search needs
@@ -57,7 +61,8 @@ returns c =
     let a = c .before .before .args in
     let loop = c .before .loop in
     let loop-test = c .loop-test in
-    name-end (loop .text) (now (a .text)) (now (a .name)) (a .b) (loop .i) (loop .inv .2) (omega arith) (loop-test .left)
+    name-end (loop .text) (now (a .text)) (now (a .name)) (a .b) (loop .i) (loop .inv .2) (omega arith)
+    (loop-test .left)
 
 pub write-name-spec : {M : Type 1} → statement M
 write-name-spec =

@@ -50,7 +50,9 @@ returns-2 c =
     let lesser = c .before .before .before .before .before .lesser in
     let loop = c .before .before .before .before .loop in
     let if2 = c .if2 in
-    cc (compare-less (now (a .text)) (a .end) (now (a .name)) (a .from + loop .i) (loop .i) (omega (arith, lesser .ensures)) (omega (arith, lesser .ensures)) (if2 .taken))
+    cc
+    (compare-less (now (a .text)) (a .end) (now (a .name)) (a .from + loop .i) (loop .i)
+    (omega (arith, lesser .ensures)) (omega (arith, lesser .ensures)) (if2 .taken))
 
 returns-3 : tie.Need-returns-3 Inv-loop μ-loop
 returns-3 c =
@@ -58,7 +60,9 @@ returns-3 c =
     let lesser = c .before .before .before .before .before .before .lesser in
     let loop = c .before .before .before .before .before .loop in
     let if3 = c .if3 in
-    cc (compare-more (now (a .text)) (a .end) (now (a .name)) (a .from + loop .i) (loop .i) (omega (arith, lesser .ensures)) (omega (arith, lesser .ensures)) (if3 .taken))
+    cc
+    (compare-more (now (a .text)) (a .end) (now (a .name)) (a .from + loop .i) (loop .i)
+    (omega (arith, lesser .ensures)) (omega (arith, lesser .ensures)) (if3 .taken))
 
 add-i : tie.Need-add-i Inv-loop μ-loop
 add-i c = search needs
@@ -102,7 +106,9 @@ returns-5 c =
     let loop-test = c .before .before .before .loop-test in
     let if4 = c .before .before .if4 in
     let if5 = c .if5 in
-    cc (end-same (now (a .text)) (a .end) (now (a .name)) (a .from + loop .i) (loop .i) (omega (arith, lesser .ensures, if4 .left, loop-test .left)) (if4 .left) (if5 .taken))
+    cc
+    (end-same (now (a .text)) (a .end) (now (a .name)) (a .from + loop .i) (loop .i)
+    (omega (arith, lesser .ensures, if4 .left, loop-test .left)) (if4 .left) (if5 .taken))
 
 returns-6 : tie.Need-returns-6 Inv-loop μ-loop
 returns-6 c =
@@ -112,7 +118,9 @@ returns-6 c =
     let loop-test = c .before .before .before .loop-test in
     let if4 = c .before .before .if4 in
     let if5 = c .if5 in
-    cc (end-more (now (a .text)) (a .end) (now (a .name)) (a .from + loop .i) (loop .i) (omega (arith, lesser .ensures, if4 .left, loop-test .left)) (if4 .left) (if5 .left))
+    cc
+    (end-more (now (a .text)) (a .end) (now (a .name)) (a .from + loop .i) (loop .i)
+    (omega (arith, lesser .ensures, if4 .left, loop-test .left)) (if4 .left) (if5 .left))
 
 pub compare-spec : {M : Type 1} → statement M
 compare-spec =

@@ -25,7 +25,11 @@ lesser-requires : tie.Need-lesser-requires Inv-loop μ-loop
 lesser-requires c κs = search needs
 
 loop-holds : tie.Need-loop-holds Inv-loop μ-loop
-loop-holds c = (omega arith, omega arith, let e : c .before .before .args .from + 256 - c .before .before .args .from ≡ 256 = omega arith in rw e)
+loop-holds c = (
+  omega arith,
+  omega arith,
+  let e : c .before .before .args .from + 256 - c .before .before .args .from ≡ 256 = omega arith in rw e,
+)
 
 shared-slice-read-if1 : tie.Need-shared-slice-read-if1 Inv-loop μ-loop
 shared-slice-read-if1 c = search needs
@@ -41,7 +45,10 @@ returns c =
     let a = c .before .before .before .before .before .before .args in
     let loop = c .before .before .before .loop in
     let if1 = c .if1 in
-    sym (ap (spanTo (a .from)) (loop .inv .2 ∙ zero-here (now (a .text)) (a .end) (a .from + 256 - loop .at) (loop .at) (omega arith) (omega arith) (if1 .taken)))
+    sym
+    (ap (spanTo (a .from))
+    (loop .inv .2 ∙ zero-here (now (a .text)) (a .end) (a .from + 256 - loop .at) (loop .at) (omega arith)
+    (omega arith) (if1 .taken)))
 
 add-at : tie.Need-add-at Inv-loop μ-loop
 add-at c = search needs
@@ -52,14 +59,21 @@ loop-less c = search needs
 loop-again : tie.Need-loop-again Inv-loop μ-loop
 loop-again c = let l = c .before .before .before .loop in
     let a = c .before .before .before .before .before .before .args in
-    let e : a .from + 256 - l .at - 1 ≡ a .from + 256 - (l .at + 1) = omega arith in
-    (omega arith, omega arith, l .inv .2 ∙ (rw e at (zero-on (now (a .text)) (a .end) (a .from + 256 - l .at) (l .at) (omega arith) (omega arith) (c .if1 .left))))
+    let e : a .from + 256 - l .at - 1 ≡ a .from + 256 - (l .at + 1) = omega arith in (
+      omega arith,
+      omega arith,
+      l .inv .2
+          ∙ (rw e at
+          (zero-on (now (a .text)) (a .end) (a .from + 256 - l .at) (l .at) (omega arith) (omega arith) (c .if1 .left))),
+    )
 
 returns-2 : tie.Need-returns-2 Inv-loop μ-loop
 returns-2 c =
     let a = c .before .before .before .before .args in
     let loop = c .before .loop in
-    sym (ap (spanTo (a .from)) (loop .inv .2 ∙ zero-none (now (a .text)) (a .end) (a .from + 256 - loop .at) (loop .at) (omega arith)))
+    sym
+    (ap (spanTo (a .from))
+    (loop .inv .2 ∙ zero-none (now (a .text)) (a .end) (a .from + 256 - loop .at) (loop .at) (omega arith)))
 
 pub span-at-spec : {M : Type 1} → statement M
 span-at-spec =
