@@ -1,38 +1,38 @@
--- The check decides soundness (`specs/Claims.antt`): each of its tests says yes exactly where its part of the definition holds, on every
--- input; and a fresh store is sound. Assumes nothing.
-use mathlib.Core.Path.{_≡_, refl, sym, ap, _∙_}
-use mathlib.Core.Bool.{Bool, true, false, cond, _&&_, false≢true}
-use mathlib.Core.List.{List, [], _∷_, _++_}
-use mathlib.Core.Logic.{_↔_}
+-- The check decides soundness (`specs/Claims.antt`): each of its tests says yes exactly where its part of the definition
+-- holds, on every input; so fresh counters pass, and every store that a list of calls leaves. Assumes nothing.
+use mathlib.Core.Path.{_≡_, refl, sym, ap}
+use mathlib.Core.Bool.{true, false, _&&_, false≢true}
+use mathlib.Core.List.{List}
 use mathlib.Core.Option.{Option, none, some}
-use Prim.Native.Nat.{ℕ, zero, suc, _+_, _-_, _*_, _/_, _≤_, _<_, min}
+use Prim.Native.Nat.{ℕ, suc, _+_, _-_, _*_, _≤_, _<_}
 use native.Mathlib.Omega.{arith}
-use native.Mathlib.Nat.{add-zero}
-use lib.ListN.{length, getD, take, drop, length-take}
-use lib.Dec.{eqb, leb, ltb}
+use lib.ListN.{length, take, length-take}
+use lib.Dec.{leb}
 use borrow.Author.Tests.{eqb-true, eq-eqb, leb-true, le-leb}
 use Rattle.store.specs.declared.Counters.{Counters}
 use Rattle.store.specs.declared.Position.{Position}
-use Rattle.store.specs.declared.Triple.{Triple}
 use Rattle.store.specs.Triple.{at, all3, known, permitted}
-use Rattle.store.specs.Tables.{Tables, fits, resourceWords, statementWords, resourceCapacity, statementCapacity, textCapacity}
+use Rattle.store.specs.Tables.{Tables, fits, freshCounters, resourceWords, statementWords}
 use Rattle.store.specs.Tables.{nextAt, flagAt, tripleAt, firstAt, countAt, kindAt}
-use Rattle.store.specs.Model.{nameOf, bytesOf}
-use Rattle.store.specs.Dictionary.{Named, Indexed, joined}
+use Rattle.store.specs.Model.{nameOf}
+use Rattle.store.specs.Dictionary.{Named, Indexed}
 use Rattle.store.specs.Soundness.{holding, Linked, Sound}
+use Rattle.store.specs.History.{freshStore, storeAfter}
+use Rattle.store.proofs.Theorems.{fresh-is-sound, histories-stay-sound}
 use Rattle.store.proofs.Tests.{and-l, and-r, and-of, all3-at, all3-of, known-low, known-high, known-of}
-use Rattle.table.proofs.Capacity.{Room, fits-room}
+use Rattle.store.proofs.Words.{triple-at}
+use Rattle.table.proofs.Capacity.{fits-room}
 use Rattle.integrity.specs.Tests.{allBelow, sumTo, chainLength, isCount}
-use Rattle.integrity.specs.Names.{nameFrom, namesOk}
+use Rattle.integrity.specs.Names.{namesOk}
 use Rattle.integrity.specs.Index.{indexOk}
 use Rattle.integrity.specs.Records.{recordOk, chainOk, chainsOk, alone, recordsOk}
 use Rattle.integrity.specs.Check.{checkOf}
-use Rattle.integrity.specs.Claims.{CheckDecides, FreshSound}
+use Rattle.integrity.specs.Claims.{CheckDecides, FreshPasses, HistoriesPass}
 use Rattle.integrity.proofs.Ranges.{all-at, all-of}
 use Rattle.integrity.proofs.Linking.{Cheap, Ranged, cheap-linked, linked-cheap, linked-ranged}
 use Rattle.integrity.proofs.Text.{Read, namesFrom, names-read, read-names, name-at}
 use Rattle.integrity.proofs.Rising.{Standing, index-indexed, indexed-ok}
-use Rattle.integrity.proofs.Once.{at-triple, all-once, once-all}
+use Rattle.integrity.proofs.Once.{all-once, once-all}
 
 -- ---- names
 
@@ -103,8 +103,8 @@ module _ (r t : ℕ) (res stm : List ℕ) where
   records-ranged a b e = record {
     fit-resources = a;
     fit-statements = b;
-    low = λ p i h. rw at-triple at (known-low r (tripleAt stm i) (record-known e i h) p);
-    high = λ p i h. rw at-triple at (known-high r (tripleAt stm i) (record-known e i h) p);
+    low = λ p i h. rw triple-at at (known-low r (tripleAt stm i) (record-known e i h) p);
+    high = λ p i h. rw triple-at at (known-high r (tripleAt stm i) (record-known e i h) p);
     flag = λ i h. leb-true (flagAt stm i) 1 (and-r (permitted (kindAt res) (tripleAt stm i)) _ (record-rest e i h));
   }
 
@@ -112,7 +112,7 @@ module _ (r t : ℕ) (res stm : List ℕ) where
   unfolding recordOk
   ranged-records G k =
       all-of _ t (λ i h. and-of _ _
-      (known-of r (tripleAt stm i) (λ p. rw at-triple (G .low p i h)) (λ p. rw at-triple (G .high p i h)))
+      (known-of r (tripleAt stm i) (λ p. rw triple-at (G .low p i h)) (λ p. rw triple-at (G .high p i h)))
       (and-of _ _ (k i h) (le-leb (flagAt stm i) 1 (G .flag i h))))
 
   is-count : (o : Option ℕ) (n : ℕ) → isCount o n ≡ true → o ≡ some n
@@ -222,42 +222,12 @@ module _ (c : Counters) (m : Tables) where
 pub check-decides : CheckDecides
 check-decides c m = (check-sound c m, sound-check c m)
 
--- ---- a fresh store
+-- ---- the stores of histories
 
-pub fresh-sound : FreshSound
-unfolding fits bytesOf joined
-fresh-sound m = record {
-  capacity = and-of _ _ (le-leb 0 (resourceCapacity m) (omega arith))
-      (and-of _ _ (le-leb 0 (statementCapacity m) (omega arith)) (le-leb 0 (textCapacity m) (omega arith)));
-  linked = record {
-    fit-resources = omega arith;
-    fit-statements = omega arith;
-    low = λ p i h. absurd (omega arith);
-    high = λ p i h. absurd (omega arith);
-    flag = λ i h. absurd (omega arith);
-    next = λ p i h. absurd (omega arith);
-    first = λ p y a b. absurd (omega arith);
-    count = λ p y a b. absurd (omega arith);
-  };
-  kinds = λ i h. absurd (omega arith);
-  once = λ i j h g. absurd (omega arith);
-  names = [];
-  named = record {
-    size = refl;
-    bytes = refl;
-    spelled = nothing (m .text);
-    well = λ i h. absurd (omega arith);
-    offsets = λ y a b. absurd (omega arith);
-    kinds = λ y a b. absurd (omega arith);
-    index = record {
-      fit = omega arith;
-      low = λ i h. absurd (omega arith);
-      high = λ i h. absurd (omega arith);
-      rise = λ i j h g. absurd (omega arith);
-    };
-  };
-}
-  where
-    nothing : (l : List ℕ) → take 0 l ≡ []
-    nothing [] = refl
-    nothing (x ∷ l) = refl
+pub fresh-passes : FreshPasses
+fresh-passes m = sound-check freshCounters m (fresh-is-sound m)
+
+pub histories-pass : HistoriesPass
+histories-pass m calls =
+    let s = storeAfter (freshStore m) calls in
+    sound-check (s .counters) (s .tables) (histories-stay-sound m calls .sound)

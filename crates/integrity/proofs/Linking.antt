@@ -1,15 +1,15 @@
--- Links and counts by the cheap test: chains that fall, hold their resource and are as long as the count says, and counts that add up
--- to the number of records. Then first, next and count are exactly as the records say; and the other way. The position is a parameter
--- throughout. Assumes nothing.
-use mathlib.Core.Path.{_≡_, refl, sym, ap, ap₂, _∙_}
+-- Links and counts by the cheap test: chains that fall, hold their resource and are as long as the count says, and
+-- counts that add up to the number of records. Then first, next and count are exactly as the records say; and the other
+-- way. The position is a parameter throughout. Assumes nothing.
+use mathlib.Core.Path.{_≡_, refl, sym, ap, _∙_}
 use mathlib.Core.Logic.{_≢_}
-use mathlib.Core.Bool.{Bool, true, false, cond, _&&_, true≢false}
-use mathlib.Core.List.{List, [], _∷_}
+use mathlib.Core.Bool.{Bool, true, false, _&&_, true≢false}
+use mathlib.Core.List.{List}
 use mathlib.Core.Option.{Option, none, some}
-use Prim.Native.Nat.{ℕ, zero, suc, _+_, _*_, _≤_, _<_}
+use Prim.Native.Nat.{ℕ, zero, suc, _*_, _≤_, _<_}
 use native.Mathlib.Omega.{arith}
 use lib.ListN.{length}
-use lib.Dec.{eqb, leb, ltb}
+use lib.Dec.{eqb, leb}
 use borrow.Author.Tests.{eqb-true, eqb-false, eq-eqb, leb-true, le-leb}
 use Rattle.store.specs.declared.Position.{Position}
 use Rattle.store.specs.Triple.{below, head0}
@@ -41,7 +41,8 @@ record Opened (next : ℕ → ℕ) (f : ℕ → Bool) (i c : ℕ) : Type 0 where
   rest : chainLength next f fuel (next i) ≡ some left
   one : c ≡ suc left
 
--- A walk meets no more records than pass. If as many, it starts at the highest that passes, and every link is the highest below.
+-- A walk meets no more records than pass. If as many, it starts at the highest that passes, and every link is the
+-- highest below.
 abbrev Tight : (ℕ → ℕ) → (ℕ → Bool) → ℕ → ℕ → ℕ → Type 0
 Tight next f n t c = (c ≤ length (below f n)) × (c ≡ length (below f n) → (t ≡ head0 (below f n)) × Links f next n)
 

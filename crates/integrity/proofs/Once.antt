@@ -1,21 +1,20 @@
--- No triple twice, by a walk down one chain of each record: on linked tables the walk below a record, on whichever of its chains,
--- meets its triple exactly if an earlier record has it. Assumes nothing.
+-- No triple twice, by a walk down one chain of each record: on linked tables the walk below a record, on whichever of
+-- its chains, meets its triple exactly if an earlier record has it. Assumes nothing.
 use mathlib.Core.Path.{_≡_, refl, sym, ap, _∙_}
 use mathlib.Core.Logic.{_≢_}
-use mathlib.Core.Bool.{Bool, true, false, cond, not, _&&_, true≢false, false≢true}
+use mathlib.Core.Bool.{Bool, true, false, cond, not, true≢false, false≢true}
 use mathlib.Core.List.{List}
 use mathlib.Core.Option.{Option, none, some}
 use Prim.Native.Nat.{ℕ, zero, suc, _≤_, _<_}
 use native.Mathlib.Omega.{arith}
-use lib.Dec.{eqb, leb}
 use borrow.Author.Tests.{eq-eqb, le-leb}
 use Rattle.store.specs.declared.Position.{Position}
-use Rattle.store.specs.declared.Position.the-variants.{Subject, Predicate, Object}
 use Rattle.store.specs.declared.Triple.{Triple}
 use Rattle.store.specs.Triple.{at, same, below, head0}
 use Rattle.store.specs.Tables.{termAt, nextAt, tripleAt}
 use Rattle.store.specs.Soundness.{holding, Linked}
-use Rattle.store.proofs.Tests.{decide, and-r, and-of, same-self, same-is}
+use Rattle.store.proofs.Tests.{decide, same-self, same-is}
+use Rattle.store.proofs.Words.{triple-at}
 use Rattle.store.proofs.Falling.{head-le}
 use Rattle.store.proofs.Walks.{Links}
 use Rattle.integrity.specs.Tests.{allBelow, chainLength, oneMore, isSome}
@@ -44,12 +43,6 @@ module _ (next : ℕ → ℕ) (f g : ℕ → Bool) where
       more-some none = refl
       more-some (some m) = refl
 
-pub at-triple : (stm : List ℕ) (p : Position) (i : ℕ) → at p (tripleAt stm i) ≡ termAt stm p i
-unfolding tripleAt
-at-triple stm Subject i = refl
-at-triple stm Predicate i = refl
-at-triple stm Object i = refl
-
 not-true-false : (b : Bool) → not b ≡ true → b ≡ false
 not-true-false true e = absurd (false≢true e)
 not-true-false false e = refl
@@ -72,7 +65,7 @@ module _ (r t : ℕ) (res stm : List ℕ) (L : Linked r t res stm) (p : Position
   unfolding holding
   same-holds j e =
       eq-eqb (termAt stm p j) (termAt stm p i)
-      (sym (at-triple stm p j) ∙ ap (λ (x : Triple). at p x) e ∙ at-triple stm p i)
+      (sym (triple-at stm p j) ∙ ap (λ (x : Triple). at p x) e ∙ triple-at stm p i)
 
   alone-once : aloneOn stm p i ≡ true → (j : ℕ) → j < i → tripleAt stm j ≢ tripleAt stm i
   unfolding differs

@@ -1,15 +1,14 @@
--- Tests and sums over a range: each number's test; no term falls short where the sums are the same; entries that each hold one number
--- of 1..r, counted for each number, add up. Assumes nothing.
+-- Tests and sums over a range: each number's test; no term falls short where the sums are the same; entries that each
+-- hold one number of 1..r, counted for each number, add up. Assumes nothing.
 use mathlib.Core.Path.{_≡_, refl, sym, ap, ap₂, _∙_}
 use mathlib.Core.Logic.{_≢_}
-use mathlib.Core.Bool.{Bool, true, false, cond, _&&_}
-use mathlib.Core.List.{List, [], _∷_}
+use mathlib.Core.Bool.{Bool, true, false, cond}
 use Prim.Native.Nat.{ℕ, zero, suc, _+_, _≤_, _<_}
 use native.Mathlib.Omega.{arith}
 use native.Mathlib.Numerals.{add-one}
 use lib.ListN.{length}
 use lib.Dec.{eqb}
-use borrow.Author.Tests.{eqb-true, eqb-false, eq-eqb, ne-eqb}
+use borrow.Author.Tests.{eqb-true, eqb-false, ne-eqb}
 use Rattle.store.specs.Triple.{below}
 use Rattle.store.proofs.Tests.{decide, and-l, and-r, and-of}
 use Rattle.store.proofs.Falling.{length-suc}

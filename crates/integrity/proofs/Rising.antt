@@ -1,7 +1,7 @@
--- The index by the cheap test: entries in 1..R whose neighbours' names rise are entries that rise throughout; and the other way.
--- Assumes nothing.
-use mathlib.Core.Path.{_≡_, refl, sym, ap, _∙_}
-use mathlib.Core.Bool.{Bool, true, false, _&&_}
+-- The index by the cheap test: entries in 1..R whose neighbours' names rise are entries that rise throughout; and the
+-- other way. Assumes nothing.
+use mathlib.Core.Path.{_≡_, sym, ap, _∙_}
+use mathlib.Core.Bool.{true, _&&_}
 use mathlib.Core.List.{List}
 use Prim.Native.Nat.{ℕ, zero, suc, _+_, _-_, _≤_, _<_}
 use native.Mathlib.Omega.{arith}
@@ -9,7 +9,8 @@ use lib.ListN.{length}
 use lib.Dec.{leb, ltb}
 use borrow.Author.Tests.{ltb-true, leb-true, lt-ltb, le-leb}
 use Rattle.store.specs.Tables.{word, offsetAt}
-use Rattle.store.specs.Dictionary.{Ordering, less, compare, isLess, Indexed}
+use Rattle.store.specs.Reading.{inRange}
+use Rattle.store.specs.Dictionary.{less, compare, isLess, Indexed}
 use Rattle.store.proofs.Tests.{and-l, and-r, and-of}
 use Rattle.store.proofs.Order.{compare-trans, is-less}
 use Rattle.integrity.specs.Tests.{allBelow}
@@ -23,11 +24,11 @@ Standing r res used name = (y : ℕ) → 0 < y → y ≤ r → nameFrom used (of
 
 module _ (r : ℕ) (res idx used : List ℕ) where
   pub entry-low : allBelow (entryOk r idx) r ≡ true → (i : ℕ) → i < r → 0 < word idx i
-  unfolding entryOk
+  unfolding entryOk inRange
   entry-low e i h = ltb-true 0 (word idx i) (and-l _ _ (all-at (λ i. ltb 0 (word idx i) && leb (word idx i) r) r e i h))
 
   pub entry-high : allBelow (entryOk r idx) r ≡ true → (i : ℕ) → i < r → word idx i ≤ r
-  unfolding entryOk
+  unfolding entryOk inRange
   entry-high e i h =
       leb-true (word idx i) r
       (and-r (ltb 0 (word idx i)) _ (all-at (λ i. ltb 0 (word idx i) && leb (word idx i) r) r e i h))
@@ -67,7 +68,7 @@ module _ (r : ℕ) (res idx used : List ℕ) where
         }
 
     pub indexed-ok : Indexed name idx r → indexOk r res idx used ≡ true
-    unfolding indexOk entryOk
+    unfolding indexOk entryOk inRange
     indexed-ok X =
         and-of _ _
         (all-of _ r (λ i h. and-of _ _ (lt-ltb 0 (word idx i) (X .low i h)) (le-leb (word idx i) r (X .high i h))))

@@ -1,19 +1,19 @@
--- What the passes over the text and the index meet byte by byte: the ways out of their loops, and a turn. Assumes nothing.
-use mathlib.Core.Path.{_≡_, refl, sym, ap, _∙_}
-use mathlib.Core.Logic.{_≢_}
-use mathlib.Core.Bool.{Bool, true, false, _&&_}
+-- What the passes over the text and the index meet byte by byte: the ways out of their loops, and a turn. Assumes
+-- nothing.
+use mathlib.Core.Path.{_≡_, refl, ap, _∙_}
+use mathlib.Core.Bool.{Bool, true, false}
 use mathlib.Core.List.{List, [], _∷_}
 use Prim.Native.Nat.{ℕ, zero, suc, _+_, _-_, _≤_, _<_}
 use native.Mathlib.Omega.{arith}
 use native.Mathlib.Numerals.{add-one}
 use lib.ListN.{length, getD, take, drop}
-use lib.Seq.{drop-cons, drop-length}
-use lib.Dec.{eqb, leb, ltb}
+use lib.Seq.{drop-cons}
+use lib.Dec.{eqb, ltb}
 use borrow.Author.Tests.{eqb-true, eqb-false, ltb-true, ltb-false, eq-eqb, ne-eqb, lt-ltb, le-ltb}
 use Rattle.term.specs.Scanner.{kindOf}
 use Rattle.store.specs.Tables.{maxName, offsetAt, kindAt}
 use Rattle.store.specs.Model.{wellFormed}
-use Rattle.store.specs.Dictionary.{upToZero, Ordering, less, equal, more, compare, isLess}
+use Rattle.store.specs.Dictionary.{upToZero, compare, isLess}
 use Rattle.store.proofs.Tests.{and-l}
 use Rattle.store.proofs.Order.{compare-less, compare-more, compare-tail}
 use Rattle.integrity.specs.Names.{nameFrom, nameOk, namesOk}

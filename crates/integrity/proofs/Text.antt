@@ -1,9 +1,9 @@
--- The names that one pass reads off the used text: the pass says yes exactly where the text is these names, well formed, at the offsets
--- and of the kinds that the records say. Assumes nothing.
+-- The names that one pass reads off the used text: the pass says yes exactly where the text is these names, well
+-- formed, at the offsets and of the kinds that the records say. Assumes nothing.
 use mathlib.Core.Path.{_≡_, refl, sym, ap, _∙_}
-use mathlib.Core.Bool.{Bool, true, false, cond, _&&_}
+use mathlib.Core.Bool.{true, _&&_}
 use mathlib.Core.List.{List, [], _∷_, _++_}
-use Prim.Native.Nat.{ℕ, zero, suc, _+_, _-_, _≤_, _<_}
+use Prim.Native.Nat.{ℕ, zero, suc, _+_, _<_}
 use native.Mathlib.Omega.{arith}
 use native.Mathlib.Nat.{add-zero, add-suc, suc-add}
 use lib.ListN.{length, getD, take, drop, length-drop}
@@ -12,7 +12,7 @@ use lib.Dec.{eqb, ltb}
 use borrow.Author.Tests.{eqb-true, eq-eqb, ltb-true, lt-ltb}
 use Rattle.term.specs.Scanner.{firstKindOf, kindOf}
 use Rattle.store.specs.Tables.{maxName, offsetAt, kindAt}
-use Rattle.store.specs.Model.{wellFormed, nameOf, bytesOf}
+use Rattle.store.specs.Model.{wellFormed, bytesOf}
 use Rattle.store.specs.Dictionary.{joined, upToZero}
 use Rattle.store.proofs.Tests.{and-l, and-r, and-of}
 use Rattle.store.proofs.Form.{form-clean, form-kindOf}

@@ -1,14 +1,13 @@
--- What the passes over the records meet: the ways out of a walk along a chain, and its turn; the tests of a record, of a chain, and the
--- choice of the shortest. Records are numbered from 1 here, as in the code. Assumes nothing.
-use mathlib.Core.Path.{_≡_, refl, sym, ap, _∙_}
-use mathlib.Core.Logic.{_≢_}
-use mathlib.Core.Bool.{Bool, true, false, cond, not, _&&_}
+-- What the passes over the records meet: the ways out of a walk along a chain, and its turn; the tests of a record, of
+-- a chain, and the choice of the shortest. Records are numbered from 1 here, as in the code. Assumes nothing.
+use mathlib.Core.Path.{_≡_, refl, sym, _∙_}
+use mathlib.Core.Bool.{Bool, true, false, cond, _&&_}
 use mathlib.Core.List.{List}
 use mathlib.Core.Option.{Option, none, some}
-use Prim.Native.Nat.{ℕ, zero, suc, _+_, _-_, _*_, _≤_, _<_}
+use Prim.Native.Nat.{ℕ, zero, suc, _+_, _-_, _≤_, _<_}
 use native.Mathlib.Omega.{arith}
 use native.Mathlib.Numerals.{add-one}
-use lib.Dec.{eqb, leb, ltb}
+use lib.Dec.{eqb, leb}
 use borrow.Author.Tests.{eq-eqb, ne-eqb, le-leb, lt-leb, lt-ltb, le-ltb}
 use Rattle.store.specs.declared.Position.{Position}
 use Rattle.store.specs.declared.Position.the-variants.{Subject, Predicate, Object}
@@ -44,7 +43,9 @@ module _ (next : ℕ → ℕ) (f : ℕ → Bool) where
 
   -- one record of the walk
   here : (g n : ℕ) → n ≤ g → (n ≡ 0 → ⊥)
-      → (k : ℕ) × (g ≡ suc k) × (chainLength next f g n ≡ cond (f (n - 1) && leb (next (n - 1)) (n - 1)) (oneMore (chainLength next f k (next (n - 1)))) none)
+      → (k : ℕ) × (g ≡ suc k)
+      × (chainLength next f g n
+      ≡ cond (f (n - 1) && leb (next (n - 1)) (n - 1)) (oneMore (chainLength next f k (next (n - 1)))) none)
   unfolding chainLength
   here g zero h z = absurd (z refl)
   here zero (suc i) h z = absurd (omega arith)
@@ -74,7 +75,9 @@ module _ (next : ℕ → ℕ) (f : ℕ → Bool) where
         let h = here (G .0) n (G .1) z in (
           h .0,
           omega (arith, h .1, G .1),
-          G .2 ∙ rw (h .2, e, le-leb (next (n - 1)) (n - 1) (omega arith)) (plus-more c (chainLength next f (h .0) (next (n - 1)))),
+          G .2
+              ∙ rw (h .2, e, le-leb (next (n - 1)) (n - 1) (omega arith))
+              (plus-more c (chainLength next f (h .0) (next (n - 1)))),
         )
 
 -- ---- the chain of a resource
@@ -183,7 +186,10 @@ module _ (stm : List ℕ) (p : Position) (x : Triple) (a : Bool) (n : ℕ) (h : 
       let w = here (nextAt stm p) (differs stm x) (B .0) m (omega (arith, B .1)) z in (
         w .0,
         omega (arith, w .1, B .1),
-        falls l ∙ rw (w .2, e) (some-cond (leb (nextAt stm p (m - 1)) (m - 1)) (chainLength (nextAt stm p) (differs stm x) (w .0) (nextAt stm p (m - 1)))),
+        falls l
+            ∙ rw (w .2, e)
+            (some-cond (leb (nextAt stm p (m - 1)) (m - 1))
+            (chainLength (nextAt stm p) (differs stm x) (w .0) (nextAt stm p (m - 1)))),
       )
     where
       some-cond : (b : Bool) (o : Option ℕ) → isSome (cond b (oneMore o) none) ≡ b && isSome o

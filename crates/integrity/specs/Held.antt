@@ -1,4 +1,5 @@
--- The records in use lie in their tables: what counters within capacity say, and what the passes over the records ask. Assumes nothing.
+-- The records in use lie in their tables: what counters within capacity say, and what the passes over the records ask.
+-- Assumes nothing.
 use mathlib.Core.List.{List}
 use Prim.Native.Nat.{ℕ, _*_, _≤_}
 use lib.ListN.{length}

@@ -1,13 +1,14 @@
--- The test of the index (paper 01, "Sound means"): its first R entries are in 1..R, and the names of neighbours rise. Assumes nothing.
+-- The test of the index (paper 01, "Sound means"): its first R entries are in 1..R, and the names of neighbours rise.
+-- Assumes nothing.
 use mathlib.Core.Path.{_≡_}
-use mathlib.Core.Bool.{Bool, true, false, _&&_}
+use mathlib.Core.Bool.{Bool, true, _&&_}
 use mathlib.Core.List.{List}
 use Prim.Native.Nat.{ℕ, suc, _-_, _≤_}
 use lib.ListN.{length}
-use lib.Dec.{leb, ltb}
 use Rattle.store.specs.Tables.{word, offsetAt}
+use Rattle.store.specs.Reading.{inRange}
 use Rattle.store.specs.Dictionary.{compare, isLess}
-use Rattle.integrity.specs.Tests.{inRange, allBelow}
+use Rattle.integrity.specs.Tests.{allBelow}
 use Rattle.integrity.specs.Names.{nameFrom}
 
 unfoldable pub entryOk : ℕ → List ℕ → ℕ → Bool

@@ -1,6 +1,6 @@
--- The test of the names (paper 01, "Sound means"): one pass over the used text and the resource records. Each name runs from where the
--- one before was closed to the next zero byte. Assumes nothing.
-use mathlib.Core.Bool.{Bool, true, false, _&&_}
+-- The test of the names (paper 01, "Sound means"): one pass over the used text and the resource records. Each name runs
+-- from where the one before was closed to the next zero byte. Assumes nothing.
+use mathlib.Core.Bool.{Bool, _&&_}
 use mathlib.Core.List.{List}
 use Prim.Native.Nat.{ℕ, zero, suc, _+_}
 use lib.ListN.{length, drop}

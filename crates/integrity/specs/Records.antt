@@ -1,6 +1,6 @@
--- The tests of the statement records (paper 01, "Sound means"): each by itself; the chains at a position, with their counts; no
--- triple twice. Assumes nothing.
-use mathlib.Core.Bool.{Bool, true, false, cond, not, _&&_}
+-- The tests of the statement records (paper 01, "Sound means"): each by itself; the chains at a position, with their
+-- counts; no triple twice. Assumes nothing.
+use mathlib.Core.Bool.{Bool, cond, not, _&&_}
 use mathlib.Core.List.{List}
 use Prim.Native.Nat.{ℕ, suc}
 use lib.Dec.{eqb, leb, ltb}
@@ -19,7 +19,8 @@ recordOk r res stm i = known r (tripleAt stm i) && (permitted (kindAt res) (trip
 
 -- ---- the chains at a position
 
--- resource y: its first is a record or 0, and its chain falls, holds it in every record and has as many as its count says
+-- resource y: its first is a record or 0, and its chain falls, holds it in every record and has as many as its count
+-- says
 unfoldable pub chainOk : ℕ → List ℕ → List ℕ → Position → ℕ → Bool
 chainOk t res stm p y =
     leb (firstAt res p y) t

@@ -2,11 +2,7 @@
 use mathlib.Core.Bool.{Bool, true, false, cond, _&&_}
 use mathlib.Core.Option.{Option, none, some}
 use Prim.Native.Nat.{ℕ, zero, suc, _+_}
-use lib.Dec.{eqb, leb, ltb}
-
--- a number in 1 .. r
-abbrev pub inRange : ℕ → ℕ → Bool
-inRange r y = ltb 0 y && leb y r
+use lib.Dec.{eqb, leb}
 
 -- a test of 0 .. n - 1
 unfoldable pub allBelow : (ℕ → Bool) → ℕ → Bool
@@ -22,8 +18,9 @@ abbrev pub oneMore : Option ℕ → Option ℕ
 oneMore none = none
 oneMore (some n) = some (suc n)
 
--- How many records the walk from record n by `next` meets: `next i` follows entry i, which is record i + 1. none: a record of the
--- walk fails f, or its next is not below its own number. The fuel is the highest number that the walk may start from.
+-- How many records the walk from record n by `next` meets: `next i` follows entry i, which is record i + 1. none: a
+-- record of the walk fails f, or its next is not below its own number. The fuel is the highest number that the walk may
+-- start from.
 unfoldable pub chainLength : (ℕ → ℕ) → (ℕ → Bool) → ℕ → ℕ → Option ℕ
 chainLength next f zero zero = some 0
 chainLength next f zero (suc i) = none

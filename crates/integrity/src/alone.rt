@@ -3,7 +3,7 @@ use store::Position;
 use store::Triple;
 ghost use mathlib.Core.Path.{_≡_};
 ghost use mathlib.Core.Bool.{true};
-ghost use Prim.Native.Nat.{ℕ, _-_, _≤_};
+ghost use Prim.Native.Nat.{_-_, _≤_};
 ghost use Rattle.store.specs.Triple.{known, same};
 ghost use Rattle.store.specs.Tables.{tripleAt};
 ghost use Rattle.integrity.specs.Held.{ResourcesHeld, StatementsHeld};

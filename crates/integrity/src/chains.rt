@@ -1,8 +1,9 @@
-// The pass over the chains at one position: from each resource's first, by next, falling, with the resource in every record, as many
-// as its count says; and the counts add up to the number of records. So every record is on its chain and nothing else is.
+// The pass over the chains at one position: from each resource's first, by next, falling, with the resource in every
+// record, as many as its count says; and the counts add up to the number of records. So every record is on its chain
+// and nothing else is.
 use store::Position;
 ghost use mathlib.Core.Path.{_≡_};
-ghost use Prim.Native.Nat.{ℕ, _≤_};
+ghost use Prim.Native.Nat.{_≤_};
 ghost use Rattle.store.specs.Triple.{all3};
 ghost use Rattle.store.specs.Tables.{nextAt};
 ghost use Rattle.store.specs.Soundness.{holding};

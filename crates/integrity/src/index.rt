@@ -1,6 +1,7 @@
-// The pass over the index: entries in 1..R, and names of neighbours that rise. Names are compared where they stand in the text.
+// The pass over the index: entries in 1..R, and names of neighbours that rise. Names are compared where they stand in
+// the text.
 ghost use mathlib.Core.Path.{_≡_};
-ghost use Prim.Native.Nat.{ℕ, _+_, _-_, _≤_, _<_};
+ghost use Prim.Native.Nat.{_+_, _-_, _≤_, _<_};
 ghost use lib.ListN.{length, getD};
 ghost use Rattle.integrity.specs.Held.{ResourcesHeld};
 ghost use Rattle.integrity.specs.Tests.{allBelow};
@@ -16,7 +17,8 @@ fn byte_at(used: &[u8], i: usize) -> u8
     0
 }
 
-// Whether the name from a on is less than the name from b on. A zero byte is less than any byte of a name, so a prefix comes first.
+// Whether the name from a on is less than the name from b on. A zero byte is less than any byte of a name, so a prefix
+// comes first.
 fn name_less(used: &[u8], a: usize, b: usize) -> bool
     ensures { λ r. ⌜ r ≡ nameLess (now (used .entry)) a b ⌝ }
 {
@@ -61,7 +63,7 @@ fn entries_ok(index: &[u32], r: u32) -> bool
     let n = crate::wide(r);
     let mut i: usize = 0;
     while i < n {
-        if !crate::in_range(r, index[i]) {
+        if !table::in_range(r, index[i]) {
             return false;
         }
         i += 1;

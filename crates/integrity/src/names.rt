@@ -1,6 +1,7 @@
-// The pass over the used text: each name from where the one before was closed to the next zero byte, with its resource's record.
+// The pass over the used text: each name from where the one before was closed to the next zero byte, with its
+// resource's record.
 ghost use mathlib.Core.Path.{_≡_};
-ghost use Prim.Native.Nat.{ℕ, _+_, _≤_};
+ghost use Prim.Native.Nat.{_+_, _≤_};
 ghost use lib.ListN.{length};
 ghost use Rattle.table.specs.Held.{ResourceHeld};
 ghost use Rattle.integrity.specs.Held.{ResourcesHeld};

@@ -2,25 +2,12 @@
 use store::Triple;
 ghost use mathlib.Core.Path.{_≡_};
 ghost use mathlib.Core.Bool.{true};
-ghost use Prim.Native.Nat.{ℕ, _-_, _≤_, _<_};
+ghost use Prim.Native.Nat.{_-_, _≤_, _<_};
 ghost use Rattle.store.specs.Triple.{known, permitted};
 ghost use Rattle.store.specs.Tables.{kindAt};
 ghost use Rattle.integrity.specs.Held.{ResourcesHeld, StatementsHeld};
 ghost use Rattle.integrity.specs.Tests.{allBelow};
 ghost use Rattle.integrity.specs.Records.{recordOk};
-
-// Whether a triple's three numbers are in 1..r.
-fn known(r: u32, x: Triple) -> bool
-    ensures { λ b. ⌜ b ≡ known r x ⌝ }
-{
-    if !crate::in_range(r, x.subject.0) {
-        return false;
-    }
-    if !crate::in_range(r, x.predicate.0) {
-        return false;
-    }
-    crate::in_range(r, x.object.0)
-}
 
 // Whether the subject is no literal and the predicate is an IRI.
 fn permitted(resources: &[u32], r: u32, x: Triple) -> bool
@@ -42,7 +29,7 @@ fn record_ok(resources: &[u32], statements: &[u32], r: u32, n: u32) -> bool
     ensures { λ b. ⌜ b ≡ recordOk r (now (resources .entry)) (now (statements .entry)) (n - 1) ⌝ }
 {
     let x = table::inner::triple_at(statements, n);
-    if !known(r, x) {
+    if !table::known(r, x) {
         return false;
     }
     if !permitted(resources, r, x) {

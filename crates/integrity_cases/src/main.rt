@@ -1,8 +1,9 @@
-// The check on a sound store, then on its tables with one word damaged at a time, then on tables in which one rule alone is broken.
-// One line a case: NUMBER name verdict.
+// The check on a sound store, then on its tables with one word damaged at a time, then on tables in which one rule
+// alone is broken. One line a case: NUMBER name verdict.
 //
-// The store has six resources, 1 <r:21>, 2 <p:trips>, 3 <b:4>, 4 <b:7>, 5 _:x, 6 "A", and the statements 1 (1,2,3), 2 (1,2,4), 3 (5,2,3),
-// 4 (1,2,6), of which 2 is retracted. Each table has room for a little more, and holds other words there.
+// The store has six resources, 1 <r:21>, 2 <p:trips>, 3 <b:4>, 4 <b:7>, 5 _:x, 6 "A", and the statements 1 (1,2,3), 2
+// (1,2,4), 3 (5,2,3), 4 (1,2,6), of which 2 is retracted. Each table has room for a little more, and holds other words
+// there.
 use libc::STDOUT_FILENO;
 use store::Counters;
 ghost use mathlib.Core.Path.{_≡_};

@@ -153,7 +153,7 @@ after-back : (i : ℕ) (ms : List Span) (b : ℕ) (l : List ℕ) (r : Outcome) �
 unfolding afterOf
 after-back i ms b l r h =
     cases (λ p. Residual (i + 1) p l r) (white b) (After ms) _ (λ e w. (Trail.space e (w .0), w .1))
-    (λ _ k. cases (λ p. Residual (i + 1) p l r) (eqb b 35) (Noted ms) (Broken i)
+    (λ _ k. cases (λ p. Residual (i + 1) p l r) (eqb b 35) (Noted ms) _
     (λ e w. (rw (eqb-true b 35 e) (Trail.comment (w .0)), w .1)) (λ _ w. absurd w) k) h
 
 opens-permitted : (n b : ℕ) (w : List ℕ) → opens n b ≡ true → permitted n (firstKindOf (b ∷ w)) ≡ true

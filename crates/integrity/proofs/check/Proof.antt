@@ -1,4 +1,3 @@
-use mathlib.Core.Path.{_≡_, refl, sym, _∙_}
 use denote.Ref.{now}
 use Rattle.store.specs.Tables.{tables}
 use Rattle.integrity.proofs.Decides.{check-decides}

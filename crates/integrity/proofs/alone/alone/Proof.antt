@@ -1,5 +1,4 @@
-use mathlib.Core.Path.{_≡_, refl, sym, _∙_}
-use denote.Ref.{now}
+use mathlib.Core.Path.{_∙_}
 use Rattle.integrity.specs.Records.{alone}
 use borrow.Author.Needs.{needs}
 use Rattle.integrity.proofs.alone.alone.Statement.{statement}

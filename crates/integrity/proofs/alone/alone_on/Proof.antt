@@ -1,8 +1,7 @@
-use Prim.Native.Nat.{ℕ, suc, _+_, _-_, _≤_, _<_}
-use mathlib.Core.Path.{_≡_, refl, sym, ap, _∙_}
+use Prim.Native.Nat.{_-_, _≤_}
+use mathlib.Core.Path.{sym, _∙_}
 use native.Mathlib.Omega.{arith}
 use denote.Ref.{now}
-use Rattle.store.specs.Tables.{tripleAt, nextAt}
 use Rattle.integrity.specs.Records.{aloneOn}
 use Rattle.integrity.proofs.Walking.{Below, below-begin, below-climbs, below-end, below-met, below-turn}
 use borrow.Author.Needs.{needs}

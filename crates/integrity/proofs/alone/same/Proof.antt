@@ -1,7 +1,5 @@
-use mathlib.Core.Path.{_≡_, refl, sym}
 use borrow.Author.Tests.{eq-eqb, ne-eqb}
 use Rattle.store.specs.Triple.{same}
-use borrow.Author.Needs.{needs}
 use Rattle.integrity.proofs.alone.same.Statement.{statement}
 use Rattle.integrity.proofs.alone.same.Tie as tie
 use Rattle.integrity.proofs.alone.same.Reads as reads

@@ -1,9 +1,9 @@
-use Prim.Native.Nat.{ℕ, suc, _+_, _-_, _≤_, _<_}
-use mathlib.Core.Path.{_≡_, refl, sym, ap, _∙_}
+use Prim.Native.Nat.{ℕ, _+_, _≤_}
+use mathlib.Core.Path.{sym, ap, _∙_}
 use mathlib.Core.Option.{Option}
 use native.Mathlib.Omega.{arith}
 use denote.Ref.{now}
-use Rattle.store.specs.Tables.{termAt, nextAt}
+use Rattle.store.specs.Tables.{nextAt}
 use Rattle.store.specs.Soundness.{holding}
 use Rattle.integrity.specs.Tests.{chainLength, isCount}
 use Rattle.integrity.proofs.Walking.{Going, walk-begin, walk-end, walk-other, walk-climbs, walk-turn, holds, lacks}

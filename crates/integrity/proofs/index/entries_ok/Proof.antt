@@ -1,5 +1,5 @@
-use Prim.Native.Nat.{ℕ, suc, _+_, _-_, _≤_, _<_}
-use mathlib.Core.Path.{_≡_, refl, sym, ap, _∙_}
+use Prim.Native.Nat.{_-_, _≤_}
+use mathlib.Core.Path.{_≡_, sym, _∙_}
 use mathlib.Core.Bool.{true}
 use native.Mathlib.Omega.{arith}
 use denote.Ref.{now}
@@ -12,7 +12,7 @@ use Rattle.integrity.proofs.index.entries_ok.Statement.{statement}
 use Rattle.integrity.proofs.index.entries_ok.Tie as tie
 use Rattle.integrity.proofs.index.entries_ok.Reads as reads
 use Rattle.integrity.proofs.index.entries_ok.Lts as lts
-use Rattle.integrity.proofs.in_range.Reads as in-range-reads
+use Rattle.table.proofs.in_range.Reads as in-range-reads
 use Rattle.integrity.proofs.wide.Reads as wide-reads
 
 abbrev Inv-loop : tie.InvT-loop

@@ -1,8 +1,6 @@
-use Prim.Native.Nat.{ℕ, suc, _+_, _-_, _≤_, _<_}
-use mathlib.Core.Path.{_≡_, refl, sym, ap, _∙_}
+use mathlib.Core.Path.{sym, ap, _∙_}
 use native.Mathlib.Omega.{arith}
 use denote.Ref.{now}
-use lib.ListN.{length}
 use Rattle.term.specs.Scanner.{kindOf}
 use Rattle.integrity.proofs.Scanning.{name-open, name-moved, name-ill, name-kinds, name-slice}
 use borrow.Author.Needs.{needs}

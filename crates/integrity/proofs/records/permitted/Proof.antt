@@ -1,10 +1,6 @@
-use mathlib.Core.Path.{_≡_, refl, sym, _∙_}
-use native.Mathlib.Omega.{arith}
-use denote.Ref.{now}
-use borrow.Author.Tests.{eq-eqb, ne-eqb}
-use Rattle.store.specs.declared.Position.the-variants.{Subject, Predicate, Object}
+use borrow.Author.Tests.{ne-eqb}
+use Rattle.store.specs.declared.Position.the-variants.{Subject, Predicate}
 use Rattle.store.specs.Triple.{permitted}
-use Rattle.store.specs.Tables.{kindAt}
 use Rattle.store.proofs.Tests.{known-low, known-high}
 use borrow.Author.Needs.{needs}
 use Rattle.integrity.proofs.records.permitted.Statement.{statement}

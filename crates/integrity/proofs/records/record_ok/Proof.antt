@@ -1,4 +1,4 @@
-use mathlib.Core.Path.{_≡_, refl, sym, _∙_}
+use mathlib.Core.Path.{sym, _∙_}
 use borrow.Author.Tests.{not-true, not-false}
 use Rattle.integrity.specs.Records.{recordOk}
 use borrow.Author.Needs.{needs}
@@ -6,7 +6,7 @@ use Rattle.integrity.proofs.records.record_ok.Statement.{statement}
 use Rattle.integrity.proofs.records.record_ok.Tie as tie
 use Rattle.integrity.proofs.records.record_ok.Reads as reads
 use Rattle.integrity.proofs.records.record_ok.Lts as lts
-use Rattle.integrity.proofs.records.known.Reads as known-reads
+use Rattle.table.proofs.known.Reads as known-reads
 use Rattle.integrity.proofs.records.permitted.Reads as permitted-reads
 use Rattle.table.proofs.inner.flag_at.Reads as flag-at-reads
 use Rattle.table.proofs.inner.triple_at.Reads as triple-at-reads
