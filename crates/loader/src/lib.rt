@@ -231,7 +231,7 @@ pub fn load_line(
     text: &mut [u8],
     line: &[u8],
 ) -> LineLoaded {
-    let got = ntriples::read_line(line, 0);
+    let got = line_reader::line_at(line, 0);
     let answer = got.line;
     match answer {
         Line::Triple(s, p, o) => load_subject(c, resources, statements, index, text, line, s, p, o),
