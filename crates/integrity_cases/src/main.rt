@@ -121,6 +121,13 @@ fn report(number: u64, name: &[u8], sound: bool) {
     io::write_all(STDOUT_FILENO, b" unsound\n");
 }
 
+// One line: whether the tables are sound.
+fn run(number: u64, name: &[u8], c: Counters, r: [u32; 56], s: [u32; 35], i: [u32; 7], t: [u8; 40])
+    requires { ⌜ (56 ≡ length r) × (35 ≡ length s) × (7 ≡ length i) × (40 ≡ length t) ⌝ }
+{
+    report(number, name, integrity::check(c, &r, &s, &i, &t));
+}
+
 // The undamaged tables under other counters.
 fn counters_case(
     number: u64,
@@ -138,7 +145,7 @@ fn counters_case(
         statements: statement_count,
         text: byte_count,
     };
-    report(number, name, integrity::check(c, &r, &s, &i, &t));
+    run(number, name, c, r, s, i, t);
 }
 
 // Only so much of each table.
@@ -165,7 +172,7 @@ fn statement_case(number: u64, name: &[u8], n: usize, word: usize, value: u32)
     let i = index();
     let t = text();
     s[7 * (n - 1) + word] = value;
-    report(number, name, integrity::check(all(), &r, &s, &i, &t));
+    run(number, name, all(), r, s, i, t);
 }
 
 // One word of a resource record.
@@ -177,7 +184,7 @@ fn resource_case(number: u64, name: &[u8], y: usize, word: usize, value: u32)
     let i = index();
     let t = text();
     r[8 * (y - 1) + word] = value;
-    report(number, name, integrity::check(all(), &r, &s, &i, &t));
+    run(number, name, all(), r, s, i, t);
 }
 
 // One word of the index.
@@ -189,7 +196,7 @@ fn index_case(number: u64, name: &[u8], at: usize, value: u32)
     let mut i = index();
     let t = text();
     i[at] = value;
-    report(number, name, integrity::check(all(), &r, &s, &i, &t));
+    run(number, name, all(), r, s, i, t);
 }
 
 // One byte of the text.
@@ -201,7 +208,7 @@ fn text_case(number: u64, name: &[u8], at: usize, value: u8)
     let i = index();
     let mut t = text();
     t[at] = value;
-    report(number, name, integrity::check(all(), &r, &s, &i, &t));
+    run(number, name, all(), r, s, i, t);
 }
 
 // One resource, an IRI of `length` bytes, and no statement.
@@ -289,7 +296,7 @@ fn triple_twice() {
     r[45] = 0;
     s[23] = 3;
     s[26] = 3;
-    report(76, b"triple-twice", integrity::check(all(), &r, &s, &i, &t));
+    run(76, b"triple-twice", all(), r, s, i, t);
 }
 
 fn triple_twice_one_retracted() {
