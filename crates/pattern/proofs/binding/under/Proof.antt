@@ -1,0 +1,26 @@
+use mathlib.Core.Path.{_≡_, refl, sym, ap, _∙_}
+use Prim.Native.Nat.{ℕ, suc, _+_, _-_, _*_, _≤_, _<_}
+use native.Mathlib.Omega.{arith}
+use Rattle.graph.specs.Query.{under}
+use borrow.Author.Needs.{needs}
+use Rattle.pattern.proofs.binding.under.Statement.{statement}
+use Rattle.pattern.proofs.binding.under.Tie as tie
+use Rattle.pattern.proofs.binding.under.Reads as reads
+use Rattle.pattern.proofs.binding.under.Lts as lts
+use Rattle.pattern.proofs.binding.value_of.Reads as value-of-reads
+
+value-of-requires : tie.Need-value-of-requires
+value-of-requires c κs = search needs
+
+value-of-requires-2 : tie.Need-value-of-requires-2
+value-of-requires-2 c κs = search needs
+
+value-of-requires-3 : tie.Need-value-of-requires-3
+value-of-requires-3 c κs = search needs
+
+returns : tie.Need-returns
+unfolding under
+returns c = cc
+
+pub under-spec : {M : Type 1} → statement M
+under-spec = tie.close (tie.spec value-of-requires value-of-requires-2 value-of-requires-3 returns)

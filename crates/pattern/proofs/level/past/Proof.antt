@@ -1,0 +1,17 @@
+use mathlib.Core.Path.{_≡_, refl, sym, ap, _∙_}
+use Rattle.pattern.proofs.LevelLaws.{past-at}
+use borrow.Author.Needs.{needs}
+use Rattle.pattern.proofs.level.past.Statement.{statement}
+use Rattle.pattern.proofs.level.past.Tie as tie
+use Rattle.pattern.proofs.level.past.Reads as reads
+use Rattle.pattern.proofs.level.past.Lts as lts
+use Rattle.statement.proofs.inner.link_of.Reads as link-of-reads
+
+link-of-requires : tie.Need-link-of-requires
+link-of-requires c κs = search needs
+
+returns : tie.Need-returns
+returns c = let a = c .before .before .args in rw (past-at (a .statements .now) (a .l), ← c .link-of .ensures)
+
+pub past-spec : {M : Type 1} → statement M
+past-spec = tie.close (tie.spec link-of-requires returns)

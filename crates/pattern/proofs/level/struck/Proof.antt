@@ -1,0 +1,17 @@
+use mathlib.Core.Path.{_≡_, refl, sym, ap, _∙_}
+use Rattle.pattern.proofs.LevelLaws.{struck-at}
+use borrow.Author.Needs.{needs}
+use Rattle.pattern.proofs.level.struck.Statement.{statement}
+use Rattle.pattern.proofs.level.struck.Tie as tie
+use Rattle.pattern.proofs.level.struck.Reads as reads
+use Rattle.pattern.proofs.level.struck.Lts as lts
+use Rattle.table.proofs.inner.flag_at.Reads as flag-at-reads
+
+flag-at-requires : tie.Need-flag-at-requires
+flag-at-requires c κs = search needs
+
+returns : tie.Need-returns
+returns c = let a = c .before .before .args in rw (struck-at (a .statements .now) (a .l), ← c .flag-at .ensures)
+
+pub struck-spec : {M : Type 1} → statement M
+struck-spec = tie.close (tie.spec flag-at-requires returns)

@@ -1,0 +1,18 @@
+use mathlib.Core.Path.{_≡_, refl, sym, ap, _∙_}
+use Prim.Native.Nat.{ℕ, suc, _+_, _-_, _*_, _≤_, _<_}
+use native.Mathlib.Omega.{arith}
+use Rattle.pattern.proofs.WordLaws.{patterns-length}
+use borrow.Author.Needs.{needs}
+use Rattle.pattern.proofs.words.patterns.Statement.{statement}
+use Rattle.pattern.proofs.words.patterns.Tie as tie
+use Rattle.pattern.proofs.words.patterns.Reads as reads
+use Rattle.pattern.proofs.words.patterns.Lts as lts
+
+cast-result : tie.Need-cast-result
+cast-result c = let q = patterns-length (c .args .words .now) in omega (arith, q .0, q .1)
+
+returns : tie.Need-returns
+returns c = let q = patterns-length (c .args .words .now) in omega (arith, q .0, q .1)
+
+pub patterns-spec : {M : Type 1} → statement M
+patterns-spec = tie.close (tie.spec cast-result returns)

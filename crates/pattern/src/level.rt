@@ -1,0 +1,347 @@
+// The levels of a query's place: one for each pattern entered, its chain and a record on it (paper 01, "Next of a question").
+//
+// Levels stand in an array, the first pattern first; a function is told how many of them count. What each entered record must be for
+// its words to be read is asked of the caller, who has tested it (refusal 6) or visited the record.
+use crate::binding::Matched;
+use crate::binding::meet;
+use crate::binding::under;
+use crate::words::pattern_at;
+use crate::words::patterns;
+use graph::Level;
+use graph::MAX_PATTERNS;
+use graph::Progress;
+use graph::QueryCursor;
+use graph::QueryPattern;
+use graph::Solution;
+use graph::VARIABLES;
+use statement::inner::link_of;
+use statement::inner::sits;
+use statement::triple::at;
+use statement::triple::known;
+use store::Chain;
+use store::Counters;
+use store::ResourceId;
+use store::StatementId;
+use store::Triple;
+use table::inner::flag_at;
+use table::inner::triple_at;
+ghost use mathlib.Core.Path.{_≡_};
+ghost use mathlib.Core.Bool.{true, _&&_};
+ghost use Prim.Native.Nat.{ℕ, _*_, _+_, _<_, _≤_};
+ghost use lib.ListN.{length, getD};
+ghost use lib.Dec.{leb};
+ghost use Rattle.store.specs.Triple.{prev};
+ghost use Rattle.store.specs.Tables.{statementWords, flagAt};
+ghost use Rattle.store.specs.Scan.{chainOk, recordOk};
+ghost use Rattle.table.specs.Held.{StatementHeld};
+ghost use Rattle.graph.specs.Query.{patternsOf, unbound, noLevel, inside, past, struck, intact, remains, binds, enteredOk, placeOk, levelsOf, insideOf, placeOf, written, cursorAt, cursorWith};
+ghost use Rattle.pattern.specs.Matching.{PatternOk};
+ghost use Rattle.pattern.specs.Levels.{QueryOk, LevelsHeld, LevelTested, LevelsTested, FirstStruck, levelIntact, deepestOk};
+
+// Nothing is bound.
+pub fn none_bound() -> Solution
+    ensures { λ b. ⌜ b .values ≡ unbound ⌝ }
+{
+    let zero = ResourceId(0);
+    Solution {
+        values: [zero; VARIABLES],
+    }
+}
+
+// Whether a chain is a bound position, or all records where nothing is bound.
+pub fn chain_ok(chain: Chain, x: Triple) -> bool
+    ensures { λ b. ⌜ b ≡ chainOk chain x ⌝ }
+{
+    match chain {
+        Chain::All => {
+            if x.subject.0 != 0 {
+                return false;
+            }
+            if x.predicate.0 != 0 {
+                return false;
+            }
+            x.object.0 == 0
+        }
+        Chain::By(p) => {
+            let y = at(p, x);
+            y > 0
+        }
+    }
+}
+
+// Whether record n, or none, has the chain's resource at the chain's position.
+pub fn record_ok(statements: &[u32], chain: Chain, x: Triple, n: u32) -> bool
+    requires { ⌜ statementWords * n ≤ length (now statements) ⌝ }
+    ensures { λ b. ⌜ b ≡ recordOk (now (statements .entry)) chain x n ⌝ }
+{
+    if n == 0 {
+        return true;
+    }
+    sits(statements, chain, x, n)
+}
+
+// A level after its record, on its chain.
+pub fn past(statements: &[u32], l: Level) -> Level
+    requires { ⌜ StatementHeld (now statements) (l .statement .0) ⌝ }
+    ensures { λ r. ⌜ r ≡ past (now (statements .entry)) l ⌝ }
+{
+    let chain = l.chain;
+    let n = l.statement.0;
+    Level {
+        chain: chain,
+        statement: StatementId(link_of(statements, chain, n)),
+    }
+}
+
+// Whether a level's record is struck out.
+pub fn struck(statements: &[u32], l: Level) -> bool
+    requires { ⌜ StatementHeld (now statements) (l .statement .0) ⌝ }
+    ensures { λ b. ⌜ b ≡ struck (now (statements .entry)) l ⌝ }
+{
+    let n = l.statement.0;
+    flag_at(statements, n) == 1
+}
+
+// Whether a level's record has a flag of at most 1 and a next on its chain below its own number.
+pub fn level_intact(statements: &[u32], l: Level) -> bool
+    requires { ⌜ StatementHeld (now statements) (l .statement .0) ⌝ }
+    ensures { λ b. ⌜ b ≡ levelIntact (now (statements .entry)) l ⌝ }
+{
+    let n = l.statement.0;
+    if flag_at(statements, n) > 1 {
+        return false;
+    }
+    let after = past(statements, l);
+    after.statement.0 < n
+}
+
+// Whether an entered level is one: a record of the table, a chain that a scan would take, resources in 1..=R, a match under the
+// earlier levels. Where it is, what is bound from now on.
+pub fn level_ok(
+    c: Counters,
+    statements: &[u32],
+    x: QueryPattern,
+    bound: Solution,
+    l: Level,
+) -> Matched
+    requires { ⌜ PatternOk x × (statementWords * c .statements ≤ length (now statements)) ⌝ }
+    ensures { λ m. ⌜ LevelTested (c .resources) (c .statements) (now (statements .entry)) x bound l m ⌝ }
+{
+    let miss = Matched {
+        hit: false,
+        bound: bound,
+    };
+    let n = l.statement.0;
+    if n == 0 {
+        return miss;
+    }
+    if n > c.statements {
+        return miss;
+    }
+    let chain = l.chain;
+    if !chain_ok(chain, under(bound, x)) {
+        return miss;
+    }
+    let t = triple_at(statements, n);
+    if !known(c.resources, t) {
+        return miss;
+    }
+    meet(x, t, bound)
+}
+
+// Whether the first d levels can have been entered, and what they bind.
+pub fn levels_ok(
+    c: Counters,
+    statements: &[u32],
+    words: &[u32],
+    levels: [Level; MAX_PATTERNS],
+    d: u32,
+) -> Matched
+    requires { ⌜ QueryOk (now words) × (d < length (patternsOf (now words))) × (statementWords * c .statements ≤ length (now statements)) ⌝ }
+    ensures { λ m. ⌜ LevelsTested (c .resources) (c .statements) (now (statements .entry)) (patternsOf (now (words .entry))) (levelsOf levels d) m ⌝ }
+{
+    let mut bound = none_bound();
+    let mut i: u32 = 0;
+    while i < d {
+        let l = levels[i as usize];
+        let m = level_ok(c, statements, pattern_at(words, i), bound, l);
+        if !m.hit {
+            return m;
+        }
+        let b = m.bound;
+        bound = b;
+        i += 1;
+    }
+    Matched {
+        hit: true,
+        bound: bound,
+    }
+}
+
+// What the first d levels bind.
+pub fn bindings(
+    statements: &[u32],
+    words: &[u32],
+    levels: [Level; MAX_PATTERNS],
+    d: u32,
+) -> Solution
+    requires { ⌜ QueryOk (now words) × (d < length (patternsOf (now words))) × LevelsHeld (now statements) levels d ⌝ }
+    ensures { λ b. ⌜ b .values ≡ binds (now (statements .entry)) (patternsOf (now (words .entry))) (levelsOf levels d) ⌝ }
+{
+    let mut bound = none_bound();
+    let mut i: u32 = 0;
+    while i < d {
+        let l = levels[i as usize];
+        let n = l.statement.0;
+        let m = meet(pattern_at(words, i), triple_at(statements, n), bound);
+        let b = m.bound;
+        bound = b;
+        i += 1;
+    }
+    bound
+}
+
+// Whether the deepest level is one, its pattern under the earlier levels being x: a number up to T, a chain and a record that a scan
+// would take.
+pub fn deepest_ok(c: Counters, statements: &[u32], x: Triple, l: Level) -> bool
+    requires { ⌜ statementWords * c .statements ≤ length (now statements) ⌝ }
+    ensures { λ b. ⌜ b ≡ deepestOk (c .statements) (now (statements .entry)) x l ⌝ }
+{
+    let n = l.statement.0;
+    if n > c.statements {
+        return false;
+    }
+    let chain = l.chain;
+    if !chain_ok(chain, x) {
+        return false;
+    }
+    record_ok(statements, chain, x, n)
+}
+
+// Whether d levels can be where a reading stands; where not, next refuses 6.
+pub fn inside_ok(
+    c: Counters,
+    statements: &[u32],
+    words: &[u32],
+    levels: [Level; MAX_PATTERNS],
+    d: u32,
+) -> bool
+    requires { ⌜ QueryOk (now words) × (statementWords * c .statements ≤ length (now statements)) ⌝ }
+    ensures { λ b. ⌜ b ≡ placeOk (now (statements .entry)) (patternsOf (now (words .entry))) (c .resources) (c .statements) (insideOf levels d) ⌝ }
+{
+    if d == 0 {
+        return true;
+    }
+    if d > patterns(words) {
+        return false;
+    }
+    let top = d - 1;
+    let m = levels_ok(c, statements, words, levels, top);
+    if !m.hit {
+        return false;
+    }
+    let b = m.bound;
+    let x = under(b, pattern_at(words, top));
+    let l = levels[top as usize];
+    deepest_ok(c, statements, x, l)
+}
+
+// Whether the records of the first d levels have flags of at most 1 and nexts below their own numbers; where not, next refuses 9
+// before any visit.
+pub fn intact(statements: &[u32], levels: [Level; MAX_PATTERNS], d: u32) -> bool
+    requires { ⌜ LevelsHeld (now statements) levels d ⌝ }
+    ensures { λ b. ⌜ b ≡ intact (now (statements .entry)) (levelsOf levels d) ⌝ }
+{
+    let mut i: u32 = 0;
+    while i < d {
+        let l = levels[i as usize];
+        if !level_intact(statements, l) {
+            return false;
+        }
+        i += 1;
+    }
+    true
+}
+
+// The first of d levels whose record was struck out since, or d.
+pub fn first_struck(statements: &[u32], levels: [Level; MAX_PATTERNS], d: u32) -> u32
+    requires { ⌜ LevelsHeld (now statements) levels d ⌝ }
+    ensures { λ i. ⌜ FirstStruck (now (statements .entry)) levels d i ⌝ }
+{
+    let mut i: u32 = 0;
+    while i < d {
+        let l = levels[i as usize];
+        if struck(statements, l) {
+            break;
+        }
+        i += 1;
+    }
+    i
+}
+
+// Whether a record remains on a chain: of the deepest level, which is level `top` from 0, or of one entered before it.
+pub fn remains(statements: &[u32], levels: [Level; MAX_PATTERNS], top: u32) -> bool
+    requires { ⌜ (top < 8) × LevelsHeld (now statements) levels top ⌝ }
+    ensures { λ b. ⌜ b ≡ remains (now (statements .entry)) (getD levels top noLevel) (levelsOf levels top) ⌝ }
+{
+    let l = levels[top as usize];
+    if l.statement.0 != 0 {
+        return true;
+    }
+    let mut i = top;
+    while i > 0 {
+        let e = levels[(i - 1) as usize];
+        let after = past(statements, e);
+        if after.statement.0 != 0 {
+            return true;
+        }
+        i -= 1;
+    }
+    false
+}
+
+// The first d levels, zeros past them.
+pub fn written(levels: [Level; MAX_PATTERNS], d: u32) -> [Level; MAX_PATTERNS]
+    requires { ⌜ d ≤ 8 ⌝ }
+    ensures { λ r. ⌜ r ≡ written (levelsOf levels d) ⌝ }
+{
+    let none = Level {
+        chain: Chain::All,
+        statement: StatementId(0),
+    };
+    let mut out = [none; MAX_PATTERNS];
+    let mut i: u32 = 0;
+    while i < d {
+        let l = levels[i as usize];
+        out[i as usize] = l;
+        i += 1;
+    }
+    out
+}
+
+// The cursor of d levels.
+pub fn cursor_of(progress: Progress, levels: [Level; MAX_PATTERNS], d: u32) -> QueryCursor
+    requires { ⌜ d ≤ 8 ⌝ }
+    ensures { λ q. ⌜ q ≡ cursorWith progress (levelsOf levels d) ⌝ }
+{
+    let w = written(levels, d);
+    QueryCursor {
+        progress: progress,
+        depth: d,
+        levels: w,
+    }
+}
+
+// Whether a cursor's place is one; where not, next refuses 6.
+pub fn place_ok(c: Counters, statements: &[u32], words: &[u32], q: QueryCursor) -> bool
+    requires { ⌜ QueryOk (now words) × (statementWords * c .statements ≤ length (now statements)) ⌝ }
+    ensures { λ b. ⌜ b ≡ placeOk (now (statements .entry)) (patternsOf (now (words .entry))) (c .resources) (c .statements) (placeOf q) ⌝ }
+{
+    let progress = q.progress;
+    let levels = q.levels;
+    match progress {
+        Progress::Start => true,
+        Progress::Within => inside_ok(c, statements, words, levels, q.depth),
+        Progress::End => true,
+    }
+}

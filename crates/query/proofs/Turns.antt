@@ -1,0 +1,439 @@
+-- Laws of a turn of the walk: chains that have run out, a visit, a match, the next pattern entered; and the walk at each way out of a
+-- turn. Assumes nothing.
+use mathlib.Core.Path.{_≡_, refl, sym, ap, ap₂, _∙_}
+use mathlib.Core.Logic.{_≢_}
+use mathlib.Core.Bool.{Bool, true, false, cond, not, _&&_, _||_, false≢true}
+use mathlib.Core.List.{List, [], _∷_}
+use mathlib.Core.Option.{Option, none, some}
+use Prim.Native.Nat.{ℕ, zero, suc, _+_, _*_, _-_, _≤_, _<_}
+use native.Mathlib.Omega.{arith}
+use lib.ListN.{length, getD, set, length-set}
+use lib.Dec.{eqb, leb, ltb}
+use borrow.Author.Tests.{eqb-true, eqb-false, eq-eqb, ne-eqb, ltb-true, leb-true, lt-ltb, le-ltb}
+use Rattle.store.specs.declared.Chain.{Chain}
+use Rattle.store.specs.declared.Triple.{Triple}
+use Rattle.store.specs.declared.Refusal.the-variants.{Damaged as Nine}
+use Rattle.store.specs.Triple.{known, agrees, prev}
+use Rattle.store.specs.Tables.{tripleAt, flagAt}
+use Rattle.store.specs.Model.{matches}
+use Rattle.store.specs.Walk.{entryAt, pickChain, pickable, startOf, linkOf, sits, visitable}
+use Rattle.statement.specs.declared.inner.Sought.the-variants.{LiveMatch}
+use Rattle.statement.specs.declared.inner.Visited.{Visited}
+use Rattle.statement.specs.declared.inner.Visited.the-variants.{Damaged as Torn, Hit, Miss}
+use Rattle.statement.specs.Chains.{hits, visitOf}
+use Rattle.statement.proofs.Chains.{and-l, and-r, pick-bound, start-within}
+use Rattle.graph.specs.declared.QueryPattern.{QueryPattern}
+use Rattle.graph.specs.declared.Solution.{Solution}
+use Rattle.graph.specs.declared.Level.{Level}
+use Rattle.graph.specs.Query.{patternsOf, pattern, Bindings, under, match, orElse, level, noLevel, inside, recordAt, past, struck, settle, remains, nextPattern, binds, asked, levelsOf, Turn, bad, go, whole, Answer, refused, found, ended, spent, enter, hit, tried, visit, walk}
+use Rattle.pattern.specs.declared.binding.Matched.{Matched}
+use Rattle.pattern.specs.Matching.{PatternOk, matchedAs}
+use Rattle.pattern.specs.Levels.{LevelsHeld}
+use Rattle.pattern.proofs.Matches.{Within, match-none}
+use Rattle.pattern.proofs.LevelLaws.{decide, prev-less, record-at, past-at, struck-at, levels-length, next-at, asked-at, binds-step}
+use Rattle.query.specs.declared.walk.Stack.{Stack}
+use Rattle.query.specs.declared.walk.Outcome.{Outcome}
+use Rattle.query.specs.declared.walk.Outcome.the-variants.{Damaged, Onward, Whole}
+use Rattle.query.specs.declared.walk.Turned.{Turned}
+use Rattle.query.specs.Stack.{deepest, entered, Ready, LevelSure, Stands, Visitable, standAs, poppedAs, enteredAs, turnAs, triedAt, TurnIs}
+use Rattle.query.proofs.Stacks.{levels-none, levels-step, levels-down, levels-set, ready-query, Sure, sure-less, sure-more, sure-of, sure-held, top-is, stands-new, binds-within}
+
+-- ---- chains that have run out
+
+module _ (stm : List ℕ) where
+  settle-stop : (l : Level) (up : List Level) → (l .statement .0 ≡ 0 → ⊥) → settle stm l up ≡ l ∷ up
+  unfolding settle
+  settle-stop l [] h = rw (ne-eqb (l .statement .0) 0 h)
+  settle-stop l (e ∷ up) h = rw (ne-eqb (l .statement .0) 0 h)
+
+  settle-pop : (l e : Level) (up : List Level) → l .statement .0 ≡ 0 → settle stm l (e ∷ up) ≡ settle stm (past stm e) up
+  unfolding settle
+  settle-pop l e up h = rw (eq-eqb (l .statement .0) 0 h)
+
+  settle-none : (l : Level) → l .statement .0 ≡ 0 → settle stm l [] ≡ []
+  unfolding settle
+  settle-none l h = rw (eq-eqb (l .statement .0) 0 h)
+
+  -- where a stack has run out
+  pub settled : (q : Stack) → ((deepest q) .statement .0 ≡ 0 → ⊥) → settle stm (deepest q) (entered q) ≡ deepest q ∷ entered q
+  settled q h = settle-stop (deepest q) (entered q) h
+
+  pub settled-none : (q : Stack) → q .top ≡ 0 → (deepest q) .statement .0 ≡ 0 → settle stm (deepest q) (entered q) ≡ []
+  settled-none q e h = ap (settle stm (deepest q)) (ap (levelsOf (q .levels)) e ∙ levels-none (q .levels)) ∙ settle-none (deepest q) h
+
+-- the stack popped: what holds of it, and nothing is lost
+module _ (r t : ℕ) (stm ws : List ℕ) (q : Stack) (s : Stands r t stm ws q) (h : 1 ≤ q .top) (small : q .top < 8) where
+  pub popped-stands : Stands r t stm ws (poppedAs stm (patternsOf ws) q)
+  popped-stands =
+      let e = s .sure (q .top - 1) (omega arith) in
+      let f = e .falls in
+      let w = e .within in
+      let n = s .few in
+      let ls = q .levels in
+      let d = q .top - 1 in
+      let l = past stm (getD ls d noLevel) in
+      stands-new r t stm ws ls d l (omega arith) (omega arith) (s .slots)
+      (record { values = binds stm (patternsOf ws) (levelsOf (set ls d l) d) })
+      (asked stm (patternsOf ws) (levelsOf (set ls d l) d))
+      (sure-less r t stm ls (q .top) d (omega arith) (sure-of r t stm ws q s)) (omega arith)
+      (ap (binds stm (patternsOf ws)) (levels-set ls d d l (omega arith)))
+      (ap (asked stm (patternsOf ws)) (levels-set ls d d l (omega arith)))
+
+  pub popped-settles : (deepest q) .statement .0 ≡ 0
+      → settle stm (deepest q) (entered q)
+      ≡ settle stm (deepest (poppedAs stm (patternsOf ws) q)) (entered (poppedAs stm (patternsOf ws) q))
+  popped-settles z =
+      let n = s .few in
+      let ls = q .levels in
+      let d = q .top - 1 in
+      let l = past stm (getD ls d noLevel) in
+      ap (settle stm (deepest q)) (levels-down ls (q .top) h)
+      ∙ settle-pop stm (deepest q) (getD ls d noLevel) (levelsOf ls d) z
+      ∙ ap₂ (settle stm) (sym (top-is r t stm ws ls d l (omega arith) (omega arith) (s .slots))) (sym (levels-set ls d d l (omega arith)))
+
+-- ---- the walk at each way out, with the code's `left - 1`
+
+module _ (r t : ℕ) (res stm : List ℕ) (ps : List QueryPattern) (l : Level) (up : List Level) (v : ℕ) where
+  pub walk-over : (left : ℕ) → left ≡ 0 → walk r t res stm ps left l up v ≡ cond (remains stm l up) (spent v (inside l up)) (ended v)
+  unfolding walk
+  walk-over zero e = refl
+  walk-over (suc b) e = absurd (omega arith)
+
+  pub turn-ended : (left : ℕ) → (left ≡ 0 → ⊥) → settle stm l up ≡ [] → walk r t res stm ps left l up v ≡ ended v
+  unfolding walk
+  turn-ended zero h e = absurd (h refl)
+  turn-ended (suc b) h e = rw (walk, e)
+
+  module _ (m : Level) (top : List Level) where
+    pub turn-bad : (left : ℕ) → (left ≡ 0 → ⊥) → settle stm l up ≡ m ∷ top → visit r t res stm ps m top ≡ bad
+        → walk r t res stm ps left l up v ≡ refused Nine
+    unfolding walk
+    turn-bad zero h e d = absurd (h refl)
+    turn-bad (suc b) h e d = rw (walk, e, d)
+
+    pub turn-go : (left : ℕ) (m′ : Level) (top′ : List Level) → (left ≡ 0 → ⊥) → settle stm l up ≡ m ∷ top → visit r t res stm ps m top ≡ go m′ top′
+        → walk r t res stm ps left l up v ≡ walk r t res stm ps (left - 1) m′ top′ (v + 1)
+    unfolding walk
+    turn-go zero m′ top′ h e d = absurd (h refl)
+    turn-go (suc b) m′ top′ h e d = let q : suc b - 1 ≡ b = omega arith in rw (walk, e, d, q)
+
+    pub turn-whole : (left : ℕ) (s : Bindings) (m′ : Level) (top′ : List Level) → (left ≡ 0 → ⊥) → settle stm l up ≡ m ∷ top
+        → visit r t res stm ps m top ≡ whole s m′ top′ → walk r t res stm ps left l up v ≡ found s (v + 1) (inside m′ top′)
+    unfolding walk
+    turn-whole zero s m′ top′ h e d = absurd (h refl)
+    turn-whole (suc b) s m′ top′ h e d = rw (walk, e, d)
+
+-- ---- a pattern entered
+
+pub not-onward : {A : Type 0} → Whole ≡ Onward → A
+not-onward e = let z : _≡_ {A = ℕ} 0 1 = cc in absurd (omega arith)
+
+pub not-damaged : {A : Type 0} → Damaged ≡ Onward → A
+not-damaged e = let z : _≡_ {A = ℕ} 0 1 = cc in absurd (omega arith)
+
+module _ (r t : ℕ) (res stm ws : List ℕ) (ls : List Level) (d : ℕ) (b : Solution) (few : d < length (patternsOf ws)) (small : d < 8) (size : length ls ≡ 8) (sure : Sure r t stm ls d) (bound-is : b .values ≡ binds stm (patternsOf ws) (levelsOf ls d)) where
+  abbrev entry : Triple
+  entry = under (b .values) (getD (patternsOf ws) d (pattern 0 0 0))
+
+  asked-entry : asked stm (patternsOf ws) (levelsOf ls d) ≡ entry
+  asked-entry =
+      asked-at 0 0 stm (patternsOf ws) ls d ∙ ap (λ (z : Bindings). under z (getD (patternsOf ws) d (pattern 0 0 0))) (sym bound-is)
+
+  abbrev first-level : Level
+  first-level = level (pickChain res entry) (startOf t res (pickChain res entry) entry)
+
+  enter-is : enter r t res stm (patternsOf ws) (levelsOf ls d) ≡ cond (pickable t res entry) (go first-level (levelsOf ls d)) bad
+  unfolding enter
+  enter-is = rw asked-entry
+
+  entered-yes : pickable t res entry ≡ true
+      → enteredAs t res entry ls d b ≡ record { outcome = Onward; stack = record { top = d; levels = set ls d first-level; bound = b; asked = entry } }
+  unfolding enteredAs
+  entered-yes e = rw e
+
+  entered-no : pickable t res entry ≡ false
+      → enteredAs t res entry ls d b ≡ record { outcome = Damaged; stack = record { top = d; levels = ls; bound = b; asked = entry } }
+  unfolding enteredAs
+  entered-no e = rw e
+
+  pub entering : TurnIs r t stm ws (enter r t res stm (patternsOf ws) (levelsOf ls d)) (enteredAs t res entry ls d b)
+  entering = decide (pickable t res entry) yes no
+    where
+      yes : pickable t res entry ≡ true → TurnIs r t stm ws (enter r t res stm (patternsOf ws) (levelsOf ls d)) (enteredAs t res entry ls d b)
+      yes e =
+          rw (entered-yes e)
+          (record {
+            told =
+                ap₂ go (top-is r t stm ws ls d first-level few small size) (levels-set ls d d first-level (omega arith))
+                ∙ sym (enter-is ∙ rw e);
+            stands =
+                λ z. stands-new r t stm ws ls d first-level few small size b entry sure
+                (start-within t res entry e (pickChain res entry) (pick-bound res entry)) bound-is (sym asked-entry);
+            slot = small;
+          })
+
+      no : pickable t res entry ≡ false → TurnIs r t stm ws (enter r t res stm (patternsOf ws) (levelsOf ls d)) (enteredAs t res entry ls d b)
+      no e = rw (entered-no e) (record { told = sym (enter-is ∙ rw e); stands = λ z. not-damaged z; slot = small })
+
+-- ---- a visit
+
+torn : (a b : Bool) (m : ℕ) → cond a (cond b (Hit m) (Miss m)) Torn ≡ Torn → a ≡ false
+torn true true m e = let z : _≡_ {A = ℕ} 0 1 = cc in absurd (omega arith)
+torn true false m e = let z : _≡_ {A = ℕ} 0 1 = cc in absurd (omega arith)
+torn false b m e = refl
+
+was-hit : (a b : Bool) (m k : ℕ) → cond a (cond b (Hit m) (Miss m)) Torn ≡ Hit k → (a ≡ true) × (b ≡ true) × (m ≡ k)
+was-hit true true m k e = (refl, refl, cc)
+was-hit true false m k e = let z : _≡_ {A = ℕ} 0 1 = cc in absurd (omega arith)
+was-hit false b m k e = let z : _≡_ {A = ℕ} 0 1 = cc in absurd (omega arith)
+
+was-miss : (a b : Bool) (m k : ℕ) → cond a (cond b (Hit m) (Miss m)) Torn ≡ Miss k → (a ≡ true) × (b ≡ false) × (m ≡ k)
+was-miss true true m k e = let z : _≡_ {A = ℕ} 0 1 = cc in absurd (omega arith)
+was-miss true false m k e = (refl, refl, cc)
+was-miss false b m k e = let z : _≡_ {A = ℕ} 0 1 = cc in absurd (omega arith)
+
+-- a record that can be visited has a next below its number
+visit-falls : (r : ℕ) (stm : List ℕ) (ch : Chain) (x : Triple) (i : ℕ) → visitable r stm ch x i ≡ true → linkOf stm ch i ≤ i
+unfolding visitable
+visit-falls r stm ch x i e =
+    leb-true (linkOf stm ch i) i
+    (and-l _ (leb (flagAt stm i) 1) (and-r (sits stm ch x i) _ (and-r (known r (tripleAt stm i)) _ e)))
+
+visit-known : (r : ℕ) (stm : List ℕ) (ch : Chain) (x : Triple) (i : ℕ) → visitable r stm ch x i ≡ true → known r (tripleAt stm i) ≡ true
+unfolding visitable
+visit-known r stm ch x i e = and-l (known r (tripleAt stm i)) _ e
+
+module _ (r t : ℕ) (res stm ws : List ℕ) (k : Ready r t res stm ws) (q : Stack) (s : Stands r t stm ws q) where
+  abbrev num : ℕ
+  num = (deepest q) .statement .0
+
+  abbrev chainOf : Chain
+  chainOf = (deepest q) .chain
+
+  -- what the deepest record binds, by the definition
+  abbrev pub meeting : Option Bindings
+  meeting = match (nextPattern (patternsOf ws) (entered q)) (recordAt stm num) (binds stm (patternsOf ws) (entered q))
+
+  -- and by the code
+  pub meeting-is : (x : QueryPattern) (y : Triple) → x ≡ getD (patternsOf ws) (q .top) (pattern 0 0 0) → y ≡ tripleAt stm (num - 1)
+      → match x y (q .bound .values) ≡ meeting
+  meeting-is x y e f = rw (e, f, s .bound-is, ← next-at (patternsOf ws) (q .levels) (q .top), ← record-at stm num)
+
+  -- a live match of the pattern under the bindings is what may match; nothing else does
+  live : hits LiveMatch stm (q .asked) (num - 1) ≡ not (struck stm (deepest q)) && agrees (q .asked) (recordAt stm num)
+  unfolding hits matches entryAt
+  live = rw (struck-at stm (deepest q), record-at stm num)
+
+  hit-none : hits LiveMatch stm (q .asked) (num - 1) ≡ false → hit r t res stm (patternsOf ws) (deepest q) (entered q) ≡ none
+  unfolding hit
+  hit-none e = go-on (struck stm (deepest q)) (agrees (q .asked) (recordAt stm num)) refl (sym live ∙ e)
+    where
+      go-on : (f a : Bool) → a ≡ agrees (q .asked) (recordAt stm num) → not f && a ≡ false → cond f none meeting ≡ none
+      go-on true a d z = refl
+      go-on false a d z =
+          let o = (ready-query r t res stm ws k) .each (q .top) (s .few) in
+          let e₁ : agrees (asked stm (patternsOf ws) (entered q)) (recordAt stm num) ≡ false = rw (s .asked-is) at (sym d ∙ z) in
+          rw (next-at (patternsOf ws) (q .levels) (q .top))
+          (match-none (getD (patternsOf ws) (q .top) (pattern 0 0 0)) (recordAt stm num) (binds stm (patternsOf ws) (entered q)) o
+          (rw (asked-at 0 0 stm (patternsOf ws) (q .levels) (q .top)) at e₁))
+
+  hit-live : hits LiveMatch stm (q .asked) (num - 1) ≡ true → hit r t res stm (patternsOf ws) (deepest q) (entered q) ≡ meeting
+  unfolding hit
+  hit-live e = go-on (struck stm (deepest q)) (agrees (q .asked) (recordAt stm num)) (sym live ∙ e)
+    where
+      go-on : (f a : Bool) → not f && a ≡ true → cond f none meeting ≡ meeting
+      go-on true a z = absurd (false≢true z)
+      go-on false a z = refl
+
+  abbrev visited : Visited
+  visited = visitOf LiveMatch r stm chainOf (q .asked) (num - 1)
+
+  pub visit-torn : visited ≡ Torn → visit r t res stm (patternsOf ws) (deepest q) (entered q) ≡ bad
+  unfolding visit visitOf
+  visit-torn e =
+      let a = torn (visitable r stm chainOf (q .asked) (num - 1)) (hits LiveMatch stm (q .asked) (num - 1)) (linkOf stm chainOf (num - 1)) e in
+      rw (prev-less num, ← s .asked-is, a)
+
+  pub visit-missed : (m : ℕ) → visited ≡ Miss m → (num ≡ 0 → ⊥)
+      → (visit r t res stm (patternsOf ws) (deepest q) (entered q) ≡ go (level chainOf m) (entered q)) × (m < num)
+  unfolding visit visitOf tried
+  visit-missed m e z =
+      let a = was-miss (visitable r stm chainOf (q .asked) (num - 1)) (hits LiveMatch stm (q .asked) (num - 1)) (linkOf stm chainOf (num - 1)) m e in
+      let f = visit-falls r stm chainOf (q .asked) (num - 1) (a .0) in
+      (rw (prev-less num, ← s .asked-is, a .0, hit-none (a .1), past-at stm (deepest q), a .2), omega (arith, a .2))
+
+  pub visit-hit : (m : ℕ) → visited ≡ Hit m → (num ≡ 0 → ⊥)
+      → (visit r t res stm (patternsOf ws) (deepest q) (entered q) ≡ tried r t res stm (patternsOf ws) (deepest q) (entered q) meeting)
+      × Visitable r stm q × (m ≡ linkOf stm chainOf (num - 1))
+  unfolding visit visitOf
+  visit-hit m e z =
+      let a = was-hit (visitable r stm chainOf (q .asked) (num - 1)) (hits LiveMatch stm (q .asked) (num - 1)) (linkOf stm chainOf (num - 1)) m e in
+      (rw (prev-less num, ← s .asked-is, a .0, hit-live (a .1)), record { some-record = omega arith; sound = a .0 }, sym (a .2))
+
+  -- on along the chain: the same stack at a lower record
+  pub moved-stands : (m : ℕ) → m ≤ t
+      → Stands r t stm ws (record { top = q .top; levels = set (q .levels) (q .top) (level chainOf m); bound = q .bound; asked = q .asked })
+  moved-stands m h =
+      let n = s .few in
+      let e = (ready-query r t res stm ws k) .few in
+      stands-new r t stm ws (q .levels) (q .top) (level chainOf m) n (omega arith) (s .slots) (q .bound) (q .asked) (sure-of r t stm ws q s) h (s .bound-is) (s .asked-is)
+
+  pub moved-place : (l : Level) → ((getD (set (q .levels) (q .top) l) (q .top) noLevel) ≡ l) × (levelsOf (set (q .levels) (q .top) l) (q .top) ≡ entered q)
+  moved-place l =
+      let n = s .few in
+      let e = (ready-query r t res stm ws k) .few in
+      (top-is r t stm ws (q .levels) (q .top) l n (omega arith) (s .slots), levels-set (q .levels) (q .top) (q .top) l (omega arith))
+
+  pub stack-held : LevelsHeld stm (q .levels) (q .top)
+  stack-held =
+      let n = s .few in
+      let e = (ready-query r t res stm ws k) .few in
+      sure-held r t stm (q .levels) (q .top) (omega arith) (k .in-statements) (sure-of r t stm ws q s)
+
+  -- ---- a record put to the pattern
+
+  -- a visited record is what an entered one must be
+  visited-sure : Visitable r stm q → LevelSure r t stm (deepest q)
+  visited-sure v =
+      let f = visit-falls r stm chainOf (q .asked) (num - 1) (v .sound) in
+      let o = v .some-record in
+      let p = ap (λ (l : Level). l .statement .0) (past-at stm (deepest q)) in
+      record {
+        from-one = o;
+        within = s .next-within;
+        resources = rw (record-at stm num) (visit-known r stm chainOf (q .asked) (num - 1) (v .sound));
+        falls = omega (arith, p);
+      }
+
+  next-past : (n : ℕ) → n ≡ linkOf stm chainOf (num - 1) → level chainOf n ≡ past stm (deepest q)
+  next-past n e = ap (λ (z : ℕ). level chainOf z) e ∙ sym (past-at stm (deepest q))
+
+  pub top-small : q .top < 8
+  top-small = let n = s .few in let e = (ready-query r t res stm ws k) .few in omega arith
+
+  abbrev turn : Turn
+  turn = tried r t res stm (patternsOf ws) (deepest q) (entered q) meeting
+
+  abbrev moved : Solution → ℕ → Stack
+  moved b n = record { top = q .top; levels = set (q .levels) (q .top) (level chainOf n); bound = b; asked = q .asked }
+
+  pub turned-miss : (n : ℕ) → Visitable r stm q → n ≡ linkOf stm chainOf (num - 1) → meeting ≡ none
+      → TurnIs r t stm ws turn (record { outcome = Onward; stack = moved (q .bound) n })
+  unfolding tried
+  turned-miss n v e o =
+      let p = moved-place (level chainOf n) in
+      let f = visit-falls r stm chainOf (q .asked) (num - 1) (v .sound) in
+      let w = s .next-within in
+      record {
+        told = ap₂ go (p .0 ∙ next-past n e) (p .1) ∙ sym (ap (tried r t res stm (patternsOf ws) (deepest q) (entered q)) o);
+        stands = λ z. moved-stands n (omega arith);
+        slot = top-small;
+      }
+
+  pub turned-whole : (n : ℕ) (b : Solution) → n ≡ linkOf stm chainOf (num - 1) → meeting ≡ some (b .values) → q .top + 1 ≡ length (patternsOf ws)
+      → TurnIs r t stm ws turn (record { outcome = Whole; stack = moved b n })
+  unfolding tried
+  turned-whole n b e o h =
+      let p = moved-place (level chainOf n) in
+      let g : suc (length (entered q)) ≡ length (patternsOf ws) = ap suc (levels-length (q .levels) (q .top)) ∙ (let y : suc (q .top) ≡ q .top + 1 = omega arith in y ∙ h) in
+      record {
+        told =
+            ap₂ (whole (b .values)) (p .0 ∙ next-past n e) (p .1)
+            ∙ sym (ap (tried r t res stm (patternsOf ws) (deepest q) (entered q)) o ∙ rw (eq-eqb (suc (length (entered q))) (length (patternsOf ws)) g));
+        stands = λ z. not-onward z;
+        slot = top-small;
+      }
+
+  module _ (b : Solution) (o : meeting ≡ some (b .values)) (more : q .top + 1 ≡ length (patternsOf ws) → ⊥) where
+    pub binds-next : binds stm (patternsOf ws) (levelsOf (q .levels) (q .top + 1)) ≡ b .values
+    binds-next =
+        binds-step 0 0 stm (patternsOf ws) (q .levels) (q .top)
+        ∙ rw (← next-at (patternsOf ws) (q .levels) (q .top), o)
+
+    next-turn : turn ≡ enter r t res stm (patternsOf ws) (levelsOf (q .levels) (q .top + 1))
+    unfolding tried
+    next-turn =
+        let g : suc (length (entered q)) ≡ length (patternsOf ws) → ⊥ =
+        λ z. more (let y : q .top + 1 ≡ suc (q .top) = omega arith in y ∙ sym (ap suc (levels-length (q .levels) (q .top))) ∙ z) in
+        ap (tried r t res stm (patternsOf ws) (deepest q) (entered q)) o
+        ∙ rw (ne-eqb (suc (length (entered q))) (length (patternsOf ws)) g, ← levels-step (q .levels) (q .top))
+
+    pub turned-enter : Visitable r stm q
+        → TurnIs r t stm ws turn (enteredAs t res (under (b .values) (getD (patternsOf ws) (q .top + 1) (pattern 0 0 0))) (q .levels) (q .top + 1) b)
+    turned-enter v =
+        let n = s .few in
+        let e = (ready-query r t res stm ws k) .few in
+        rw next-turn
+        (entering r t res stm ws (q .levels) (q .top + 1) b (omega arith) (omega arith) (s .slots)
+        (sure-more r t stm (q .levels) (q .top) (sure-of r t stm ws q s) (visited-sure v)) (sym binds-next))
+
+    -- what the next pattern asks lies in the table
+    pub next-within-r : Visitable r stm q → Within r (b .values)
+    next-within-r v =
+        rw (← binds-next) (binds-within r t stm (q .levels) (patternsOf ws) (q .top + 1)
+        (sure-more r t stm (q .levels) (q .top) (sure-of r t stm ws q s) (visited-sure v)))
+
+-- ---- the loop: v of `budget` visits are made, w is where the turn began, q where chains that have run out are left
+
+module _ (r t : ℕ) (res stm ws : List ℕ) (k : Ready r t res stm ws) (budget v : ℕ) (le : v ≤ budget) (ne : v ≡ budget → ⊥) (w q : Stack) (s : Stands r t stm ws q) (e : settle stm (deepest w) (entered w) ≡ settle stm (deepest q) (entered q)) where
+  abbrev from-here : Answer
+  from-here = walk r t res stm (patternsOf ws) (budget - v) (deepest w) (entered w) v
+
+  abbrev onward : Stack → Answer
+  onward p = walk r t res stm (patternsOf ws) (budget - (v + 1)) (deepest p) (entered p) (v + 1)
+
+  left-some : budget - v ≡ 0 → ⊥
+  left-some z = ne (omega arith)
+
+  pub runs-out : q .top ≡ 0 → (deepest q) .statement .0 ≡ 0 → from-here ≡ ended v
+  runs-out z h = turn-ended r t res stm (patternsOf ws) (deepest w) (entered w) v (budget - v) left-some (e ∙ settled-none stm q z h)
+
+  module _ (some-record : (deepest q) .statement .0 ≡ 0 → ⊥) where
+    here : settle stm (deepest w) (entered w) ≡ deepest q ∷ entered q
+    here = e ∙ settled stm q some-record
+
+    abbrev seen : Visited
+    seen = visitOf LiveMatch r stm ((deepest q) .chain) (q .asked) ((deepest q) .statement .0 - 1)
+
+    bad-here : visit r t res stm (patternsOf ws) (deepest q) (entered q) ≡ bad → from-here ≡ refused Nine
+    bad-here d = turn-bad r t res stm (patternsOf ws) (deepest w) (entered w) v (deepest q) (entered q) (budget - v) left-some here d
+
+    go-here : (l : Level) (up : List Level) (p : Stack) → visit r t res stm (patternsOf ws) (deepest q) (entered q) ≡ go l up → l ≡ deepest p → up ≡ entered p
+        → from-here ≡ onward p
+    go-here l up p d f g =
+        let a : budget - v - 1 ≡ budget - (v + 1) = omega arith in
+        turn-go r t res stm (patternsOf ws) (deepest w) (entered w) v (deepest q) (entered q) (budget - v) l up left-some here d
+        ∙ rw (a, f, g)
+
+    pub sees-torn : seen ≡ Torn → from-here ≡ refused Nine
+    sees-torn d = bad-here (visit-torn r t res stm ws k q s d)
+
+    pub sees-miss : (n : ℕ) (l : Level) → seen ≡ Miss n → l ≡ level ((deepest q) .chain) n
+        → Stands r t stm ws (record { top = q .top; levels = set (q .levels) (q .top) l; bound = q .bound; asked = q .asked })
+        × (from-here ≡ onward (record { top = q .top; levels = set (q .levels) (q .top) l; bound = q .bound; asked = q .asked }))
+    sees-miss n l d f =
+        let x = visit-missed r t res stm ws k q s n d some-record in
+        let y = s .next-within in
+        let p = moved-place r t res stm ws k q s l in (
+          rw f (moved-stands r t res stm ws k q s n (omega (arith, x .1))),
+          go-here (level ((deepest q) .chain) n) (entered q) (record { top = q .top; levels = set (q .levels) (q .top) l; bound = q .bound; asked = q .asked }) (x .0)
+              (sym (p .0 ∙ f)) (sym (p .1)),
+        )
+
+    module _ (m : Turned) (n : ℕ) (d : seen ≡ Hit n) (T : TurnIs r t stm ws (triedAt r t res stm (patternsOf ws) q) m) where
+      turn-is : visit r t res stm (patternsOf ws) (deepest q) (entered q) ≡ turnAs (m .outcome) (m .stack)
+      turn-is = (visit-hit r t res stm ws k q s n d some-record) .0 ∙ sym (T .told)
+
+      outcome-is : (o : Outcome) → m .outcome ≡ o → visit r t res stm (patternsOf ws) (deepest q) (entered q) ≡ turnAs o (m .stack)
+      outcome-is o f = turn-is ∙ ap (λ (z : Outcome). turnAs z (m .stack)) f
+
+      pub tried-damaged : m .outcome ≡ Damaged → from-here ≡ refused Nine
+      tried-damaged f = bad-here (outcome-is Damaged f)
+
+      pub tried-onward : m .outcome ≡ Onward → from-here ≡ onward (m .stack)
+      tried-onward f = go-here (deepest (m .stack)) (entered (m .stack)) (m .stack) (outcome-is Onward f) refl refl
+
+      pub tried-whole : m .outcome ≡ Whole → from-here ≡ found (m .stack .bound .values) (v + 1) (inside (deepest (m .stack)) (entered (m .stack)))
+      tried-whole f =
+          turn-whole r t res stm (patternsOf ws) (deepest w) (entered w) v (deepest q) (entered q) (budget - v) (m .stack .bound .values) (deepest (m .stack)) (entered (m .stack))
+          left-some here (outcome-is Whole f)

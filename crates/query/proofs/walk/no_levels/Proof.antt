@@ -1,0 +1,22 @@
+use mathlib.Core.Path.{_≡_, refl, sym, ap, _∙_}
+use Rattle.graph.specs.Query.{levelsOf}
+use borrow.Author.Needs.{needs}
+use Rattle.query.proofs.walk.no_levels.Statement.{statement}
+use Rattle.query.proofs.walk.no_levels.Tie as tie
+use Rattle.query.proofs.walk.no_levels.Reads as reads
+use Rattle.query.proofs.walk.no_levels.Lts as lts
+use Rattle.pattern.proofs.level.cursor_of.Reads as cursor-of-reads
+use Rattle.query.proofs.walk.level.Reads as level-reads
+
+level-requires : tie.Need-level-requires
+level-requires c κs = search needs
+
+cursor-of-requires : tie.Need-cursor-of-requires
+cursor-of-requires c κs = search needs
+
+returns : tie.Need-returns
+unfolding levelsOf
+returns c = c .cursor-of .ensures
+
+pub no-levels-spec : {M : Type 1} → statement M
+no-levels-spec = tie.close (tie.spec level-requires cursor-of-requires returns)

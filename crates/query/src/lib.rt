@@ -1,0 +1,81 @@
+// Queries, the paper's question of several patterns: open and next, on tables, words and cursors that hold anything. Nothing is written.
+//
+// The words are passed at each call, and the cursor holds none of them: a cursor of another query, or of another store, is judged by
+// refusal 6 alone. Refusals, in the order tested: open 1, 8; next 1, 8, 6, 7, 9.
+use crate::resume::resume;
+use crate::walk::no_levels;
+use crate::walk::refused;
+use graph::Opening;
+use graph::Progress;
+use graph::QueryAnswer;
+use graph::QueryCursor;
+use graph::QueryOpened;
+use pattern::level::place_ok;
+use pattern::words::words_ok;
+use store::Counters;
+use store::Refusal;
+use table::fits;
+ghost use mathlib.Core.Path.{_≡_};
+ghost use Rattle.store.specs.Tables.{tables};
+ghost use Rattle.graph.specs.Query.{openQueryOf, nextQueryOf};
+
+pub mod resume;
+pub mod walk;
+
+// Open a query: 1; 8 if the words are no query; else the cursor before the first solution.
+pub fn query_open(
+    c: Counters,
+    resources: &[u32],
+    statements: &[u32],
+    index: &[u32],
+    text: &[u8],
+    words: &[u32],
+) -> QueryOpened
+    ensures { λ a. ⌜ a ≡ openQueryOf c (tables (now (resources .entry)) (now (statements .entry)) (now (index .entry)) (now (text .entry))) (now (words .entry)) ⌝ }
+{
+    let cursor = no_levels(Progress::Start);
+    if !fits(c, resources, statements, index, text) {
+        return QueryOpened {
+            opening: Opening::Refused(Refusal::Capacity),
+            cursor: cursor,
+        };
+    }
+    if !words_ok(c.resources, words) {
+        return QueryOpened {
+            opening: Opening::Refused(Refusal::BadQuery),
+            cursor: cursor,
+        };
+    }
+    QueryOpened {
+        opening: Opening::Opened,
+        cursor: cursor,
+    }
+}
+
+// Next of a query: 1; 8; 6; 7 if the budget is 0; 9; else found, ended or spent, with the visits made and the cursor from now on.
+pub fn query_next(
+    c: Counters,
+    resources: &[u32],
+    statements: &[u32],
+    index: &[u32],
+    text: &[u8],
+    words: &[u32],
+    q: QueryCursor,
+    budget: u32,
+) -> QueryAnswer
+    ensures { λ a. ⌜ a ≡ nextQueryOf c (tables (now (resources .entry)) (now (statements .entry)) (now (index .entry)) (now (text .entry))) (now (words .entry)) q budget ⌝ }
+{
+    if !fits(c, resources, statements, index, text) {
+        return refused(Refusal::Capacity);
+    }
+    if !words_ok(c.resources, words) {
+        return refused(Refusal::BadQuery);
+    }
+    if !place_ok(c, statements, words, q) {
+        return refused(Refusal::BadCursor);
+    }
+    if budget == 0 {
+        return refused(Refusal::NoBudget);
+    }
+    resume(c, resources, statements, words, q, budget)
+}

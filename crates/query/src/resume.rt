@@ -1,0 +1,132 @@
+// Where a next call goes on: before the first pattern, within its levels, or at the end (paper 01, "Next of a question").
+use crate::walk::Outcome;
+use crate::walk::Stack;
+use crate::walk::ended;
+use crate::walk::enter;
+use crate::walk::no_levels;
+use crate::walk::refused;
+use crate::walk::stand;
+use crate::walk::walk;
+use graph::Level;
+use graph::MAX_PATTERNS;
+use graph::Progress;
+use graph::QueryAnswer;
+use graph::QueryCursor;
+use graph::QueryStep;
+use pattern::level::first_struck;
+use pattern::level::intact;
+use pattern::level::none_bound;
+use pattern::level::past;
+use pattern::level::written;
+use pattern::words::patterns;
+use store::Counters;
+use store::Refusal;
+ghost use mathlib.Core.Path.{_≡_};
+ghost use mathlib.Core.Bool.{true};
+ghost use Prim.Native.Nat.{ℕ, _<_, _≤_};
+ghost use lib.ListN.{length, getD};
+ghost use Rattle.graph.specs.Query.{patternsOf, noLevel, start, inside, placeOk, placeOf, levelsOf, packed, resume};
+ghost use Rattle.pattern.specs.Levels.{QueryOk, LevelsHeld};
+ghost use Rattle.query.specs.Stack.{Ready};
+ghost use Rattle.query.specs.Resume.{Pruned, onwardAs};
+
+// Before the first solution: the first pattern is entered, at no visit. No patterns give one empty solution, with the end as place.
+pub fn begin(
+    c: Counters,
+    resources: &[u32],
+    statements: &[u32],
+    words: &[u32],
+    budget: u32,
+) -> QueryAnswer
+    requires { ⌜ Ready (c .resources) (c .statements) (now resources) (now statements) (now words) ⌝ }
+    ensures { λ a. ⌜ a ≡ packed (resume (c .resources) (c .statements) (now (resources .entry)) (now (statements .entry)) (patternsOf (now (words .entry))) start budget) ⌝ }
+{
+    if patterns(words) == 0 {
+        return QueryAnswer {
+            step: QueryStep::Found,
+            visits: 0,
+            solution: none_bound(),
+            cursor: no_levels(Progress::End),
+        };
+    }
+    let bare = no_levels(Progress::Start);
+    let levels = bare.levels;
+    let m = enter(c.statements, resources, words, levels, 0, none_bound());
+    let s = m.stack;
+    let outcome = m.outcome;
+    match outcome {
+        Outcome::Damaged => refused(Refusal::Damaged),
+        Outcome::Onward => walk(c, resources, statements, words, s, budget),
+        Outcome::Whole => refused(Refusal::Damaged),
+    }
+}
+
+// The level to go on from: the deepest, level `top`, or level i after its record, which was struck out since.
+pub fn onward(statements: &[u32], levels: [Level; MAX_PATTERNS], top: u32, i: u32) -> Level
+    requires { ⌜ (top < 8) × (i ≤ top) × LevelsHeld (now statements) levels top ⌝ }
+    ensures { λ l. ⌜ l ≡ onwardAs (now (statements .entry)) levels top i ⌝ }
+{
+    let l = levels[i as usize];
+    if i < top {
+        return past(statements, l);
+    }
+    l
+}
+
+// Below a record struck out since, the levels are left without a visit.
+pub fn pruned(statements: &[u32], words: &[u32], levels: [Level; MAX_PATTERNS], top: u32) -> Stack
+    requires { ⌜ QueryOk (now words) × (top < length (patternsOf (now words))) × LevelsHeld (now statements) levels top ⌝ }
+    ensures { λ s. ⌜ Pruned (now (statements .entry)) (patternsOf (now (words .entry))) levels top s ⌝ }
+{
+    let i = first_struck(statements, levels, top);
+    let l = onward(statements, levels, top, i);
+    let mut own = written(levels, i);
+    own[i as usize] = l;
+    stand(statements, words, own, i)
+}
+
+// Within the levels: damage of an entered record is tested first, then the walk goes on.
+pub fn go_on(
+    c: Counters,
+    resources: &[u32],
+    statements: &[u32],
+    words: &[u32],
+    levels: [Level; MAX_PATTERNS],
+    top: u32,
+    budget: u32,
+) -> QueryAnswer
+    requires { ⌜ Ready (c .resources) (c .statements) (now resources) (now statements) (now words) × (placeOk (now statements) (patternsOf (now words)) (c .resources) (c .statements) (inside (getD levels top noLevel) (levelsOf levels top)) ≡ true) ⌝ }
+    ensures { λ a. ⌜ a ≡ packed (resume (c .resources) (c .statements) (now (resources .entry)) (now (statements .entry)) (patternsOf (now (words .entry))) (inside (getD levels top noLevel) (levelsOf levels top)) budget) ⌝ }
+{
+    if !intact(statements, levels, top) {
+        return refused(Refusal::Damaged);
+    }
+    let s = pruned(statements, words, levels, top);
+    walk(c, resources, statements, words, s, budget)
+}
+
+// On from a place that 6 accepts, with a budget.
+pub fn resume(
+    c: Counters,
+    resources: &[u32],
+    statements: &[u32],
+    words: &[u32],
+    q: QueryCursor,
+    budget: u32,
+) -> QueryAnswer
+    requires { ⌜ Ready (c .resources) (c .statements) (now resources) (now statements) (now words) × (placeOk (now statements) (patternsOf (now words)) (c .resources) (c .statements) (placeOf q) ≡ true) ⌝ }
+    ensures { λ a. ⌜ a ≡ packed (resume (c .resources) (c .statements) (now (resources .entry)) (now (statements .entry)) (patternsOf (now (words .entry))) (placeOf q) budget) ⌝ }
+{
+    let progress = q.progress;
+    let levels = q.levels;
+    match progress {
+        Progress::Start => begin(c, resources, statements, words, budget),
+        Progress::Within => {
+            if q.depth == 0 {
+                return begin(c, resources, statements, words, budget);
+            }
+            go_on(c, resources, statements, words, levels, q.depth - 1, budget)
+        }
+        Progress::End => ended(0),
+    }
+}

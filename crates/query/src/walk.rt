@@ -1,0 +1,316 @@
+// The walk of a query: level by level along the chains, up to the first whole solution (paper 01, "Next of a question").
+//
+// A `Stack` is the place with what it binds kept beside it, so that a visit that misses changes one number and copies nothing.
+use graph::Level;
+use graph::MAX_PATTERNS;
+use graph::Progress;
+use graph::QueryAnswer;
+use graph::QueryCursor;
+use graph::QueryStep;
+use graph::Solution;
+use pattern::binding::meet;
+use pattern::binding::under;
+use pattern::level::bindings;
+use pattern::level::cursor_of;
+use pattern::level::none_bound;
+use pattern::level::past;
+use pattern::level::remains;
+use pattern::words::pattern_at;
+use pattern::words::patterns;
+use statement::inner::Sought;
+use statement::inner::Visited;
+use statement::inner::pick_chain;
+use statement::inner::pickable;
+use statement::inner::start_of;
+use statement::inner::visit;
+use store::Chain;
+use store::Counters;
+use store::Refusal;
+use store::StatementId;
+use store::Triple;
+use table::inner::triple_at;
+ghost use mathlib.Core.Path.{_≡_};
+ghost use mathlib.Core.List.{[]};
+ghost use Prim.Native.Nat.{ℕ, _*_, _+_, _-_, _<_, _≤_};
+ghost use lib.ListN.{length, getD};
+ghost use Rattle.store.specs.Walk.{linkOf};
+ghost use Rattle.statement.specs.Chains.{PatternHeld};
+ghost use Rattle.graph.specs.Query.{patternsOf, pattern, under, noLevel, levelsOf, inside, level, refused, ended, found, answered, packed, cursorWith, walk};
+ghost use Rattle.pattern.specs.Levels.{QueryOk, LevelsHeld};
+ghost use Rattle.query.specs.Stack.{Ready, Stands, deepest, entered, standAs, enteredAs, Visitable, TurnIs, poppedAs, triedAt, overAs};
+
+// Where the walk stands: the deepest level, from 0; the levels; what those before the deepest bind; the deepest level's pattern under
+// them, 0 for an open variable.
+pub struct Stack {
+    pub top: u32,
+    pub levels: [Level; MAX_PATTERNS],
+    pub bound: Solution,
+    pub asked: Triple,
+}
+
+// What a match leads to: refusal 9, another place, or a whole solution, which is then what the stack has bound.
+pub enum Outcome {
+    Damaged,
+    Onward,
+    Whole,
+}
+
+pub struct Turned {
+    pub outcome: Outcome,
+    pub stack: Stack,
+}
+
+// A level of a chain, at record n.
+pub fn level(chain: Chain, n: u32) -> Level
+    ensures { λ l. ⌜ l ≡ level chain n ⌝ }
+{
+    Level {
+        chain: chain,
+        statement: StatementId(n),
+    }
+}
+
+// A cursor with no levels.
+pub fn no_levels(progress: Progress) -> QueryCursor
+    ensures { λ q. ⌜ q ≡ cursorWith progress [] ⌝ }
+{
+    let none = level(Chain::All, 0);
+    let levels = [none; MAX_PATTERNS];
+    cursor_of(progress, levels, 0)
+}
+
+// A refusal: zeros beside it.
+pub fn refused(e: Refusal) -> QueryAnswer
+    ensures { λ a. ⌜ a ≡ packed (refused e) ⌝ }
+{
+    QueryAnswer {
+        step: QueryStep::Refused(e),
+        visits: 0,
+        solution: none_bound(),
+        cursor: no_levels(Progress::Start),
+    }
+}
+
+// No solution is left: the end.
+pub fn ended(visits: u32) -> QueryAnswer
+    ensures { λ a. ⌜ a ≡ packed (ended visits) ⌝ }
+{
+    QueryAnswer {
+        step: QueryStep::Ended,
+        visits: visits,
+        solution: none_bound(),
+        cursor: no_levels(Progress::End),
+    }
+}
+
+// Found or spent: a solution, or zeros, and the place.
+pub fn standing(
+    step: QueryStep,
+    visits: u32,
+    solution: Solution,
+    levels: [Level; MAX_PATTERNS],
+    top: u32,
+) -> QueryAnswer
+    requires { ⌜ top < 8 ⌝ }
+    ensures { λ a. ⌜ a ≡ answered step visits (solution .values) (inside (getD levels top noLevel) (levelsOf levels top)) ⌝ }
+{
+    QueryAnswer {
+        step: step,
+        visits: visits,
+        solution: solution,
+        cursor: cursor_of(Progress::Within, levels, top + 1),
+    }
+}
+
+// Levels with what they bind.
+pub fn stand(statements: &[u32], words: &[u32], levels: [Level; MAX_PATTERNS], top: u32) -> Stack
+    requires { ⌜ QueryOk (now words) × (top < length (patternsOf (now words))) × LevelsHeld (now statements) levels top ⌝ }
+    ensures { λ q. ⌜ q ≡ standAs (now (statements .entry)) (patternsOf (now (words .entry))) levels top ⌝ }
+{
+    let bound = bindings(statements, words, levels, top);
+    let asked = under(bound, pattern_at(words, top));
+    Stack {
+        top: top,
+        levels: levels,
+        bound: bound,
+        asked: asked,
+    }
+}
+
+// The deepest level is left: the one before it goes on along its chain.
+pub fn popped(statements: &[u32], words: &[u32], q: Stack) -> Stack
+    requires { ⌜ QueryOk (now words) × (q .top < length (patternsOf (now words))) × (1 ≤ q .top) × LevelsHeld (now statements) (q .levels) (q .top) ⌝ }
+    ensures { λ r. ⌜ r ≡ poppedAs (now (statements .entry)) (patternsOf (now (words .entry))) q ⌝ }
+{
+    let top = q.top - 1;
+    let mut levels = q.levels;
+    let l = levels[top as usize];
+    let e = past(statements, l);
+    levels[top as usize] = e;
+    stand(statements, words, levels, top)
+}
+
+// The next pattern is entered, at no visit: its chain is picked as a scan's.
+pub fn enter(
+    t: u32,
+    resources: &[u32],
+    words: &[u32],
+    levels: [Level; MAX_PATTERNS],
+    top: u32,
+    bound: Solution,
+) -> Turned
+    requires { ⌜ QueryOk (now words) × (top < length (patternsOf (now words))) × PatternHeld (now resources) (under (bound .values) (getD (patternsOf (now words)) top (pattern 0 0 0))) ⌝ }
+    ensures { λ m. ⌜ m ≡ enteredAs t (now (resources .entry)) (under (bound .values) (getD (patternsOf (now (words .entry))) top (pattern 0 0 0))) levels top bound ⌝ }
+{
+    let x = under(bound, pattern_at(words, top));
+    let mut q = Stack {
+        top: top,
+        levels: levels,
+        bound: bound,
+        asked: x,
+    };
+    if !pickable(t, resources, x) {
+        return Turned {
+            outcome: Outcome::Damaged,
+            stack: q,
+        };
+    }
+    let chain = pick_chain(resources, x);
+    let l = Level {
+        chain: chain,
+        statement: StatementId(start_of(t, resources, chain, x)),
+    };
+    q.levels[top as usize] = l;
+    Turned {
+        outcome: Outcome::Onward,
+        stack: q,
+    }
+}
+
+// A live record that the chain's scan would give is put to the pattern: no match, on along the chain; a match of the last pattern, a
+// whole solution; of an earlier one, the next pattern is entered at once.
+pub fn tried(
+    c: Counters,
+    resources: &[u32],
+    statements: &[u32],
+    words: &[u32],
+    q: Stack,
+    next: u32,
+) -> Turned
+    requires { ⌜ Ready (c .resources) (c .statements) (now resources) (now statements) (now words) × Stands (c .resources) (c .statements) (now statements) (now words) q × Visitable (c .resources) (now statements) q × (next ≡ linkOf (now statements) ((deepest q) .chain) ((deepest q) .statement .0 - 1)) ⌝ }
+    ensures { λ m. ⌜ TurnIs (c .resources) (c .statements) (now (statements .entry)) (now (words .entry)) (triedAt (c .resources) (c .statements) (now (resources .entry)) (now (statements .entry)) (patternsOf (now (words .entry))) q) m ⌝ }
+{
+    let top = q.top;
+    let l = q.levels[top as usize];
+    let chain = l.chain;
+    let b = q.bound;
+    let m = meet(
+        pattern_at(words, top),
+        triple_at(statements, l.statement.0),
+        b,
+    );
+    let after = Level {
+        chain: chain,
+        statement: StatementId(next),
+    };
+    let mut s = q;
+    s.levels[top as usize] = after;
+    if !m.hit {
+        return Turned {
+            outcome: Outcome::Onward,
+            stack: s,
+        };
+    }
+    let bound = m.bound;
+    if top + 1 == patterns(words) {
+        s.bound = bound;
+        return Turned {
+            outcome: Outcome::Whole,
+            stack: s,
+        };
+    }
+    let levels = q.levels;
+    enter(c.statements, resources, words, levels, top + 1, bound)
+}
+
+// The budget is spent: ended where no chain has a record left. Chains that have run out stay in the place.
+pub fn out_of_budget(statements: &[u32], q: Stack, visits: u32) -> QueryAnswer
+    requires { ⌜ (q .top < 8) × LevelsHeld (now statements) (q .levels) (q .top) ⌝ }
+    ensures { λ a. ⌜ a ≡ packed (overAs (now (statements .entry)) q visits) ⌝ }
+{
+    let levels = q.levels;
+    if remains(statements, levels, q.top) {
+        return standing(QueryStep::Spent, visits, none_bound(), levels, q.top);
+    }
+    ended(visits)
+}
+
+// A whole solution is found: the stack has bound it.
+pub fn whole(s: Stack, visits: u32) -> QueryAnswer
+    requires { ⌜ s .top < 8 ⌝ }
+    ensures { λ a. ⌜ a ≡ packed (found (s .bound .values) visits (inside (deepest s) (entered s))) ⌝ }
+{
+    let solution = s.bound;
+    let levels = s.levels;
+    standing(QueryStep::Found, visits, solution, levels, s.top)
+}
+
+// The walk from a place, with at most `budget` visits, left from inside at the first whole solution. Chains that have run out are left
+// only once a further visit is sought.
+pub fn walk(
+    c: Counters,
+    resources: &[u32],
+    statements: &[u32],
+    words: &[u32],
+    from: Stack,
+    budget: u32,
+) -> QueryAnswer
+    requires { ⌜ Ready (c .resources) (c .statements) (now resources) (now statements) (now words) × Stands (c .resources) (c .statements) (now statements) (now words) from ⌝ }
+    ensures { λ a. ⌜ a ≡ packed (walk (c .resources) (c .statements) (now (resources .entry)) (now (statements .entry)) (patternsOf (now (words .entry))) budget (deepest from) (entered from) 0) ⌝ }
+{
+    let mut q = from;
+    let mut visits: u32 = 0;
+    let found = 'walk: loop {
+        if visits == budget {
+            return out_of_budget(statements, q, visits);
+        }
+        let l = loop {
+            let l = q.levels[q.top as usize];
+            if l.statement.0 != 0 {
+                break l;
+            }
+            if q.top == 0 {
+                return ended(visits);
+            }
+            q = popped(statements, words, q);
+        };
+        visits += 1;
+        let chain = l.chain;
+        let x = q.asked;
+        match visit(
+            statements,
+            c.resources,
+            chain,
+            x,
+            Sought::LiveMatch,
+            l.statement.0,
+        ) {
+            Visited::Damaged => return refused(Refusal::Damaged),
+            Visited::Miss(n) => {
+                let after = level(chain, n);
+                q.levels[q.top as usize] = after;
+            }
+            Visited::Hit(n) => {
+                let m = tried(c, resources, statements, words, q, n);
+                let s = m.stack;
+                let outcome = m.outcome;
+                match outcome {
+                    Outcome::Damaged => return refused(Refusal::Damaged),
+                    Outcome::Onward => q = s,
+                    Outcome::Whole => break 'walk s,
+                }
+            }
+        }
+    };
+    whole(found, visits)
+}
