@@ -21,18 +21,14 @@ use Rattle.graph.specs.declared.QueryPattern.{QueryPattern}
 use Rattle.graph.specs.declared.Solution.{Solution}
 use Rattle.graph.specs.declared.Level.{Level}
 use Rattle.graph.specs.Query.{patternsOf, pattern, maxPatterns, Bindings, under, match, orElse, isSome, level, noLevel, inside, recordAt, past, struck, intact, anyStruck, remains, nextPattern, binds, asked, enteredOk, placeOk, levelsOf, insideOf, written}
-use Rattle.statement.proofs.Chains.{and-l, and-r}
+use Rattle.store.proofs.Tests.{decide, and-l, and-r}
+use Rattle.graph.proofs.Laws.{prev-minus, levels-length}
 use Rattle.pattern.specs.declared.binding.Matched.{Matched}
 use Rattle.pattern.specs.Matching.{PatternOk, matchedAs}
 use Rattle.pattern.specs.Levels.{QueryOk, LevelsHeld, levelOk, LevelTested, LevelsTested, levelIntact, FirstStruck, deepestOk}
 use Rattle.pattern.proofs.Matches.{match-none}
 
 -- ---- tests
-
--- a case split on a test, with the equation
-pub decide {ℓ} : {P : Type ℓ} (b : Bool) → (b ≡ true → P) → (b ≡ false → P) → P
-decide true y n = y refl
-decide false y n = n refl
 
 pub and-false : (a b : Bool) → b ≡ false → a && b ≡ false
 and-false true b e = e
@@ -48,21 +44,17 @@ or-true false b e = e
 
 -- ---- a record's number and its entry
 
-pub prev-less : (n : ℕ) → prev n ≡ n - 1
-prev-less zero = refl
-prev-less (suc n) = omega arith
-
 pub record-at : (stm : List ℕ) (n : ℕ) → recordAt stm n ≡ tripleAt stm (n - 1)
 unfolding recordAt
-record-at stm n = rw (prev-less n)
+record-at stm n = rw (prev-minus n)
 
 pub past-at : (stm : List ℕ) (l : Level) → past stm l ≡ level (l .chain) (linkOf stm (l .chain) (l .statement .0 - 1))
 unfolding past
-past-at stm l = rw (prev-less (l .statement .0))
+past-at stm l = rw (prev-minus (l .statement .0))
 
 pub struck-at : (stm : List ℕ) (l : Level) → struck stm l ≡ eqb (flagAt stm (l .statement .0 - 1)) 1
 unfolding struck
-struck-at stm l = rw (prev-less (l .statement .0))
+struck-at stm l = rw (prev-minus (l .statement .0))
 
 below-prev : (m n : ℕ) → 1 ≤ n → leb m (prev n) ≡ ltb m n
 below-prev m zero h = absurd (omega arith)
@@ -73,17 +65,7 @@ below-prev m (suc n) h =
 pub intact-at : (stm : List ℕ) (l : Level) → 1 ≤ l .statement .0
     → levelIntact stm l ≡ leb (flagAt stm (l .statement .0 - 1)) 1 && ltb ((past stm l) .statement .0) (l .statement .0)
 unfolding levelIntact
-intact-at stm l h = rw (below-prev ((past stm l) .statement .0) (l .statement .0) h, prev-less (l .statement .0))
-
-pub record-none : (stm : List ℕ) (ch : Chain) (x : Triple) (n : ℕ) → n ≡ 0 → recordOk stm ch x n ≡ true
-unfolding recordOk
-record-none stm ch x zero e = refl
-record-none stm ch x (suc i) e = absurd (omega arith)
-
-pub record-some : (stm : List ℕ) (ch : Chain) (x : Triple) (n : ℕ) → (n ≡ 0 → ⊥) → recordOk stm ch x n ≡ sits stm ch x (n - 1)
-unfolding recordOk
-record-some stm ch x zero e = absurd (e refl)
-record-some stm ch x (suc i) e = let q : suc i - 1 ≡ i = omega arith in rw q
+intact-at stm l h = rw (below-prev ((past stm l) .statement .0) (l .statement .0) h, prev-minus (l .statement .0))
 
 -- ---- one entered level
 
@@ -145,11 +127,6 @@ module _ (r t : ℕ) (stm : List ℕ) (x : QueryPattern) (b : Solution) (e : Lev
       }
 
 -- ---- the first levels of an array
-
-pub levels-length : (ls : List Level) (d : ℕ) → length (levelsOf ls d) ≡ d
-unfolding levelsOf
-levels-length ls zero = refl
-levels-length ls (suc d) = ap suc (levels-length ls d)
 
 pub next-at : (ps : List QueryPattern) (ls : List Level) (d : ℕ) → nextPattern ps (levelsOf ls d) ≡ getD ps d (pattern 0 0 0)
 unfolding nextPattern
@@ -323,9 +300,6 @@ remains-rest stm l [] = sym (or-false (ltb 0 (l .statement .0)))
 remains-rest stm l (e ∷ up) = ap (λ (z : Bool). ltb 0 (l .statement .0) || z) (remains-rest stm (past stm e) up)
 
 module _ (stm : List ℕ) (l : Level) (up : List Level) where
-  pub remains-here : (l .statement .0 ≡ 0 → ⊥) → remains stm l up ≡ true
-  remains-here h = remains-rest stm l up ∙ rw (lt-ltb 0 (l .statement .0) (omega arith))
-
   pub remains-gone : l .statement .0 ≡ 0 → remains stm l up ≡ restOf stm up
   remains-gone h = remains-rest stm l up ∙ rw (le-ltb 0 (l .statement .0) (omega arith))
 

@@ -18,7 +18,7 @@ use Rattle.store.specs.Triple.{at, known, agrees}
 use Rattle.graph.specs.declared.QueryPattern.{QueryPattern}
 use Rattle.graph.specs.declared.Solution.{Solution}
 use Rattle.graph.specs.Query.{Bindings, resource, unbound, boundTo, isVariable, firstVariable, variables, valueOf, under, bind, match, after}
-use Rattle.statement.proofs.Chains.{known-most}
+use Rattle.graph.proofs.Levels.{Low}
 use Rattle.pattern.specs.declared.binding.Matched.{Matched}
 use Rattle.pattern.specs.Matching.{WordFits, PatternOk, matchedAs}
 use Rattle.pattern.proofs.WordLaws.{PatternIn}
@@ -94,29 +94,6 @@ module _ (x : QueryPattern) (t : Triple) (b : Bindings) where
 
 -- ---- what a word binds: a resource of the triple, and nothing that was bound changes
 
-get-after : (P : ℕ → Type 0) (l : Bindings) (i j : ℕ) (a : ResourceId) → P (a .0) → P ((getD l j (resource 0)) .0)
-    → P ((getD (set l i a) j (resource 0)) .0)
-get-after P [] i j a h g = g
-get-after P (y ∷ l) zero zero a h g = h
-get-after P (y ∷ l) zero (suc j) a h g = g
-get-after P (y ∷ l) (suc i) zero a h g = g
-get-after P (y ∷ l) (suc i) (suc j) a h g = get-after P l i j a h g
-
--- every binding is at most r
-pub record Within (r : ℕ) (b : Bindings) : Type 0 where
-  pub each : (v : ℕ) → boundTo b v ≤ r
-
-pub within-set : (r : ℕ) (b : Bindings) (i n : ℕ) → n ≤ r → Within r b → Within r (set b i (resource n))
-within-set r b i n h k = record { each = λ v. get-after (λ z. z ≤ r) b i v (resource n) h (k .each v) }
-
-zeros : (k v : ℕ) → (getD (replicate k (resource 0)) v (resource 0)) .0 ≡ 0
-zeros zero v = refl
-zeros (suc k) zero = refl
-zeros (suc k) (suc v) = zeros k v
-
-pub within-unbound : (r : ℕ) → Within r unbound
-within-unbound r = record { each = λ v. let q = zeros variables v in omega arith }
-
 module _ (b b′ : Bindings) (w n : ℕ) where
   -- how a word is met
   bound-by : bind w n b ≡ some b′ → ((valueOf b w ≡ 0) × (b′ ≡ set b (w - firstVariable) (resource n))) ⊎ ((valueOf b w ≡ n) × (b′ ≡ b))
@@ -129,9 +106,6 @@ module _ (b b′ : Bindings) (w n : ℕ) where
       decide true c p q d = inl (eqb-true (valueOf b w) 0 p, cc)
       decide false true p q d = inr (eqb-true (valueOf b w) n q, cc)
       decide false false p q d = let z : _≡_ {A = ℕ} 0 1 = cc in absurd (omega arith)
-
-  pub bind-within : (r : ℕ) → n ≤ r → Within r b → bind w n b ≡ some b′ → Within r b′
-  bind-within r h k e = ⊎-elim (λ q. rw (q .1) (within-set r b (w - firstVariable) n h k)) (λ q. rw (q .1) k) (bound-by e)
 
   -- the word admits the resource
   bind-admits : bind w n b ≡ some b′ → eqb (valueOf b w) 0 || eqb n (valueOf b w) ≡ true
@@ -186,14 +160,6 @@ module _ (x : QueryPattern) (t : Triple) (b b′ : Bindings) where
       first none p d = let z : _≡_ {A = ℕ} 0 1 = cc in absurd (omega arith)
       first (some b₁) p d = second b₁ (bind (x .predicate) (t .predicate .0) b₁) refl p d
 
-  pub match-within : (r : ℕ) → known r t ≡ true → Within r b → match x t b ≡ some b′ → Within r b′
-  match-within r k h e =
-      let q = steps e in
-      bind-within (q .1) b′ (x .object) (t .object .0) r (known-most r t k Object)
-      (bind-within (q .0) (q .1) (x .predicate) (t .predicate .0) r (known-most r t k Predicate)
-      (bind-within b (q .0) (x .subject) (t .subject .0) r (known-most r t k Subject) h (q .2)) (q .3))
-      (q .4)
-
   -- what holds under later bindings held under the earlier
   earlier : (b₁ : Bindings) (u n : ℕ) → ((valueOf b u ≡ 0 → ⊥) → valueOf b₁ u ≡ valueOf b u) → admits (valueOf b₁ u) n ≡ true → admits (valueOf b u) n ≡ true
   earlier b₁ u n k e = decide (eqb (valueOf b u) 0) refl
@@ -233,14 +199,14 @@ match-none x t b o e = decide (match x t b) refl
 
 -- ---- a pattern under the bindings is within R
 
-value-within : (r : ℕ) (b : Bindings) (w : ℕ) → Within r b → (w < firstVariable → w ≤ r) → valueOf b w ≤ r
+value-within : (r : ℕ) (b : Bindings) (w : ℕ) → Low r b → (w < firstVariable → w ≤ r) → valueOf b w ≤ r
 value-within r b w k h = decide (leb firstVariable w) refl
   where
     decide : (a : Bool) → leb firstVariable w ≡ a → valueOf b w ≤ r
-    decide true d = let q = value-variable b w (leb-true firstVariable w d) in let z = k .each (w - firstVariable) in omega arith
+    decide true d = let q = value-variable b w (leb-true firstVariable w d) in let z = k (w - firstVariable) in omega arith
     decide false d = let y = leb-false firstVariable w d in let q = value-number b w y in let z = h y in omega arith
 
-pub under-within : (r : ℕ) (b : Bindings) (x : QueryPattern) → Within r b → PatternIn r x → (p : Position) → at p (under b x) ≤ r
+pub under-within : (r : ℕ) (b : Bindings) (x : QueryPattern) → Low r b → PatternIn r x → (p : Position) → at p (under b x) ≤ r
 unfolding under
 under-within r b x k h Subject = value-within r b (x .subject) k (h .s-number)
 under-within r b x k h Predicate = value-within r b (x .predicate) k (h .p-number)

@@ -11,7 +11,8 @@ use lib.Dec.{eqb, leb, ltb}
 use borrow.Author.Tests.{ltb-true, leb-true, leb-false, eqb-true, eq-eqb, ne-eqb, lt-ltb, le-ltb, le-leb, lt-leb}
 use Rattle.graph.specs.declared.QueryPattern.{QueryPattern}
 use Rattle.graph.specs.Query.{patternsOf, pattern, wordOk, allOk, wordsOk, firstVariable, variables, maxPatterns}
-use Rattle.statement.proofs.Chains.{and-l, and-r}
+use Rattle.store.proofs.Tests.{and-l, and-r}
+use Rattle.graph.proofs.Laws.{pattern-words, patterns-length}
 use Rattle.pattern.specs.Matching.{WordFits, PatternOk}
 
 -- ---- one word
@@ -74,13 +75,6 @@ all-at r (w ∷ ws) (suc i) e h = all-at r ws i (and-r (wordOk r w) _ e) (omega 
 
 -- ---- how many patterns
 
-pub patterns-length : (ws : List ℕ) → (3 * length (patternsOf ws) ≤ length ws) × (length ws < 3 * length (patternsOf ws) + 3)
-unfolding patternsOf
-patterns-length [] = (omega arith, omega arith)
-patterns-length (a ∷ []) = (omega arith, omega arith)
-patterns-length (a ∷ b ∷ []) = (omega arith, omega arith)
-patterns-length (a ∷ b ∷ e ∷ r) = let h = patterns-length r in (omega (arith, h .0), omega (arith, h .1))
-
 module _ (r : ℕ) (ws : List ℕ) where
   pub broken-off : (length ws % 3 ≡ 0 → ⊥) → wordsOk r ws ≡ false
   unfolding wordsOk
@@ -112,31 +106,6 @@ module _ (r : ℕ) (ws : List ℕ) where
       and-r (leb (length (patternsOf ws)) maxPatterns) _ (and-r (eqb (3 * length (patternsOf ws)) (length ws)) _ e)
 
 -- ---- the words of pattern d
-
-same-words : {x x′ y y′ z z′ : ℕ} → x ≡ x′ → y ≡ y′ → z ≡ z′ → pattern x y z ≡ pattern x′ y′ z′
-same-words e f g = rw (e, f, g)
-
-pub pattern-words : (ws : List ℕ) (d : ℕ) → d < length (patternsOf ws)
-    → getD (patternsOf ws) d (pattern 0 0 0) ≡ pattern (getD ws (3 * d) 0) (getD ws (3 * d + 1) 0) (getD ws (3 * d + 2) 0)
-unfolding patternsOf
-pattern-words [] d h = absurd (omega arith)
-pattern-words (a ∷ []) d h = absurd (omega arith)
-pattern-words (a ∷ b ∷ []) d h = absurd (omega arith)
-pattern-words (a ∷ b ∷ e ∷ r) d h = one d h (pattern-words r)
-  where
-    three : (k m : ℕ) → k ≡ suc (suc (suc m)) → getD (a ∷ b ∷ e ∷ r) k 0 ≡ getD r m 0
-    three k m q = ap (λ (z : ℕ). getD (a ∷ b ∷ e ∷ r) z 0) q
-
-    one : (d : ℕ) → d < suc (length (patternsOf r))
-        → ((d : ℕ) → d < length (patternsOf r) → getD (patternsOf r) d (pattern 0 0 0) ≡ pattern (getD r (3 * d) 0) (getD r (3 * d + 1) 0) (getD r (3 * d + 2) 0))
-        → getD (pattern a b e ∷ patternsOf r) d (pattern 0 0 0)
-        ≡ pattern (getD (a ∷ b ∷ e ∷ r) (3 * d) 0) (getD (a ∷ b ∷ e ∷ r) (3 * d + 1) 0) (getD (a ∷ b ∷ e ∷ r) (3 * d + 2) 0)
-    one zero h ih = refl
-    one (suc d) h ih =
-        let x : 3 * suc d ≡ suc (suc (suc (3 * d))) = omega arith in
-        let y : 3 * suc d + 1 ≡ suc (suc (suc (3 * d + 1))) = omega arith in
-        let z : 3 * suc d + 2 ≡ suc (suc (suc (3 * d + 2))) = omega arith in
-        ih d (omega arith) ∙ sym (same-words (three (3 * suc d) (3 * d) x) (three (3 * suc d + 1) (3 * d + 1) y) (three (3 * suc d + 2) (3 * d + 2) z))
 
 -- each word of a pattern of a query
 pub record PatternIn (r : ℕ) (x : QueryPattern) : Type 0 where

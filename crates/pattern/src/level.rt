@@ -14,9 +14,9 @@ use graph::QueryCursor;
 use graph::QueryPattern;
 use graph::Solution;
 use graph::VARIABLES;
+use statement::inner::chain_ok;
 use statement::inner::link_of;
-use statement::inner::sits;
-use statement::triple::at;
+use statement::inner::record_ok;
 use statement::triple::known;
 use store::Chain;
 use store::Counters;
@@ -32,7 +32,6 @@ ghost use lib.ListN.{length, getD};
 ghost use lib.Dec.{leb};
 ghost use Rattle.store.specs.Triple.{prev};
 ghost use Rattle.store.specs.Tables.{statementWords, flagAt};
-ghost use Rattle.store.specs.Scan.{chainOk, recordOk};
 ghost use Rattle.table.specs.Held.{StatementHeld};
 ghost use Rattle.graph.specs.Query.{patternsOf, unbound, noLevel, inside, past, struck, intact, remains, binds, enteredOk, placeOk, levelsOf, insideOf, placeOf, written, cursorAt, cursorWith};
 ghost use Rattle.pattern.specs.Matching.{PatternOk};
@@ -46,38 +45,6 @@ pub fn none_bound() -> Solution
     Solution {
         values: [zero; VARIABLES],
     }
-}
-
-// Whether a chain is a bound position, or all records where nothing is bound.
-pub fn chain_ok(chain: Chain, x: Triple) -> bool
-    ensures { λ b. ⌜ b ≡ chainOk chain x ⌝ }
-{
-    match chain {
-        Chain::All => {
-            if x.subject.0 != 0 {
-                return false;
-            }
-            if x.predicate.0 != 0 {
-                return false;
-            }
-            x.object.0 == 0
-        }
-        Chain::By(p) => {
-            let y = at(p, x);
-            y > 0
-        }
-    }
-}
-
-// Whether record n, or none, has the chain's resource at the chain's position.
-pub fn record_ok(statements: &[u32], chain: Chain, x: Triple, n: u32) -> bool
-    requires { ⌜ statementWords * n ≤ length (now statements) ⌝ }
-    ensures { λ b. ⌜ b ≡ recordOk (now (statements .entry)) chain x n ⌝ }
-{
-    if n == 0 {
-        return true;
-    }
-    sits(statements, chain, x, n)
 }
 
 // A level after its record, on its chain.

@@ -15,20 +15,21 @@ use Rattle.store.specs.declared.Counters.{Counters}
 use Rattle.store.specs.Tables.{Tables, fits, statementWords, flagAt}
 use Rattle.table.proofs.Capacity.{fits-room}
 use Rattle.store.specs.Scan.{chainOk, recordOk}
-use Rattle.statement.proofs.Chains.{and-l, and-r}
+use Rattle.store.proofs.Tests.{decide, and-l, and-r}
+use Rattle.graph.proofs.Laws.{levels-length, levels-set, written-length}
 use Rattle.graph.specs.declared.QueryPattern.{QueryPattern}
 use Rattle.graph.specs.declared.Solution.{Solution}
 use Rattle.graph.specs.declared.Level.{Level}
 use Rattle.graph.specs.Query.{patternsOf, pattern, wordsOk, Bindings, unbound, under, level, noLevel, Place, start, inside, past, struck, intact, anyStruck, pruned, binds, asked, enteredOk, placeOk, levelsOf, insideOf, written, Turn, bad, go, whole, Answer, refused, found, finish, enter, begun, walk, resume}
 use Rattle.pattern.specs.Levels.{LevelsHeld, levelIntact, FirstStruck}
-use Rattle.pattern.proofs.LevelLaws.{decide, or-true, levels-length, entered-each, ok-number, ok-resources, intact-each, intact-at, written-step, binds-none}
+use Rattle.pattern.proofs.LevelLaws.{or-true, entered-each, ok-number, ok-resources, intact-each, intact-at, written-step, binds-none}
 use Rattle.query.specs.declared.walk.Stack.{Stack}
 use Rattle.query.specs.declared.walk.Outcome.{Outcome}
 use Rattle.query.specs.declared.walk.Outcome.the-variants.{Damaged, Onward, Whole}
 use Rattle.query.specs.declared.walk.Turned.{Turned}
 use Rattle.query.specs.Stack.{deepest, entered, Ready, LevelSure, Stands, standAs, enteredAs, turnAs, TurnIs}
 use Rattle.query.specs.Resume.{onwardAs, Pruned}
-use Rattle.query.proofs.Stacks.{levels-none, levels-step, levels-set, ready-query, Sure, sure-none, sure-less, top-is, stands-new}
+use Rattle.query.proofs.Stacks.{levels-none, levels-step, ready-query, Sure, sure-none, sure-less, top-is, stands-new}
 use Rattle.query.proofs.Turns.{entering}
 
 -- ---- what 1 and 8 have tested
@@ -148,17 +149,12 @@ module _ (stm : List ℕ) (ls : List Level) where
 
 -- ---- levels written out
 
-pub written-size : (up : List Level) → length (written up) ≡ 8
-unfolding written
-written-size [] = refl
-written-size (e ∷ up) = length-set (written up) (length up) e ∙ written-size up
-
 pub written-get : (ls : List Level) (d i : ℕ) → d ≤ 8 → i < d → getD (written (levelsOf ls d)) i noLevel ≡ getD ls i noLevel
 written-get ls zero i h g = absurd (omega arith)
 written-get ls (suc d) i h g =
     let y : suc d ≡ d + 1 = omega arith in
     let w = written (levelsOf ls d) in
-    let z = written-size (levelsOf ls d) in
+    let z = written-length (levelsOf ls d) in
     ap (λ (n : ℕ). getD (written (levelsOf ls n)) i noLevel) y
     ∙ ap (λ (l : List Level). getD l i noLevel) (written-step ls d)
     ∙ decide (eqb i d)
@@ -228,7 +224,7 @@ module _ (r t : ℕ) (res stm ws : List ℕ) (k : Ready r t res stm ws) (ls : Li
   pub pruned-stands : Stands r t stm ws s
   pruned-stands =
       rw (p .made)
-      (stands-new r t stm ws own (s .top) next few small (written-size (levelsOf ls (s .top)))
+      (stands-new r t stm ws own (s .top) next few small (written-length (levelsOf ls (s .top)))
       (record { values = binds stm (patternsOf ws) (levelsOf (set own (s .top) next) (s .top)) })
       (asked stm (patternsOf ws) (levelsOf (set own (s .top) next) (s .top))) own-sure next-within
       (ap (binds stm (patternsOf ws)) (levels-set own (s .top) (s .top) next (omega arith)))
@@ -237,7 +233,7 @@ module _ (r t : ℕ) (res stm ws : List ℕ) (k : Ready r t res stm ws) (ls : Li
   pub pruned-top : (pruned stm (getD ls top noLevel) (levelsOf ls top)) .0 ≡ deepest s
   pruned-top =
       ap (λ (x : Level × List Level). x .0) (pruned-at stm ls top (s .top) (p .first))
-      ∙ sym (ap (λ (q : Stack). deepest q) (p .made) ∙ top-is r t stm ws own (s .top) next few small (written-size (levelsOf ls (s .top))))
+      ∙ sym (ap (λ (q : Stack). deepest q) (p .made) ∙ top-is r t stm ws own (s .top) next few small (written-length (levelsOf ls (s .top))))
 
   pub pruned-up : (pruned stm (getD ls top noLevel) (levelsOf ls top)) .1 ≡ entered s
   pruned-up =

@@ -16,7 +16,8 @@ use Rattle.store.specs.Tables.{statementWords, resourceWords, maxResources}
 use Rattle.store.specs.Walk.{linkOf}
 use Rattle.table.specs.Held.{StatementHeld}
 use Rattle.statement.specs.Chains.{PatternHeld}
-use Rattle.statement.proofs.Chains.{and-l, and-r, held}
+use Rattle.store.proofs.Tests.{decide}
+use Rattle.statement.proofs.Chains.{known-most, held}
 use Rattle.graph.specs.declared.QueryPattern.{QueryPattern}
 use Rattle.graph.specs.declared.QueryStep.{QueryStep}
 use Rattle.graph.specs.declared.QueryCursor.{QueryCursor}
@@ -27,8 +28,9 @@ use Rattle.graph.specs.Query.{patternsOf, pattern, maxPatterns, firstVariable, 
 use Rattle.pattern.specs.Matching.{PatternOk}
 use Rattle.pattern.specs.Levels.{QueryOk, LevelsHeld}
 use Rattle.pattern.proofs.WordLaws.{PatternIn, pattern-in, few-patterns}
-use Rattle.pattern.proofs.Matches.{Within, within-unbound, match-within, under-within}
-use Rattle.pattern.proofs.LevelLaws.{decide, next-at, asked-at, levels-length}
+use Rattle.pattern.proofs.Matches.{under-within}
+use Rattle.graph.proofs.Laws.{levels-set}
+use Rattle.graph.proofs.Levels.{Low, low-none, match-low}
 use Rattle.query.specs.declared.walk.Stack.{Stack}
 use Rattle.query.specs.Stack.{deepest, entered, Ready, LevelSure, Stands, standAs}
 
@@ -62,13 +64,6 @@ levels-step ls d = let q : d + 1 ≡ suc d = omega arith in rw (q, levelsOf)
 pub levels-down : (ls : List Level) (d : ℕ) → 1 ≤ d → levelsOf ls d ≡ getD ls (d - 1) noLevel ∷ levelsOf ls (d - 1)
 levels-down ls d h = let q : d ≡ (d - 1) + 1 = omega arith in ap (levelsOf ls) q ∙ levels-step ls (d - 1)
 
--- a store at or past the depth leaves the levels
-pub levels-set : (ls : List Level) (d j : ℕ) (l : Level) → d ≤ j → levelsOf (set ls j l) d ≡ levelsOf ls d
-unfolding levelsOf
-levels-set ls zero j l h = refl
-levels-set ls (suc d) j l h =
-    let q : d ≢ j = omega arith in rw (levelsOf, getD-set-other ls j d l noLevel q, levels-set ls d j l (omega arith))
-
 pub held-set : (stm : List ℕ) (ls : List Level) (d e : ℕ) (l : Level) → e ≤ d → LevelsHeld stm ls d → LevelsHeld stm (set ls e l) e
 held-set stm ls d e l h k =
     record {
@@ -85,7 +80,7 @@ module _ (r t : ℕ) (res stm ws : List ℕ) (k : Ready r t res stm ws) where
   pub ready-query : QueryOk ws
   ready-query = record { few = few-patterns r ws (k .words-ok); each = λ d h. (pattern-of d h) .ok }
 
-  pub asked-held : (b : Bindings) (d : ℕ) → Within r b → d < length (patternsOf ws) → PatternHeld res (under b (getD (patternsOf ws) d (pattern 0 0 0)))
+  pub asked-held : (b : Bindings) (d : ℕ) → Low r b → d < length (patternsOf ws) → PatternHeld res (under b (getD (patternsOf ws) d (pattern 0 0 0)))
   asked-held b d w h = held res r _ (k .in-resources) (under-within r b (getD (patternsOf ws) d (pattern 0 0 0)) w (pattern-of d h))
 
 -- ---- entered records
@@ -117,18 +112,18 @@ module _ (r t : ℕ) (stm : List ℕ) (ls : List Level) where
       }
 
   -- what entered records bind is within R
-  pub binds-within : (ps : List QueryPattern) (d : ℕ) → Sure r t stm ls d → Within r (binds stm ps (levelsOf ls d))
+  pub binds-within : (ps : List QueryPattern) (d : ℕ) → Sure r t stm ls d → Low r (binds stm ps (levelsOf ls d))
   unfolding binds levelsOf
-  binds-within ps zero s = within-unbound r
+  binds-within ps zero s = low-none r 16
   binds-within ps (suc d) s =
       pick (match (nextPattern ps (levelsOf ls d)) (recordAt stm ((getD ls d noLevel) .statement .0)) (binds stm ps (levelsOf ls d))) refl
       (binds-within ps d (sure-less (suc d) d (omega arith) s)) (s .at-each d (omega arith))
     where
       pick : (o : Option Bindings)
           → match (nextPattern ps (levelsOf ls d)) (recordAt stm ((getD ls d noLevel) .statement .0)) (binds stm ps (levelsOf ls d)) ≡ o
-          → Within r (binds stm ps (levelsOf ls d)) → LevelSure r t stm (getD ls d noLevel) → Within r (orElse o (binds stm ps (levelsOf ls d)))
+          → Low r (binds stm ps (levelsOf ls d)) → LevelSure r t stm (getD ls d noLevel) → Low r (orElse o (binds stm ps (levelsOf ls d)))
       pick none e w l = w
-      pick (some b) e w l = match-within _ _ _ b r (l .resources) w e
+      pick (some b) e w l = match-low r _ _ _ b w (known-most r _ (l .resources)) e
 
 -- ---- a stack whose deepest level is stored last
 
@@ -154,5 +149,5 @@ module _ (r t : ℕ) (stm ws : List ℕ) (q : Stack) (s : Stands r t stm ws q) w
   pub sure-of : Sure r t stm (q .levels) (q .top)
   sure-of = record { at-each = s .sure }
 
-  pub bound-within : Within r (q .bound .values)
+  pub bound-within : Low r (q .bound .values)
   bound-within = rw (s .bound-is) (binds-within r t stm (q .levels) (patternsOf ws) (q .top) sure-of)

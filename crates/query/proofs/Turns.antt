@@ -21,7 +21,8 @@ use Rattle.statement.specs.declared.inner.Sought.the-variants.{LiveMatch}
 use Rattle.statement.specs.declared.inner.Visited.{Visited}
 use Rattle.statement.specs.declared.inner.Visited.the-variants.{Damaged as Torn, Hit, Miss}
 use Rattle.statement.specs.Chains.{hits, visitOf}
-use Rattle.statement.proofs.Chains.{and-l, and-r, pick-bound, start-within}
+use Rattle.store.proofs.Tests.{decide, and-l}
+use Rattle.statement.proofs.Chains.{pick-bound, start-within, falling}
 use Rattle.graph.specs.declared.QueryPattern.{QueryPattern}
 use Rattle.graph.specs.declared.Solution.{Solution}
 use Rattle.graph.specs.declared.Level.{Level}
@@ -29,37 +30,26 @@ use Rattle.graph.specs.Query.{patternsOf, pattern, Bindings, under, match, orEl
 use Rattle.pattern.specs.declared.binding.Matched.{Matched}
 use Rattle.pattern.specs.Matching.{PatternOk, matchedAs}
 use Rattle.pattern.specs.Levels.{LevelsHeld}
-use Rattle.pattern.proofs.Matches.{Within, match-none}
-use Rattle.pattern.proofs.LevelLaws.{decide, prev-less, record-at, past-at, struck-at, levels-length, next-at, asked-at, binds-step}
+use Rattle.pattern.proofs.Matches.{match-none}
+use Rattle.graph.proofs.Laws.{prev-minus, settle-stop, settle-pop, settle-none, turn-ended, turn-bad, turn-go, turn-whole, levels-length, levels-set}
+use Rattle.graph.proofs.Levels.{Low}
+use Rattle.pattern.proofs.LevelLaws.{record-at, past-at, struck-at, next-at, asked-at, binds-step}
 use Rattle.query.specs.declared.walk.Stack.{Stack}
 use Rattle.query.specs.declared.walk.Outcome.{Outcome}
 use Rattle.query.specs.declared.walk.Outcome.the-variants.{Damaged, Onward, Whole}
 use Rattle.query.specs.declared.walk.Turned.{Turned}
 use Rattle.query.specs.Stack.{deepest, entered, Ready, LevelSure, Stands, Visitable, standAs, poppedAs, enteredAs, turnAs, triedAt, TurnIs}
-use Rattle.query.proofs.Stacks.{levels-none, levels-step, levels-down, levels-set, ready-query, Sure, sure-less, sure-more, sure-of, sure-held, top-is, stands-new, binds-within}
+use Rattle.query.proofs.Stacks.{levels-none, levels-step, levels-down, ready-query, Sure, sure-less, sure-more, sure-of, sure-held, top-is, stands-new, binds-within}
 
 -- ---- chains that have run out
 
 module _ (stm : List ℕ) where
-  settle-stop : (l : Level) (up : List Level) → (l .statement .0 ≡ 0 → ⊥) → settle stm l up ≡ l ∷ up
-  unfolding settle
-  settle-stop l [] h = rw (ne-eqb (l .statement .0) 0 h)
-  settle-stop l (e ∷ up) h = rw (ne-eqb (l .statement .0) 0 h)
-
-  settle-pop : (l e : Level) (up : List Level) → l .statement .0 ≡ 0 → settle stm l (e ∷ up) ≡ settle stm (past stm e) up
-  unfolding settle
-  settle-pop l e up h = rw (eq-eqb (l .statement .0) 0 h)
-
-  settle-none : (l : Level) → l .statement .0 ≡ 0 → settle stm l [] ≡ []
-  unfolding settle
-  settle-none l h = rw (eq-eqb (l .statement .0) 0 h)
-
   -- where a stack has run out
   pub settled : (q : Stack) → ((deepest q) .statement .0 ≡ 0 → ⊥) → settle stm (deepest q) (entered q) ≡ deepest q ∷ entered q
-  settled q h = settle-stop (deepest q) (entered q) h
+  settled q h = settle-stop stm (deepest q) (entered q) h
 
   pub settled-none : (q : Stack) → q .top ≡ 0 → (deepest q) .statement .0 ≡ 0 → settle stm (deepest q) (entered q) ≡ []
-  settled-none q e h = ap (settle stm (deepest q)) (ap (levelsOf (q .levels)) e ∙ levels-none (q .levels)) ∙ settle-none (deepest q) h
+  settled-none q e h = ap (settle stm (deepest q)) (ap (levelsOf (q .levels)) e ∙ levels-none (q .levels)) ∙ settle-none stm (deepest q) h
 
 -- the stack popped: what holds of it, and nothing is lost
 module _ (r t : ℕ) (stm ws : List ℕ) (q : Stack) (s : Stands r t stm ws q) (h : 1 ≤ q .top) (small : q .top < 8) where
@@ -90,38 +80,6 @@ module _ (r t : ℕ) (stm ws : List ℕ) (q : Stack) (s : Stands r t stm ws q) (
       ap (settle stm (deepest q)) (levels-down ls (q .top) h)
       ∙ settle-pop stm (deepest q) (getD ls d noLevel) (levelsOf ls d) z
       ∙ ap₂ (settle stm) (sym (top-is r t stm ws ls d l (omega arith) (omega arith) (s .slots))) (sym (levels-set ls d d l (omega arith)))
-
--- ---- the walk at each way out, with the code's `left - 1`
-
-module _ (r t : ℕ) (res stm : List ℕ) (ps : List QueryPattern) (l : Level) (up : List Level) (v : ℕ) where
-  pub walk-over : (left : ℕ) → left ≡ 0 → walk r t res stm ps left l up v ≡ cond (remains stm l up) (spent v (inside l up)) (ended v)
-  unfolding walk
-  walk-over zero e = refl
-  walk-over (suc b) e = absurd (omega arith)
-
-  pub turn-ended : (left : ℕ) → (left ≡ 0 → ⊥) → settle stm l up ≡ [] → walk r t res stm ps left l up v ≡ ended v
-  unfolding walk
-  turn-ended zero h e = absurd (h refl)
-  turn-ended (suc b) h e = rw (walk, e)
-
-  module _ (m : Level) (top : List Level) where
-    pub turn-bad : (left : ℕ) → (left ≡ 0 → ⊥) → settle stm l up ≡ m ∷ top → visit r t res stm ps m top ≡ bad
-        → walk r t res stm ps left l up v ≡ refused Nine
-    unfolding walk
-    turn-bad zero h e d = absurd (h refl)
-    turn-bad (suc b) h e d = rw (walk, e, d)
-
-    pub turn-go : (left : ℕ) (m′ : Level) (top′ : List Level) → (left ≡ 0 → ⊥) → settle stm l up ≡ m ∷ top → visit r t res stm ps m top ≡ go m′ top′
-        → walk r t res stm ps left l up v ≡ walk r t res stm ps (left - 1) m′ top′ (v + 1)
-    unfolding walk
-    turn-go zero m′ top′ h e d = absurd (h refl)
-    turn-go (suc b) m′ top′ h e d = let q : suc b - 1 ≡ b = omega arith in rw (walk, e, d, q)
-
-    pub turn-whole : (left : ℕ) (s : Bindings) (m′ : Level) (top′ : List Level) → (left ≡ 0 → ⊥) → settle stm l up ≡ m ∷ top
-        → visit r t res stm ps m top ≡ whole s m′ top′ → walk r t res stm ps left l up v ≡ found s (v + 1) (inside m′ top′)
-    unfolding walk
-    turn-whole zero s m′ top′ h e d = absurd (h refl)
-    turn-whole (suc b) s m′ top′ h e d = rw (walk, e, d)
 
 -- ---- a pattern entered
 
@@ -192,13 +150,6 @@ was-miss true true m k e = let z : _≡_ {A = ℕ} 0 1 = cc in absurd (omega ari
 was-miss true false m k e = (refl, refl, cc)
 was-miss false b m k e = let z : _≡_ {A = ℕ} 0 1 = cc in absurd (omega arith)
 
--- a record that can be visited has a next below its number
-visit-falls : (r : ℕ) (stm : List ℕ) (ch : Chain) (x : Triple) (i : ℕ) → visitable r stm ch x i ≡ true → linkOf stm ch i ≤ i
-unfolding visitable
-visit-falls r stm ch x i e =
-    leb-true (linkOf stm ch i) i
-    (and-l _ (leb (flagAt stm i) 1) (and-r (sits stm ch x i) _ (and-r (known r (tripleAt stm i)) _ e)))
-
 visit-known : (r : ℕ) (stm : List ℕ) (ch : Chain) (x : Triple) (i : ℕ) → visitable r stm ch x i ≡ true → known r (tripleAt stm i) ≡ true
 unfolding visitable
 visit-known r stm ch x i e = and-l (known r (tripleAt stm i)) _ e
@@ -252,15 +203,15 @@ module _ (r t : ℕ) (res stm ws : List ℕ) (k : Ready r t res stm ws) (q : Sta
   unfolding visit visitOf
   visit-torn e =
       let a = torn (visitable r stm chainOf (q .asked) (num - 1)) (hits LiveMatch stm (q .asked) (num - 1)) (linkOf stm chainOf (num - 1)) e in
-      rw (prev-less num, ← s .asked-is, a)
+      rw (prev-minus num, ← s .asked-is, a)
 
   pub visit-missed : (m : ℕ) → visited ≡ Miss m → (num ≡ 0 → ⊥)
       → (visit r t res stm (patternsOf ws) (deepest q) (entered q) ≡ go (level chainOf m) (entered q)) × (m < num)
   unfolding visit visitOf tried
   visit-missed m e z =
       let a = was-miss (visitable r stm chainOf (q .asked) (num - 1)) (hits LiveMatch stm (q .asked) (num - 1)) (linkOf stm chainOf (num - 1)) m e in
-      let f = visit-falls r stm chainOf (q .asked) (num - 1) (a .0) in
-      (rw (prev-less num, ← s .asked-is, a .0, hit-none (a .1), past-at stm (deepest q), a .2), omega (arith, a .2))
+      let f = falling r stm chainOf (q .asked) (num - 1) (a .0) in
+      (rw (prev-minus num, ← s .asked-is, a .0, hit-none (a .1), past-at stm (deepest q), a .2), omega (arith, a .2))
 
   pub visit-hit : (m : ℕ) → visited ≡ Hit m → (num ≡ 0 → ⊥)
       → (visit r t res stm (patternsOf ws) (deepest q) (entered q) ≡ tried r t res stm (patternsOf ws) (deepest q) (entered q) meeting)
@@ -268,7 +219,7 @@ module _ (r t : ℕ) (res stm ws : List ℕ) (k : Ready r t res stm ws) (q : Sta
   unfolding visit visitOf
   visit-hit m e z =
       let a = was-hit (visitable r stm chainOf (q .asked) (num - 1)) (hits LiveMatch stm (q .asked) (num - 1)) (linkOf stm chainOf (num - 1)) m e in
-      (rw (prev-less num, ← s .asked-is, a .0, hit-live (a .1)), record { some-record = omega arith; sound = a .0 }, sym (a .2))
+      (rw (prev-minus num, ← s .asked-is, a .0, hit-live (a .1)), record { some-record = omega arith; sound = a .0 }, sym (a .2))
 
   -- on along the chain: the same stack at a lower record
   pub moved-stands : (m : ℕ) → m ≤ t
@@ -295,7 +246,7 @@ module _ (r t : ℕ) (res stm ws : List ℕ) (k : Ready r t res stm ws) (q : Sta
   -- a visited record is what an entered one must be
   visited-sure : Visitable r stm q → LevelSure r t stm (deepest q)
   visited-sure v =
-      let f = visit-falls r stm chainOf (q .asked) (num - 1) (v .sound) in
+      let f = falling r stm chainOf (q .asked) (num - 1) (v .sound) in
       let o = v .some-record in
       let p = ap (λ (l : Level). l .statement .0) (past-at stm (deepest q)) in
       record {
@@ -322,7 +273,7 @@ module _ (r t : ℕ) (res stm ws : List ℕ) (k : Ready r t res stm ws) (q : Sta
   unfolding tried
   turned-miss n v e o =
       let p = moved-place (level chainOf n) in
-      let f = visit-falls r stm chainOf (q .asked) (num - 1) (v .sound) in
+      let f = falling r stm chainOf (q .asked) (num - 1) (v .sound) in
       let w = s .next-within in
       record {
         told = ap₂ go (p .0 ∙ next-past n e) (p .1) ∙ sym (ap (tried r t res stm (patternsOf ws) (deepest q) (entered q)) o);
@@ -368,8 +319,8 @@ module _ (r t : ℕ) (res stm ws : List ℕ) (k : Ready r t res stm ws) (q : Sta
         (sure-more r t stm (q .levels) (q .top) (sure-of r t stm ws q s) (visited-sure v)) (sym binds-next))
 
     -- what the next pattern asks lies in the table
-    pub next-within-r : Visitable r stm q → Within r (b .values)
-    next-within-r v =
+    pub next-low : Visitable r stm q → Low r (b .values)
+    next-low v =
         rw (← binds-next) (binds-within r t stm (q .levels) (patternsOf ws) (q .top + 1)
         (sure-more r t stm (q .levels) (q .top) (sure-of r t stm ws q s) (visited-sure v)))
 
@@ -396,13 +347,13 @@ module _ (r t : ℕ) (res stm ws : List ℕ) (k : Ready r t res stm ws) (budget 
     seen = visitOf LiveMatch r stm ((deepest q) .chain) (q .asked) ((deepest q) .statement .0 - 1)
 
     bad-here : visit r t res stm (patternsOf ws) (deepest q) (entered q) ≡ bad → from-here ≡ refused Nine
-    bad-here d = turn-bad r t res stm (patternsOf ws) (deepest w) (entered w) v (deepest q) (entered q) (budget - v) left-some here d
+    bad-here d = turn-bad r t res stm (patternsOf ws) (deepest w) (entered w) v (budget - v) (deepest q) (entered q) left-some here d
 
     go-here : (l : Level) (up : List Level) (p : Stack) → visit r t res stm (patternsOf ws) (deepest q) (entered q) ≡ go l up → l ≡ deepest p → up ≡ entered p
         → from-here ≡ onward p
     go-here l up p d f g =
         let a : budget - v - 1 ≡ budget - (v + 1) = omega arith in
-        turn-go r t res stm (patternsOf ws) (deepest w) (entered w) v (deepest q) (entered q) (budget - v) l up left-some here d
+        turn-go r t res stm (patternsOf ws) (deepest w) (entered w) v (budget - v) (deepest q) (entered q) l up left-some here d
         ∙ rw (a, f, g)
 
     pub sees-torn : seen ≡ Torn → from-here ≡ refused Nine
@@ -435,5 +386,5 @@ module _ (r t : ℕ) (res stm ws : List ℕ) (k : Ready r t res stm ws) (budget 
 
       pub tried-whole : m .outcome ≡ Whole → from-here ≡ found (m .stack .bound .values) (v + 1) (inside (deepest (m .stack)) (entered (m .stack)))
       tried-whole f =
-          turn-whole r t res stm (patternsOf ws) (deepest w) (entered w) v (deepest q) (entered q) (budget - v) (m .stack .bound .values) (deepest (m .stack)) (entered (m .stack))
+          turn-whole r t res stm (patternsOf ws) (deepest w) (entered w) v (budget - v) (deepest q) (entered q) (m .stack .bound .values) (deepest (m .stack)) (entered (m .stack))
           left-some here (outcome-is Whole f)

@@ -53,9 +53,9 @@ pub fn locate(c: Counters, resources: &[u32], statements: &[u32], x: Triple) -> 
         StatementId(first),
         c.statements,
     ) {
-        Walked::Found(n, visits, next) => Located::At(n),
-        Walked::Ended(visits) => Located::At(StatementId(0)),
-        Walked::Spent(visits, next) => Located::At(StatementId(0)),
+        Walked::Found(n, _, _) => Located::At(n),
+        Walked::Ended(_) => Located::At(StatementId(0)),
+        Walked::Spent(_, _) => Located::At(StatementId(0)),
         Walked::Damaged => Located::Refused(Refusal::Damaged),
     }
 }

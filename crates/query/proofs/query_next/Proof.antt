@@ -9,13 +9,6 @@ use Rattle.query.proofs.Resuming.{ready-of}
 use borrow.Author.Needs.{needs}
 use Rattle.query.proofs.query_next.Statement.{statement}
 use Rattle.query.proofs.query_next.Tie as tie
-use Rattle.query.proofs.query_next.Reads as reads
-use Rattle.query.proofs.query_next.Lts as lts
-use Rattle.pattern.proofs.level.place_ok.Reads as place-ok-reads
-use Rattle.pattern.proofs.words.words_ok.Reads as words-ok-reads
-use Rattle.query.proofs.resume.resume.Reads as resume-reads
-use Rattle.query.proofs.walk.refused.Reads as refused-reads
-use Rattle.table.proofs.fits.Reads as fits-reads
 
 fits-requires : tie.Need-fits-requires
 fits-requires c κs = search needs

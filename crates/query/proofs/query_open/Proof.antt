@@ -4,11 +4,6 @@ use Rattle.graph.specs.Query.{openQueryOf}
 use borrow.Author.Needs.{needs}
 use Rattle.query.proofs.query_open.Statement.{statement}
 use Rattle.query.proofs.query_open.Tie as tie
-use Rattle.query.proofs.query_open.Reads as reads
-use Rattle.query.proofs.query_open.Lts as lts
-use Rattle.pattern.proofs.words.words_ok.Reads as words-ok-reads
-use Rattle.query.proofs.walk.no_levels.Reads as no-levels-reads
-use Rattle.table.proofs.fits.Reads as fits-reads
 
 no-levels-requires : tie.Need-no-levels-requires
 no-levels-requires c κs = search needs

@@ -5,9 +5,6 @@ use Rattle.pattern.proofs.Matches.{open-variable, bind-open, bind-bound
 use borrow.Author.Needs.{needs}
 use Rattle.pattern.proofs.binding.bind.Statement.{statement}
 use Rattle.pattern.proofs.binding.bind.Tie as tie
-use Rattle.pattern.proofs.binding.bind.Reads as reads
-use Rattle.pattern.proofs.binding.bind.Lts as lts
-use Rattle.pattern.proofs.binding.value_of.Reads as value-of-reads
 
 value-of-requires : tie.Need-value-of-requires
 value-of-requires c κs = search needs

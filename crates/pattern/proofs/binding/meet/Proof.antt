@@ -7,9 +7,6 @@ use Rattle.graph.specs.Query.{bind}
 use borrow.Author.Needs.{needs}
 use Rattle.pattern.proofs.binding.meet.Statement.{statement}
 use Rattle.pattern.proofs.binding.meet.Tie as tie
-use Rattle.pattern.proofs.binding.meet.Reads as reads
-use Rattle.pattern.proofs.binding.meet.Lts as lts
-use Rattle.pattern.proofs.binding.bind.Reads as bind-reads
 
 bind-requires : tie.Need-bind-requires
 bind-requires c κs = search needs

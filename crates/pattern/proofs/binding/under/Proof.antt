@@ -5,9 +5,6 @@ use Rattle.graph.specs.Query.{under}
 use borrow.Author.Needs.{needs}
 use Rattle.pattern.proofs.binding.under.Statement.{statement}
 use Rattle.pattern.proofs.binding.under.Tie as tie
-use Rattle.pattern.proofs.binding.under.Reads as reads
-use Rattle.pattern.proofs.binding.under.Lts as lts
-use Rattle.pattern.proofs.binding.value_of.Reads as value-of-reads
 
 value-of-requires : tie.Need-value-of-requires
 value-of-requires c κs = search needs

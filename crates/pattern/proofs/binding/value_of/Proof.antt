@@ -5,8 +5,6 @@ use Rattle.pattern.proofs.Matches.{value-number, value-variable}
 use borrow.Author.Needs.{needs}
 use Rattle.pattern.proofs.binding.value_of.Statement.{statement}
 use Rattle.pattern.proofs.binding.value_of.Tie as tie
-use Rattle.pattern.proofs.binding.value_of.Reads as reads
-use Rattle.pattern.proofs.binding.value_of.Lts as lts
 
 returns : tie.Need-returns
 returns c = sym (value-number (c .before .args .t1 .values) (c .before .args .w) (c .if1 .taken))

@@ -8,12 +8,6 @@ use Rattle.pattern.proofs.LevelLaws.{binds-none, bindings-step}
 use borrow.Author.Needs.{needs}
 use Rattle.pattern.proofs.level.bindings.Statement.{statement}
 use Rattle.pattern.proofs.level.bindings.Tie as tie
-use Rattle.pattern.proofs.level.bindings.Reads as reads
-use Rattle.pattern.proofs.level.bindings.Lts as lts
-use Rattle.pattern.proofs.binding.meet.Reads as meet-reads
-use Rattle.pattern.proofs.level.none_bound.Reads as none-bound-reads
-use Rattle.pattern.proofs.words.pattern_at.Reads as pattern-at-reads
-use Rattle.table.proofs.inner.triple_at.Reads as triple-at-reads
 
 abbrev Inv-loop : tie.InvT-loop
 Inv-loop statements words d levels bound₀ i₀ bound i = (i ≤ d) × (bound .values ≡ binds statements (patternsOf words) (levelsOf levels i))

@@ -6,10 +6,6 @@ use Rattle.pattern.specs.Levels.{deepestOk}
 use borrow.Author.Needs.{needs}
 use Rattle.pattern.proofs.level.deepest_ok.Statement.{statement}
 use Rattle.pattern.proofs.level.deepest_ok.Tie as tie
-use Rattle.pattern.proofs.level.deepest_ok.Reads as reads
-use Rattle.pattern.proofs.level.deepest_ok.Lts as lts
-use Rattle.pattern.proofs.level.chain_ok.Reads as chain-ok-reads
-use Rattle.pattern.proofs.level.record_ok.Reads as record-ok-reads
 
 returns : tie.Need-returns
 unfolding deepestOk

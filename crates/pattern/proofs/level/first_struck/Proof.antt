@@ -8,9 +8,6 @@ use Rattle.pattern.proofs.LevelLaws.{struck-none, struck-step}
 use borrow.Author.Needs.{needs}
 use Rattle.pattern.proofs.level.first_struck.Statement.{statement}
 use Rattle.pattern.proofs.level.first_struck.Tie as tie
-use Rattle.pattern.proofs.level.first_struck.Reads as reads
-use Rattle.pattern.proofs.level.first_struck.Lts as lts
-use Rattle.pattern.proofs.level.struck.Reads as struck-reads
 
 abbrev Inv-loop : tie.InvT-loop
 Inv-loop statements d levels i₀ i = (i ≤ d) × (anyStruck statements (levelsOf levels i) ≡ false)

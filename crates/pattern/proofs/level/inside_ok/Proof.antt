@@ -11,13 +11,6 @@ use Rattle.pattern.proofs.LevelLaws.{place-none, place-above, place-ent
 use borrow.Author.Needs.{needs}
 use Rattle.pattern.proofs.level.inside_ok.Statement.{statement}
 use Rattle.pattern.proofs.level.inside_ok.Tie as tie
-use Rattle.pattern.proofs.level.inside_ok.Reads as reads
-use Rattle.pattern.proofs.level.inside_ok.Lts as lts
-use Rattle.pattern.proofs.binding.under.Reads as under-reads
-use Rattle.pattern.proofs.level.deepest_ok.Reads as deepest-ok-reads
-use Rattle.pattern.proofs.level.levels_ok.Reads as levels-ok-reads
-use Rattle.pattern.proofs.words.pattern_at.Reads as pattern-at-reads
-use Rattle.pattern.proofs.words.patterns.Reads as patterns-reads
 
 returns : tie.Need-returns
 returns c = let a = c .before .before .before .args in sym (place-none (a .c .resources) (a .c .statements) (a .statements .now) (patternsOf (a .words .now)) (a .t4) (a .d) (c .if1 .taken))

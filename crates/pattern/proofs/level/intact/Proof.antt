@@ -8,9 +8,6 @@ use Rattle.pattern.proofs.LevelLaws.{intact-none, intact-miss, intact-h
 use borrow.Author.Needs.{needs}
 use Rattle.pattern.proofs.level.intact.Statement.{statement}
 use Rattle.pattern.proofs.level.intact.Tie as tie
-use Rattle.pattern.proofs.level.intact.Reads as reads
-use Rattle.pattern.proofs.level.intact.Lts as lts
-use Rattle.pattern.proofs.level.level_intact.Reads as level-intact-reads
 
 abbrev Inv-loop : tie.InvT-loop
 Inv-loop statements d levels i₀ i = (i ≤ d) × (intact statements (levelsOf levels i) ≡ true)

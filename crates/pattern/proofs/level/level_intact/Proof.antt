@@ -4,10 +4,6 @@ use Rattle.pattern.proofs.LevelLaws.{intact-at}
 use borrow.Author.Needs.{needs}
 use Rattle.pattern.proofs.level.level_intact.Statement.{statement}
 use Rattle.pattern.proofs.level.level_intact.Tie as tie
-use Rattle.pattern.proofs.level.level_intact.Reads as reads
-use Rattle.pattern.proofs.level.level_intact.Lts as lts
-use Rattle.pattern.proofs.level.past.Reads as past-reads
-use Rattle.table.proofs.inner.flag_at.Reads as flag-at-reads
 
 flag-at-requires : tie.Need-flag-at-requires
 flag-at-requires c κs = search needs

@@ -7,13 +7,6 @@ use Rattle.pattern.proofs.LevelLaws.{ok-zero, ok-above, ok-chain, ok-kn
 use borrow.Author.Needs.{needs}
 use Rattle.pattern.proofs.level.level_ok.Statement.{statement}
 use Rattle.pattern.proofs.level.level_ok.Tie as tie
-use Rattle.pattern.proofs.level.level_ok.Reads as reads
-use Rattle.pattern.proofs.level.level_ok.Lts as lts
-use Rattle.pattern.proofs.binding.meet.Reads as meet-reads
-use Rattle.pattern.proofs.binding.under.Reads as under-reads
-use Rattle.pattern.proofs.level.chain_ok.Reads as chain-ok-reads
-use Rattle.statement.proofs.triple.known.Reads as known-reads
-use Rattle.table.proofs.inner.triple_at.Reads as triple-at-reads
 
 returns : tie.Need-returns
 returns c = let a = c .before .before .args in tested-miss (a .c .resources) (a .c .statements) (a .statements .now) (a .x) (a .bound) (a .l) (ok-zero (a .c .resources) (a .c .statements) (a .statements .now) (a .x) (a .bound .values) (a .l) (c .if1 .taken))

@@ -8,11 +8,6 @@ use Rattle.pattern.proofs.LevelLaws.{binds-none, entered-none, levels-m
 use borrow.Author.Needs.{needs}
 use Rattle.pattern.proofs.level.levels_ok.Statement.{statement}
 use Rattle.pattern.proofs.level.levels_ok.Tie as tie
-use Rattle.pattern.proofs.level.levels_ok.Reads as reads
-use Rattle.pattern.proofs.level.levels_ok.Lts as lts
-use Rattle.pattern.proofs.level.level_ok.Reads as level-ok-reads
-use Rattle.pattern.proofs.level.none_bound.Reads as none-bound-reads
-use Rattle.pattern.proofs.words.pattern_at.Reads as pattern-at-reads
 
 abbrev Inv-loop : tie.InvT-loop
 Inv-loop c statements words d levels bound₀ i₀ bound i = (i ≤ d)

@@ -3,9 +3,6 @@ use Rattle.pattern.proofs.LevelLaws.{past-at}
 use borrow.Author.Needs.{needs}
 use Rattle.pattern.proofs.level.past.Statement.{statement}
 use Rattle.pattern.proofs.level.past.Tie as tie
-use Rattle.pattern.proofs.level.past.Reads as reads
-use Rattle.pattern.proofs.level.past.Lts as lts
-use Rattle.statement.proofs.inner.link_of.Reads as link-of-reads
 
 link-of-requires : tie.Need-link-of-requires
 link-of-requires c κs = search needs

@@ -3,9 +3,6 @@ use Rattle.graph.specs.Query.{placeAs, placeOk}
 use borrow.Author.Needs.{needs}
 use Rattle.pattern.proofs.level.place_ok.Statement.{statement}
 use Rattle.pattern.proofs.level.place_ok.Tie as tie
-use Rattle.pattern.proofs.level.place_ok.Reads as reads
-use Rattle.pattern.proofs.level.place_ok.Lts as lts
-use Rattle.pattern.proofs.level.inside_ok.Reads as inside-ok-reads
 
 enum-told : tie.Need-enum-told
 enum-told c = search needs

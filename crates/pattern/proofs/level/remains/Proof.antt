@@ -5,13 +5,11 @@ use mathlib.Core.Bool.{Bool, true, false}
 use borrow.Author.Tests.{eq-eqb, ne-eqb, lt-ltb, le-ltb, le-leb, lt-leb, eqb-true, eqb-false, ltb-true, ltb-false, leb-true, leb-false, not-true, not-false}
 use lib.ListN.{length, getD, set, drop, replicate}
 use Rattle.graph.specs.Query.{levelsOf, noLevel}
-use Rattle.pattern.proofs.LevelLaws.{restOf, remains-here, remains-gone, rest-none, rest-some, rest-less}
+use Rattle.graph.proofs.Laws.{remains-here}
+use Rattle.pattern.proofs.LevelLaws.{restOf, remains-gone, rest-none, rest-some, rest-less}
 use borrow.Author.Needs.{needs}
 use Rattle.pattern.proofs.level.remains.Statement.{statement}
 use Rattle.pattern.proofs.level.remains.Tie as tie
-use Rattle.pattern.proofs.level.remains.Reads as reads
-use Rattle.pattern.proofs.level.remains.Lts as lts
-use Rattle.pattern.proofs.level.past.Reads as past-reads
 
 abbrev Inv-loop : tie.InvT-loop
 Inv-loop statements top levels i₀ i = (i ≤ top) × (restOf statements (levelsOf levels top) ≡ restOf statements (levelsOf levels i))

@@ -3,9 +3,6 @@ use Rattle.pattern.proofs.LevelLaws.{struck-at}
 use borrow.Author.Needs.{needs}
 use Rattle.pattern.proofs.level.struck.Statement.{statement}
 use Rattle.pattern.proofs.level.struck.Tie as tie
-use Rattle.pattern.proofs.level.struck.Reads as reads
-use Rattle.pattern.proofs.level.struck.Lts as lts
-use Rattle.table.proofs.inner.flag_at.Reads as flag-at-reads
 
 flag-at-requires : tie.Need-flag-at-requires
 flag-at-requires c κs = search needs

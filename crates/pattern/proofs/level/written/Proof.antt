@@ -9,8 +9,6 @@ use Rattle.pattern.proofs.LevelLaws.{written-none, written-step}
 use borrow.Author.Needs.{needs}
 use Rattle.pattern.proofs.level.written.Statement.{statement}
 use Rattle.pattern.proofs.level.written.Tie as tie
-use Rattle.pattern.proofs.level.written.Reads as reads
-use Rattle.pattern.proofs.level.written.Lts as lts
 
 abbrev Inv-loop : tie.InvT-loop
 Inv-loop d levels out₀ i₀ out i = (i ≤ d) × (out ≡ written (levelsOf levels i))

@@ -1,12 +1,10 @@
 use mathlib.Core.Path.{_≡_, refl, sym, ap, _∙_}
 use Prim.Native.Nat.{ℕ, suc, _+_, _-_, _*_, _≤_, _<_}
 use native.Mathlib.Omega.{arith}
-use Rattle.pattern.proofs.WordLaws.{patterns-length, pattern-words}
+use Rattle.graph.proofs.Laws.{patterns-length, pattern-words}
 use borrow.Author.Needs.{needs}
 use Rattle.pattern.proofs.words.pattern_at.Statement.{statement}
 use Rattle.pattern.proofs.words.pattern_at.Tie as tie
-use Rattle.pattern.proofs.words.pattern_at.Reads as reads
-use Rattle.pattern.proofs.words.pattern_at.Lts as lts
 
 mul-k : tie.Need-mul-k
 mul-k c = search needs

@@ -1,12 +1,10 @@
 use mathlib.Core.Path.{_≡_, refl, sym, ap, _∙_}
 use Prim.Native.Nat.{ℕ, suc, _+_, _-_, _*_, _≤_, _<_}
 use native.Mathlib.Omega.{arith}
-use Rattle.pattern.proofs.WordLaws.{patterns-length}
+use Rattle.graph.proofs.Laws.{patterns-length}
 use borrow.Author.Needs.{needs}
 use Rattle.pattern.proofs.words.patterns.Statement.{statement}
 use Rattle.pattern.proofs.words.patterns.Tie as tie
-use Rattle.pattern.proofs.words.patterns.Reads as reads
-use Rattle.pattern.proofs.words.patterns.Lts as lts
 
 cast-result : tie.Need-cast-result
 cast-result c = let q = patterns-length (c .args .words .now) in omega (arith, q .0, q .1)

@@ -3,8 +3,6 @@ use Rattle.pattern.proofs.WordLaws.{word-zero, word-number, word-neithe
 use borrow.Author.Needs.{needs}
 use Rattle.pattern.proofs.words.word_ok.Statement.{statement}
 use Rattle.pattern.proofs.words.word_ok.Tie as tie
-use Rattle.pattern.proofs.words.word_ok.Reads as reads
-use Rattle.pattern.proofs.words.word_ok.Lts as lts
 
 returns : tie.Need-returns
 returns c = sym (word-zero _ _ (c .if1 .taken))

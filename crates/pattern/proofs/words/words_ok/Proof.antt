@@ -9,9 +9,6 @@ use Rattle.pattern.proofs.WordLaws.{broken-off, too-many, by-words, all
 use borrow.Author.Needs.{needs}
 use Rattle.pattern.proofs.words.words_ok.Statement.{statement}
 use Rattle.pattern.proofs.words.words_ok.Tie as tie
-use Rattle.pattern.proofs.words.words_ok.Reads as reads
-use Rattle.pattern.proofs.words.words_ok.Lts as lts
-use Rattle.pattern.proofs.words.word_ok.Reads as word-ok-reads
 
 abbrev Inv-loop : tie.InvT-loop
 Inv-loop r words n i₀ i = (i ≤ n) × (allOk r words ≡ allOk r (drop i words))

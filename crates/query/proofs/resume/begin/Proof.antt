@@ -6,20 +6,13 @@ use lib.ListN.{length, getD, set, drop, replicate}
 use mathlib.Core.List.{[]}
 use Rattle.graph.specs.declared.QueryCursor.{QueryCursor}
 use Rattle.graph.specs.Query.{patternsOf, packed, cursorAt, found, unbound, finish}
-use Rattle.pattern.proofs.Matches.{within-unbound}
+use Rattle.graph.proofs.Levels.{low-none}
+use Rattle.graph.proofs.Laws.{written-length}
 use Rattle.query.proofs.Stacks.{ready-query, asked-held, answer-is}
-use Rattle.query.proofs.Resuming.{written-size, begin-none, begin-damaged, begin-whole, begin-onward, begin-stands}
+use Rattle.query.proofs.Resuming.{begin-none, begin-damaged, begin-whole, begin-onward, begin-stands}
 use borrow.Author.Needs.{needs}
 use Rattle.query.proofs.resume.begin.Statement.{statement}
 use Rattle.query.proofs.resume.begin.Tie as tie
-use Rattle.query.proofs.resume.begin.Reads as reads
-use Rattle.query.proofs.resume.begin.Lts as lts
-use Rattle.pattern.proofs.level.none_bound.Reads as none-bound-reads
-use Rattle.pattern.proofs.words.patterns.Reads as patterns-reads
-use Rattle.query.proofs.walk.enter.Reads as enter-reads
-use Rattle.query.proofs.walk.no_levels.Reads as no-levels-reads
-use Rattle.query.proofs.walk.refused.Reads as refused-reads
-use Rattle.query.proofs.walk.walk.Reads as walk-reads
 
 patterns-requires : tie.Need-patterns-requires
 patterns-requires c κs = let a = c .before .before .before .args in let r = a .c .resources in let t = a .c .statements in let res = a .resources .now in let stm = a .statements .now in let ws = a .words .now in let k = c .before .before .before .pre in (ready-query r t res stm ws k) .few
@@ -48,7 +41,7 @@ enter-requires c κs =
     let a = c .before .before .before .before .before .before .before .before .args in let r = a .c .resources in let t = a .c .statements in let res = a .resources .now in let stm = a .statements .now in let ws = a .words .now in let k = c .before .before .before .before .before .before .before .before .pre in
     let z : length (patternsOf ws) ≡ 0 → ⊥ = λ y. c .before .before .before .if1 .left (c .before .before .before .before .patterns .ensures ∙ y) in
     let h : 0 < length (patternsOf ws) = omega arith in
-    (ready-query r t res stm ws k, h, asked-held r t res stm ws k (c .none-bound2 .result .values) 0 (rw (c .none-bound2 .ensures) (within-unbound r)) h)
+    (ready-query r t res stm ws k, h, asked-held r t res stm ws k (c .none-bound2 .result .values) 0 (rw (c .none-bound2 .ensures) (low-none r 16)) h)
 
 enum-told : tie.Need-enum-told
 enum-told c = search needs
@@ -63,7 +56,7 @@ walk-requires : tie.Need-walk-requires
 walk-requires c κs =
     let a = c .before .before .before .before .before .before .before .before .before .before .before .before .args in let r = a .c .resources in let t = a .c .statements in let res = a .resources .now in let stm = a .statements .now in let ws = a .words .now in let k = c .before .before .before .before .before .before .before .before .before .before .before .before .pre in
     let z : length (patternsOf ws) ≡ 0 → ⊥ = λ y. c .before .before .before .before .before .before .before .if1 .left (c .before .before .before .before .before .before .before .before .patterns .ensures ∙ y) in
-    let size = ap (λ (x : QueryCursor). length (x .levels)) (c .before .before .before .before .before .before .no-levels2 .ensures) ∙ written-size [] in
+    let size = ap (λ (x : QueryCursor). length (x .levels)) (c .before .before .before .before .before .before .no-levels2 .ensures) ∙ written-length [] in
     (k, begin-stands r t res stm ws (a .budget) k z (c .before .before .before .before .before .before .no-levels2 .result .levels) size (c .before .before .before .before .none-bound2 .result) (c .before .before .before .before .none-bound2 .ensures) (c .before .before .before .enter .result) (c .before .before .before .enter .ensures) (c .enum-told2 .given .1))
 
 enum-told-3 : tie.Need-enum-told-3
@@ -76,21 +69,21 @@ returns-2 : tie.Need-returns-2
 returns-2 c =
     let a = c .before .before .before .before .before .before .before .before .before .before .before .before .before .args in let r = a .c .resources in let t = a .c .statements in let res = a .resources .now in let stm = a .statements .now in let ws = a .words .now in let k = c .before .before .before .before .before .before .before .before .before .before .before .before .before .pre in
     let z : length (patternsOf ws) ≡ 0 → ⊥ = λ y. c .before .before .before .before .before .before .before .before .if1 .left (c .before .before .before .before .before .before .before .before .before .patterns .ensures ∙ y) in
-    let size = ap (λ (x : QueryCursor). length (x .levels)) (c .before .before .before .before .before .before .before .no-levels2 .ensures) ∙ written-size [] in
+    let size = ap (λ (x : QueryCursor). length (x .levels)) (c .before .before .before .before .before .before .before .no-levels2 .ensures) ∙ written-length [] in
     c .refused .ensures ∙ ap packed (sym (begin-damaged r t res stm ws (a .budget) k z (c .before .before .before .before .before .before .before .no-levels2 .result .levels) size (c .before .before .before .before .before .none-bound2 .result) (c .before .before .before .before .before .none-bound2 .ensures) (c .before .before .before .before .enter .result) (c .before .before .before .before .enter .ensures) (c .before .enum-told .given .1)))
 
 returns-3 : tie.Need-returns-3
 returns-3 c =
     let a = c .before .before .before .before .before .before .before .before .before .before .before .before .before .args in let r = a .c .resources in let t = a .c .statements in let res = a .resources .now in let stm = a .statements .now in let ws = a .words .now in let k = c .before .before .before .before .before .before .before .before .before .before .before .before .before .pre in
     let z : length (patternsOf ws) ≡ 0 → ⊥ = λ y. c .before .before .before .before .before .before .before .before .if1 .left (c .before .before .before .before .before .before .before .before .before .patterns .ensures ∙ y) in
-    let size = ap (λ (x : QueryCursor). length (x .levels)) (c .before .before .before .before .before .before .before .no-levels2 .ensures) ∙ written-size [] in
+    let size = ap (λ (x : QueryCursor). length (x .levels)) (c .before .before .before .before .before .before .before .no-levels2 .ensures) ∙ written-length [] in
     c .walk .ensures ∙ ap packed (sym (begin-onward r t res stm ws (a .budget) k z (c .before .before .before .before .before .before .before .no-levels2 .result .levels) size (c .before .before .before .before .before .none-bound2 .result) (c .before .before .before .before .before .none-bound2 .ensures) (c .before .before .before .before .enter .result) (c .before .before .before .before .enter .ensures) (c .before .enum-told2 .given .1)))
 
 returns-4 : tie.Need-returns-4
 returns-4 c =
     let a = c .before .before .before .before .before .before .before .before .before .before .before .before .before .args in let r = a .c .resources in let t = a .c .statements in let res = a .resources .now in let stm = a .statements .now in let ws = a .words .now in let k = c .before .before .before .before .before .before .before .before .before .before .before .before .before .pre in
     let z : length (patternsOf ws) ≡ 0 → ⊥ = λ y. c .before .before .before .before .before .before .before .before .if1 .left (c .before .before .before .before .before .before .before .before .before .patterns .ensures ∙ y) in
-    let size = ap (λ (x : QueryCursor). length (x .levels)) (c .before .before .before .before .before .before .before .no-levels2 .ensures) ∙ written-size [] in
+    let size = ap (λ (x : QueryCursor). length (x .levels)) (c .before .before .before .before .before .before .before .no-levels2 .ensures) ∙ written-length [] in
     c .refused2 .ensures ∙ ap packed (sym (begin-whole r t res stm ws (a .budget) k z (c .before .before .before .before .before .before .before .no-levels2 .result .levels) size (c .before .before .before .before .before .none-bound2 .result) (c .before .before .before .before .before .none-bound2 .ensures) (c .before .before .before .before .enter .result) (c .before .before .before .before .enter .ensures) (c .before .enum-told3 .given .1)))
 
 pub begin-spec : {M : Type 1} → statement M

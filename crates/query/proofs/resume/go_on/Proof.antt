@@ -9,12 +9,6 @@ use Rattle.query.proofs.Resuming.{top-few, levels-held, resume-damaged,
 use borrow.Author.Needs.{needs}
 use Rattle.query.proofs.resume.go_on.Statement.{statement}
 use Rattle.query.proofs.resume.go_on.Tie as tie
-use Rattle.query.proofs.resume.go_on.Reads as reads
-use Rattle.query.proofs.resume.go_on.Lts as lts
-use Rattle.pattern.proofs.level.intact.Reads as intact-reads
-use Rattle.query.proofs.resume.pruned.Reads as pruned-reads
-use Rattle.query.proofs.walk.refused.Reads as refused-reads
-use Rattle.query.proofs.walk.walk.Reads as walk-reads
 
 intact-requires : tie.Need-intact-requires
 intact-requires c κs =

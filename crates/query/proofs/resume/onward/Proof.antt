@@ -3,9 +3,6 @@ use borrow.Author.Tests.{eq-eqb, ne-eqb, lt-ltb, le-ltb, le-leb, lt-leb, eqb-tru
 use borrow.Author.Needs.{needs}
 use Rattle.query.proofs.resume.onward.Statement.{statement}
 use Rattle.query.proofs.resume.onward.Tie as tie
-use Rattle.query.proofs.resume.onward.Reads as reads
-use Rattle.query.proofs.resume.onward.Lts as lts
-use Rattle.pattern.proofs.level.past.Reads as past-reads
 
 mul-l : tie.Need-mul-l
 mul-l c = search needs

@@ -7,12 +7,6 @@ use Rattle.query.proofs.Resuming.{written-held, pruned-made}
 use borrow.Author.Needs.{needs}
 use Rattle.query.proofs.resume.pruned.Statement.{statement}
 use Rattle.query.proofs.resume.pruned.Tie as tie
-use Rattle.query.proofs.resume.pruned.Reads as reads
-use Rattle.query.proofs.resume.pruned.Lts as lts
-use Rattle.pattern.proofs.level.first_struck.Reads as first-struck-reads
-use Rattle.pattern.proofs.level.written.Reads as written-reads
-use Rattle.query.proofs.resume.onward.Reads as onward-reads
-use Rattle.query.proofs.walk.stand.Reads as stand-reads
 
 first-struck-requires : tie.Need-first-struck-requires
 first-struck-requires c κs = search needs

@@ -6,11 +6,6 @@ use Rattle.query.proofs.Resuming.{inside-at, inside-none}
 use borrow.Author.Needs.{needs}
 use Rattle.query.proofs.resume.resume.Statement.{statement}
 use Rattle.query.proofs.resume.resume.Tie as tie
-use Rattle.query.proofs.resume.resume.Reads as reads
-use Rattle.query.proofs.resume.resume.Lts as lts
-use Rattle.query.proofs.resume.begin.Reads as begin-reads
-use Rattle.query.proofs.resume.go_on.Reads as go-on-reads
-use Rattle.query.proofs.walk.ended.Reads as ended-reads
 
 enum-told : tie.Need-enum-told
 enum-told c = search needs

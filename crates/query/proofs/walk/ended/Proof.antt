@@ -4,10 +4,6 @@ use Rattle.query.proofs.Stacks.{answer-is}
 use borrow.Author.Needs.{needs}
 use Rattle.query.proofs.walk.ended.Statement.{statement}
 use Rattle.query.proofs.walk.ended.Tie as tie
-use Rattle.query.proofs.walk.ended.Reads as reads
-use Rattle.query.proofs.walk.ended.Lts as lts
-use Rattle.pattern.proofs.level.none_bound.Reads as none-bound-reads
-use Rattle.query.proofs.walk.no_levels.Reads as no-levels-reads
 
 none-bound-requires : tie.Need-none-bound-requires
 none-bound-requires c κs = search needs

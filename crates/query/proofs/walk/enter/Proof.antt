@@ -10,13 +10,6 @@ use Rattle.query.specs.Stack.{enteredAs}
 use borrow.Author.Needs.{needs}
 use Rattle.query.proofs.walk.enter.Statement.{statement}
 use Rattle.query.proofs.walk.enter.Tie as tie
-use Rattle.query.proofs.walk.enter.Reads as reads
-use Rattle.query.proofs.walk.enter.Lts as lts
-use Rattle.pattern.proofs.binding.under.Reads as under-reads
-use Rattle.pattern.proofs.words.pattern_at.Reads as pattern-at-reads
-use Rattle.statement.proofs.inner.pick_chain.Reads as pick-chain-reads
-use Rattle.statement.proofs.inner.pickable.Reads as pickable-reads
-use Rattle.statement.proofs.inner.start_of.Reads as start-of-reads
 
 pattern-at-requires : tie.Need-pattern-at-requires
 pattern-at-requires c κs = search needs

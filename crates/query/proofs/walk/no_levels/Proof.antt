@@ -3,10 +3,6 @@ use Rattle.graph.specs.Query.{levelsOf}
 use borrow.Author.Needs.{needs}
 use Rattle.query.proofs.walk.no_levels.Statement.{statement}
 use Rattle.query.proofs.walk.no_levels.Tie as tie
-use Rattle.query.proofs.walk.no_levels.Reads as reads
-use Rattle.query.proofs.walk.no_levels.Lts as lts
-use Rattle.pattern.proofs.level.cursor_of.Reads as cursor-of-reads
-use Rattle.query.proofs.walk.level.Reads as level-reads
 
 level-requires : tie.Need-level-requires
 level-requires c κs = search needs

@@ -6,12 +6,6 @@ use Rattle.query.specs.Stack.{deepest, entered}
 use borrow.Author.Needs.{needs}
 use Rattle.query.proofs.walk.out_of_budget.Statement.{statement}
 use Rattle.query.proofs.walk.out_of_budget.Tie as tie
-use Rattle.query.proofs.walk.out_of_budget.Reads as reads
-use Rattle.query.proofs.walk.out_of_budget.Lts as lts
-use Rattle.pattern.proofs.level.none_bound.Reads as none-bound-reads
-use Rattle.pattern.proofs.level.remains.Reads as remains-reads
-use Rattle.query.proofs.walk.ended.Reads as ended-reads
-use Rattle.query.proofs.walk.standing.Reads as standing-reads
 
 remains-requires : tie.Need-remains-requires
 remains-requires c κs = search needs

@@ -8,10 +8,6 @@ use Rattle.graph.specs.Query.{noLevel, past}
 use borrow.Author.Needs.{needs}
 use Rattle.query.proofs.walk.popped.Statement.{statement}
 use Rattle.query.proofs.walk.popped.Tie as tie
-use Rattle.query.proofs.walk.popped.Reads as reads
-use Rattle.query.proofs.walk.popped.Lts as lts
-use Rattle.pattern.proofs.level.past.Reads as past-reads
-use Rattle.query.proofs.walk.stand.Reads as stand-reads
 
 sub-top : tie.Need-sub-top
 sub-top c = search needs

@@ -7,11 +7,6 @@ use Rattle.query.proofs.Stacks.{stack-is}
 use borrow.Author.Needs.{needs}
 use Rattle.query.proofs.walk.stand.Statement.{statement}
 use Rattle.query.proofs.walk.stand.Tie as tie
-use Rattle.query.proofs.walk.stand.Reads as reads
-use Rattle.query.proofs.walk.stand.Lts as lts
-use Rattle.pattern.proofs.binding.under.Reads as under-reads
-use Rattle.pattern.proofs.level.bindings.Reads as bindings-reads
-use Rattle.pattern.proofs.words.pattern_at.Reads as pattern-at-reads
 
 bindings-requires : tie.Need-bindings-requires
 bindings-requires c κs = search needs

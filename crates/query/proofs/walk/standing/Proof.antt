@@ -4,9 +4,6 @@ use Rattle.query.proofs.Stacks.{levels-step}
 use borrow.Author.Needs.{needs}
 use Rattle.query.proofs.walk.standing.Statement.{statement}
 use Rattle.query.proofs.walk.standing.Tie as tie
-use Rattle.query.proofs.walk.standing.Reads as reads
-use Rattle.query.proofs.walk.standing.Lts as lts
-use Rattle.pattern.proofs.level.cursor_of.Reads as cursor-of-reads
 
 add-cursor-of : tie.Need-add-cursor-of
 add-cursor-of c = search needs

@@ -8,17 +8,10 @@ use Rattle.graph.specs.Query.{match, patternsOf}
 use Rattle.pattern.proofs.Matches.{met, missed}
 use Rattle.table.specs.Held.{StatementHeld}
 use Rattle.query.proofs.Stacks.{ready-query, asked-held}
-use Rattle.query.proofs.Turns.{meeting-is, turned-miss, turned-whole, turned-enter, next-within-r}
+use Rattle.query.proofs.Turns.{meeting-is, turned-miss, turned-whole, turned-enter, next-low}
 use borrow.Author.Needs.{needs}
 use Rattle.query.proofs.walk.tried.Statement.{statement}
 use Rattle.query.proofs.walk.tried.Tie as tie
-use Rattle.query.proofs.walk.tried.Reads as reads
-use Rattle.query.proofs.walk.tried.Lts as lts
-use Rattle.pattern.proofs.binding.meet.Reads as meet-reads
-use Rattle.pattern.proofs.words.pattern_at.Reads as pattern-at-reads
-use Rattle.pattern.proofs.words.patterns.Reads as patterns-reads
-use Rattle.query.proofs.walk.enter.Reads as enter-reads
-use Rattle.table.proofs.inner.triple_at.Reads as triple-at-reads
 
 cast-l : tie.Need-cast-l
 cast-l c = search needs
@@ -78,7 +71,7 @@ enter-requires c κs =
     let m : q .top + 1 ≡ length (patternsOf ws) → ⊥ = λ z. c .before .if2 .left (z ∙ sym (c .before .before .patterns .ensures)) in
     let n = s .few in
     let small : q .top + 1 < length (patternsOf ws) = omega arith in
-    (ready-query r t res stm ws k, small, asked-held r t res stm ws k (c .before .before .before .before .before .before .meet .result .bound .values) (q .top + 1) (next-within-r r t res stm ws k q s (c .before .before .before .before .before .before .meet .result .bound) f m v) small)
+    (ready-query r t res stm ws k, small, asked-held r t res stm ws k (c .before .before .before .before .before .before .meet .result .bound .values) (q .top + 1) (next-low r t res stm ws k q s (c .before .before .before .before .before .before .meet .result .bound) f m v) small)
 
 returns-3 : tie.Need-returns-3
 returns-3 c =

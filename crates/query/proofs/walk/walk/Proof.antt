@@ -6,21 +6,12 @@ use Rattle.table.specs.Held.{StatementHeld}
 use Rattle.graph.specs.Query.{patternsOf, walk, settle, packed, Answer}
 use Rattle.query.specs.declared.walk.Stack.{Stack}
 use Rattle.query.specs.Stack.{deepest, entered, Ready, Stands}
+use Rattle.graph.proofs.Laws.{walk-over}
 use Rattle.query.proofs.Stacks.{ready-query}
-use Rattle.query.proofs.Turns.{walk-over, stack-held, top-small, popped-stands, popped-settles, visit-hit, runs-out, sees-torn, sees-miss, tried-damaged, tried-onward, tried-whole}
+use Rattle.query.proofs.Turns.{stack-held, top-small, popped-stands, popped-settles, visit-hit, runs-out, sees-torn, sees-miss, tried-damaged, tried-onward, tried-whole}
 use borrow.Author.Needs.{needs}
 use Rattle.query.proofs.walk.walk.Statement.{statement}
 use Rattle.query.proofs.walk.walk.Tie as tie
-use Rattle.query.proofs.walk.walk.Reads as reads
-use Rattle.query.proofs.walk.walk.Lts as lts
-use Rattle.query.proofs.walk.ended.Reads as ended-reads
-use Rattle.query.proofs.walk.level.Reads as level-reads
-use Rattle.query.proofs.walk.out_of_budget.Reads as out-of-budget-reads
-use Rattle.query.proofs.walk.popped.Reads as popped-reads
-use Rattle.query.proofs.walk.refused.Reads as refused-reads
-use Rattle.query.proofs.walk.tried.Reads as tried-reads
-use Rattle.query.proofs.walk.whole.Reads as whole-reads
-use Rattle.statement.proofs.inner.visit.Reads as visit-reads
 
 abbrev Inv-loop : tie.InvT-loop
 Inv-loop c resources statements words budget q₀ visits q = Stands (c .resources) (c .statements) statements words q

@@ -3,9 +3,6 @@ use Rattle.graph.specs.Query.{packed}
 use borrow.Author.Needs.{needs}
 use Rattle.query.proofs.walk.whole.Statement.{statement}
 use Rattle.query.proofs.walk.whole.Tie as tie
-use Rattle.query.proofs.walk.whole.Reads as reads
-use Rattle.query.proofs.walk.whole.Lts as lts
-use Rattle.query.proofs.walk.standing.Reads as standing-reads
 
 standing-requires : tie.Need-standing-requires
 standing-requires c κs = search needs

@@ -59,7 +59,7 @@ returns c =
     let e1 : a .t + 1 ≡ suc (a .t) = omega arith in
     let e2 : n + 1 ≡ suc n = omega arith in
     let e3 : 8 * (a .y - 1) + o + 3 ≡ 8 * (a .y - 1) + (3 + o) = omega arith in
-    rw (e1, e2, e3, c .offset .ensures .0, c .before .count-at .ensures)
+    cc
 
 pub link-first-spec : {M : Type 1} → statement M
 link-first-spec =

@@ -1,0 +1,22 @@
+-- Slices that are lent too short have no room. Assumes nothing.
+use mathlib.Core.Path.{_≡_, sym, _∙_}
+use mathlib.Core.Bool.{Bool, true, false, cond}
+use mathlib.Core.List.{List}
+use Prim.Native.Nat.{ℕ, _<_, _≤_}
+use lib.ListN.{length}
+use borrow.Author.Tests.{lt-ltb, le-ltb}
+use Rattle.capi.specs.Words.{counterWords, lent, roomy}
+use Rattle.term.proofs.Names.{never}
+
+pub no-counters : {A : Type 0} (cw : List ℕ) (n : ℕ) (w : List ℕ) → length cw < counterWords → roomy cw n w ≡ true → A
+unfolding lent
+no-counters cw n w h e =
+    let f : roomy cw n w ≡ false = simp (lt-ltb (length cw) counterWords h) in
+    never (sym f ∙ e)
+
+pub no-reply : {A : Type 0} (cw : List ℕ) (n : ℕ) (w : List ℕ)
+    → counterWords ≤ length cw → length w < n → roomy cw n w ≡ true → A
+unfolding lent
+no-reply cw n w h k e =
+    let f : roomy cw n w ≡ false = simp (le-ltb (length cw) counterWords h, lt-ltb (length w) n k) in
+    never (sym f ∙ e)

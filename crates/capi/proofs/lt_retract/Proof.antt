@@ -1,0 +1,64 @@
+-- `capi::lt_retract` meets its contract. Assumes nothing.
+use Rattle.capi.proofs.Writes.{retract-done}
+use Rattle.store.specs.Tables.{tables}
+use Rattle.capi.specs.Words.{lent}
+use Rattle.capi.specs.Calls.{retractCall}
+use lib.ListN.{length, set, length-set}
+use borrow.Author.Tests.{lt-ltb, le-ltb, eq-eqb, ne-eqb}
+use mathlib.Core.Path.{_≡_, sym, ap, _∙_, refl}
+use borrow.Author.Needs.{needs}
+use Rattle.capi.proofs.lt_retract.Statement.{statement}
+use Rattle.capi.proofs.lt_retract.Tie as tie
+use Rattle.capi.proofs.lt_retract.Reads as reads
+use Rattle.capi.proofs.lt_retract.Lts as lts
+use Rattle.capi.proofs.counters_of.Reads as counters-of-reads
+use Rattle.capi.proofs.replies.retract_answer.Reads as retract-answer-reads
+use Rattle.capi.proofs.triple_of.Reads as triple-of-reads
+use Rattle.statement.proofs.retract.Reads as retract-reads
+
+returns : tie.Need-returns
+unfolding retractCall lent
+returns c = simp (lt-ltb (length (c .before .before .before .before .before .before .before .args .counters .now)) 3 (c .if1 .taken))
+
+returns-2 : tie.Need-returns-2
+unfolding retractCall lent
+returns-2 c = simp (le-ltb (length (c .before .before .before .before .before .before .before .before .args .counters .now)) 3 (c .before .if1 .left), lt-ltb (length (c .before .before .before .before .before .before .before .before .args .reply .now)) 1 (c .if2 .taken))
+
+counters-of-requires : tie.Need-counters-of-requires
+counters-of-requires c κs = search needs
+
+triple-of-requires : tie.Need-triple-of-requires
+triple-of-requires c κs = search needs
+
+retract-requires : tie.Need-retract-requires
+retract-requires c κs = search needs
+
+retract-answer-requires : tie.Need-retract-answer-requires
+retract-answer-requires c κs = search needs
+
+slice-write-reply : tie.Need-slice-write-reply
+slice-write-reply c = search needs
+
+same-length : tie.Need-same-length
+same-length c = search needs
+
+same-length-2 : tie.Need-same-length-2
+same-length-2 c = search needs
+
+returns-3 : tie.Need-returns-3
+returns-3 c = retract-done (c .before .before .before .before .before .before .before .before .before .before .before .before .before .before .before .args .counters .now) (c .before .before .before .before .before .before .before .before .before .before .before .before .before .before .before .args .reply .now) (tables (c .before .before .before .before .before .before .before .before .before .before .before .before .before .before .before .args .resources .now) (c .before .before .before .before .before .before .before .before .before .before .before .before .before .before .before .args .statements .now) (c .before .before .before .before .before .before .before .before .before .before .before .before .before .before .before .args .index .now) (c .before .before .before .before .before .before .before .before .before .before .before .before .before .before .before .args .text .now)) (c .before .before .before .before .before .before .counters-of .ensures) (c .before .before .before .before .before .triple-of .ensures) (c .before .before .before .retract .ensures) (c .retract-answer .ensures) (c .before .before .before .before .before .before .before .before .if1 .left) (c .before .before .before .before .before .before .before .if2 .left)
+
+pub lt-retract-spec : {M : Type 1} → statement M
+lt-retract-spec =
+    tie.close
+    (tie.spec
+    returns
+    returns-2
+    counters-of-requires
+    triple-of-requires
+    retract-requires
+    retract-answer-requires
+    slice-write-reply
+    same-length
+    same-length-2
+    returns-3)

@@ -1,0 +1,423 @@
+// The store for C: every public operation under a plain name, on numbers and slices.
+//
+// A slice is a pointer and a length in elements. A store function begins with five of them: counters (R, T, B), resources, statements,
+// index (words of 32 bits) and text (bytes). What a function gives back is 0 where it answers, the paper's refusal number, or 100 where a
+// lent counters, cursor or reply slice is too short; then nothing is written. Beside a refusal the reply's words are 0. Words past those
+// that a reply names keep their values. The contracts are one equation each with the definitions in `specs/Calls.antt`.
+use crate::replies::assert_answer;
+use crate::replies::asserted_counters;
+use crate::replies::chain_of;
+use crate::replies::chain_word;
+use crate::replies::check_answer;
+use crate::replies::kind_answer;
+use crate::replies::line_answer;
+use crate::replies::lookup_answer;
+use crate::replies::name_answer;
+use crate::replies::refusal_number;
+use crate::replies::retract_answer;
+use crate::replies::scanned_answer;
+use crate::replies::scanned_cursor;
+use crate::replies::statement_answer;
+use store::Counters;
+use store::Refusal;
+use store::ResourceId;
+use store::ScanCursor;
+use store::ScanOpened;
+use store::Scanned;
+use store::StatementId;
+use store::Triple;
+ghost use mathlib.Core.Path.{_≡_};
+ghost use Prim.Native.Nat.{_≤_};
+ghost use lib.ListN.{length};
+ghost use Rattle.store.specs.Tables.{tables};
+ghost use Rattle.store.specs.Triple.{triple};
+ghost use Rattle.capi.specs.Words.{counterWords, cursorWords, countersOf, withCounters, cursorOf, withCursor, nextFrom, done, wrote};
+ghost use Rattle.capi.specs.Calls.{kindCall, CheckCall, FindCall, nameCall, statementCall, lineCall, retractCall, openCall, nextCall, assertCall};
+
+mod replies;
+
+// The words of the lent counters.
+pub const COUNTER_WORDS: usize = 3;
+
+// The words of a lent cursor: subject, predicate, object, chain (0 none, 1 subject, 2 predicate, 3 object), next.
+pub const CURSOR_WORDS: usize = 5;
+
+// The result where a lent counters, cursor or reply slice is too short.
+pub const TOO_SHORT: u32 = 100;
+
+// What a call gives back, and the first words of its reply, 0 where it names fewer.
+pub struct Answer {
+    pub result: u32,
+    pub first: u32,
+    pub second: u32,
+    pub third: u32,
+    pub fourth: u32,
+}
+
+// What reading a line gives back, and the eight words of its reply.
+pub struct LineAnswer {
+    pub result: u32,
+    pub what: u64,
+    pub next: u64,
+    pub first: u64,
+    pub second: u64,
+    pub third: u64,
+    pub fourth: u64,
+    pub fifth: u64,
+    pub sixth: u64,
+}
+
+// Three numbers as a triple or a pattern.
+fn triple_of(subject: u32, predicate: u32, object: u32) -> Triple
+    ensures { λ r. ⌜ r ≡ triple subject predicate object ⌝ }
+{
+    Triple {
+        subject: ResourceId(subject),
+        predicate: ResourceId(predicate),
+        object: ResourceId(object),
+    }
+}
+
+// Writes a cursor's five words.
+fn put_cursor(words: &mut [u32], q: ScanCursor)
+    requires { ⌜ cursorWords ≤ length (now words) ⌝ }
+    ensures { λ _. ⌜ now (words .exit) ≡ withCursor (now (words .entry)) q ⌝ }
+{
+    let x = q.pattern;
+    let c = q.chain;
+    let chain = chain_word(c);
+    words[0] = x.subject.0;
+    words[1] = x.predicate.0;
+    words[2] = x.object.0;
+    words[3] = chain;
+    words[4] = q.next.0;
+}
+
+// The counters that the first three words tell.
+fn counters_of(words: &[u32]) -> Counters
+    requires { ⌜ counterWords ≤ length (now words) ⌝ }
+    ensures { λ c. ⌜ c ≡ countersOf (now (words .entry)) ⌝ }
+{
+    Counters {
+        resources: words[0],
+        statements: words[1],
+        text: words[2],
+    }
+}
+
+// Writes the counters' three words.
+fn put_counters(words: &mut [u32], c: Counters)
+    requires { ⌜ counterWords ≤ length (now words) ⌝ }
+    ensures { λ _. ⌜ now (words .exit) ≡ withCounters (now (words .entry)) c ⌝ }
+{
+    words[0] = c.resources;
+    words[1] = c.statements;
+    words[2] = c.text;
+}
+
+// The cursor that five words tell, whose chain word is at most 3.
+fn cursor_of(words: &[u32]) -> ScanCursor
+    requires { ⌜ cursorWords ≤ length (now words) ⌝ }
+    ensures { λ q. ⌜ q ≡ cursorOf (now (words .entry)) ⌝ }
+{
+    ScanCursor {
+        pattern: triple_of(words[0], words[1], words[2]),
+        chain: chain_of(words[3]),
+        next: StatementId(words[4]),
+    }
+}
+
+// Next of a pattern scan from a cursor's words. A chain word above 3 is refused 6, after refusal 1.
+fn next_from(
+    c: Counters,
+    resources: &[u32],
+    statements: &[u32],
+    index: &[u32],
+    text: &[u8],
+    words: &[u32],
+    budget: u32,
+) -> Scanned
+    requires { ⌜ cursorWords ≤ length (now words) ⌝ }
+    ensures { λ r. ⌜ r ≡ nextFrom c (tables (now (resources .entry)) (now (statements .entry)) (now (index .entry)) (now (text .entry))) (now (words .entry)) budget ⌝ }
+{
+    if words[3] > 3 {
+        if table::fits(c, resources, statements, index, text) {
+            return Scanned::Refused(Refusal::BadCursor);
+        }
+        return Scanned::Refused(Refusal::Capacity);
+    }
+    let q = cursor_of(words);
+    statement::scan_next(c, resources, statements, index, text, q, budget)
+}
+
+// The kind of a name: 1 an IRI, 2 a blank node, 3 a literal; refusal 2 where it is malformed.
+#[no_mangle]
+pub extern "C" fn lt_name_kind(name: &[u8], reply: &mut [u32]) -> u32
+    ensures { λ r. ⌜ done r (now (reply .exit)) ≡ kindCall (now (name .entry)) (now (reply .entry)) ⌝ }
+{
+    if reply.len() < 1 {
+        return TOO_SHORT;
+    }
+    let a = kind_answer(term::name_kind(name));
+    reply[0] = a.first;
+    a.result
+}
+
+// Whether the store is sound: 1 or 0.
+#[no_mangle]
+pub extern "C" fn lt_check(
+    counters: &[u32],
+    resources: &[u32],
+    statements: &[u32],
+    index: &[u32],
+    text: &[u8],
+    reply: &mut [u32],
+) -> u32
+    ensures { λ r. ⌜ CheckCall (now (counters .entry)) (tables (now (resources .entry)) (now (statements .entry)) (now (index .entry)) (now (text .entry))) (now (reply .entry)) (done r (now (reply .exit))) ⌝ }
+{
+    if counters.len() < COUNTER_WORDS {
+        return TOO_SHORT;
+    }
+    if reply.len() < 1 {
+        return TOO_SHORT;
+    }
+    let c = counters_of(counters);
+    let a = check_answer(integrity::check(c, resources, statements, index, text));
+    reply[0] = a.first;
+    a.result
+}
+
+// Find a name: its number, or 0.
+#[no_mangle]
+pub extern "C" fn lt_find(
+    counters: &[u32],
+    resources: &[u32],
+    statements: &[u32],
+    index: &[u32],
+    text: &[u8],
+    name: &[u8],
+    reply: &mut [u32],
+) -> u32
+    ensures { λ r. ⌜ FindCall (now (counters .entry)) (tables (now (resources .entry)) (now (statements .entry)) (now (index .entry)) (now (text .entry))) (now (name .entry)) (now (reply .entry)) (done r (now (reply .exit))) ⌝ }
+{
+    if counters.len() < COUNTER_WORDS {
+        return TOO_SHORT;
+    }
+    if reply.len() < 1 {
+        return TOO_SHORT;
+    }
+    let c = counters_of(counters);
+    let a = lookup_answer(dictionary::find(c, resources, statements, index, text, name));
+    reply[0] = a.first;
+    a.result
+}
+
+// Name of a number: where its bytes start in the text, and how many they are.
+#[no_mangle]
+pub extern "C" fn lt_name(
+    counters: &[u32],
+    resources: &[u32],
+    statements: &[u32],
+    index: &[u32],
+    text: &[u8],
+    number: u32,
+    reply: &mut [u32],
+) -> u32
+    ensures { λ r. ⌜ done r (now (reply .exit)) ≡ nameCall (now (counters .entry)) (tables (now (resources .entry)) (now (statements .entry)) (now (index .entry)) (now (text .entry))) number (now (reply .entry)) ⌝ }
+{
+    if counters.len() < COUNTER_WORDS {
+        return TOO_SHORT;
+    }
+    if reply.len() < 2 {
+        return TOO_SHORT;
+    }
+    let c = counters_of(counters);
+    let n = ResourceId(number);
+    let a = name_answer(table::name_span(c, resources, statements, index, text, n));
+    reply[0] = a.first;
+    reply[1] = a.second;
+    a.result
+}
+
+// Read a statement: subject, predicate, object, and 1 if it is retracted, else 0.
+#[no_mangle]
+pub extern "C" fn lt_statement(
+    counters: &[u32],
+    resources: &[u32],
+    statements: &[u32],
+    index: &[u32],
+    text: &[u8],
+    number: u32,
+    reply: &mut [u32],
+) -> u32
+    ensures { λ r. ⌜ done r (now (reply .exit)) ≡ statementCall (now (counters .entry)) (tables (now (resources .entry)) (now (statements .entry)) (now (index .entry)) (now (text .entry))) number (now (reply .entry)) ⌝ }
+{
+    if counters.len() < COUNTER_WORDS {
+        return TOO_SHORT;
+    }
+    if reply.len() < 4 {
+        return TOO_SHORT;
+    }
+    let c = counters_of(counters);
+    let n = StatementId(number);
+    let a = statement_answer(table::read_statement(c, resources, statements, index, text, n));
+    reply[0] = a.first;
+    reply[1] = a.second;
+    reply[2] = a.third;
+    reply[3] = a.fourth;
+    a.result
+}
+
+// Reads the line at the position `at` of a text. Refusal 10: its offset in the line stands after the position.
+#[no_mangle]
+pub extern "C" fn lt_read_line(text: &[u8], at: usize, reply: &mut [u64]) -> u32
+    ensures { λ r. ⌜ done r (now (reply .exit)) ≡ lineCall (now (text .entry)) at (now (reply .entry)) ⌝ }
+{
+    if reply.len() < 8 {
+        return TOO_SHORT;
+    }
+    let read = ntriples::read_line(text, at);
+    let line = read.line;
+    let a = line_answer(line, read.next);
+    reply[0] = a.what;
+    reply[1] = a.next;
+    reply[2] = a.first;
+    reply[3] = a.second;
+    reply[4] = a.third;
+    reply[5] = a.fourth;
+    reply[6] = a.fifth;
+    reply[7] = a.sixth;
+    a.result
+}
+
+// Retract: the number of the statement that was live until now, or 0.
+#[no_mangle]
+pub extern "C" fn lt_retract(
+    counters: &[u32],
+    resources: &[u32],
+    statements: &mut [u32],
+    index: &[u32],
+    text: &[u8],
+    subject: u32,
+    predicate: u32,
+    object: u32,
+    reply: &mut [u32],
+) -> u32
+    ensures { λ r. ⌜ wrote r (tables (now (resources .entry)) (now (statements .exit)) (now (index .entry)) (now (text .entry))) (now (reply .exit)) ≡ retractCall (now (counters .entry)) (tables (now (resources .entry)) (now (statements .entry)) (now (index .entry)) (now (text .entry))) (triple subject predicate object) (now (reply .entry)) ⌝ }
+{
+    if counters.len() < COUNTER_WORDS {
+        return TOO_SHORT;
+    }
+    if reply.len() < 1 {
+        return TOO_SHORT;
+    }
+    let c = counters_of(counters);
+    let x = triple_of(subject, predicate, object);
+    let a = retract_answer(statement::retract(c, resources, statements, index, text, x));
+    reply[0] = a.first;
+    a.result
+}
+
+// Open a pattern scan, 0 for any: the cursor, which stays as it was beside a refusal.
+#[no_mangle]
+pub extern "C" fn lt_scan_open(
+    counters: &[u32],
+    resources: &[u32],
+    statements: &[u32],
+    index: &[u32],
+    text: &[u8],
+    subject: u32,
+    predicate: u32,
+    object: u32,
+    cursor: &mut [u32],
+) -> u32
+    ensures { λ r. ⌜ done r (now (cursor .exit)) ≡ openCall (now (counters .entry)) (tables (now (resources .entry)) (now (statements .entry)) (now (index .entry)) (now (text .entry))) (triple subject predicate object) (now (cursor .entry)) ⌝ }
+{
+    if counters.len() < COUNTER_WORDS {
+        return TOO_SHORT;
+    }
+    if cursor.len() < CURSOR_WORDS {
+        return TOO_SHORT;
+    }
+    let c = counters_of(counters);
+    let x = triple_of(subject, predicate, object);
+    match statement::scan_open(c, resources, statements, index, text, x) {
+        ScanOpened::Refused(e) => refusal_number(e),
+        ScanOpened::Cursor(q) => {
+            put_cursor(cursor, q);
+            0
+        }
+    }
+}
+
+// Next of a pattern scan: status (1 found, 2 ended, 3 spent), statement or 0, visits; the cursor moves on.
+#[no_mangle]
+pub extern "C" fn lt_scan_next(
+    counters: &[u32],
+    resources: &[u32],
+    statements: &[u32],
+    index: &[u32],
+    text: &[u8],
+    cursor: &mut [u32],
+    budget: u32,
+    reply: &mut [u32],
+) -> u32
+    ensures { λ r. ⌜ (r, (now (cursor .exit), now (reply .exit))) ≡ nextCall (now (counters .entry)) (tables (now (resources .entry)) (now (statements .entry)) (now (index .entry)) (now (text .entry))) (now (cursor .entry)) budget (now (reply .entry)) ⌝ }
+{
+    if counters.len() < COUNTER_WORDS {
+        return TOO_SHORT;
+    }
+    if cursor.len() < CURSOR_WORDS {
+        return TOO_SHORT;
+    }
+    if reply.len() < 3 {
+        return TOO_SHORT;
+    }
+    let c = counters_of(counters);
+    let next = next_from(c, resources, statements, index, text, cursor, budget);
+    let a = scanned_answer(next);
+    reply[0] = a.first;
+    reply[1] = a.second;
+    reply[2] = a.third;
+    if a.result != 0 {
+        return a.result;
+    }
+    let q = scanned_cursor(next);
+    put_cursor(cursor, q);
+    0
+}
+
+// Assert: status (1 new, 2 already, 3 revived) and the statement's number; counters and tables as answered.
+#[no_mangle]
+pub extern "C" fn lt_assert(
+    counters: &mut [u32],
+    resources: &mut [u32],
+    statements: &mut [u32],
+    index: &[u32],
+    text: &[u8],
+    subject: u32,
+    predicate: u32,
+    object: u32,
+    reply: &mut [u32],
+) -> u32
+    ensures { λ r. ⌜ (r, (now (counters .exit), (tables (now (resources .exit)) (now (statements .exit)) (now (index .entry)) (now (text .entry)), now (reply .exit)))) ≡ assertCall (now (counters .entry)) (tables (now (resources .entry)) (now (statements .entry)) (now (index .entry)) (now (text .entry))) (triple subject predicate object) (now (reply .entry)) ⌝ }
+{
+    if counters.len() < COUNTER_WORDS {
+        return TOO_SHORT;
+    }
+    if reply.len() < 2 {
+        return TOO_SHORT;
+    }
+    let c = counters_of(counters);
+    let x = triple_of(subject, predicate, object);
+    let done = statement::assert(c, resources, statements, index, text, x);
+    let a = assert_answer(done);
+    reply[0] = a.first;
+    reply[1] = a.second;
+    if a.result != 0 {
+        return a.result;
+    }
+    let d = asserted_counters(done);
+    put_counters(counters, d);
+    0
+}
