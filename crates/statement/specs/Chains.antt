@@ -1,5 +1,5 @@
--- What the walk's own types say of `store`'s definitions, and what a pick asks of its pattern (paper 01, "9 in a chain step").
--- Assumes nothing.
+-- What the walk's own types say of `store`'s definitions, and what a pick asks of its pattern (paper 01, "9 in a chain
+-- step"). Assumes nothing.
 use mathlib.Core.Path.{_≡_}
 use mathlib.Core.Bool.{Bool, true, false, cond}
 use mathlib.Core.List.{List}

@@ -1,7 +1,9 @@
-// Chains, for a position in general: which one is picked, what a visit tests, and the walk (paper 01, "9 in a chain step").
+// Chains, for a position in general: which one is picked, what a visit tests, and the walk (paper 01, "9 in a chain
+// step").
 //
-// Assert, retract and the scan take the same pick, the same visit and the same walk; `Sought` says what ends the walk. Each function asks
-// that the records it reads lie in their tables, and nothing of what they hold: a word out of range is an answer.
+// Assert, retract and the scan take the same pick, the same visit and the same walk; `Sought` says what ends the walk.
+// Each function asks that the records it reads lie in their tables, and nothing of what they hold: a word out of range
+// is an answer.
 use crate::triple::agrees;
 use crate::triple::at;
 use crate::triple::known;
@@ -42,7 +44,8 @@ pub enum Visited {
     Miss(u32),
 }
 
-// What a walk comes to: the record found, the visits made, the next record; no record left; no budget left; or a damaged record.
+// What a walk comes to: the record found, the visits made, the next record; no record left; no budget left; or a
+// damaged record.
 pub enum Walked {
     Found(StatementId, u32, StatementId),
     Ended(u32),
@@ -85,7 +88,9 @@ pub fn pick_chain(resources: &[u32], x: Triple) -> Chain
 // Whether the count and the first at a position are at most T, or the position is not bound.
 pub fn pickable_at(t: u32, resources: &[u32], x: Triple, p: Position) -> bool
     requires { ⌜ PatternHeld (now resources) x ⌝ }
-    ensures { λ b. ⌜ b ≡ (eqb (at p x) 0 || (leb (countAt (now (resources .entry)) p (at p x)) t && leb (firstAt (now (resources .entry)) p (at p x)) t)) ⌝ }
+    ensures { λ b. ⌜ b
+        ≡ (eqb (at p x) 0
+        || (leb (countAt (now (resources .entry)) p (at p x)) t && leb (firstAt (now (resources .entry)) p (at p x)) t)) ⌝ }
 {
     let y = at(p, x);
     if y == 0 {
@@ -205,7 +210,8 @@ pub fn visit(statements: &[u32], r: u32, chain: Chain, x: Triple, sought: Sought
     }
 }
 
-// The walk along a chain from a record on, left from inside at the first record that is what is sought, with at most `budget` visits.
+// The walk along a chain from a record on, left from inside at the first record that is what is sought, with at most
+// `budget` visits.
 pub fn walk(
     statements: &[u32],
     r: u32,
@@ -216,7 +222,9 @@ pub fn walk(
     budget: u32,
 ) -> Walked
     requires { ⌜ statementWords * (from .0) ≤ length (now statements) ⌝ }
-    ensures { λ a. ⌜ stepOf a ≡ walk (linkOf (now (statements .entry)) chain) (visitable r (now (statements .entry)) chain x) (hits sought (now (statements .entry)) x) budget (from .0) ⌝ }
+    ensures { λ a. ⌜ stepOf a
+        ≡ walk (linkOf (now (statements .entry)) chain) (visitable r (now (statements .entry)) chain x)
+        (hits sought (now (statements .entry)) x) budget (from .0) ⌝ }
 {
     let mut n = from.0;
     let mut visits: u32 = 0;

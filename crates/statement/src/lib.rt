@@ -1,8 +1,9 @@
 // Statements and pattern scans (paper 01, "Assert", "Retract", "Open a listing", "Next of a listing").
 //
-// Each operation takes the counters and all four tables and answers on any words in them: what it answers and what it writes is its
-// definition in `store`. Refusals are tested in the paper's order, and beside a refusal nothing is written. Assert, retract and the scan
-// share one pick, one visit and one walk of a chain (`inner`), so each touches the records of the shortest chain only.
+// Each operation takes the counters and all four tables and answers on any words in them: what it answers and what it
+// writes is its definition in `store`. Refusals are tested in the paper's order, and beside a refusal nothing is
+// written. Assert, retract and the scan share one pick, one visit and one walk of a chain (`inner`), so each touches the
+// records of the shortest chain only. Assert and retract come by value and on counters that the caller keeps and lends.
 use crate::inner::Sought;
 use crate::inner::Walked;
 use crate::inner::chain_ok;
@@ -32,9 +33,10 @@ ghost use mathlib.Core.Path.{_≡_};
 ghost use Prim.Native.Nat.{ℕ, _-_, _*_, _≤_};
 ghost use lib.ListN.{length};
 ghost use Rattle.store.specs.Tables.{after, tables, statementWords};
-ghost use Rattle.store.specs.Statement.{assertOf, retractOf};
+ghost use Rattle.store.specs.Statement.{assertOf, retractOf, countersAfter};
 ghost use Rattle.store.specs.Scan.{cursorAt, openOf, nextOf};
 ghost use Rattle.statement.specs.Operations.{CursorTested};
+ghost use Rattle.statement.specs.Lent.{AssertedLent, RetractedLent};
 
 pub mod inner;
 mod record;
@@ -50,7 +52,8 @@ pub fn assert(
     text: &[u8],
     x: Triple,
 ) -> Asserted
-    ensures { λ r. ⌜ after (tables (now (resources .exit)) (now (statements .exit)) (now (index .entry)) (now (text .entry))) r ≡ assertOf c (tables (now (resources .entry)) (now (statements .entry)) (now (index .entry)) (now (text .entry))) x ⌝ }
+    ensures { λ r. ⌜ after (tables (now (resources .exit)) (now (statements .exit)) (now (index .entry)) (now (text .entry))) r
+        ≡ assertOf c (tables (now (resources .entry)) (now (statements .entry)) (now (index .entry)) (now (text .entry))) x ⌝ }
 {
     match assert_target(c, resources, statements, index, text, x) {
         Located::Refused(e) => Asserted::Refused(e),
@@ -72,7 +75,8 @@ pub fn retract(
     text: &[u8],
     x: Triple,
 ) -> Retracted
-    ensures { λ r. ⌜ after (tables (now (resources .entry)) (now (statements .exit)) (now (index .entry)) (now (text .entry))) r ≡ retractOf c (tables (now (resources .entry)) (now (statements .entry)) (now (index .entry)) (now (text .entry))) x ⌝ }
+    ensures { λ r. ⌜ after (tables (now (resources .entry)) (now (statements .exit)) (now (index .entry)) (now (text .entry))) r
+        ≡ retractOf c (tables (now (resources .entry)) (now (statements .entry)) (now (index .entry)) (now (text .entry))) x ⌝ }
 {
     match retract_target(c, resources, statements, index, text, x) {
         Located::Refused(e) => Retracted::Refused(e),
@@ -89,7 +93,8 @@ pub fn scan_open(
     text: &[u8],
     x: Triple,
 ) -> ScanOpened
-    ensures { λ r. ⌜ r ≡ openOf c (tables (now (resources .entry)) (now (statements .entry)) (now (index .entry)) (now (text .entry))) x ⌝ }
+    ensures { λ r. ⌜ r
+        ≡ openOf c (tables (now (resources .entry)) (now (statements .entry)) (now (index .entry)) (now (text .entry))) x ⌝ }
 {
     if !fits(c, resources, statements, index, text) {
         return ScanOpened::Refused(Refusal::Capacity);
@@ -147,7 +152,8 @@ pub fn scan_next(
     q: ScanCursor,
     budget: u32,
 ) -> Scanned
-    ensures { λ r. ⌜ r ≡ nextOf c (tables (now (resources .entry)) (now (statements .entry)) (now (index .entry)) (now (text .entry))) q budget ⌝ }
+    ensures { λ r. ⌜ r
+        ≡ nextOf c (tables (now (resources .entry)) (now (statements .entry)) (now (index .entry)) (now (text .entry))) q budget ⌝ }
 {
     if !fits(c, resources, statements, index, text) {
         return Scanned::Refused(Refusal::Capacity);
@@ -174,4 +180,100 @@ pub fn scan_next(
         Walked::Spent(visits, next) => Scanned::Spent(visits, moved(q, next)),
         Walked::Damaged => Scanned::Refused(Refusal::Damaged),
     }
+}
+
+// What assert answers where the caller keeps the counters: the counters from now on, and the reply.
+struct AssertKept {
+    counters: Counters,
+    reply: Asserted,
+}
+
+// The counters after assert: as answered, and unchanged beside a refusal.
+fn counters_after(c: Counters, r: Asserted) -> Counters
+    ensures { λ d. ⌜ d ≡ countersAfter c r ⌝ }
+{
+    match r {
+        Asserted::New(_, d) => d,
+        Asserted::Already(_, d) => d,
+        Asserted::Revived(_, d) => d,
+        Asserted::Refused(_) => c,
+    }
+}
+
+fn assert_kept(
+    c: Counters,
+    resources: &mut [u32],
+    statements: &mut [u32],
+    index: &[u32],
+    text: &[u8],
+    x: Triple,
+) -> AssertKept
+    ensures { λ r. ⌜ AssertedLent c (r .counters) (now (resources .entry)) (now (resources .exit))
+        (now (statements .entry)) (now (statements .exit)) (now (index .entry)) (now (text .entry)) x (r .reply) ⌝ }
+{
+    let reply = assert(c, resources, statements, index, text, x);
+    AssertKept {
+        counters: counters_after(c, reply),
+        reply: reply,
+    }
+}
+
+// Assert on counters that the caller keeps and lends for updating.
+pub fn assert_lent(
+    c: &mut Counters,
+    resources: &mut [u32],
+    statements: &mut [u32],
+    index: &[u32],
+    text: &[u8],
+    x: Triple,
+) -> Asserted
+    ensures { λ r. ⌜ AssertedLent (now (c .entry)) (now (c .exit)) (now (resources .entry)) (now (resources .exit))
+        (now (statements .entry)) (now (statements .exit)) (now (index .entry)) (now (text .entry)) x r ⌝ }
+{
+    let k = *c;
+    let r = assert_kept(k, resources, statements, index, text, x);
+    *c = r.counters;
+    r.reply
+}
+
+// What retract answers where the caller keeps the counters: these, unchanged, and the reply.
+struct RetractKept {
+    counters: Counters,
+    reply: Retracted,
+}
+
+fn retract_kept(
+    c: Counters,
+    resources: &[u32],
+    statements: &mut [u32],
+    index: &[u32],
+    text: &[u8],
+    x: Triple,
+) -> RetractKept
+    ensures { λ r. ⌜ RetractedLent c (r .counters) (now (resources .entry))
+        (now (statements .entry)) (now (statements .exit)) (now (index .entry)) (now (text .entry)) x (r .reply) ⌝ }
+{
+    let reply = retract(c, resources, statements, index, text, x);
+    RetractKept {
+        counters: c,
+        reply: reply,
+    }
+}
+
+// Retract on counters that the caller keeps and lends.
+pub fn retract_lent(
+    c: &mut Counters,
+    resources: &[u32],
+    statements: &mut [u32],
+    index: &[u32],
+    text: &[u8],
+    x: Triple,
+) -> Retracted
+    ensures { λ r. ⌜ RetractedLent (now (c .entry)) (now (c .exit)) (now (resources .entry))
+        (now (statements .entry)) (now (statements .exit)) (now (index .entry)) (now (text .entry)) x r ⌝ }
+{
+    let k = *c;
+    let r = retract_kept(k, resources, statements, index, text, x);
+    *c = r.counters;
+    r.reply
 }

@@ -1,6 +1,7 @@
 // Stores: a new record at the head of its three chains, and a record's flag (paper 01, "Tables and counters").
 //
-// Everything that a store needs is read before it. A new record's nexts are the old firsts; each position is linked by the same function.
+// Everything that a store needs is read before it. A new record's nexts are the old firsts; each position is linked by
+// the same function.
 use store::Asserted;
 use store::Counters;
 use store::Position;
@@ -88,7 +89,8 @@ pub fn has_room(statements: &[u32], t: u32) -> bool
 // A new record, or 3 where there is no room.
 pub fn append(c: Counters, resources: &mut [u32], statements: &mut [u32], x: Triple) -> Asserted
     requires { ⌜ Appendable c (now resources) x ⌝ }
-    ensures { λ r. ⌜ Appended c x (now (resources .entry)) (now (resources .exit)) (now (statements .entry)) (now (statements .exit)) r ⌝ }
+    ensures { λ r. ⌜ Appended c x (now (resources .entry)) (now (resources .exit))
+        (now (statements .entry)) (now (statements .exit)) r ⌝ }
 {
     if !has_room(statements, c.statements) {
         return Asserted::Refused(Refusal::Full);

@@ -1,4 +1,5 @@
-// What assert and retract find before anything is written: the record with the triple, or a refusal (paper 01, "Assert", "Retract").
+// What assert and retract find before anything is written: the record with the triple, or a refusal (paper 01,
+// "Assert", "Retract").
 use crate::inner::Sought;
 use crate::inner::Walked;
 use crate::inner::pick_chain;
@@ -99,7 +100,8 @@ pub fn assert_target(
     text: &[u8],
     x: Triple,
 ) -> Located
-    ensures { λ r. ⌜ r ≡ assertTarget c (tables (now (resources .entry)) (now (statements .entry)) (now (index .entry)) (now (text .entry))) x ⌝ }
+    ensures { λ r. ⌜ r
+        ≡ assertTarget c (tables (now (resources .entry)) (now (statements .entry)) (now (index .entry)) (now (text .entry))) x ⌝ }
 {
     if !fits(c, resources, statements, index, text) {
         return Located::Refused(Refusal::Capacity);
@@ -125,7 +127,8 @@ pub fn retract_target(
     text: &[u8],
     x: Triple,
 ) -> Located
-    ensures { λ r. ⌜ r ≡ retractTarget c (tables (now (resources .entry)) (now (statements .entry)) (now (index .entry)) (now (text .entry))) x ⌝ }
+    ensures { λ r. ⌜ r
+        ≡ retractTarget c (tables (now (resources .entry)) (now (statements .entry)) (now (index .entry)) (now (text .entry))) x ⌝ }
 {
     if !fits(c, resources, statements, index, text) {
         return Located::Refused(Refusal::Capacity);

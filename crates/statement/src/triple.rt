@@ -1,4 +1,5 @@
-// Three numbers: the one at a position, and the tests that statements and patterns are put to. Nothing here reads a table.
+// Three numbers: the one at a position, and the tests that statements and patterns are put to. Nothing here reads a
+// table.
 use store::Position;
 use store::Triple;
 ghost use mathlib.Core.Path.{_≡_};

@@ -1,19 +1,20 @@
-// Runs the script of `stdin` on statements and scans (paper 01, "Assert", "Retract", "Open a listing", "Next of a listing"). A line is a
-// name, a letter and decimal numbers; `reference.py` reads the same script and follows the paper with plain Python lists.
+// Runs the script of `stdin` on statements and scans (paper 01, "Assert", "Retract", "Open a listing", "Next of a
+// listing"). A line is a name, a letter and decimal numbers; `reference.py` reads the same script and follows the paper
+// with plain Python lists.
 //
-// | line         | does                                                              | writes                                    |
-// |--------------|-------------------------------------------------------------------|-------------------------------------------|
-// | F v          | every word of the resource and statement tables becomes v         |                                           |
-// | L r s i t    | lends that many words of the tables and bytes of the text         |                                           |
-// | C r t b      | the counters                                                      |                                           |
-// | K y k v      | word k of resource y becomes v                                    |                                           |
-// | W n k v      | word k of statement n becomes v                                   |                                           |
-// | P s p o h n  | the cursor: a pattern, the chain (0 all, 1 to 3 by s, p, o), next |                                           |
-// | A s p o      | assert                                                            | status, number, R, T, B                   |
-// | R s p o      | retract                                                           | number, 0 if none                         |
-// | O s p o      | open                                                              | cursor                                    |
-// | N b          | next of the cursor with budget b                                  | status, number, visits, cursor            |
-// | D n, E y     | the words of statement n, of resource y                           | words                                     |
+// | line        | does                                                              | writes                         |
+// |-------------|-------------------------------------------------------------------|--------------------------------|
+// | F v         | every word of the resource and statement tables becomes v         |                                |
+// | L r s i t   | lends that many words of the tables and bytes of the text         |                                |
+// | C r t b     | the counters                                                      |                                |
+// | K y k v     | word k of resource y becomes v                                    |                                |
+// | W n k v     | word k of statement n becomes v                                   |                                |
+// | P s p o h n | the cursor: a pattern, the chain (0 all, 1 to 3 by s, p, o), next |                                |
+// | A s p o     | assert                                                            | status, number, R, T, B        |
+// | R s p o     | retract                                                           | number, 0 if none              |
+// | O s p o     | open                                                              | cursor                         |
+// | N b         | next of the cursor with budget b                                  | status, number, visits, cursor |
+// | D n, E y    | the words of statement n, of resource y                           | words                          |
 //
 // Each line that calls or shows writes its number, its name and the result, or `refused` and the paper's number.
 use libc::STDIN_FILENO;

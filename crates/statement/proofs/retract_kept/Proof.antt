@@ -1,0 +1,23 @@
+use denote.Ref.{now}
+use Rattle.statement.proofs.Lent.{retract-kept}
+use Rattle.store.specs.Tables.{tables}
+use borrow.Author.Needs.{needs}
+use Rattle.statement.proofs.retract_kept.Statement.{statement}
+use Rattle.statement.proofs.retract_kept.Tie as tie
+use Rattle.statement.proofs.retract_kept.Reads as reads
+use Rattle.statement.proofs.retract_kept.Lts as lts
+use Rattle.statement.proofs.retract.Reads as retract-reads
+
+retract-requires : tie.Need-retract-requires
+retract-requires c κs = search needs
+
+same-length : tie.Need-same-length
+same-length c = search needs
+
+returns : tie.Need-returns
+returns c =
+    let a = c .before .before .before .before .before .before .before .before .args in
+    record { exact = retract-kept (a .c) (tables (now (a .resources)) (now (a .statements)) (now (a .index)) (now (a .text))) _ (a .x) (c .before .before .retract .result) (c .before .before .retract .ensures) }
+
+pub retract-kept-spec : {M : Type 1} → statement M
+retract-kept-spec = tie.close (tie.spec retract-requires same-length returns)
