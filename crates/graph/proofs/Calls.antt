@@ -34,7 +34,8 @@ use Rattle.graph.proofs.Accepted.{or-cases}
 use Rattle.graph.proofs.Laws.{Shallow, place-cursor}
 use Rattle.graph.proofs.Bind.{wordAt, Fit}
 use Rattle.graph.proofs.Solve.{solve, AllFit, solve-descending, statements, numberOf, descending-nodup}
-use Rattle.graph.proofs.Levels.{AllLow, work}
+use Rattle.graph.proofs.Levels.{AllLow}
+use Rattle.graph.specs.Work.{work}
 use Rattle.graph.proofs.Reading.{leftAt, toilAt, visitsAt, Reached, Outcome, go-outcome, reached-ok}
 use Rattle.graph.proofs.Solutions.{mem-map, map-mem, positive, single, exactly, once-as-mappings}
 
@@ -374,4 +375,4 @@ module _ (c : Counters) (m : Tables) (S : Sound c m) (ws : List ℕ) (words : wo
 -- demand 2, queries: exactly the solutions, each once, in order
 pub query-reads : ReadingClaim
 query-reads c m S ws words =
-    (opens c m S ws words, read c m S ws words, (cost c m S ws words, ends-after c m S ws words))
+    (opens c m S ws words, read c m S ws words, ends-after c m S ws words)

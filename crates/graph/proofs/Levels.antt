@@ -34,24 +34,8 @@ use Rattle.graph.specs.Query.{valueOf, under, bind, match, level, Turn, 
 use Rattle.graph.specs.Query.{struck, settle, remains, nextPattern, binds, asked, enter, hit, tried, visit}
 use Rattle.graph.proofs.Bind.{wordAt, bound-same, bound-other, Fits3, Known3, or-l, or-r, none≢some, some-eq}
 use Rattle.graph.proofs.Bind.{after-some, value-number, value-variable, value-more, match-matched}
-use Rattle.graph.proofs.Solve.{down, each, hitAt, solve, AllFit, under-at, hit-some}
-
--- ---- the work left: the number of visits
-
-unfoldable pub sumTo : (ℕ → ℕ) → ℕ → ℕ
-sumTo g zero = 0
-sumTo g (suc n) = g n + sumTo g n
-
-abbrev pub eachN : {A : Type 0} → Option A → (A → ℕ) → ℕ
-eachN none f = 0
-eachN (some a) f = f a
-
--- the records of the chain picked for the first pattern, and for each hit the work of the others
-unfoldable pub work : (ℕ → Entry) → ℕ → (Triple → Chain) → List QueryPattern → Bindings → ℕ
-work E n pk [] b = 0
-work E n pk (x ∷ ps) b =
-    sumTo (λ i. cond (onChain (pk (under b x)) (under b x) ((E i) .spo))
-    (suc (eachN (hitAt E x b i) (λ b′. work E n pk ps b′))) 0) n
+use Rattle.graph.proofs.Solve.{down, each, solve, AllFit, under-at, hit-some}
+use Rattle.graph.specs.Work.{hitAt, sumTo, eachN, work}
 
 -- ---- leaving out what a chain leaves out
 

@@ -10,6 +10,7 @@ pub mod Solutions
 pub mod Accepted
 pub mod Calls
 pub mod Onwards
+pub mod Budget
 pub mod Scans
 pub mod Listed
 pub mod Writes

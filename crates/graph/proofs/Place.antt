@@ -32,7 +32,8 @@ use Rattle.graph.specs.Query.{inside, finish, Answer, refused, found, en
 use Rattle.graph.specs.Query.{intact, anyStruck, pruned, nextPattern, binds, asked, enteredOk, placeOk, resume}
 use Rattle.graph.specs.Order.{atOrAfter, keep, numbersOn}
 use Rattle.graph.proofs.Bind.{or-l, or-r, Known3, match-matched}
-use Rattle.graph.proofs.Solve.{down, each, hitAt, solve, AllFit, hit-some, hit-of, statements, numberOf}
+use Rattle.graph.proofs.Solve.{down, each, solve, AllFit, hit-some, hit-of, statements, numberOf}
+use Rattle.graph.specs.Work.{hitAt}
 use Rattle.graph.proofs.Solve.{number-in}
 use Rattle.graph.proofs.Levels.{AllLow, left, toilLeft, above, sols, Deep, Entered, past-deep, suc-prev}
 use Rattle.graph.proofs.Levels.{tri-low, pat-fit, match-on, hit-same, left-past}

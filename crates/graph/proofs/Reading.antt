@@ -28,7 +28,8 @@ use Rattle.graph.specs.Query.{intact, anyStruck, pruned, settle, remains
 use Rattle.graph.specs.Query.{placeOk, visit, walk, begun, resume}
 use Rattle.graph.proofs.Laws.{walk-ended, walk-go, walk-whole}
 use Rattle.graph.proofs.Solve.{solve, AllFit, hit-some}
-use Rattle.graph.proofs.Levels.{work, AllLow, left, toilLeft, Deep, Passed, Entered, Settled, Turned, firstOf}
+use Rattle.graph.proofs.Levels.{AllLow, left, toilLeft, Deep, Passed, Entered, Settled, Turned, firstOf}
+use Rattle.graph.specs.Work.{work}
 use Rattle.graph.proofs.Levels.{suc-prev, hit-same, under-top, passed-match, past-num, settled, remains-none}
 use Rattle.graph.proofs.Levels.{remains-some, enter-is, first-deep, turn, left-first, toil-first}
 

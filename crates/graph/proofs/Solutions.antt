@@ -33,7 +33,8 @@ use Rattle.graph.specs.Meaning.{Mapping, Takes, Instance, Solves}
 use Rattle.graph.specs.Graph.{named, graphOf, termOf, patternOf, nameOr, mappingOf}
 use Rattle.graph.proofs.Bind.{wordAt, bound-ext, Fits3, Known3, isThe, occursIn, none≢some, some-eq}
 use Rattle.graph.proofs.Bind.{value-number, value-variable}
-use Rattle.graph.proofs.Solve.{down-out, each, each-out, hitAt, hit-some, solve, occurs, Among, Holds, Solved}
+use Rattle.graph.proofs.Solve.{down-out, each, each-out, hit-some, solve, occurs, Among, Holds, Solved}
+use Rattle.graph.specs.Work.{hitAt}
 use Rattle.graph.proofs.Solve.{AllFit, solve-sound, solve-complete, under-at, value-var, triple-ext}
 use Rattle.graph.proofs.Levels.{Low, AllLow, match-low, low-none}
 use Rattle.graph.proofs.Names.{named-at, names-apart, numberOfName, number-le, number-name}

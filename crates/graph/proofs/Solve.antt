@@ -21,6 +21,7 @@ use Rattle.store.specs.Model.{Entry}
 use Rattle.store.proofs.Tests.{decide, same-self, same-is}
 use Rattle.store.proofs.Falling.{head-unique}
 use Rattle.graph.specs.declared.QueryPattern.{QueryPattern}
+use Rattle.graph.specs.Work.{hitAt}
 use Rattle.graph.specs.Query.{firstVariable, Bindings, resource, boundTo, valueOf, under, match}
 use Rattle.graph.specs.Order.{Lower, Descending, NoDuplicates}
 use Rattle.graph.proofs.Bind.{wordAt, bound-ext, More, Fits3, Known3, isThe, occursIn, or-l, or-r, none≢some}
@@ -34,10 +35,6 @@ down g (suc n) = g n ++ down g n
 abbrev pub each : {A B : Type 0} → Option A → (A → List B) → List B
 each none f = []
 each (some a) f = f a
-
--- entry i, if it is live and meets x under b: what is then bound
-unfoldable pub hitAt : (ℕ → Entry) → QueryPattern → Bindings → ℕ → Option Bindings
-hitAt E x b i = cond ((E i) .retracted) none (match x ((E i) .spo) b)
 
 -- the solutions with more than b, the first pattern's entry falling first
 unfoldable pub solve : (ℕ → Entry) → ℕ → List QueryPattern → Bindings → List Bindings

@@ -1,11 +1,12 @@
 -- Every claim of `specs/Claims.antt` with its proof: a declaration of each type. Assumes nothing.
-use Rattle.graph.specs.Claims.{GraphClaim, WordsClaim, ReadingClaim, NextClaim, KeptClaim, SplitClaim}
+use Rattle.graph.specs.Claims.{GraphClaim, WordsClaim, ReadingClaim, NextClaim, KeptClaim, BudgetClaim, SplitClaim}
 use Rattle.graph.specs.Claims.{ScanClaim}
 use Rattle.graph.specs.Claims.{WriteClaim, LoadClaim}
 use Rattle.graph.proofs.Names as names
 use Rattle.graph.proofs.Accepted as accepted
 use Rattle.graph.proofs.Calls as calls
 use Rattle.graph.proofs.Onwards as onwards
+use Rattle.graph.proofs.Budget as budget
 use Rattle.graph.proofs.Scans as scans
 use Rattle.graph.proofs.Writes as writes
 
@@ -23,6 +24,9 @@ next-onwards = onwards.next-onwards
 
 pub cursor-kept : KeptClaim
 cursor-kept = onwards.cursor-kept
+
+pub within-budget : BudgetClaim
+within-budget = budget.within-budget
 
 pub budgets-add : SplitClaim
 budgets-add = onwards.budgets-add

@@ -31,6 +31,7 @@ use Rattle.graph.specs.declared.Opening.the-variants.{Opened}
 use Rattle.graph.specs.declared.QueryStep.{QueryStep}
 use Rattle.graph.specs.declared.QueryStep.the-variants.{Found, Ended, Spent, Refused}
 use Rattle.graph.specs.declared.QueryAnswer.{QueryAnswer}
+use Rattle.graph.specs.Work.{workOf}
 use Rattle.graph.specs.Query.{maxPatterns, variables, firstVariable, wordsOk, patternsOf, Bindings, placeOf}
 use Rattle.graph.specs.Query.{placeOk, startCursor, openQueryOf}
 use Rattle.graph.specs.Query.{nextQueryOf, readOn}
@@ -136,7 +137,7 @@ abbrev pub ReadingClaim : Type 0
 ReadingClaim = (c : Counters) (m : Tables) → Sound c m → (ws : List ℕ) → wordsOk (c .resources) ws ≡ true
     → (openQueryOf c m ws ≡ record { opening = Opened; cursor = startCursor })
     × ((bs : List ℕ) → AllPositive bs → Read c m ws bs)
-    × ((n : ℕ) × Ends c m ws n)
+    × Ends c m ws (workOf c m ws)
 
 -- the words that are accepted: three a pattern, no more patterns than the limit, each a number in 1..R or a variable
 pub record Accepts (r : ℕ) (ws : List ℕ) : Type 0 where
@@ -188,6 +189,10 @@ KeptClaim = (c : Counters) (m : Tables) → Sound c m → (ws : List ℕ) (q : Q
     → Unrefused ((nextQueryOf c m ws q b) .step)
     → (qs : List ScanCursor) (calls : List Call) (b′ : ℕ) → let s = storeAfter (store c m qs) calls in
     (nextQueryOf (s .counters) (s .tables) ws ((nextQueryOf c m ws q b) .cursor) b′) .step ≢ Refused BadCursor
+
+-- A call visits no more records than its budget, on any tables, words and cursor.
+abbrev pub BudgetClaim : Type 0
+BudgetClaim = (c : Counters) (m : Tables) (ws : List ℕ) (q : QueryCursor) (b : ℕ) → (nextQueryOf c m ws q b) .visits ≤ b
 
 -- ---- 4. Budgets add up.
 

@@ -1,5 +1,6 @@
 pub mod Query
 pub mod Values
+pub mod Work
 pub mod Order
 pub mod Meaning
 pub mod Graph

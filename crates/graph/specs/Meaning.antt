@@ -1,5 +1,6 @@
 -- What a graph and a query mean, to be held beside RDF 1.1 Concepts (3) and SPARQL 1.1 (18.1, 18.3). Names are told
--- apart by their bytes; a blank node in a pattern stands for itself (paper 01). Nothing here speaks of tables,
+-- apart by their bytes, so `"A"` and `"A"` with the datatype xsd:string written out are two terms here, and so are two spellings of a
+-- language tag; a blank node in a pattern stands for itself (paper 01). Nothing here speaks of tables,
 -- chains, cursors or visits. Assumes nothing.
 use mathlib.Core.Path.{_≡_}
 use mathlib.Core.Logic.{_⊎_, _↔_}

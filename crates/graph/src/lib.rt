@@ -74,6 +74,7 @@ pub enum QueryStep {
 
 // Next of a query: the visits made, the solution found, the cursor from now on; whatever a case does not give is
 // zero.
+// Beside a refusal the cursor is zero, which is the start: the caller goes on from the cursor it had.
 pub struct QueryAnswer {
     pub step: QueryStep,
     pub visits: u32,

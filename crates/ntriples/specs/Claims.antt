@@ -84,8 +84,8 @@ abbrev pub OneDerivation : Type 0
 OneDerivation = (l : List ℕ) (d : Triple l) → ((e : Triple l) → SameStrings d e) × (Trail l → ⊥)
 
 -- Two names have two terms, as the paper tells names apart by their bytes. The one exception within the paper's spelling is a
--- literal that writes the datatype xsd:string, which has the term of the same literal without it. (RDF 1.1 also lets a store
--- take language tags without their case; here a tag is as it is written.)
+-- literal that writes the datatype xsd:string, to which RDF 1.1 gives the term of the same literal without it; the claim leaves
+-- such names out. (RDF 1.1 also lets a store take language tags without their case; here a tag is as it is written.)
 abbrev pub WritesString : List ℕ → Type 0
 WritesString s = (x : List ℕ) × (s ≡ x ++ (94 ∷ (94 ∷ (60 ∷ (xsdString ++ (62 ∷ []))))))
 

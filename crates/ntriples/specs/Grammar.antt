@@ -1,5 +1,5 @@
 -- The grammar of a line (scope paper, "Names", last paragraph): the productions of RDF 1.1 N-Triples, by their names there
--- (triple, subject, predicate, object, comment), over the terms that the paper permits. Assumes nothing.
+-- (triple, subject, predicate, object), with white space and comments as the paper has them, over the terms that it permits. Assumes nothing.
 use Prim.Native.Nat.{ℕ, _+_, _≤_, min}
 use mathlib.Core.Path.{_≡_}
 use mathlib.Core.List.{List, [], _∷_, _++_}

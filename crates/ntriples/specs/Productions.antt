@@ -86,7 +86,7 @@ ObjectEnds text stop a (object.Dotted e) =
     × ((ms : List Span) → onward text stop a (Gap ms 1) ≡ onward text stop (e + 1) (After (ms ++ (span a e ∷ []))))
 ObjectEnds text stop a (object.Broken k) = (a ≤ k) × ((ms : List Span) → onward text stop a (Gap ms 1) ≡ Fails k)
 
--- how far the scan of the term that begins at a goes: to the line's end or over 256 bytes
+-- how far the scan of the term that begins at a goes: to the line's end, and over 256 bytes at most
 unfoldable pub cutOf : ℕ → ℕ → ℕ
 cutOf a stop = pick (ltb (a + 256) stop) (a + 256) stop
 
@@ -94,7 +94,7 @@ cutOf a stop = pick (ltb (a + 256) stop) (a + 256) stop
 unfoldable pub crDropped : List ℕ → ℕ → ℕ → ℕ
 crDropped text i e = pick (eqb e i) e (pick (eqb (getD text (e - 1) 0) 13) (e - 1) e)
 
--- r counts the LF b
+-- r is 0 only if b is no LF, and 1 at most
 pub record LfCount (b r : ℕ) : Type 0 where
   pub most : r ≤ 1
   pub none : r ≡ 0 → (b ≡ 10 → ⊥)

@@ -101,7 +101,7 @@ unfoldable pub gapOf : ℕ → List Span → ℕ → ℕ → Place
 gapOf i ms zero b = pick (white b) (Gap ms zero) (pick (eqb b 46) (After ms) (Broken i))
 gapOf i ms (suc n) b = pick (white b) (Gap ms (suc n)) (enterOf i ms n b)
 
--- the term goes on with b: byte limit + 1 of it breaks the line, unless it is a dot that ends the line
+-- the term goes on with b: byte limit + 1 of it breaks the line, unless it is a dot that can end the line
 unfoldable pub goesOnOf : ℕ → ℕ → List Span → ℕ → Scan → ℕ → Place
 goesOnOf limit i ms n q a =
     pick (ltb i (a + limit)) (Inside ms n q a) (pick (dotted n q) (After (ms ++ (span a i ∷ []))) (Broken i))
