@@ -1,4 +1,5 @@
--- Laws of levels: refusal 6 and 9 level by level, what is bound, struck-out records, levels in an array. Assumes nothing.
+-- Laws of levels: refusal 6 and 9 level by level, what is bound, struck-out records, levels in an array. Assumes
+-- nothing.
 use mathlib.Core.Path.{_≡_, refl, sym, ap, _∙_}
 use mathlib.Core.Logic.{_≢_}
 use mathlib.Core.Bool.{Bool, true, false, cond, _&&_, _||_, false≢true}
@@ -9,7 +10,8 @@ use native.Mathlib.Omega.{arith}
 use lib.ListN.{length, getD, set, replicate, length-set}
 use lib.Seq.{getD-set-same, getD-set-other}
 use lib.Dec.{eqb, leb, ltb}
-use borrow.Author.Tests.{ltb-true, leb-true, leb-false, eqb-true, eqb-false, eq-eqb, ne-eqb, lt-ltb, le-ltb, le-leb, lt-leb}
+use borrow.Author.Tests.{ltb-true, leb-true, leb-false, eqb-true, eqb-false, eq-eqb, ne-eqb, lt-ltb, le-ltb, le-leb}
+use borrow.Author.Tests.{lt-leb}
 use Rattle.store.specs.declared.Chain.{Chain}
 use Rattle.store.specs.declared.Triple.{Triple}
 use Rattle.store.specs.Triple.{known, prev}
@@ -20,12 +22,15 @@ use Rattle.table.specs.Held.{StatementHeld}
 use Rattle.graph.specs.declared.QueryPattern.{QueryPattern}
 use Rattle.graph.specs.declared.Solution.{Solution}
 use Rattle.graph.specs.declared.Level.{Level}
-use Rattle.graph.specs.Query.{patternsOf, pattern, maxPatterns, Bindings, under, match, orElse, isSome, level, noLevel, inside, recordAt, past, struck, intact, anyStruck, remains, nextPattern, binds, asked, enteredOk, placeOk, levelsOf, insideOf, written}
+use Rattle.graph.specs.Query.{patternsOf, pattern, maxPatterns, Bindings, under, match, orElse, isSome, level}
+use Rattle.graph.specs.Query.{noLevel, inside, recordAt, past, struck, intact, anyStruck, remains, nextPattern, binds}
+use Rattle.graph.specs.Query.{asked, enteredOk, placeOk, levelsOf, insideOf, written}
 use Rattle.store.proofs.Tests.{decide, and-l, and-r}
 use Rattle.graph.proofs.Laws.{prev-minus, levels-length}
 use Rattle.pattern.specs.declared.binding.Matched.{Matched}
 use Rattle.pattern.specs.Matching.{PatternOk, matchedAs}
-use Rattle.pattern.specs.Levels.{QueryOk, LevelsHeld, levelOk, LevelTested, LevelsTested, levelIntact, FirstStruck, deepestOk}
+use Rattle.pattern.specs.Levels.{QueryOk, LevelsHeld, levelOk, LevelTested, LevelsTested, levelIntact}
+use Rattle.pattern.specs.Levels.{FirstStruck, deepestOk}
 use Rattle.pattern.proofs.Matches.{match-none}
 
 -- ---- tests
@@ -78,27 +83,45 @@ module _ (r t : ℕ) (stm : List ℕ) (x : QueryPattern) (b : Bindings) (e : Lev
   unfolding levelOk
   ok-above h = rw (lt-ltb 0 (e .statement .0) (omega arith), lt-leb (e .statement .0) t h)
 
-  pub ok-chain : (e .statement .0 ≡ 0 → ⊥) → e .statement .0 ≤ t → chainOk (e .chain) (under b x) ≡ false → levelOk r t stm x b e ≡ false
+  pub ok-chain : (e .statement .0 ≡ 0 → ⊥) → e .statement .0 ≤ t → chainOk (e .chain) (under b x) ≡ false
+      → levelOk r t stm x b e ≡ false
   unfolding levelOk
   ok-chain h k f = rw (lt-ltb 0 (e .statement .0) (omega arith), le-leb (e .statement .0) t k, f)
 
   pub ok-known : (e .statement .0 ≡ 0 → ⊥) → e .statement .0 ≤ t → chainOk (e .chain) (under b x) ≡ true
       → known r (tripleAt stm (e .statement .0 - 1)) ≡ false → levelOk r t stm x b e ≡ false
   unfolding levelOk
-  ok-known h k f g = rw (record-at stm (e .statement .0), lt-ltb 0 (e .statement .0) (omega arith), le-leb (e .statement .0) t k, f, g)
+  ok-known h k f g = rw (
+    record-at stm (e .statement .0),
+    lt-ltb 0 (e .statement .0) (omega arith),
+    le-leb
+        (e .statement .0) t k,
+    f,
+    g,
+  )
 
   pub ok-match : (e .statement .0 ≡ 0 → ⊥) → e .statement .0 ≤ t → chainOk (e .chain) (under b x) ≡ true
       → known r (tripleAt stm (e .statement .0 - 1)) ≡ true
       → levelOk r t stm x b e ≡ isSome (match x (tripleAt stm (e .statement .0 - 1)) b)
   unfolding levelOk
-  ok-match h k f g = rw (record-at stm (e .statement .0), lt-ltb 0 (e .statement .0) (omega arith), le-leb (e .statement .0) t k, f, g)
+  ok-match h k f g = rw (
+    record-at stm (e .statement .0),
+    lt-ltb 0 (e .statement .0) (omega arith),
+    le-leb
+        (e .statement .0) t k,
+    f,
+    g,
+  )
 
   -- what 6 has tested
   pub ok-number : levelOk r t stm x b e ≡ true → (1 ≤ e .statement .0) × (e .statement .0 ≤ t)
   unfolding levelOk
   ok-number h =
-      let q = and-l (ltb 0 (e .statement .0) && leb (e .statement .0) t) _ h in
-      (ltb-true 0 (e .statement .0) (and-l _ (leb (e .statement .0) t) q), leb-true (e .statement .0) t (and-r (ltb 0 (e .statement .0)) _ q))
+      let q = and-l (ltb 0 (e .statement .0) && leb (e .statement .0) t) _ h in (
+        ltb-true 0 (e .statement .0) (and-l _ (leb (e .statement .0) t) q),
+        leb-true (e .statement .0) t
+            (and-r (ltb 0 (e .statement .0)) _ q),
+      )
 
   pub ok-resources : levelOk r t stm x b e ≡ true → known r (recordAt stm (e .statement .0)) ≡ true
   unfolding levelOk
@@ -115,20 +138,26 @@ bound-or b none = refl
 bound-or b (some b′) = refl
 
 module _ (r t : ℕ) (stm : List ℕ) (x : QueryPattern) (b : Solution) (e : Level) where
-  pub tested-miss : levelOk r t stm x (b .values) e ≡ false → LevelTested r t stm x b e (record { hit = false; bound = b })
+  pub tested-miss : levelOk r t stm x (b .values) e ≡ false
+      → LevelTested r t stm x b e (record { hit = false; bound = b })
   tested-miss h = record { told = sym h; binds-on = λ z. absurd (false≢true z) }
 
   pub tested-meet : (m : Matched) → m ≡ matchedAs b (match x (tripleAt stm (e .statement .0 - 1)) (b .values))
-      → levelOk r t stm x (b .values) e ≡ isSome (match x (tripleAt stm (e .statement .0 - 1)) (b .values)) → LevelTested r t stm x b e m
+      → levelOk r t stm x (b .values) e ≡ isSome (match x (tripleAt stm (e .statement .0 - 1)) (b .values))
+      → LevelTested r t stm x b e m
   tested-meet m d h =
       record {
-        told = ap (λ (z : Matched). z .hit) d ∙ hit-some b (match x (tripleAt stm (e .statement .0 - 1)) (b .values)) ∙ sym h;
-        binds-on = λ z. ap (λ (z : Matched). z .bound .values) d ∙ bound-or b (match x (tripleAt stm (e .statement .0 - 1)) (b .values)) ∙ ap (λ (y : Triple). orElse (match x y (b .values)) (b .values)) (sym (record-at stm (e .statement .0)));
+        told = ap (λ (z : Matched). z .hit) d
+            ∙ hit-some b (match x (tripleAt stm (e .statement .0 - 1)) (b .values)) ∙ sym h;
+        binds-on = λ z. ap (λ (z : Matched). z .bound .values) d
+            ∙ bound-or b (match x (tripleAt stm (e .statement .0 - 1)) (b .values))
+            ∙ ap (λ (y : Triple). orElse (match x y (b .values)) (b .values)) (sym (record-at stm (e .statement .0)));
       }
 
 -- ---- the first levels of an array
 
-pub next-at : (ps : List QueryPattern) (ls : List Level) (d : ℕ) → nextPattern ps (levelsOf ls d) ≡ getD ps d (pattern 0 0 0)
+pub next-at : (ps : List QueryPattern) (ls : List Level) (d : ℕ) → nextPattern ps (levelsOf ls d)
+    ≡ getD ps d (pattern 0 0 0)
 unfolding nextPattern
 next-at ps ls d = rw (levels-length ls d)
 
@@ -138,7 +167,8 @@ module _ (r t : ℕ) (stm : List ℕ) (ps : List QueryPattern) (ls : List Level)
   binds-none = refl
 
   pub binds-step : (i : ℕ) → binds stm ps (levelsOf ls (i + 1))
-      ≡ orElse (match (getD ps i (pattern 0 0 0)) (recordAt stm ((getD ls i noLevel) .statement .0)) (binds stm ps (levelsOf ls i)))
+      ≡ orElse (match (getD ps i (pattern 0 0 0)) (recordAt stm ((getD ls i noLevel) .statement .0))
+      (binds stm ps (levelsOf ls i)))
       (binds stm ps (levelsOf ls i))
   unfolding binds levelsOf
   binds-step i = let q : i + 1 ≡ suc i = omega arith in rw (q, binds, levelsOf, next-at ps ls i)
@@ -148,18 +178,22 @@ module _ (r t : ℕ) (stm : List ℕ) (ps : List QueryPattern) (ls : List Level)
   entered-none = refl
 
   pub entered-step : (i : ℕ) → enteredOk stm ps r t (levelsOf ls (i + 1))
-      ≡ levelOk r t stm (getD ps i (pattern 0 0 0)) (binds stm ps (levelsOf ls i)) (getD ls i noLevel) && enteredOk stm ps r t (levelsOf ls i)
+      ≡ levelOk r t stm (getD ps i (pattern 0 0 0)) (binds stm ps (levelsOf ls i)) (getD ls i noLevel)
+      && enteredOk stm ps r t (levelsOf ls i)
   unfolding enteredOk levelsOf levelOk asked
   entered-step i = let q : i + 1 ≡ suc i = omega arith in rw (q, enteredOk, levelsOf, next-at ps ls i)
 
-  pub entered-false : (i d : ℕ) → i ≤ d → enteredOk stm ps r t (levelsOf ls i) ≡ false → enteredOk stm ps r t (levelsOf ls d) ≡ false
+  pub entered-false : (i d : ℕ) → i ≤ d → enteredOk stm ps r t (levelsOf ls i) ≡ false
+      → enteredOk stm ps r t (levelsOf ls d) ≡ false
   entered-false i zero h e = let q : i ≡ 0 = omega arith in rw q at e
   entered-false i (suc d) h e =
       decide (eqb i (suc d)) (λ k. rw (eqb-true i (suc d) k) at e)
       (λ k.
       let n = eqb-false i (suc d) k in
       let q : suc d ≡ d + 1 = omega arith in
-      rw q (entered-step d ∙ and-false (levelOk r t stm (getD ps d (pattern 0 0 0)) (binds stm ps (levelsOf ls d)) (getD ls d noLevel)) _ (entered-false i d (omega arith) e)))
+      rw q (entered-step d
+      ∙ and-false (levelOk r t stm (getD ps d (pattern 0 0 0)) (binds stm ps (levelsOf ls d))
+      (getD ls d noLevel)) _ (entered-false i d (omega arith) e)))
 
   -- what holds of each level that 6 has tested
   pub entered-each : (d : ℕ) → enteredOk stm ps r t (levelsOf ls d) ≡ true → (i : ℕ) → i < d
@@ -171,25 +205,36 @@ module _ (r t : ℕ) (stm : List ℕ) (ps : List QueryPattern) (ls : List Level)
       decide (eqb i d) (λ k. rw (eqb-true i d k) (and-l _ (enteredOk stm ps r t (levelsOf ls d)) f))
       (λ k.
       let n = eqb-false i d k in
-      entered-each d (and-r (levelOk r t stm (getD ps d (pattern 0 0 0)) (binds stm ps (levelsOf ls d)) (getD ls d noLevel)) _ f) i (omega arith))
+      entered-each d (and-r (levelOk r t stm (getD ps d (pattern 0 0 0)) (binds stm ps (levelsOf ls d))
+      (getD ls d noLevel)) _ f) i (omega arith))
 
 -- the loop over the levels that 6 tests: one that fails, one more, all of them
-module _ (r t : ℕ) (stm : List ℕ) (ps : List QueryPattern) (ls : List Level) (i : ℕ) (x : QueryPattern) (b : Solution) (m : Matched) where
-  at-level : x ≡ getD ps i (pattern 0 0 0) → b .values ≡ binds stm ps (levelsOf ls i) → LevelTested r t stm x b (getD ls i noLevel) m
+module _ (r t : ℕ) (stm : List ℕ) (ps : List QueryPattern) (ls : List Level) (i : ℕ) (x : QueryPattern)
+    (b : Solution) (m : Matched) where
+  at-level : x ≡ getD ps i (pattern 0 0 0) → b .values ≡ binds stm ps (levelsOf ls i)
+      → LevelTested r t stm x b (getD ls i noLevel) m
       → m .hit ≡ levelOk r t stm (getD ps i (pattern 0 0 0)) (binds stm ps (levelsOf ls i)) (getD ls i noLevel)
   at-level e f q = q .told ∙ rw (e, f)
 
   pub levels-miss : (d : ℕ) → i < d → x ≡ getD ps i (pattern 0 0 0) → b .values ≡ binds stm ps (levelsOf ls i)
       → LevelTested r t stm x b (getD ls i noLevel) m → m .hit ≡ false → LevelsTested r t stm ps (levelsOf ls d) m
   levels-miss d h e f q z =
-      let g : enteredOk stm ps r t (levelsOf ls (i + 1)) ≡ false = entered-step r t stm ps ls i ∙ rw (← at-level e f q, z) in
-      record { told = z ∙ sym (entered-false r t stm ps ls (i + 1) d (omega arith) g); binds-all = λ y. absurd (false≢true (sym z ∙ y)) }
+      let g : enteredOk stm ps r t (levelsOf ls (i + 1)) ≡ false = entered-step r t stm ps ls i
+      ∙ rw (← at-level e f q, z) in
+      record {
+        told = z ∙ sym (entered-false r t stm ps ls (i + 1) d (omega arith) g);
+        binds-all = λ y. absurd
+            (false≢true (sym z ∙ y));
+      }
 
   pub levels-hit : x ≡ getD ps i (pattern 0 0 0) → b .values ≡ binds stm ps (levelsOf ls i)
       → LevelTested r t stm x b (getD ls i noLevel) m → m .hit ≡ true → enteredOk stm ps r t (levelsOf ls i) ≡ true
       → (m .bound .values ≡ binds stm ps (levelsOf ls (i + 1))) × (enteredOk stm ps r t (levelsOf ls (i + 1)) ≡ true)
-  levels-hit e f q z g =
-      (q .binds-on z ∙ rw (e, f) (sym (binds-step r t stm ps ls i)), entered-step r t stm ps ls i ∙ rw (← at-level e f q, z) g)
+  levels-hit e f q z g = (
+    q .binds-on z ∙ rw (e, f) (sym (binds-step r t stm ps ls i)),
+    entered-step r t stm ps ls i
+        ∙ rw (← at-level e f q, z) g,
+  )
 
 pub levels-done : (r t : ℕ) (stm : List ℕ) (ps : List QueryPattern) (ls : List Level) (i d : ℕ) (b : Solution) → i ≡ d
     → b .values ≡ binds stm ps (levelsOf ls i) → enteredOk stm ps r t (levelsOf ls i) ≡ true
@@ -197,8 +242,10 @@ pub levels-done : (r t : ℕ) (stm : List ℕ) (ps : List QueryPattern) (ls : Li
 levels-done r t stm ps ls i d b h e f = rw (← h) (record { told = sym f; binds-all = λ z. e })
 
 -- the loop over what the levels bind
-pub bindings-step : (stm : List ℕ) (ps : List QueryPattern) (ls : List Level) (i : ℕ) (x : QueryPattern) (y : Triple) (b : Solution) (m : Matched)
-    → x ≡ getD ps i (pattern 0 0 0) → y ≡ tripleAt stm ((getD ls i noLevel) .statement .0 - 1) → b .values ≡ binds stm ps (levelsOf ls i)
+pub bindings-step : (stm : List ℕ) (ps : List QueryPattern) (ls : List Level) (i : ℕ) (x : QueryPattern)
+    (y : Triple) (b : Solution) (m : Matched)
+    → x ≡ getD ps i (pattern 0 0 0) → y ≡ tripleAt stm ((getD ls i noLevel) .statement .0 - 1) → b .values
+    ≡ binds stm ps (levelsOf ls i)
     → m ≡ matchedAs b (match x y (b .values)) → m .bound .values ≡ binds stm ps (levelsOf ls (i + 1))
 bindings-step stm ps ls i x y b m e d f k =
     ap (λ (z : Matched). z .bound .values) k ∙ bound-or b (match x y (b .values))
@@ -217,7 +264,8 @@ module _ (r t : ℕ) (stm : List ℕ) (ps : List QueryPattern) (ls : List Level)
   place-above zero h = absurd (omega arith)
   place-above (suc d) h = rw (levels-length ls d, le-ltb d (length ps) (omega arith))
 
-  pub place-entered : (d : ℕ) → (d ≡ 0 → ⊥) → d ≤ length ps → enteredOk stm ps r t (levelsOf ls (d - 1)) ≡ false → placeOk stm ps r t (insideOf ls d) ≡ false
+  pub place-entered : (d : ℕ) → (d ≡ 0 → ⊥) → d ≤ length ps → enteredOk stm ps r t (levelsOf ls (d - 1)) ≡ false
+      → placeOk stm ps r t (insideOf ls d) ≡ false
   unfolding placeOk insideOf
   place-entered zero z h e = absurd (z refl)
   place-entered (suc d) z h e =
@@ -226,7 +274,8 @@ module _ (r t : ℕ) (stm : List ℕ) (ps : List QueryPattern) (ls : List Level)
       rw (f, levels-length ls d, lt-ltb d (length ps) (omega arith))
 
   pub place-deepest : (d : ℕ) → (d ≡ 0 → ⊥) → d ≤ length ps → enteredOk stm ps r t (levelsOf ls (d - 1)) ≡ true
-      → placeOk stm ps r t (insideOf ls d) ≡ deepestOk t stm (asked stm ps (levelsOf ls (d - 1))) (getD ls (d - 1) noLevel)
+      → placeOk stm ps r t (insideOf ls d) ≡ deepestOk t stm (asked stm ps (levelsOf ls (d - 1)))
+      (getD ls (d - 1) noLevel)
   unfolding placeOk insideOf deepestOk
   place-deepest zero z h e = absurd (z refl)
   place-deepest (suc d) z h e =
@@ -234,7 +283,8 @@ module _ (r t : ℕ) (stm : List ℕ) (ps : List QueryPattern) (ls : List Level)
       let f : enteredOk stm ps r t (levelsOf ls d) ≡ true = rw q at e in
       rw (q, f, levels-length ls d, lt-ltb d (length ps) (omega arith))
 
-  pub asked-at : (d : ℕ) → asked stm ps (levelsOf ls d) ≡ under (binds stm ps (levelsOf ls d)) (getD ps d (pattern 0 0 0))
+  pub asked-at : (d : ℕ) → asked stm ps (levelsOf ls d) ≡ under (binds stm ps (levelsOf ls d))
+      (getD ps d (pattern 0 0 0))
   unfolding asked
   asked-at d = rw (next-at ps ls d)
 
@@ -249,7 +299,8 @@ module _ (stm : List ℕ) (ls : List Level) where
   unfolding intact levelsOf
   intact-none = refl
 
-  pub intact-step : (i : ℕ) → intact stm (levelsOf ls (i + 1)) ≡ levelIntact stm (getD ls i noLevel) && intact stm (levelsOf ls i)
+  pub intact-step : (i : ℕ) → intact stm (levelsOf ls (i + 1)) ≡ levelIntact stm (getD ls i noLevel)
+      && intact stm (levelsOf ls i)
   unfolding intact levelsOf levelIntact
   intact-step i = let q : i + 1 ≡ suc i = omega arith in rw (q, intact, levelsOf)
 
@@ -262,7 +313,8 @@ module _ (stm : List ℕ) (ls : List Level) where
       let q : suc d ≡ d + 1 = omega arith in
       rw q (intact-step d ∙ and-false (levelIntact stm (getD ls d noLevel)) _ (intact-false i d (omega arith) e)))
 
-  pub intact-each : (d : ℕ) → intact stm (levelsOf ls d) ≡ true → (i : ℕ) → i < d → levelIntact stm (getD ls i noLevel) ≡ true
+  pub intact-each : (d : ℕ) → intact stm (levelsOf ls d) ≡ true → (i : ℕ) → i < d
+      → levelIntact stm (getD ls i noLevel) ≡ true
   intact-each zero e i h = absurd (omega arith)
   intact-each (suc d) e i h =
       let q : suc d ≡ d + 1 = omega arith in
@@ -274,7 +326,8 @@ module _ (stm : List ℕ) (ls : List Level) where
   pub intact-miss : (i d : ℕ) → i < d → levelIntact stm (getD ls i noLevel) ≡ false → intact stm (levelsOf ls d) ≡ false
   intact-miss i d h e = intact-false (i + 1) d (omega arith) (intact-step i ∙ rw e)
 
-  pub intact-hit : (i : ℕ) → levelIntact stm (getD ls i noLevel) ≡ true → intact stm (levelsOf ls i) ≡ true → intact stm (levelsOf ls (i + 1)) ≡ true
+  pub intact-hit : (i : ℕ) → levelIntact stm (getD ls i noLevel) ≡ true → intact stm (levelsOf ls i) ≡ true
+      → intact stm (levelsOf ls (i + 1)) ≡ true
   intact-hit i e f = intact-step i ∙ rw (e, f)
 
   -- ---- struck-out records
@@ -283,7 +336,8 @@ module _ (stm : List ℕ) (ls : List Level) where
   unfolding anyStruck levelsOf
   struck-none = refl
 
-  pub struck-step : (i : ℕ) → struck stm (getD ls i noLevel) ≡ false → anyStruck stm (levelsOf ls i) ≡ false → anyStruck stm (levelsOf ls (i + 1)) ≡ false
+  pub struck-step : (i : ℕ) → struck stm (getD ls i noLevel) ≡ false → anyStruck stm (levelsOf ls i) ≡ false
+      → anyStruck stm (levelsOf ls (i + 1)) ≡ false
   unfolding anyStruck levelsOf
   struck-step i e f = let q : i + 1 ≡ suc i = omega arith in rw (q, anyStruck, levelsOf, e, f)
 
@@ -294,7 +348,8 @@ unfoldable pub restOf : List ℕ → List Level → Bool
 restOf stm [] = false
 restOf stm (e ∷ up) = ltb 0 ((past stm e) .statement .0) || restOf stm up
 
-remains-rest : (stm : List ℕ) (l : Level) (up : List Level) → remains stm l up ≡ ltb 0 (l .statement .0) || restOf stm up
+remains-rest : (stm : List ℕ) (l : Level) (up : List Level) → remains stm l up ≡ ltb 0 (l .statement .0)
+    || restOf stm up
 unfolding remains restOf
 remains-rest stm l [] = sym (or-false (ltb 0 (l .statement .0)))
 remains-rest stm l (e ∷ up) = ap (λ (z : Bool). ltb 0 (l .statement .0) || z) (remains-rest stm (past stm e) up)
@@ -310,12 +365,14 @@ module _ (stm : List ℕ) (ls : List Level) where
   rest-none (suc i) e = absurd (omega arith)
 
   rest-step : (i : ℕ) → 0 < i
-      → restOf stm (levelsOf ls i) ≡ ltb 0 ((past stm (getD ls (i - 1) noLevel)) .statement .0) || restOf stm (levelsOf ls (i - 1))
+      → restOf stm (levelsOf ls i) ≡ ltb 0 ((past stm (getD ls (i - 1) noLevel)) .statement .0)
+      || restOf stm (levelsOf ls (i - 1))
   unfolding restOf levelsOf
   rest-step zero h = absurd (omega arith)
   rest-step (suc i) h = let q : suc i - 1 ≡ i = omega arith in rw (q, restOf, levelsOf)
 
-  pub rest-some : (i : ℕ) (e : Level) → 0 < i → e ≡ past stm (getD ls (i - 1) noLevel) → (e .statement .0 ≡ 0 → ⊥) → restOf stm (levelsOf ls i) ≡ true
+  pub rest-some : (i : ℕ) (e : Level) → 0 < i → e ≡ past stm (getD ls (i - 1) noLevel) → (e .statement .0 ≡ 0 → ⊥)
+      → restOf stm (levelsOf ls i) ≡ true
   rest-some i e h d n = rest-step i h ∙ rw (← d, lt-ltb 0 (e .statement .0) (omega arith))
 
   pub rest-less : (i : ℕ) (e : Level) → 0 < i → e ≡ past stm (getD ls (i - 1) noLevel) → e .statement .0 ≡ 0
@@ -328,6 +385,7 @@ pub written-none : (ls : List Level) → written (levelsOf ls 0) ≡ replicate 8
 unfolding written levelsOf
 written-none ls = refl
 
-pub written-step : (ls : List Level) (i : ℕ) → written (levelsOf ls (i + 1)) ≡ set (written (levelsOf ls i)) i (getD ls i noLevel)
+pub written-step : (ls : List Level) (i : ℕ) → written (levelsOf ls (i + 1))
+    ≡ set (written (levelsOf ls i)) i (getD ls i noLevel)
 unfolding written levelsOf
 written-step ls i = let q : i + 1 ≡ suc i = omega arith in rw (q, written, levelsOf, levels-length ls i)

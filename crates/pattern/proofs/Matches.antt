@@ -1,4 +1,5 @@
--- Laws of a match: one word against a resource, a triple against a pattern, and what is bound stays within R. Assumes nothing.
+-- Laws of a match: one word against a resource, a triple against a pattern, and what is bound stays within R. Assumes
+-- nothing.
 use mathlib.Core.Path.{_≡_, refl, sym, ap, _∙_}
 use mathlib.Core.Logic.{_≢_, _⊎_, ⊎-elim, inl, inr}
 use mathlib.Core.Bool.{Bool, true, false, cond, _&&_, _||_, false≢true}
@@ -17,7 +18,8 @@ use Rattle.store.specs.declared.Triple.{Triple}
 use Rattle.store.specs.Triple.{at, known, agrees}
 use Rattle.graph.specs.declared.QueryPattern.{QueryPattern}
 use Rattle.graph.specs.declared.Solution.{Solution}
-use Rattle.graph.specs.Query.{Bindings, resource, unbound, boundTo, isVariable, firstVariable, variables, valueOf, under, bind, match, after}
+use Rattle.graph.specs.Query.{Bindings, resource, unbound, boundTo, isVariable, firstVariable, variables, valueOf}
+use Rattle.graph.specs.Query.{under, bind, match, after}
 use Rattle.graph.proofs.Levels.{Low}
 use Rattle.pattern.specs.declared.binding.Matched.{Matched}
 use Rattle.pattern.specs.Matching.{WordFits, PatternOk, matchedAs}
@@ -56,7 +58,8 @@ module _ (b : Bindings) (w n : ℕ) where
 
 -- ---- the code's reply
 
-pub same-kept : (b : Solution) (t : Bool) → _≡_ {A = Matched} (record { hit = t; bound = b }) (matchedAs b (cond t (some (b .values)) none))
+pub same-kept : (b : Solution) (t : Bool) → _≡_ {A = Matched} (record { hit = t; bound = b })
+    (matchedAs b (cond t (some (b .values)) none))
 same-kept b true = refl
 same-kept b false = refl
 
@@ -82,12 +85,14 @@ module _ (x : QueryPattern) (t : Triple) (b : Bindings) where
   unfolding match
   match-s e = rw e
 
-  pub match-p : (b₁ : Bindings) → bind (x .subject) (t .subject .0) b ≡ some b₁ → bind (x .predicate) (t .predicate .0) b₁ ≡ none
+  pub match-p : (b₁ : Bindings) → bind (x .subject) (t .subject .0) b ≡ some b₁
+      → bind (x .predicate) (t .predicate .0) b₁ ≡ none
       → match x t b ≡ none
   unfolding match
   match-p b₁ e f = rw (e, f)
 
-  pub match-o : (b₁ b₂ : Bindings) → bind (x .subject) (t .subject .0) b ≡ some b₁ → bind (x .predicate) (t .predicate .0) b₁ ≡ some b₂
+  pub match-o : (b₁ b₂ : Bindings) → bind (x .subject) (t .subject .0) b ≡ some b₁
+      → bind (x .predicate) (t .predicate .0) b₁ ≡ some b₂
       → match x t b ≡ bind (x .object) (t .object .0) b₂
   unfolding match
   match-o b₁ b₂ e f = rw (e, f)
@@ -96,7 +101,8 @@ module _ (x : QueryPattern) (t : Triple) (b : Bindings) where
 
 module _ (b b′ : Bindings) (w n : ℕ) where
   -- how a word is met
-  bound-by : bind w n b ≡ some b′ → ((valueOf b w ≡ 0) × (b′ ≡ set b (w - firstVariable) (resource n))) ⊎ ((valueOf b w ≡ n) × (b′ ≡ b))
+  bound-by : bind w n b ≡ some b′ → ((valueOf b w ≡ 0) × (b′ ≡ set b (w - firstVariable) (resource n))) ⊎
+      ((valueOf b w ≡ n) × (b′ ≡ b))
   unfolding bind
   bound-by e = decide (eqb (valueOf b w) 0) (eqb (valueOf b w) n) refl refl e
     where
@@ -109,7 +115,8 @@ module _ (b b′ : Bindings) (w n : ℕ) where
 
   -- the word admits the resource
   bind-admits : bind w n b ≡ some b′ → eqb (valueOf b w) 0 || eqb n (valueOf b w) ≡ true
-  bind-admits e = ⊎-elim (λ q. rw (eq-eqb (valueOf b w) 0 (q .0))) (λ q. last (eqb (valueOf b w) 0) (eq-eqb n (valueOf b w) (sym (q .0)))) (bound-by e)
+  bind-admits e = ⊎-elim (λ q. rw (eq-eqb (valueOf b w) 0 (q .0)))
+      (λ q. last (eqb (valueOf b w) 0) (eq-eqb n (valueOf b w) (sym (q .0)))) (bound-by e)
     where
       last : (a : Bool) → eqb n (valueOf b w) ≡ true → a || eqb n (valueOf b w) ≡ true
       last true d = refl
@@ -122,16 +129,20 @@ module _ (b b′ : Bindings) (w n : ℕ) where
       kept : valueOf b w ≡ 0 → valueOf (set b (w - firstVariable) (resource n)) u ≡ valueOf b u
       kept z = decide (leb firstVariable u) refl
         where
-          decide : (a : Bool) → leb firstVariable u ≡ a → valueOf (set b (w - firstVariable) (resource n)) u ≡ valueOf b u
+          decide : (a : Bool) → leb firstVariable u ≡ a → valueOf (set b (w - firstVariable) (resource n)) u
+              ≡ valueOf b u
           decide true d =
               let y = leb-true firstVariable u d in
               let v = open-variable b w f z in
-              let o : u - firstVariable ≢ w - firstVariable = λ s. let s′ : u ≡ w = omega arith in h (ap (valueOf b) s′ ∙ z) in
+              let o : u - firstVariable ≢ w - firstVariable = λ s. let s′ : u ≡ w = omega arith in
+              h (ap (valueOf b) s′ ∙ z) in
               value-variable (set b (w - firstVariable) (resource n)) u y
-              ∙ ap (λ (k : ResourceId). k .0) (getD-set-other b (w - firstVariable) (u - firstVariable) (resource n) (resource 0) o)
+              ∙ ap (λ (k : ResourceId). k .0) (getD-set-other b (w - firstVariable) (u - firstVariable) (resource n)
+              (resource 0) o)
               ∙ sym (value-variable b u y)
           decide false d =
-              let y = leb-false firstVariable u d in value-number (set b (w - firstVariable) (resource n)) u y ∙ sym (value-number b u y)
+              let y = leb-false firstVariable u d in value-number (set b (w - firstVariable) (resource n)) u y
+              ∙ sym (value-number b u y)
 
 -- ---- a triple that meets a pattern
 
@@ -141,27 +152,33 @@ admits y z = eqb y 0 || eqb z y
 module _ (x : QueryPattern) (t : Triple) (b b′ : Bindings) where
   -- the three bindings of a match
   steps : match x t b ≡ some b′
-      → (b₁ : Bindings) × (b₂ : Bindings) × (bind (x .subject) (t .subject .0) b ≡ some b₁) × (bind (x .predicate) (t .predicate .0) b₁ ≡ some b₂)
+      → (b₁ : Bindings) × (b₂ : Bindings) × (bind (x .subject) (t .subject .0) b ≡ some b₁)
+      × (bind (x .predicate) (t .predicate .0) b₁ ≡ some b₂)
       × (bind (x .object) (t .object .0) b₂ ≡ some b′)
   unfolding match
   steps e = first (bind (x .subject) (t .subject .0) b) refl e
     where
-      second : (b₁ : Bindings) (o : Option Bindings) → bind (x .predicate) (t .predicate .0) b₁ ≡ o → bind (x .subject) (t .subject .0) b ≡ some b₁
+      second : (b₁ : Bindings) (o : Option Bindings) → bind (x .predicate) (t .predicate .0) b₁ ≡ o
+          → bind (x .subject) (t .subject .0) b ≡ some b₁
           → after o (λ b. bind (x .object) (t .object .0) b) ≡ some b′
-          → (b₁ : Bindings) × (b₂ : Bindings) × (bind (x .subject) (t .subject .0) b ≡ some b₁) × (bind (x .predicate) (t .predicate .0) b₁ ≡ some b₂)
+          → (b₁ : Bindings) × (b₂ : Bindings) × (bind (x .subject) (t .subject .0) b ≡ some b₁)
+          × (bind (x .predicate) (t .predicate .0) b₁ ≡ some b₂)
           × (bind (x .object) (t .object .0) b₂ ≡ some b′)
       second b₁ none p q d = let z : _≡_ {A = ℕ} 0 1 = cc in absurd (omega arith)
       second b₁ (some b₂) p q d = (b₁, b₂, q, p, d)
 
       first : (o : Option Bindings) → bind (x .subject) (t .subject .0) b ≡ o
-          → after o (λ b. after (bind (x .predicate) (t .predicate .0) b) (λ b. bind (x .object) (t .object .0) b)) ≡ some b′
-          → (b₁ : Bindings) × (b₂ : Bindings) × (bind (x .subject) (t .subject .0) b ≡ some b₁) × (bind (x .predicate) (t .predicate .0) b₁ ≡ some b₂)
+          → after o (λ b. after (bind (x .predicate) (t .predicate .0) b) (λ b. bind (x .object) (t .object .0) b))
+          ≡ some b′
+          → (b₁ : Bindings) × (b₂ : Bindings) × (bind (x .subject) (t .subject .0) b ≡ some b₁)
+          × (bind (x .predicate) (t .predicate .0) b₁ ≡ some b₂)
           × (bind (x .object) (t .object .0) b₂ ≡ some b′)
       first none p d = let z : _≡_ {A = ℕ} 0 1 = cc in absurd (omega arith)
       first (some b₁) p d = second b₁ (bind (x .predicate) (t .predicate .0) b₁) refl p d
 
   -- what holds under later bindings held under the earlier
-  earlier : (b₁ : Bindings) (u n : ℕ) → ((valueOf b u ≡ 0 → ⊥) → valueOf b₁ u ≡ valueOf b u) → admits (valueOf b₁ u) n ≡ true → admits (valueOf b u) n ≡ true
+  earlier : (b₁ : Bindings) (u n : ℕ) → ((valueOf b u ≡ 0 → ⊥) → valueOf b₁ u ≡ valueOf b u)
+      → admits (valueOf b₁ u) n ≡ true → admits (valueOf b u) n ≡ true
   earlier b₁ u n k e = decide (eqb (valueOf b u) 0) refl
     where
       decide : (a : Bool) → eqb (valueOf b u) 0 ≡ a → a || eqb n (valueOf b u) ≡ true
@@ -179,18 +196,22 @@ module _ (x : QueryPattern) (t : Triple) (b b′ : Bindings) where
       let b₂ = q .1 in
       let e₁ = q .2 in
       let e₂ = q .3 in
-      let k₁ : (u : ℕ) → (valueOf b u ≡ 0 → ⊥) → valueOf b₁ u ≡ valueOf b u = λ u h. bind-keeps b b₁ (x .subject) (t .subject .0) u (o .s-fits) e₁ h in
+      let k₁ : (u : ℕ) → (valueOf b u ≡ 0 → ⊥) → valueOf b₁ u
+      ≡ valueOf b u = λ u h. bind-keeps b b₁ (x .subject) (t .subject .0) u (o .s-fits) e₁ h in
       let k₂ : (u : ℕ) → (valueOf b u ≡ 0 → ⊥) → valueOf b₂ u ≡ valueOf b u =
       λ u h. bind-keeps b₁ b₂ (x .predicate) (t .predicate .0) u (o .p-fits) e₂ (λ z. h (sym (k₁ u h) ∙ z)) ∙ k₁ u h in
-      let s : admits (valueOf b (x .subject)) (t .subject .0) ≡ true = bind-admits b b₁ (x .subject) (t .subject .0) e₁ in
+      let s : admits (valueOf b (x .subject)) (t .subject .0)
+      ≡ true = bind-admits b b₁ (x .subject) (t .subject .0) e₁ in
       let p : admits (valueOf b (x .predicate)) (t .predicate .0) ≡ true =
-      earlier b₁ (x .predicate) (t .predicate .0) (k₁ (x .predicate)) (bind-admits b₁ b₂ (x .predicate) (t .predicate .0) e₂) in
+      earlier b₁ (x .predicate) (t .predicate .0) (k₁ (x .predicate))
+      (bind-admits b₁ b₂ (x .predicate) (t .predicate .0) e₂) in
       let g : admits (valueOf b (x .object)) (t .object .0) ≡ true =
       earlier b₂ (x .object) (t .object .0) (k₂ (x .object)) (bind-admits b₂ b′ (x .object) (t .object .0) (q .4)) in
       rw (s, p, g)
 
 -- a triple that lacks a number of the pattern under the bindings does not match
-pub match-none : (x : QueryPattern) (t : Triple) (b : Bindings) → PatternOk x → agrees (under b x) t ≡ false → match x t b ≡ none
+pub match-none : (x : QueryPattern) (t : Triple) (b : Bindings) → PatternOk x → agrees (under b x) t ≡ false
+    → match x t b ≡ none
 match-none x t b o e = decide (match x t b) refl
   where
     decide : (m : Option Bindings) → match x t b ≡ m → m ≡ none
@@ -203,10 +224,13 @@ value-within : (r : ℕ) (b : Bindings) (w : ℕ) → Low r b → (w < firstVari
 value-within r b w k h = decide (leb firstVariable w) refl
   where
     decide : (a : Bool) → leb firstVariable w ≡ a → valueOf b w ≤ r
-    decide true d = let q = value-variable b w (leb-true firstVariable w d) in let z = k (w - firstVariable) in omega arith
+    decide true d =
+        let q = value-variable b w (leb-true firstVariable w d) in let z = k (w - firstVariable) in
+        omega arith
     decide false d = let y = leb-false firstVariable w d in let q = value-number b w y in let z = h y in omega arith
 
-pub under-within : (r : ℕ) (b : Bindings) (x : QueryPattern) → Low r b → PatternIn r x → (p : Position) → at p (under b x) ≤ r
+pub under-within : (r : ℕ) (b : Bindings) (x : QueryPattern) → Low r b → PatternIn r x → (p : Position)
+    → at p (under b x) ≤ r
 unfolding under
 under-within r b x k h Subject = value-within r b (x .subject) k (h .s-number)
 under-within r b x k h Predicate = value-within r b (x .predicate) k (h .p-number)

@@ -40,15 +40,19 @@ module _ (r w : ℕ) where
   word-fits h e = decide (ltb 0 w) (leb w r) refl refl e
     where
       as-number : ltb 0 w ≡ true → leb w r ≡ true → WordFits w × (w < firstVariable → w ≤ r)
-      as-number a b = let x = ltb-true 0 w a in let y = leb-true w r b in (record { some-word = x; fits = omega arith }, λ z. y)
+      as-number a b =
+          let x = ltb-true 0 w a in let y = leb-true w r b in
+          (record { some-word = x; fits = omega arith }, λ z. y)
 
-      as-variable : leb firstVariable w && ltb w (firstVariable + variables) ≡ true → WordFits w × (w < firstVariable → w ≤ r)
+      as-variable : leb firstVariable w && ltb w (firstVariable + variables) ≡ true → WordFits w
+          × (w < firstVariable → w ≤ r)
       as-variable d =
           let x = leb-true firstVariable w (and-l _ (ltb w (firstVariable + variables)) d) in
           let y = ltb-true w (firstVariable + variables) (and-r (leb firstVariable w) _ d) in
           (record { some-word = omega arith; fits = y }, λ z. absurd (omega arith))
 
-      decide : (a b : Bool) → ltb 0 w ≡ a → leb w r ≡ b → (a && b) || (leb firstVariable w && ltb w (firstVariable + variables)) ≡ true
+      decide : (a b : Bool) → ltb 0 w ≡ a → leb w r ≡ b → (a && b)
+          || (leb firstVariable w && ltb w (firstVariable + variables)) ≡ true
           → WordFits w × (w < firstVariable → w ≤ r)
       decide true true p q d = as-number p q
       decide true false p q d = as-variable d
@@ -63,7 +67,8 @@ all-none r [] (suc i) h = refl
 all-none r (w ∷ ws) zero h = absurd (omega arith)
 all-none r (w ∷ ws) (suc i) h = all-none r ws i (omega arith)
 
-pub all-step : (r : ℕ) (ws : List ℕ) (i : ℕ) → i < length ws → allOk r (drop i ws) ≡ wordOk r (getD ws i 0) && allOk r (drop (i + 1) ws)
+pub all-step : (r : ℕ) (ws : List ℕ) (i : ℕ) → i < length ws → allOk r (drop i ws) ≡ wordOk r (getD ws i 0)
+    && allOk r (drop (i + 1) ws)
 unfolding allOk
 all-step r ws i h = rw (add-one, drop-cons ws i 0 h)
 
@@ -84,21 +89,28 @@ module _ (r : ℕ) (ws : List ℕ) where
   unfolding wordsOk
   too-many h = decide (eqb (3 * length (patternsOf ws)) (length ws)) refl
     where
-      decide : (b : Bool) → eqb (3 * length (patternsOf ws)) (length ws) ≡ b → b && (leb (length (patternsOf ws)) maxPatterns && allOk r ws) ≡ false
+      decide : (b : Bool) → eqb (3 * length (patternsOf ws)) (length ws) ≡ b → b
+          && (leb (length (patternsOf ws)) maxPatterns && allOk r ws) ≡ false
       decide true e =
-          let q = eqb-true (3 * length (patternsOf ws)) (length ws) e in rw (lt-leb (length (patternsOf ws)) maxPatterns (omega arith))
+          let q = eqb-true (3 * length (patternsOf ws)) (length ws) e in
+          rw (lt-leb (length (patternsOf ws)) maxPatterns (omega arith))
       decide false e = refl
 
   pub by-words : length ws % 3 ≡ 0 → length ws ≤ 24 → wordsOk r ws ≡ allOk r ws
   unfolding wordsOk
   by-words h f =
       let q = patterns-length ws in
-      rw (eq-eqb (3 * length (patternsOf ws)) (length ws) (omega (arith, q .0, q .1)), le-leb (length (patternsOf ws)) maxPatterns (omega (arith, q .0)))
+      rw (
+        eq-eqb (3 * length (patternsOf ws)) (length ws) (omega (arith, q .0, q .1)),
+        le-leb
+            (length (patternsOf ws)) maxPatterns (omega (arith, q .0)),
+      )
 
   pub few-patterns : wordsOk r ws ≡ true → length (patternsOf ws) ≤ maxPatterns
   unfolding wordsOk
   few-patterns e =
-      leb-true (length (patternsOf ws)) maxPatterns (and-l _ (allOk r ws) (and-r (eqb (3 * length (patternsOf ws)) (length ws)) _ e))
+      leb-true (length (patternsOf ws)) maxPatterns (and-l _ (allOk r ws)
+      (and-r (eqb (3 * length (patternsOf ws)) (length ws)) _ e))
 
   pub each-word : wordsOk r ws ≡ true → allOk r ws ≡ true
   unfolding wordsOk

@@ -13,7 +13,8 @@ use Rattle.table.specs.Held.{StatementHeld}
 use Rattle.graph.specs.declared.QueryPattern.{QueryPattern}
 use Rattle.graph.specs.declared.Solution.{Solution}
 use Rattle.graph.specs.declared.Level.{Level}
-use Rattle.graph.specs.Query.{maxPatterns, patternsOf, pattern, Bindings, under, match, orElse, isSome, noLevel, recordAt, past, struck, anyStruck, levelsOf, binds, enteredOk}
+use Rattle.graph.specs.Query.{maxPatterns, patternsOf, pattern, Bindings, under, match, orElse, isSome, noLevel}
+use Rattle.graph.specs.Query.{recordAt, past, struck, anyStruck, levelsOf, binds, enteredOk}
 use Rattle.pattern.specs.declared.binding.Matched.{Matched}
 use Rattle.pattern.specs.Matching.{PatternOk}
 
@@ -34,9 +35,11 @@ levelOk r t stm x b e =
     && (chainOk (e .chain) (under b x)
     && (known r (recordAt stm (e .statement .0)) && isSome (match x (recordAt stm (e .statement .0)) b)))
 
-pub record LevelTested (r t : ℕ) (stm : List ℕ) (x : QueryPattern) (b : Solution) (e : Level) (m : Matched) : Type 0 where
+pub record LevelTested (r t : ℕ) (stm : List ℕ) (x : QueryPattern) (b : Solution) (e : Level)
+    (m : Matched) : Type 0 where
   pub told : m .hit ≡ levelOk r t stm x (b .values) e
-  pub binds-on : m .hit ≡ true → m .bound .values ≡ orElse (match x (recordAt stm (e .statement .0)) (b .values)) (b .values)
+  pub binds-on : m .hit ≡ true → m .bound .values ≡ orElse (match x (recordAt stm (e .statement .0)) (b .values))
+      (b .values)
 
 pub record LevelsTested (r t : ℕ) (stm : List ℕ) (ps : List QueryPattern) (up : List Level) (m : Matched) : Type 0 where
   pub told : m .hit ≡ enteredOk stm ps r t up

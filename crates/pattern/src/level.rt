@@ -1,6 +1,8 @@
-// The levels of a query's place: one for each pattern entered, its chain and a record on it (paper 01, "Next of a question").
+// The levels of a query's place: one for each pattern entered, its chain and a record on it (paper 01, "Next of a
+// question").
 //
-// Levels stand in an array, the first pattern first; a function is told how many of them count. What each entered record must be for
+// Levels stand in an array, the first pattern first; a function is told how many of them count. What each entered
+// record must be for
 // its words to be read is asked of the caller, who has tested it (refusal 6) or visited the record.
 use crate::binding::Matched;
 use crate::binding::meet;
@@ -33,9 +35,11 @@ ghost use lib.Dec.{leb};
 ghost use Rattle.store.specs.Triple.{prev};
 ghost use Rattle.store.specs.Tables.{statementWords, flagAt};
 ghost use Rattle.table.specs.Held.{StatementHeld};
-ghost use Rattle.graph.specs.Query.{patternsOf, unbound, noLevel, inside, past, struck, intact, remains, binds, enteredOk, placeOk, levelsOf, insideOf, placeOf, written, cursorAt, cursorWith};
+ghost use Rattle.graph.specs.Query.{patternsOf, unbound, noLevel, inside, past, struck, intact, remains, binds};
+ghost use Rattle.graph.specs.Query.{enteredOk, placeOk, levelsOf, insideOf, placeOf, written, cursorAt, cursorWith};
 ghost use Rattle.pattern.specs.Matching.{PatternOk};
-ghost use Rattle.pattern.specs.Levels.{QueryOk, LevelsHeld, LevelTested, LevelsTested, FirstStruck, levelIntact, deepestOk};
+ghost use Rattle.pattern.specs.Levels.{QueryOk, LevelsHeld, LevelTested, LevelsTested, FirstStruck};
+ghost use Rattle.pattern.specs.Levels.{levelIntact, deepestOk};
 
 // Nothing is bound.
 pub fn none_bound() -> Solution
@@ -82,7 +86,8 @@ pub fn level_intact(statements: &[u32], l: Level) -> bool
     after.statement.0 < n
 }
 
-// Whether an entered level is one: a record of the table, a chain that a scan would take, resources in 1..=R, a match under the
+// Whether an entered level is one: a record of the table, a chain that a scan would take, resources in 1..=R, a match
+// under the
 // earlier levels. Where it is, what is bound from now on.
 pub fn level_ok(
     c: Counters,
@@ -124,8 +129,10 @@ pub fn levels_ok(
     levels: [Level; MAX_PATTERNS],
     d: u32,
 ) -> Matched
-    requires { ⌜ QueryOk (now words) × (d < length (patternsOf (now words))) × (statementWords * c .statements ≤ length (now statements)) ⌝ }
-    ensures { λ m. ⌜ LevelsTested (c .resources) (c .statements) (now (statements .entry)) (patternsOf (now (words .entry))) (levelsOf levels d) m ⌝ }
+    requires { ⌜ QueryOk (now words) × (d < length (patternsOf (now words)))
+        × (statementWords * c .statements ≤ length (now statements)) ⌝ }
+    ensures { λ m. ⌜ LevelsTested (c .resources) (c .statements) (now (statements .entry))
+        (patternsOf (now (words .entry))) (levelsOf levels d) m ⌝ }
 {
     let mut bound = none_bound();
     let mut i: u32 = 0;
@@ -153,7 +160,8 @@ pub fn bindings(
     d: u32,
 ) -> Solution
     requires { ⌜ QueryOk (now words) × (d < length (patternsOf (now words))) × LevelsHeld (now statements) levels d ⌝ }
-    ensures { λ b. ⌜ b .values ≡ binds (now (statements .entry)) (patternsOf (now (words .entry))) (levelsOf levels d) ⌝ }
+    ensures { λ b. ⌜ b .values ≡ binds (now (statements .entry)) (patternsOf (now (words .entry)))
+        (levelsOf levels d) ⌝ }
 {
     let mut bound = none_bound();
     let mut i: u32 = 0;
@@ -168,7 +176,8 @@ pub fn bindings(
     bound
 }
 
-// Whether the deepest level is one, its pattern under the earlier levels being x: a number up to T, a chain and a record that a scan
+// Whether the deepest level is one, its pattern under the earlier levels being x: a number up to T, a chain and a
+// record that a scan
 // would take.
 pub fn deepest_ok(c: Counters, statements: &[u32], x: Triple, l: Level) -> bool
     requires { ⌜ statementWords * c .statements ≤ length (now statements) ⌝ }
@@ -194,7 +203,8 @@ pub fn inside_ok(
     d: u32,
 ) -> bool
     requires { ⌜ QueryOk (now words) × (statementWords * c .statements ≤ length (now statements)) ⌝ }
-    ensures { λ b. ⌜ b ≡ placeOk (now (statements .entry)) (patternsOf (now (words .entry))) (c .resources) (c .statements) (insideOf levels d) ⌝ }
+    ensures { λ b. ⌜ b ≡ placeOk (now (statements .entry)) (patternsOf (now (words .entry))) (c .resources)
+        (c .statements) (insideOf levels d) ⌝ }
 {
     if d == 0 {
         return true;
@@ -213,7 +223,8 @@ pub fn inside_ok(
     deepest_ok(c, statements, x, l)
 }
 
-// Whether the records of the first d levels have flags of at most 1 and nexts below their own numbers; where not, next refuses 9
+// Whether the records of the first d levels have flags of at most 1 and nexts below their own numbers; where not,
+// next refuses 9
 // before any visit.
 pub fn intact(statements: &[u32], levels: [Level; MAX_PATTERNS], d: u32) -> bool
     requires { ⌜ LevelsHeld (now statements) levels d ⌝ }
@@ -302,7 +313,8 @@ pub fn cursor_of(progress: Progress, levels: [Level; MAX_PATTERNS], d: u32) -> Q
 // Whether a cursor's place is one; where not, next refuses 6.
 pub fn place_ok(c: Counters, statements: &[u32], words: &[u32], q: QueryCursor) -> bool
     requires { ⌜ QueryOk (now words) × (statementWords * c .statements ≤ length (now statements)) ⌝ }
-    ensures { λ b. ⌜ b ≡ placeOk (now (statements .entry)) (patternsOf (now (words .entry))) (c .resources) (c .statements) (placeOf q) ⌝ }
+    ensures { λ b. ⌜ b ≡ placeOk (now (statements .entry)) (patternsOf (now (words .entry))) (c .resources)
+        (c .statements) (placeOf q) ⌝ }
 {
     let progress = q.progress;
     let levels = q.levels;

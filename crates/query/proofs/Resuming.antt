@@ -1,4 +1,5 @@
--- Laws of a place that is gone on from: what refusal 6 and 9 have tested, the levels below a struck-out record, the first pattern.
+-- Laws of a place that is gone on from: what refusal 6 and 9 have tested, the levels below a struck-out record, the
+-- first pattern.
 -- Assumes nothing.
 use mathlib.Core.Path.{_≡_, refl, sym, ap, ap₂, _∙_}
 use mathlib.Core.Logic.{_≢_}
@@ -20,16 +21,21 @@ use Rattle.graph.proofs.Laws.{levels-length, levels-set, written-length}
 use Rattle.graph.specs.declared.QueryPattern.{QueryPattern}
 use Rattle.graph.specs.declared.Solution.{Solution}
 use Rattle.graph.specs.declared.Level.{Level}
-use Rattle.graph.specs.Query.{patternsOf, pattern, wordsOk, Bindings, unbound, under, level, noLevel, Place, start, inside, past, struck, intact, anyStruck, pruned, binds, asked, enteredOk, placeOk, levelsOf, insideOf, written, Turn, bad, go, whole, Answer, refused, found, finish, enter, begun, walk, resume}
+use Rattle.graph.specs.Query.{patternsOf, pattern, wordsOk, Bindings, unbound, under, level, noLevel, Place, start}
+use Rattle.graph.specs.Query.{inside, past, struck, intact, anyStruck, pruned, binds, asked, enteredOk, placeOk}
+use Rattle.graph.specs.Query.{levelsOf, insideOf, written, Turn, bad, go, whole, Answer, refused, found, finish}
+use Rattle.graph.specs.Query.{enter, begun, walk, resume}
 use Rattle.pattern.specs.Levels.{LevelsHeld, levelIntact, FirstStruck}
-use Rattle.pattern.proofs.LevelLaws.{or-true, entered-each, ok-number, ok-resources, intact-each, intact-at, written-step, binds-none}
+use Rattle.pattern.proofs.LevelLaws.{or-true, entered-each, ok-number, ok-resources, intact-each, intact-at}
+use Rattle.pattern.proofs.LevelLaws.{written-step, binds-none}
 use Rattle.query.specs.declared.walk.Stack.{Stack}
 use Rattle.query.specs.declared.walk.Outcome.{Outcome}
 use Rattle.query.specs.declared.walk.Outcome.the-variants.{Damaged, Onward, Whole}
 use Rattle.query.specs.declared.walk.Turned.{Turned}
 use Rattle.query.specs.Stack.{deepest, entered, Ready, LevelSure, Stands, standAs, enteredAs, turnAs, TurnIs}
 use Rattle.query.specs.Resume.{onwardAs, Pruned}
-use Rattle.query.proofs.Stacks.{levels-none, levels-step, ready-query, Sure, sure-none, sure-less, top-is, stands-new}
+use Rattle.query.proofs.Stacks.{levels-none, levels-step, ready-query, Sure, sure-none, sure-less, top-is}
+use Rattle.query.proofs.Stacks.{stands-new}
 use Rattle.query.proofs.Turns.{entering}
 
 -- ---- what 1 and 8 have tested
@@ -38,11 +44,17 @@ pub ready-of : (c : Counters) (m : Tables) (ws : List ℕ) → fits c m ≡ true
     → Ready (c .resources) (c .statements) (m .resources) (m .statements) ws
 ready-of c m ws e f =
     let k = fits-room c m e in
-    record { few-resources = k .few-resources; in-resources = k .in-resources; in-statements = k .in-statements; words-ok = f }
+    record {
+      few-resources = k .few-resources;
+      in-resources = k .in-resources;
+      in-statements = k .in-statements;
+      words-ok = f;
+    }
 
 -- ---- the place in an array
 
-pub inside-at : (ls : List Level) (d : ℕ) → (d ≡ 0 → ⊥) → insideOf ls d ≡ inside (getD ls (d - 1) noLevel) (levelsOf ls (d - 1))
+pub inside-at : (ls : List Level) (d : ℕ) → (d ≡ 0 → ⊥) → insideOf ls d
+    ≡ inside (getD ls (d - 1) noLevel) (levelsOf ls (d - 1))
 unfolding insideOf
 inside-at ls zero h = absurd (h refl)
 inside-at ls (suc d) h = let q : suc d - 1 ≡ d = omega arith in rw q
@@ -54,10 +66,13 @@ inside-none ls (suc d) h = absurd (omega arith)
 
 -- ---- what 6 has tested
 
-module _ (r t : ℕ) (stm : List ℕ) (ps : List QueryPattern) (ls : List Level) (top : ℕ) (ok : placeOk stm ps r t (inside (getD ls top noLevel) (levelsOf ls top)) ≡ true) where
+module _ (r t : ℕ) (stm : List ℕ) (ps : List QueryPattern) (ls : List Level) (top : ℕ)
+    (ok : placeOk stm ps r t (inside (getD ls top noLevel) (levelsOf ls top)) ≡ true) where
   rest : enteredOk stm ps r t (levelsOf ls top)
       && (leb ((getD ls top noLevel) .statement .0) t
-      && (chainOk ((getD ls top noLevel) .chain) (asked stm ps (levelsOf ls top)) && recordOk stm ((getD ls top noLevel) .chain) (asked stm ps (levelsOf ls top)) ((getD ls top noLevel) .statement .0)))
+      && (chainOk ((getD ls top noLevel) .chain) (asked stm ps (levelsOf ls top))
+      && recordOk stm ((getD ls top noLevel) .chain) (asked stm ps (levelsOf ls top))
+      ((getD ls top noLevel) .statement .0)))
       ≡ true
   unfolding placeOk
   rest = and-r (ltb (length (levelsOf ls top)) (length ps)) _ ok
@@ -65,7 +80,8 @@ module _ (r t : ℕ) (stm : List ℕ) (ps : List QueryPattern) (ls : List Level)
   pub top-few : top < length ps
   unfolding placeOk
   top-few =
-      let q = ltb-true (length (levelsOf ls top)) (length ps) (and-l (ltb (length (levelsOf ls top)) (length ps)) _ ok) in
+      let q = ltb-true (length (levelsOf ls top)) (length ps)
+      (and-l (ltb (length (levelsOf ls top)) (length ps)) _ ok) in
       let e = levels-length ls top in
       omega arith
 
@@ -127,7 +143,8 @@ module _ (stm : List ℕ) (ls : List Level) where
   unfolding pruned levelsOf
   pruned-step l d e = rw (pruned, e)
 
-  pruned-down : (i d : ℕ) (l : Level) → i < d → struck stm (getD ls i noLevel) ≡ true → anyStruck stm (levelsOf ls i) ≡ false
+  pruned-down : (i d : ℕ) (l : Level) → i < d → struck stm (getD ls i noLevel) ≡ true
+      → anyStruck stm (levelsOf ls i) ≡ false
       → pruned stm l (levelsOf ls d) ≡ (past stm (getD ls i noLevel), levelsOf ls i)
   pruned-down i zero l h e f = absurd (omega arith)
   pruned-down i (suc d) l h e f =
@@ -136,7 +153,8 @@ module _ (stm : List ℕ) (ls : List Level) where
       (λ z. rw (← eqb-true i d z) (pruned-none (past stm (getD ls i noLevel)) (levelsOf ls i) f))
       (λ z. let n = eqb-false i d z in pruned-down i d (past stm (getD ls d noLevel)) (omega arith) e f)
 
-  pub pruned-at : (top i : ℕ) → FirstStruck stm ls top i → pruned stm (getD ls top noLevel) (levelsOf ls top) ≡ (onwardAs stm ls top i, levelsOf ls i)
+  pub pruned-at : (top i : ℕ) → FirstStruck stm ls top i → pruned stm (getD ls top noLevel) (levelsOf ls top)
+      ≡ (onwardAs stm ls top i, levelsOf ls i)
   pruned-at top i k =
       decide (ltb i top)
       (λ z.
@@ -144,12 +162,14 @@ module _ (stm : List ℕ) (ls : List Level) where
       rw z (pruned-down i top (getD ls top noLevel) h (k .here h) (k .none-before)))
       (λ z.
       let a = k .among in
-      let q : i ≡ top = decide (eqb i top) (λ y. eqb-true i top y) (λ y. let n = eqb-false i top y in absurd (false≢true (sym z ∙ lt-ltb i top (omega arith)))) in
+      let q : i ≡ top = decide (eqb i top) (λ y. eqb-true i top y)
+      (λ y. let n = eqb-false i top y in absurd (false≢true (sym z ∙ lt-ltb i top (omega arith)))) in
       rw z (rw q (pruned-none (getD ls top noLevel) (levelsOf ls top) (rw q at (k .none-before)))))
 
 -- ---- levels written out
 
-pub written-get : (ls : List Level) (d i : ℕ) → d ≤ 8 → i < d → getD (written (levelsOf ls d)) i noLevel ≡ getD ls i noLevel
+pub written-get : (ls : List Level) (d i : ℕ) → d ≤ 8 → i < d → getD (written (levelsOf ls d)) i noLevel
+    ≡ getD ls i noLevel
 written-get ls zero i h g = absurd (omega arith)
 written-get ls (suc d) i h g =
     let y : suc d ≡ d + 1 = omega arith in
@@ -159,9 +179,11 @@ written-get ls (suc d) i h g =
     ∙ ap (λ (l : List Level). getD l i noLevel) (written-step ls d)
     ∙ decide (eqb i d)
     (λ e. rw (eqb-true i d e) (getD-set-same w d (getD ls d noLevel) noLevel (omega arith)))
-    (λ e. let n : i ≢ d = eqb-false i d e in getD-set-other w d i (getD ls d noLevel) noLevel n ∙ written-get ls d i (omega arith) (omega arith))
+    (λ e. let n : i ≢ d = eqb-false i d e in getD-set-other w d i (getD ls d noLevel) noLevel n
+    ∙ written-get ls d i (omega arith) (omega arith))
 
-pub levels-ext : (ls ks : List Level) (d : ℕ) → ((i : ℕ) → i < d → getD ls i noLevel ≡ getD ks i noLevel) → levelsOf ls d ≡ levelsOf ks d
+pub levels-ext : (ls ks : List Level) (d : ℕ) → ((i : ℕ) → i < d → getD ls i noLevel ≡ getD ks i noLevel)
+    → levelsOf ls d ≡ levelsOf ks d
 unfolding levelsOf
 levels-ext ls ks zero f = refl
 levels-ext ls ks (suc d) f = rw (levelsOf, f d (omega arith), levels-ext ls ks d (λ i h. f i (omega arith)))
@@ -175,16 +197,20 @@ written-held stm ls top i l h k =
       each =
           λ j g.
           let n : j ≢ i = omega arith in
-          rw (getD-set-other (written (levelsOf ls i)) i j l noLevel n, written-get ls i j (omega arith) g) (k .each j (omega arith));
+          rw (getD-set-other (written (levelsOf ls i)) i j l noLevel n, written-get ls i j (omega arith) g)
+          (k .each j (omega arith));
     }
 
-pub pruned-made : (stm : List ℕ) (ps : List QueryPattern) (ls : List Level) (top i : ℕ) (s : Stack) → FirstStruck stm ls top i
+pub pruned-made : (stm : List ℕ) (ps : List QueryPattern) (ls : List Level) (top i : ℕ) (s : Stack)
+    → FirstStruck stm ls top i
     → s ≡ standAs stm ps (set (written (levelsOf ls i)) i (onwardAs stm ls top i)) i → Pruned stm ps ls top s
 pruned-made stm ps ls top i s f e = rw e (record { first = f; made = refl })
 
 -- ---- the stack gone on from
 
-module _ (r t : ℕ) (res stm ws : List ℕ) (k : Ready r t res stm ws) (ls : List Level) (top : ℕ) (ok : placeOk stm (patternsOf ws) r t (inside (getD ls top noLevel) (levelsOf ls top)) ≡ true) (safe : intact stm (levelsOf ls top) ≡ true) (s : Stack) (p : Pruned stm (patternsOf ws) ls top s) where
+module _ (r t : ℕ) (res stm ws : List ℕ) (k : Ready r t res stm ws) (ls : List Level) (top : ℕ)
+    (ok : placeOk stm (patternsOf ws) r t (inside (getD ls top noLevel) (levelsOf ls top)) ≡ true)
+    (safe : intact stm (levelsOf ls top) ≡ true) (s : Stack) (p : Pruned stm (patternsOf ws) ls top s) where
   abbrev own : List Level
   own = written (levelsOf ls (s .top))
 
@@ -217,7 +243,8 @@ module _ (r t : ℕ) (res stm ws : List ℕ) (k : Ready r t res stm ws) (ls : Li
       rw z (omega arith))
       (λ z.
       let a = p .first .among in
-      let q : s .top ≡ top = decide (eqb (s .top) top) (λ y. eqb-true (s .top) top y) (λ y. let n = eqb-false (s .top) top y in absurd (false≢true (sym z ∙ lt-ltb (s .top) top (omega arith)))) in
+      let q : s .top ≡ top = decide (eqb (s .top) top) (λ y. eqb-true (s .top) top y)
+      (λ y. let n = eqb-false (s .top) top y in absurd (false≢true (sym z ∙ lt-ltb (s .top) top (omega arith)))) in
       let w = top-within r t stm (patternsOf ws) ls top ok in
       rw z (rw q w))
 
@@ -233,7 +260,8 @@ module _ (r t : ℕ) (res stm ws : List ℕ) (k : Ready r t res stm ws) (ls : Li
   pub pruned-top : (pruned stm (getD ls top noLevel) (levelsOf ls top)) .0 ≡ deepest s
   pruned-top =
       ap (λ (x : Level × List Level). x .0) (pruned-at stm ls top (s .top) (p .first))
-      ∙ sym (ap (λ (q : Stack). deepest q) (p .made) ∙ top-is r t stm ws own (s .top) next few small (written-length (levelsOf ls (s .top))))
+      ∙ sym (ap (λ (q : Stack). deepest q) (p .made) ∙ top-is r t stm ws own (s .top) next few small
+      (written-length (levelsOf ls (s .top))))
 
   pub pruned-up : (pruned stm (getD ls top noLevel) (levelsOf ls top)) .1 ≡ entered s
   pruned-up =
@@ -247,7 +275,8 @@ module _ (r t : ℕ) (res stm : List ℕ) (ps : List QueryPattern) (l : Level) (
   unfolding resume
   resume-damaged e = rw e
 
-  pub resume-inside : (s : Stack) → intact stm up ≡ true → (pruned stm l up) .0 ≡ deepest s → (pruned stm l up) .1 ≡ entered s
+  pub resume-inside : (s : Stack) → intact stm up ≡ true → (pruned stm l up) .0 ≡ deepest s → (pruned stm l up) .1
+      ≡ entered s
       → resume r t res stm ps (inside l up) budget ≡ walk r t res stm ps budget (deepest s) (entered s) 0
   unfolding resume
   resume-inside s e f g = rw (e, f, g)
@@ -259,17 +288,22 @@ module _ (r t : ℕ) (res stm ws : List ℕ) (budget : ℕ) where
   unfolding resume
   begin-none e = rw (eq-eqb (length (patternsOf ws)) 0 e)
 
-  module _ (k : Ready r t res stm ws) (some-pattern : length (patternsOf ws) ≡ 0 → ⊥) (ls : List Level) (size : length ls ≡ 8) (b : Solution) (open-all : b .values ≡ unbound) (m : Turned) (e : m ≡ enteredAs t res (under (b .values) (getD (patternsOf ws) 0 (pattern 0 0 0))) ls 0 b) where
+  module _ (k : Ready r t res stm ws) (some-pattern : length (patternsOf ws) ≡ 0 → ⊥) (ls : List Level)
+      (size : length ls ≡ 8) (b : Solution) (open-all : b .values ≡ unbound) (m : Turned)
+      (e : m ≡ enteredAs t res (under (b .values) (getD (patternsOf ws) 0 (pattern 0 0 0))) ls 0 b) where
     first-turn : TurnIs r t stm ws (enter r t res stm (patternsOf ws) []) m
     first-turn =
         rw (e, ← levels-none ls)
-        (entering r t res stm ws ls 0 b (omega arith) (omega arith) size (sure-none r t stm ls) (open-all ∙ sym (binds-none 0 0 stm (patternsOf ws) ls)))
+        (entering r t res stm ws ls 0 b (omega arith) (omega arith) size (sure-none r t stm ls)
+        (open-all ∙ sym (binds-none 0 0 stm (patternsOf ws) ls)))
 
-    starts : (o : Outcome) → m .outcome ≡ o → resume r t res stm (patternsOf ws) start budget ≡ begun r t res stm (patternsOf ws) budget (turnAs o (m .stack))
+    starts : (o : Outcome) → m .outcome ≡ o → resume r t res stm (patternsOf ws) start budget
+        ≡ begun r t res stm (patternsOf ws) budget (turnAs o (m .stack))
     unfolding resume
     starts o f =
         rw (ne-eqb (length (patternsOf ws)) 0 some-pattern)
-        (ap (begun r t res stm (patternsOf ws) budget) (sym (first-turn .told) ∙ ap (λ (z : Outcome). turnAs z (m .stack)) f))
+        (ap (begun r t res stm (patternsOf ws) budget) (sym (first-turn .told)
+        ∙ ap (λ (z : Outcome). turnAs z (m .stack)) f))
 
     pub begin-damaged : m .outcome ≡ Damaged → resume r t res stm (patternsOf ws) start budget ≡ refused Nine
     unfolding begun
@@ -279,7 +313,8 @@ module _ (r t : ℕ) (res stm ws : List ℕ) (budget : ℕ) where
     unfolding begun
     begin-whole f = starts Whole f
 
-    pub begin-onward : m .outcome ≡ Onward → resume r t res stm (patternsOf ws) start budget ≡ walk r t res stm (patternsOf ws) budget (deepest (m .stack)) (entered (m .stack)) 0
+    pub begin-onward : m .outcome ≡ Onward → resume r t res stm (patternsOf ws) start budget
+        ≡ walk r t res stm (patternsOf ws) budget (deepest (m .stack)) (entered (m .stack)) 0
     unfolding begun
     begin-onward f = starts Onward f
 

@@ -1,4 +1,5 @@
--- Laws of the walk's stack: levels in an array after a store, what holds of a stack made, what is bound stays within R. Assumes nothing.
+-- Laws of the walk's stack: levels in an array after a store, what holds of a stack made, what is bound stays within
+-- R. Assumes nothing.
 use mathlib.Core.Path.{_≡_, refl, sym, ap, ap₂, _∙_}
 use mathlib.Core.Logic.{_≢_}
 use mathlib.Core.Bool.{Bool, true, false, cond, _&&_, _||_}
@@ -24,7 +25,8 @@ use Rattle.graph.specs.declared.QueryCursor.{QueryCursor}
 use Rattle.graph.specs.declared.QueryAnswer.{QueryAnswer}
 use Rattle.graph.specs.declared.Solution.{Solution}
 use Rattle.graph.specs.declared.Level.{Level}
-use Rattle.graph.specs.Query.{patternsOf, pattern, maxPatterns, firstVariable, Bindings, unbound, under, match, orElse, level, noLevel, recordAt, past, nextPattern, binds, asked, levelsOf}
+use Rattle.graph.specs.Query.{patternsOf, pattern, maxPatterns, firstVariable, Bindings, unbound, under, match}
+use Rattle.graph.specs.Query.{orElse, level, noLevel, recordAt, past, nextPattern, binds, asked, levelsOf}
 use Rattle.pattern.specs.Matching.{PatternOk}
 use Rattle.pattern.specs.Levels.{QueryOk, LevelsHeld}
 use Rattle.pattern.proofs.WordLaws.{PatternIn, pattern-in, few-patterns}
@@ -37,7 +39,8 @@ use Rattle.query.specs.Stack.{deepest, entered, Ready, LevelSure, Stands
 -- ---- answers and stacks by their parts
 
 pub answer-is : (s : QueryStep) (v : ℕ) (b : Solution) (x : Bindings) (q q′ : QueryCursor) → b .values ≡ x → q ≡ q′
-    → _≡_ {A = QueryAnswer} (record { step = s; visits = v; solution = b; cursor = q }) (record { step = s; visits = v; solution = record { values = x }; cursor = q′ })
+    → _≡_ {A = QueryAnswer} (record { step = s; visits = v; solution = b; cursor = q })
+    (record { step = s; visits = v; solution = record { values = x }; cursor = q′ })
 answer-is s v b x q q′ e f = ap₂ (λ (y : Bindings) (z : QueryCursor). made y z) e f
   where
     made : Bindings → QueryCursor → QueryAnswer
@@ -64,7 +67,8 @@ levels-step ls d = let q : d + 1 ≡ suc d = omega arith in rw (q, levelsOf)
 pub levels-down : (ls : List Level) (d : ℕ) → 1 ≤ d → levelsOf ls d ≡ getD ls (d - 1) noLevel ∷ levelsOf ls (d - 1)
 levels-down ls d h = let q : d ≡ (d - 1) + 1 = omega arith in ap (levelsOf ls) q ∙ levels-step ls (d - 1)
 
-pub held-set : (stm : List ℕ) (ls : List Level) (d e : ℕ) (l : Level) → e ≤ d → LevelsHeld stm ls d → LevelsHeld stm (set ls e l) e
+pub held-set : (stm : List ℕ) (ls : List Level) (d e : ℕ) (l : Level) → e ≤ d → LevelsHeld stm ls d
+    → LevelsHeld stm (set ls e l) e
 held-set stm ls d e l h k =
     record {
       few = let q = k .few in omega arith;
@@ -80,8 +84,10 @@ module _ (r t : ℕ) (res stm ws : List ℕ) (k : Ready r t res stm ws) where
   pub ready-query : QueryOk ws
   ready-query = record { few = few-patterns r ws (k .words-ok); each = λ d h. (pattern-of d h) .ok }
 
-  pub asked-held : (b : Bindings) (d : ℕ) → Low r b → d < length (patternsOf ws) → PatternHeld res (under b (getD (patternsOf ws) d (pattern 0 0 0)))
-  asked-held b d w h = held res r _ (k .in-resources) (under-within r b (getD (patternsOf ws) d (pattern 0 0 0)) w (pattern-of d h))
+  pub asked-held : (b : Bindings) (d : ℕ) → Low r b → d < length (patternsOf ws)
+      → PatternHeld res (under b (getD (patternsOf ws) d (pattern 0 0 0)))
+  asked-held b d w h = held res r _ (k .in-resources) (under-within r b (getD (patternsOf ws) d (pattern 0 0 0)) w
+      (pattern-of d h))
 
 -- ---- entered records
 
@@ -102,13 +108,17 @@ module _ (r t : ℕ) (stm : List ℕ) (ls : List Level) where
 
   pub sure-more : (d : ℕ) → Sure r t stm ls d → LevelSure r t stm (getD ls d noLevel) → Sure r t stm ls (d + 1)
   sure-more d s l =
-      record { at-each = λ i g. decide (eqb i d) (λ e. rw (eqb-true i d e) l) (λ e. let n = eqb-false i d e in s .at-each i (omega arith)) }
+      record {
+        at-each = λ i g. decide (eqb i d) (λ e. rw (eqb-true i d e) l)
+            (λ e. let n = eqb-false i d e in s .at-each i (omega arith));
+      }
 
   pub sure-held : (d : ℕ) → d ≤ 8 → statementWords * t ≤ length stm → Sure r t stm ls d → LevelsHeld stm ls d
   sure-held d h g s =
       record {
         few = h;
-        each = λ i f. let q = s .at-each i f in record { from-one = q .from-one; whole = let w = q .within in omega arith };
+        each = λ i f. let q = s .at-each i f in
+            record { from-one = q .from-one; whole = let w = q .within in omega arith };
       }
 
   -- what entered records bind is within R
@@ -116,23 +126,29 @@ module _ (r t : ℕ) (stm : List ℕ) (ls : List Level) where
   unfolding binds levelsOf
   binds-within ps zero s = low-none r 16
   binds-within ps (suc d) s =
-      pick (match (nextPattern ps (levelsOf ls d)) (recordAt stm ((getD ls d noLevel) .statement .0)) (binds stm ps (levelsOf ls d))) refl
+      pick (match (nextPattern ps (levelsOf ls d)) (recordAt stm ((getD ls d noLevel) .statement .0))
+      (binds stm ps (levelsOf ls d))) refl
       (binds-within ps d (sure-less (suc d) d (omega arith) s)) (s .at-each d (omega arith))
     where
       pick : (o : Option Bindings)
-          → match (nextPattern ps (levelsOf ls d)) (recordAt stm ((getD ls d noLevel) .statement .0)) (binds stm ps (levelsOf ls d)) ≡ o
-          → Low r (binds stm ps (levelsOf ls d)) → LevelSure r t stm (getD ls d noLevel) → Low r (orElse o (binds stm ps (levelsOf ls d)))
+          → match (nextPattern ps (levelsOf ls d)) (recordAt stm ((getD ls d noLevel) .statement .0))
+          (binds stm ps (levelsOf ls d)) ≡ o
+          → Low r (binds stm ps (levelsOf ls d)) → LevelSure r t stm (getD ls d noLevel)
+          → Low r (orElse o (binds stm ps (levelsOf ls d)))
       pick none e w l = w
       pick (some b) e w l = match-low r _ _ _ b w (known-most r _ (l .resources)) e
 
 -- ---- a stack whose deepest level is stored last
 
-module _ (r t : ℕ) (stm ws : List ℕ) (ls : List Level) (d : ℕ) (l : Level) (few : d < length (patternsOf ws)) (small : d < 8) (size : length ls ≡ 8) where
+module _ (r t : ℕ) (stm ws : List ℕ) (ls : List Level) (d : ℕ) (l : Level) (few : d < length (patternsOf ws))
+    (small : d < 8) (size : length ls ≡ 8) where
   pub top-is : getD (set ls d l) d noLevel ≡ l
   top-is = getD-set-same ls d l noLevel (omega arith)
 
-  pub stands-new : (b : Solution) (x : Triple) → Sure r t stm ls d → l .statement .0 ≤ t → b .values ≡ binds stm (patternsOf ws) (levelsOf ls d)
-      → x ≡ asked stm (patternsOf ws) (levelsOf ls d) → Stands r t stm ws (record { top = d; levels = set ls d l; bound = b; asked = x })
+  pub stands-new : (b : Solution) (x : Triple) → Sure r t stm ls d → l .statement .0 ≤ t → b .values
+      ≡ binds stm (patternsOf ws) (levelsOf ls d)
+      → x ≡ asked stm (patternsOf ws) (levelsOf ls d) → Stands r t stm ws
+      (record { top = d; levels = set ls d l; bound = b; asked = x })
   stands-new b x s h e f =
       record {
         few = few;

@@ -1,4 +1,5 @@
--- Laws of a turn of the walk: chains that have run out, a visit, a match, the next pattern entered; and the walk at each way out of a
+-- Laws of a turn of the walk: chains that have run out, a visit, a match, the next pattern entered; and the walk at
+-- each way out of a
 -- turn. Assumes nothing.
 use mathlib.Core.Path.{_≡_, refl, sym, ap, ap₂, _∙_}
 use mathlib.Core.Logic.{_≢_}
@@ -26,30 +27,37 @@ use Rattle.statement.proofs.Chains.{pick-bound, start-within, falling}
 use Rattle.graph.specs.declared.QueryPattern.{QueryPattern}
 use Rattle.graph.specs.declared.Solution.{Solution}
 use Rattle.graph.specs.declared.Level.{Level}
-use Rattle.graph.specs.Query.{patternsOf, pattern, Bindings, under, match, orElse, level, noLevel, inside, recordAt, past, struck, settle, remains, nextPattern, binds, asked, levelsOf, Turn, bad, go, whole, Answer, refused, found, ended, spent, enter, hit, tried, visit, walk}
+use Rattle.graph.specs.Query.{patternsOf, pattern, Bindings, under, match, orElse, level, noLevel, inside, recordAt}
+use Rattle.graph.specs.Query.{past, struck, settle, remains, nextPattern, binds, asked, levelsOf, Turn, bad, go}
+use Rattle.graph.specs.Query.{whole, Answer, refused, found, ended, spent, enter, hit, tried, visit, walk}
 use Rattle.pattern.specs.declared.binding.Matched.{Matched}
 use Rattle.pattern.specs.Matching.{PatternOk, matchedAs}
 use Rattle.pattern.specs.Levels.{LevelsHeld}
 use Rattle.pattern.proofs.Matches.{match-none}
-use Rattle.graph.proofs.Laws.{prev-minus, settle-stop, settle-pop, settle-none, turn-ended, turn-bad, turn-go, turn-whole, levels-length, levels-set}
+use Rattle.graph.proofs.Laws.{prev-minus, settle-stop, settle-pop, settle-none, turn-ended, turn-bad, turn-go}
+use Rattle.graph.proofs.Laws.{turn-whole, levels-length, levels-set}
 use Rattle.graph.proofs.Levels.{Low}
 use Rattle.pattern.proofs.LevelLaws.{record-at, past-at, struck-at, next-at, asked-at, binds-step}
 use Rattle.query.specs.declared.walk.Stack.{Stack}
 use Rattle.query.specs.declared.walk.Outcome.{Outcome}
 use Rattle.query.specs.declared.walk.Outcome.the-variants.{Damaged, Onward, Whole}
 use Rattle.query.specs.declared.walk.Turned.{Turned}
-use Rattle.query.specs.Stack.{deepest, entered, Ready, LevelSure, Stands, Visitable, standAs, poppedAs, enteredAs, turnAs, triedAt, TurnIs}
-use Rattle.query.proofs.Stacks.{levels-none, levels-step, levels-down, ready-query, Sure, sure-less, sure-more, sure-of, sure-held, top-is, stands-new, binds-within}
+use Rattle.query.specs.Stack.{deepest, entered, Ready, LevelSure, Stands, Visitable, standAs, poppedAs}
+use Rattle.query.specs.Stack.{enteredAs, turnAs, triedAt, TurnIs}
+use Rattle.query.proofs.Stacks.{levels-none, levels-step, levels-down, ready-query, Sure, sure-less, sure-more}
+use Rattle.query.proofs.Stacks.{sure-of, sure-held, top-is, stands-new, binds-within}
 
 -- ---- chains that have run out
 
 module _ (stm : List ℕ) where
   -- where a stack has run out
-  pub settled : (q : Stack) → ((deepest q) .statement .0 ≡ 0 → ⊥) → settle stm (deepest q) (entered q) ≡ deepest q ∷ entered q
+  pub settled : (q : Stack) → ((deepest q) .statement .0 ≡ 0 → ⊥) → settle stm (deepest q) (entered q)
+      ≡ deepest q ∷ entered q
   settled q h = settle-stop stm (deepest q) (entered q) h
 
   pub settled-none : (q : Stack) → q .top ≡ 0 → (deepest q) .statement .0 ≡ 0 → settle stm (deepest q) (entered q) ≡ []
-  settled-none q e h = ap (settle stm (deepest q)) (ap (levelsOf (q .levels)) e ∙ levels-none (q .levels)) ∙ settle-none stm (deepest q) h
+  settled-none q e h = ap (settle stm (deepest q)) (ap (levelsOf (q .levels)) e ∙ levels-none (q .levels))
+      ∙ settle-none stm (deepest q) h
 
 -- the stack popped: what holds of it, and nothing is lost
 module _ (r t : ℕ) (stm ws : List ℕ) (q : Stack) (s : Stands r t stm ws q) (h : 1 ≤ q .top) (small : q .top < 8) where
@@ -79,7 +87,8 @@ module _ (r t : ℕ) (stm ws : List ℕ) (q : Stack) (s : Stands r t stm ws q) (
       let l = past stm (getD ls d noLevel) in
       ap (settle stm (deepest q)) (levels-down ls (q .top) h)
       ∙ settle-pop stm (deepest q) (getD ls d noLevel) (levelsOf ls d) z
-      ∙ ap₂ (settle stm) (sym (top-is r t stm ws ls d l (omega arith) (omega arith) (s .slots))) (sym (levels-set ls d d l (omega arith)))
+      ∙ ap₂ (settle stm) (sym (top-is r t stm ws ls d l (omega arith) (omega arith) (s .slots)))
+      (sym (levels-set ls d d l (omega arith)))
 
 -- ---- a pattern entered
 
@@ -89,35 +98,42 @@ not-onward e = let z : _≡_ {A = ℕ} 0 1 = cc in absurd (omega arith)
 pub not-damaged : {A : Type 0} → Damaged ≡ Onward → A
 not-damaged e = let z : _≡_ {A = ℕ} 0 1 = cc in absurd (omega arith)
 
-module _ (r t : ℕ) (res stm ws : List ℕ) (ls : List Level) (d : ℕ) (b : Solution) (few : d < length (patternsOf ws)) (small : d < 8) (size : length ls ≡ 8) (sure : Sure r t stm ls d) (bound-is : b .values ≡ binds stm (patternsOf ws) (levelsOf ls d)) where
+module _ (r t : ℕ) (res stm ws : List ℕ) (ls : List Level) (d : ℕ) (b : Solution) (few : d < length (patternsOf ws))
+    (small : d < 8) (size : length ls ≡ 8) (sure : Sure r t stm ls d)
+    (bound-is : b .values ≡ binds stm (patternsOf ws) (levelsOf ls d)) where
   abbrev entry : Triple
   entry = under (b .values) (getD (patternsOf ws) d (pattern 0 0 0))
 
   asked-entry : asked stm (patternsOf ws) (levelsOf ls d) ≡ entry
   asked-entry =
-      asked-at 0 0 stm (patternsOf ws) ls d ∙ ap (λ (z : Bindings). under z (getD (patternsOf ws) d (pattern 0 0 0))) (sym bound-is)
+      asked-at 0 0 stm (patternsOf ws) ls d
+      ∙ ap (λ (z : Bindings). under z (getD (patternsOf ws) d (pattern 0 0 0))) (sym bound-is)
 
   abbrev first-level : Level
   first-level = level (pickChain res entry) (startOf t res (pickChain res entry) entry)
 
-  enter-is : enter r t res stm (patternsOf ws) (levelsOf ls d) ≡ cond (pickable t res entry) (go first-level (levelsOf ls d)) bad
+  enter-is : enter r t res stm (patternsOf ws) (levelsOf ls d)
+      ≡ cond (pickable t res entry) (go first-level (levelsOf ls d)) bad
   unfolding enter
   enter-is = rw asked-entry
 
   entered-yes : pickable t res entry ≡ true
-      → enteredAs t res entry ls d b ≡ record { outcome = Onward; stack = record { top = d; levels = set ls d first-level; bound = b; asked = entry } }
+      → enteredAs t res entry ls d b
+      ≡ record { outcome = Onward; stack = record { top = d; levels = set ls d first-level; bound = b; asked = entry } }
   unfolding enteredAs
   entered-yes e = rw e
 
   entered-no : pickable t res entry ≡ false
-      → enteredAs t res entry ls d b ≡ record { outcome = Damaged; stack = record { top = d; levels = ls; bound = b; asked = entry } }
+      → enteredAs t res entry ls d b
+      ≡ record { outcome = Damaged; stack = record { top = d; levels = ls; bound = b; asked = entry } }
   unfolding enteredAs
   entered-no e = rw e
 
   pub entering : TurnIs r t stm ws (enter r t res stm (patternsOf ws) (levelsOf ls d)) (enteredAs t res entry ls d b)
   entering = decide (pickable t res entry) yes no
     where
-      yes : pickable t res entry ≡ true → TurnIs r t stm ws (enter r t res stm (patternsOf ws) (levelsOf ls d)) (enteredAs t res entry ls d b)
+      yes : pickable t res entry ≡ true → TurnIs r t stm ws (enter r t res stm (patternsOf ws) (levelsOf ls d))
+          (enteredAs t res entry ls d b)
       yes e =
           rw (entered-yes e)
           (record {
@@ -130,7 +146,8 @@ module _ (r t : ℕ) (res stm ws : List ℕ) (ls : List Level) (d : ℕ) (b : So
             slot = small;
           })
 
-      no : pickable t res entry ≡ false → TurnIs r t stm ws (enter r t res stm (patternsOf ws) (levelsOf ls d)) (enteredAs t res entry ls d b)
+      no : pickable t res entry ≡ false → TurnIs r t stm ws (enter r t res stm (patternsOf ws) (levelsOf ls d))
+          (enteredAs t res entry ls d b)
       no e = rw (entered-no e) (record { told = sym (enter-is ∙ rw e); stands = λ z. not-damaged z; slot = small })
 
 -- ---- a visit
@@ -150,7 +167,8 @@ was-miss true true m k e = let z : _≡_ {A = ℕ} 0 1 = cc in absurd (omega ari
 was-miss true false m k e = (refl, refl, cc)
 was-miss false b m k e = let z : _≡_ {A = ℕ} 0 1 = cc in absurd (omega arith)
 
-visit-known : (r : ℕ) (stm : List ℕ) (ch : Chain) (x : Triple) (i : ℕ) → visitable r stm ch x i ≡ true → known r (tripleAt stm i) ≡ true
+visit-known : (r : ℕ) (stm : List ℕ) (ch : Chain) (x : Triple) (i : ℕ) → visitable r stm ch x i ≡ true
+    → known r (tripleAt stm i) ≡ true
 unfolding visitable
 visit-known r stm ch x i e = and-l (known r (tripleAt stm i)) _ e
 
@@ -166,7 +184,8 @@ module _ (r t : ℕ) (res stm ws : List ℕ) (k : Ready r t res stm ws) (q : Sta
   meeting = match (nextPattern (patternsOf ws) (entered q)) (recordAt stm num) (binds stm (patternsOf ws) (entered q))
 
   -- and by the code
-  pub meeting-is : (x : QueryPattern) (y : Triple) → x ≡ getD (patternsOf ws) (q .top) (pattern 0 0 0) → y ≡ tripleAt stm (num - 1)
+  pub meeting-is : (x : QueryPattern) (y : Triple) → x ≡ getD (patternsOf ws) (q .top) (pattern 0 0 0) → y
+      ≡ tripleAt stm (num - 1)
       → match x y (q .bound .values) ≡ meeting
   meeting-is x y e f = rw (e, f, s .bound-is, ← next-at (patternsOf ws) (q .levels) (q .top), ← record-at stm num)
 
@@ -175,7 +194,8 @@ module _ (r t : ℕ) (res stm ws : List ℕ) (k : Ready r t res stm ws) (q : Sta
   unfolding hits matches entryAt
   live = rw (struck-at stm (deepest q), record-at stm num)
 
-  hit-none : hits LiveMatch stm (q .asked) (num - 1) ≡ false → hit r t res stm (patternsOf ws) (deepest q) (entered q) ≡ none
+  hit-none : hits LiveMatch stm (q .asked) (num - 1) ≡ false
+      → hit r t res stm (patternsOf ws) (deepest q) (entered q) ≡ none
   unfolding hit
   hit-none e = go-on (struck stm (deepest q)) (agrees (q .asked) (recordAt stm num)) refl (sym live ∙ e)
     where
@@ -183,12 +203,15 @@ module _ (r t : ℕ) (res stm ws : List ℕ) (k : Ready r t res stm ws) (q : Sta
       go-on true a d z = refl
       go-on false a d z =
           let o = (ready-query r t res stm ws k) .each (q .top) (s .few) in
-          let e₁ : agrees (asked stm (patternsOf ws) (entered q)) (recordAt stm num) ≡ false = rw (s .asked-is) at (sym d ∙ z) in
+          let e₁ : agrees (asked stm (patternsOf ws) (entered q)) (recordAt stm num)
+          ≡ false = rw (s .asked-is) at (sym d ∙ z) in
           rw (next-at (patternsOf ws) (q .levels) (q .top))
-          (match-none (getD (patternsOf ws) (q .top) (pattern 0 0 0)) (recordAt stm num) (binds stm (patternsOf ws) (entered q)) o
+          (match-none (getD (patternsOf ws) (q .top) (pattern 0 0 0)) (recordAt stm num)
+          (binds stm (patternsOf ws) (entered q)) o
           (rw (asked-at 0 0 stm (patternsOf ws) (q .levels) (q .top)) at e₁))
 
-  hit-live : hits LiveMatch stm (q .asked) (num - 1) ≡ true → hit r t res stm (patternsOf ws) (deepest q) (entered q) ≡ meeting
+  hit-live : hits LiveMatch stm (q .asked) (num - 1) ≡ true
+      → hit r t res stm (patternsOf ws) (deepest q) (entered q) ≡ meeting
   unfolding hit
   hit-live e = go-on (struck stm (deepest q)) (agrees (q .asked) (recordAt stm num)) (sym live ∙ e)
     where
@@ -202,38 +225,54 @@ module _ (r t : ℕ) (res stm ws : List ℕ) (k : Ready r t res stm ws) (q : Sta
   pub visit-torn : visited ≡ Torn → visit r t res stm (patternsOf ws) (deepest q) (entered q) ≡ bad
   unfolding visit visitOf
   visit-torn e =
-      let a = torn (visitable r stm chainOf (q .asked) (num - 1)) (hits LiveMatch stm (q .asked) (num - 1)) (linkOf stm chainOf (num - 1)) e in
+      let a = torn (visitable r stm chainOf (q .asked) (num - 1)) (hits LiveMatch stm (q .asked) (num - 1))
+      (linkOf stm chainOf (num - 1)) e in
       rw (prev-minus num, ← s .asked-is, a)
 
   pub visit-missed : (m : ℕ) → visited ≡ Miss m → (num ≡ 0 → ⊥)
       → (visit r t res stm (patternsOf ws) (deepest q) (entered q) ≡ go (level chainOf m) (entered q)) × (m < num)
   unfolding visit visitOf tried
   visit-missed m e z =
-      let a = was-miss (visitable r stm chainOf (q .asked) (num - 1)) (hits LiveMatch stm (q .asked) (num - 1)) (linkOf stm chainOf (num - 1)) m e in
+      let a = was-miss (visitable r stm chainOf (q .asked) (num - 1)) (hits LiveMatch stm (q .asked) (num - 1))
+      (linkOf stm chainOf (num - 1)) m e in
       let f = falling r stm chainOf (q .asked) (num - 1) (a .0) in
       (rw (prev-minus num, ← s .asked-is, a .0, hit-none (a .1), past-at stm (deepest q), a .2), omega (arith, a .2))
 
   pub visit-hit : (m : ℕ) → visited ≡ Hit m → (num ≡ 0 → ⊥)
-      → (visit r t res stm (patternsOf ws) (deepest q) (entered q) ≡ tried r t res stm (patternsOf ws) (deepest q) (entered q) meeting)
+      → (visit r t res stm (patternsOf ws) (deepest q) (entered q)
+      ≡ tried r t res stm (patternsOf ws) (deepest q) (entered q) meeting)
       × Visitable r stm q × (m ≡ linkOf stm chainOf (num - 1))
   unfolding visit visitOf
   visit-hit m e z =
-      let a = was-hit (visitable r stm chainOf (q .asked) (num - 1)) (hits LiveMatch stm (q .asked) (num - 1)) (linkOf stm chainOf (num - 1)) m e in
-      (rw (prev-minus num, ← s .asked-is, a .0, hit-live (a .1)), record { some-record = omega arith; sound = a .0 }, sym (a .2))
+      let a = was-hit (visitable r stm chainOf (q .asked) (num - 1)) (hits LiveMatch stm (q .asked) (num - 1))
+      (linkOf stm chainOf (num - 1)) m e in (
+        rw (prev-minus num, ← s .asked-is, a .0, hit-live (a .1)),
+        record {
+          some-record = omega arith;
+          sound = a .0;
+        },
+        sym (a .2),
+      )
 
   -- on along the chain: the same stack at a lower record
   pub moved-stands : (m : ℕ) → m ≤ t
-      → Stands r t stm ws (record { top = q .top; levels = set (q .levels) (q .top) (level chainOf m); bound = q .bound; asked = q .asked })
+      → Stands r t stm ws
+      (record { top = q .top; levels = set (q .levels) (q .top) (level chainOf m); bound = q .bound; asked = q .asked })
   moved-stands m h =
       let n = s .few in
       let e = (ready-query r t res stm ws k) .few in
-      stands-new r t stm ws (q .levels) (q .top) (level chainOf m) n (omega arith) (s .slots) (q .bound) (q .asked) (sure-of r t stm ws q s) h (s .bound-is) (s .asked-is)
+      stands-new r t stm ws (q .levels) (q .top) (level chainOf m) n (omega arith) (s .slots) (q .bound) (q .asked)
+      (sure-of r t stm ws q s) h (s .bound-is) (s .asked-is)
 
-  pub moved-place : (l : Level) → ((getD (set (q .levels) (q .top) l) (q .top) noLevel) ≡ l) × (levelsOf (set (q .levels) (q .top) l) (q .top) ≡ entered q)
+  pub moved-place : (l : Level) → ((getD (set (q .levels) (q .top) l) (q .top) noLevel) ≡ l)
+      × (levelsOf (set (q .levels) (q .top) l) (q .top) ≡ entered q)
   moved-place l =
       let n = s .few in
-      let e = (ready-query r t res stm ws k) .few in
-      (top-is r t stm ws (q .levels) (q .top) l n (omega arith) (s .slots), levels-set (q .levels) (q .top) (q .top) l (omega arith))
+      let e = (ready-query r t res stm ws k) .few in (
+        top-is r t stm ws (q .levels) (q .top) l n (omega arith) (s .slots),
+        levels-set (q .levels) (q .top)
+            (q .top) l (omega arith),
+      )
 
   pub stack-held : LevelsHeld stm (q .levels) (q .top)
   stack-held =
@@ -276,21 +315,25 @@ module _ (r t : ℕ) (res stm ws : List ℕ) (k : Ready r t res stm ws) (q : Sta
       let f = falling r stm chainOf (q .asked) (num - 1) (v .sound) in
       let w = s .next-within in
       record {
-        told = ap₂ go (p .0 ∙ next-past n e) (p .1) ∙ sym (ap (tried r t res stm (patternsOf ws) (deepest q) (entered q)) o);
+        told = ap₂ go (p .0 ∙ next-past n e) (p .1)
+            ∙ sym (ap (tried r t res stm (patternsOf ws) (deepest q) (entered q)) o);
         stands = λ z. moved-stands n (omega arith);
         slot = top-small;
       }
 
-  pub turned-whole : (n : ℕ) (b : Solution) → n ≡ linkOf stm chainOf (num - 1) → meeting ≡ some (b .values) → q .top + 1 ≡ length (patternsOf ws)
+  pub turned-whole : (n : ℕ) (b : Solution) → n ≡ linkOf stm chainOf (num - 1) → meeting ≡ some (b .values)
+      → q .top + 1 ≡ length (patternsOf ws)
       → TurnIs r t stm ws turn (record { outcome = Whole; stack = moved b n })
   unfolding tried
   turned-whole n b e o h =
       let p = moved-place (level chainOf n) in
-      let g : suc (length (entered q)) ≡ length (patternsOf ws) = ap suc (levels-length (q .levels) (q .top)) ∙ (let y : suc (q .top) ≡ q .top + 1 = omega arith in y ∙ h) in
+      let g : suc (length (entered q)) ≡ length (patternsOf ws) = ap suc (levels-length (q .levels) (q .top))
+      ∙ (let y : suc (q .top) ≡ q .top + 1 = omega arith in y ∙ h) in
       record {
         told =
             ap₂ (whole (b .values)) (p .0 ∙ next-past n e) (p .1)
-            ∙ sym (ap (tried r t res stm (patternsOf ws) (deepest q) (entered q)) o ∙ rw (eq-eqb (suc (length (entered q))) (length (patternsOf ws)) g));
+            ∙ sym (ap (tried r t res stm (patternsOf ws) (deepest q) (entered q)) o
+            ∙ rw (eq-eqb (suc (length (entered q))) (length (patternsOf ws)) g));
         stands = λ z. not-onward z;
         slot = top-small;
       }
@@ -305,12 +348,15 @@ module _ (r t : ℕ) (res stm ws : List ℕ) (k : Ready r t res stm ws) (q : Sta
     unfolding tried
     next-turn =
         let g : suc (length (entered q)) ≡ length (patternsOf ws) → ⊥ =
-        λ z. more (let y : q .top + 1 ≡ suc (q .top) = omega arith in y ∙ sym (ap suc (levels-length (q .levels) (q .top))) ∙ z) in
+        λ z. more (let y : q .top + 1 ≡ suc (q .top) = omega arith in y
+        ∙ sym (ap suc (levels-length (q .levels) (q .top))) ∙ z) in
         ap (tried r t res stm (patternsOf ws) (deepest q) (entered q)) o
         ∙ rw (ne-eqb (suc (length (entered q))) (length (patternsOf ws)) g, ← levels-step (q .levels) (q .top))
 
     pub turned-enter : Visitable r stm q
-        → TurnIs r t stm ws turn (enteredAs t res (under (b .values) (getD (patternsOf ws) (q .top + 1) (pattern 0 0 0))) (q .levels) (q .top + 1) b)
+        → TurnIs r t stm ws turn
+        (enteredAs t res (under (b .values) (getD (patternsOf ws) (q .top + 1) (pattern 0 0 0))) (q .levels)
+        (q .top + 1) b)
     turned-enter v =
         let n = s .few in
         let e = (ready-query r t res stm ws k) .few in
@@ -326,7 +372,9 @@ module _ (r t : ℕ) (res stm ws : List ℕ) (k : Ready r t res stm ws) (q : Sta
 
 -- ---- the loop: v of `budget` visits are made, w is where the turn began, q where chains that have run out are left
 
-module _ (r t : ℕ) (res stm ws : List ℕ) (k : Ready r t res stm ws) (budget v : ℕ) (le : v ≤ budget) (ne : v ≡ budget → ⊥) (w q : Stack) (s : Stands r t stm ws q) (e : settle stm (deepest w) (entered w) ≡ settle stm (deepest q) (entered q)) where
+module _ (r t : ℕ) (res stm ws : List ℕ) (k : Ready r t res stm ws) (budget v : ℕ) (le : v ≤ budget)
+    (ne : v ≡ budget → ⊥) (w q : Stack) (s : Stands r t stm ws q)
+    (e : settle stm (deepest w) (entered w) ≡ settle stm (deepest q) (entered q)) where
   abbrev from-here : Answer
   from-here = walk r t res stm (patternsOf ws) (budget - v) (deepest w) (entered w) v
 
@@ -337,7 +385,8 @@ module _ (r t : ℕ) (res stm ws : List ℕ) (k : Ready r t res stm ws) (budget 
   left-some z = ne (omega arith)
 
   pub runs-out : q .top ≡ 0 → (deepest q) .statement .0 ≡ 0 → from-here ≡ ended v
-  runs-out z h = turn-ended r t res stm (patternsOf ws) (deepest w) (entered w) v (budget - v) left-some (e ∙ settled-none stm q z h)
+  runs-out z h = turn-ended r t res stm (patternsOf ws) (deepest w) (entered w) v (budget - v) left-some
+      (e ∙ settled-none stm q z h)
 
   module _ (some-record : (deepest q) .statement .0 ≡ 0 → ⊥) where
     here : settle stm (deepest w) (entered w) ≡ deepest q ∷ entered q
@@ -347,35 +396,43 @@ module _ (r t : ℕ) (res stm ws : List ℕ) (k : Ready r t res stm ws) (budget 
     seen = visitOf LiveMatch r stm ((deepest q) .chain) (q .asked) ((deepest q) .statement .0 - 1)
 
     bad-here : visit r t res stm (patternsOf ws) (deepest q) (entered q) ≡ bad → from-here ≡ refused Nine
-    bad-here d = turn-bad r t res stm (patternsOf ws) (deepest w) (entered w) v (budget - v) (deepest q) (entered q) left-some here d
+    bad-here d = turn-bad r t res stm (patternsOf ws) (deepest w) (entered w) v (budget - v) (deepest q)
+        (entered q) left-some here d
 
-    go-here : (l : Level) (up : List Level) (p : Stack) → visit r t res stm (patternsOf ws) (deepest q) (entered q) ≡ go l up → l ≡ deepest p → up ≡ entered p
+    go-here : (l : Level) (up : List Level) (p : Stack) → visit r t res stm (patternsOf ws) (deepest q) (entered q)
+        ≡ go l up → l ≡ deepest p → up ≡ entered p
         → from-here ≡ onward p
     go-here l up p d f g =
         let a : budget - v - 1 ≡ budget - (v + 1) = omega arith in
-        turn-go r t res stm (patternsOf ws) (deepest w) (entered w) v (budget - v) (deepest q) (entered q) l up left-some here d
+        turn-go r t res stm (patternsOf ws) (deepest w) (entered w) v (budget - v) (deepest q)
+        (entered q) l up left-some here d
         ∙ rw (a, f, g)
 
     pub sees-torn : seen ≡ Torn → from-here ≡ refused Nine
     sees-torn d = bad-here (visit-torn r t res stm ws k q s d)
 
     pub sees-miss : (n : ℕ) (l : Level) → seen ≡ Miss n → l ≡ level ((deepest q) .chain) n
-        → Stands r t stm ws (record { top = q .top; levels = set (q .levels) (q .top) l; bound = q .bound; asked = q .asked })
-        × (from-here ≡ onward (record { top = q .top; levels = set (q .levels) (q .top) l; bound = q .bound; asked = q .asked }))
+        → Stands r t stm ws
+        (record { top = q .top; levels = set (q .levels) (q .top) l; bound = q .bound; asked = q .asked })
+        × (from-here ≡ onward
+        (record { top = q .top; levels = set (q .levels) (q .top) l; bound = q .bound; asked = q .asked }))
     sees-miss n l d f =
         let x = visit-missed r t res stm ws k q s n d some-record in
         let y = s .next-within in
         let p = moved-place r t res stm ws k q s l in (
           rw f (moved-stands r t res stm ws k q s n (omega (arith, x .1))),
-          go-here (level ((deepest q) .chain) n) (entered q) (record { top = q .top; levels = set (q .levels) (q .top) l; bound = q .bound; asked = q .asked }) (x .0)
+          go-here (level ((deepest q) .chain) n) (entered q)
+              (record { top = q .top; levels = set (q .levels) (q .top) l; bound = q .bound; asked = q .asked }) (x .0)
               (sym (p .0 ∙ f)) (sym (p .1)),
         )
 
-    module _ (m : Turned) (n : ℕ) (d : seen ≡ Hit n) (T : TurnIs r t stm ws (triedAt r t res stm (patternsOf ws) q) m) where
+    module _ (m : Turned) (n : ℕ) (d : seen ≡ Hit n) (T : TurnIs r t stm ws
+        (triedAt r t res stm (patternsOf ws) q) m) where
       turn-is : visit r t res stm (patternsOf ws) (deepest q) (entered q) ≡ turnAs (m .outcome) (m .stack)
       turn-is = (visit-hit r t res stm ws k q s n d some-record) .0 ∙ sym (T .told)
 
-      outcome-is : (o : Outcome) → m .outcome ≡ o → visit r t res stm (patternsOf ws) (deepest q) (entered q) ≡ turnAs o (m .stack)
+      outcome-is : (o : Outcome) → m .outcome ≡ o → visit r t res stm (patternsOf ws) (deepest q) (entered q)
+          ≡ turnAs o (m .stack)
       outcome-is o f = turn-is ∙ ap (λ (z : Outcome). turnAs z (m .stack)) f
 
       pub tried-damaged : m .outcome ≡ Damaged → from-here ≡ refused Nine
@@ -384,7 +441,9 @@ module _ (r t : ℕ) (res stm ws : List ℕ) (k : Ready r t res stm ws) (budget 
       pub tried-onward : m .outcome ≡ Onward → from-here ≡ onward (m .stack)
       tried-onward f = go-here (deepest (m .stack)) (entered (m .stack)) (m .stack) (outcome-is Onward f) refl refl
 
-      pub tried-whole : m .outcome ≡ Whole → from-here ≡ found (m .stack .bound .values) (v + 1) (inside (deepest (m .stack)) (entered (m .stack)))
+      pub tried-whole : m .outcome ≡ Whole → from-here ≡ found (m .stack .bound .values) (v + 1)
+          (inside (deepest (m .stack)) (entered (m .stack)))
       tried-whole f =
-          turn-whole r t res stm (patternsOf ws) (deepest w) (entered w) v (budget - v) (deepest q) (entered q) (m .stack .bound .values) (deepest (m .stack)) (entered (m .stack))
+          turn-whole r t res stm (patternsOf ws) (deepest w) (entered w) v (budget - v) (deepest q) (entered q)
+          (m .stack .bound .values) (deepest (m .stack)) (entered (m .stack))
           left-some here (outcome-is Whole f)

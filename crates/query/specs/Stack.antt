@@ -12,7 +12,8 @@ use Rattle.store.specs.Walk.{pickChain, pickable, startOf, visitable}
 use Rattle.graph.specs.declared.QueryPattern.{QueryPattern}
 use Rattle.graph.specs.declared.Solution.{Solution}
 use Rattle.graph.specs.declared.Level.{Level}
-use Rattle.graph.specs.Query.{patternsOf, wordsOk, level, noLevel, recordAt, past, binds, asked, levelsOf, inside, nextPattern, match, remains, Turn, bad, go, whole, tried, Answer, spent, ended}
+use Rattle.graph.specs.Query.{patternsOf, wordsOk, level, noLevel, recordAt, past, binds, asked, levelsOf, inside}
+use Rattle.graph.specs.Query.{nextPattern, match, remains, Turn, bad, go, whole, tried, Answer, spent, ended}
 use Rattle.query.specs.declared.walk.Stack.{Stack}
 use Rattle.query.specs.declared.walk.Outcome.{Outcome}
 use Rattle.query.specs.declared.walk.Outcome.the-variants.{Damaged, Onward, Whole}

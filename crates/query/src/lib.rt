@@ -1,6 +1,8 @@
-// Queries, the paper's question of several patterns: open and next, on tables, words and cursors that hold anything. Nothing is written.
+// Queries, the paper's question of several patterns: open and next, on tables, words and cursors that hold anything.
+// Nothing is written.
 //
-// The words are passed at each call, and the cursor holds none of them: a cursor of another query, or of another store, is judged by
+// The words are passed at each call, and the cursor holds none of them: a cursor of another query, or of another
+// store, is judged by
 // refusal 6 alone. Refusals, in the order tested: open 1, 8; next 1, 8, 6, 7, 9.
 use crate::resume::resume;
 use crate::walk::no_levels;
@@ -31,7 +33,8 @@ pub fn query_open(
     text: &[u8],
     words: &[u32],
 ) -> QueryOpened
-    ensures { λ a. ⌜ a ≡ openQueryOf c (tables (now (resources .entry)) (now (statements .entry)) (now (index .entry)) (now (text .entry))) (now (words .entry)) ⌝ }
+    ensures { λ a. ⌜ a ≡ openQueryOf c (tables (now (resources .entry)) (now (statements .entry))
+        (now (index .entry)) (now (text .entry))) (now (words .entry)) ⌝ }
 {
     let cursor = no_levels(Progress::Start);
     if !fits(c, resources, statements, index, text) {
@@ -52,7 +55,8 @@ pub fn query_open(
     }
 }
 
-// Next of a query: 1; 8; 6; 7 if the budget is 0; 9; else found, ended or spent, with the visits made and the cursor from now on.
+// Next of a query: 1; 8; 6; 7 if the budget is 0; 9; else found, ended or spent, with the visits made and the cursor
+// from now on.
 pub fn query_next(
     c: Counters,
     resources: &[u32],
@@ -63,7 +67,8 @@ pub fn query_next(
     q: QueryCursor,
     budget: u32,
 ) -> QueryAnswer
-    ensures { λ a. ⌜ a ≡ nextQueryOf c (tables (now (resources .entry)) (now (statements .entry)) (now (index .entry)) (now (text .entry))) (now (words .entry)) q budget ⌝ }
+    ensures { λ a. ⌜ a ≡ nextQueryOf c (tables (now (resources .entry)) (now (statements .entry))
+        (now (index .entry)) (now (text .entry))) (now (words .entry)) q budget ⌝ }
 {
     if !fits(c, resources, statements, index, text) {
         return refused(Refusal::Capacity);

@@ -1,4 +1,5 @@
-// Where a next call goes on: before the first pattern, within its levels, or at the end (paper 01, "Next of a question").
+// Where a next call goes on: before the first pattern, within its levels, or at the end (paper 01, "Next of a
+// question").
 use crate::walk::Outcome;
 use crate::walk::Stack;
 use crate::walk::ended;
@@ -30,7 +31,8 @@ ghost use Rattle.pattern.specs.Levels.{QueryOk, LevelsHeld};
 ghost use Rattle.query.specs.Stack.{Ready};
 ghost use Rattle.query.specs.Resume.{Pruned, onwardAs};
 
-// Before the first solution: the first pattern is entered, at no visit. No patterns give one empty solution, with the end as place.
+// Before the first solution: the first pattern is entered, at no visit. No patterns give one empty solution, with the
+// end as place.
 pub fn begin(
     c: Counters,
     resources: &[u32],
@@ -39,7 +41,8 @@ pub fn begin(
     budget: u32,
 ) -> QueryAnswer
     requires { ⌜ Ready (c .resources) (c .statements) (now resources) (now statements) (now words) ⌝ }
-    ensures { λ a. ⌜ a ≡ packed (resume (c .resources) (c .statements) (now (resources .entry)) (now (statements .entry)) (patternsOf (now (words .entry))) start budget) ⌝ }
+    ensures { λ a. ⌜ a ≡ packed (resume (c .resources) (c .statements) (now (resources .entry))
+        (now (statements .entry)) (patternsOf (now (words .entry))) start budget) ⌝ }
 {
     if patterns(words) == 0 {
         return QueryAnswer {
@@ -75,7 +78,8 @@ pub fn onward(statements: &[u32], levels: [Level; MAX_PATTERNS], top: u32, i: u3
 
 // Below a record struck out since, the levels are left without a visit.
 pub fn pruned(statements: &[u32], words: &[u32], levels: [Level; MAX_PATTERNS], top: u32) -> Stack
-    requires { ⌜ QueryOk (now words) × (top < length (patternsOf (now words))) × LevelsHeld (now statements) levels top ⌝ }
+    requires { ⌜ QueryOk (now words) × (top < length (patternsOf (now words)))
+        × LevelsHeld (now statements) levels top ⌝ }
     ensures { λ s. ⌜ Pruned (now (statements .entry)) (patternsOf (now (words .entry))) levels top s ⌝ }
 {
     let i = first_struck(statements, levels, top);
@@ -95,8 +99,12 @@ pub fn go_on(
     top: u32,
     budget: u32,
 ) -> QueryAnswer
-    requires { ⌜ Ready (c .resources) (c .statements) (now resources) (now statements) (now words) × (placeOk (now statements) (patternsOf (now words)) (c .resources) (c .statements) (inside (getD levels top noLevel) (levelsOf levels top)) ≡ true) ⌝ }
-    ensures { λ a. ⌜ a ≡ packed (resume (c .resources) (c .statements) (now (resources .entry)) (now (statements .entry)) (patternsOf (now (words .entry))) (inside (getD levels top noLevel) (levelsOf levels top)) budget) ⌝ }
+    requires { ⌜ Ready (c .resources) (c .statements) (now resources) (now statements) (now words)
+        × (placeOk (now statements) (patternsOf (now words)) (c .resources) (c .statements)
+        (inside (getD levels top noLevel) (levelsOf levels top)) ≡ true) ⌝ }
+    ensures { λ a. ⌜ a ≡ packed (resume (c .resources) (c .statements) (now (resources .entry))
+        (now (statements .entry)) (patternsOf (now (words .entry)))
+        (inside (getD levels top noLevel) (levelsOf levels top)) budget) ⌝ }
 {
     if !intact(statements, levels, top) {
         return refused(Refusal::Damaged);
@@ -114,8 +122,10 @@ pub fn resume(
     q: QueryCursor,
     budget: u32,
 ) -> QueryAnswer
-    requires { ⌜ Ready (c .resources) (c .statements) (now resources) (now statements) (now words) × (placeOk (now statements) (patternsOf (now words)) (c .resources) (c .statements) (placeOf q) ≡ true) ⌝ }
-    ensures { λ a. ⌜ a ≡ packed (resume (c .resources) (c .statements) (now (resources .entry)) (now (statements .entry)) (patternsOf (now (words .entry))) (placeOf q) budget) ⌝ }
+    requires { ⌜ Ready (c .resources) (c .statements) (now resources) (now statements) (now words)
+        × (placeOk (now statements) (patternsOf (now words)) (c .resources) (c .statements) (placeOf q) ≡ true) ⌝ }
+    ensures { λ a. ⌜ a ≡ packed (resume (c .resources) (c .statements) (now (resources .entry))
+        (now (statements .entry)) (patternsOf (now (words .entry))) (placeOf q) budget) ⌝ }
 {
     let progress = q.progress;
     let levels = q.levels;

@@ -1,6 +1,8 @@
-// The walk of a query: level by level along the chains, up to the first whole solution (paper 01, "Next of a question").
+// The walk of a query: level by level along the chains, up to the first whole solution (paper 01, "Next of a
+// question").
 //
-// A `Stack` is the place with what it binds kept beside it, so that a visit that misses changes one number and copies nothing.
+// A `Stack` is the place with what it binds kept beside it, so that a visit that misses changes one number and copies
+// nothing.
 use graph::Level;
 use graph::MAX_PATTERNS;
 use graph::Progress;
@@ -34,12 +36,17 @@ ghost use mathlib.Core.List.{[]};
 ghost use Prim.Native.Nat.{ℕ, _*_, _+_, _-_, _<_, _≤_};
 ghost use lib.ListN.{length, getD};
 ghost use Rattle.store.specs.Walk.{linkOf};
-ghost use Rattle.statement.specs.Chains.{PatternHeld};
-ghost use Rattle.graph.specs.Query.{patternsOf, pattern, under, noLevel, levelsOf, inside, level, refused, ended, found, answered, packed, cursorWith, walk};
+ghost use Rattle.table.specs.Held.{StatementHeld};
+ghost use Rattle.statement.specs.declared.inner.Sought.the-variants.{LiveMatch};
+ghost use Rattle.statement.specs.Chains.{PatternHeld, visitOf};
+ghost use Rattle.graph.specs.Query.{patternsOf, pattern, under, noLevel, levelsOf, inside, level, refused, ended};
+ghost use Rattle.graph.specs.Query.{found, answered, packed, cursorWith, walk};
 ghost use Rattle.pattern.specs.Levels.{QueryOk, LevelsHeld};
-ghost use Rattle.query.specs.Stack.{Ready, Stands, deepest, entered, standAs, enteredAs, Visitable, TurnIs, poppedAs, triedAt, overAs};
+ghost use Rattle.query.specs.Stack.{Ready, Stands, deepest, entered, standAs, enteredAs, Visitable, TurnIs};
+ghost use Rattle.query.specs.Stack.{poppedAs, triedAt, overAs};
 
-// Where the walk stands: the deepest level, from 0; the levels; what those before the deepest bind; the deepest level's pattern under
+// Where the walk stands: the deepest level, from 0; the levels; what those before the deepest bind; the deepest
+// level's pattern under
 // them, 0 for an open variable.
 pub struct Stack {
     pub top: u32,
@@ -112,7 +119,8 @@ pub fn standing(
     top: u32,
 ) -> QueryAnswer
     requires { ⌜ top < 8 ⌝ }
-    ensures { λ a. ⌜ a ≡ answered step visits (solution .values) (inside (getD levels top noLevel) (levelsOf levels top)) ⌝ }
+    ensures { λ a. ⌜ a ≡ answered step visits (solution .values)
+        (inside (getD levels top noLevel) (levelsOf levels top)) ⌝ }
 {
     QueryAnswer {
         step: step,
@@ -124,7 +132,8 @@ pub fn standing(
 
 // Levels with what they bind.
 pub fn stand(statements: &[u32], words: &[u32], levels: [Level; MAX_PATTERNS], top: u32) -> Stack
-    requires { ⌜ QueryOk (now words) × (top < length (patternsOf (now words))) × LevelsHeld (now statements) levels top ⌝ }
+    requires { ⌜ QueryOk (now words) × (top < length (patternsOf (now words)))
+        × LevelsHeld (now statements) levels top ⌝ }
     ensures { λ q. ⌜ q ≡ standAs (now (statements .entry)) (patternsOf (now (words .entry))) levels top ⌝ }
 {
     let bound = bindings(statements, words, levels, top);
@@ -139,7 +148,8 @@ pub fn stand(statements: &[u32], words: &[u32], levels: [Level; MAX_PATTERNS], t
 
 // The deepest level is left: the one before it goes on along its chain.
 pub fn popped(statements: &[u32], words: &[u32], q: Stack) -> Stack
-    requires { ⌜ QueryOk (now words) × (q .top < length (patternsOf (now words))) × (1 ≤ q .top) × LevelsHeld (now statements) (q .levels) (q .top) ⌝ }
+    requires { ⌜ QueryOk (now words) × (q .top < length (patternsOf (now words))) × (1 ≤ q .top)
+        × LevelsHeld (now statements) (q .levels) (q .top) ⌝ }
     ensures { λ r. ⌜ r ≡ poppedAs (now (statements .entry)) (patternsOf (now (words .entry))) q ⌝ }
 {
     let top = q.top - 1;
@@ -159,8 +169,10 @@ pub fn enter(
     top: u32,
     bound: Solution,
 ) -> Turned
-    requires { ⌜ QueryOk (now words) × (top < length (patternsOf (now words))) × PatternHeld (now resources) (under (bound .values) (getD (patternsOf (now words)) top (pattern 0 0 0))) ⌝ }
-    ensures { λ m. ⌜ m ≡ enteredAs t (now (resources .entry)) (under (bound .values) (getD (patternsOf (now (words .entry))) top (pattern 0 0 0))) levels top bound ⌝ }
+    requires { ⌜ QueryOk (now words) × (top < length (patternsOf (now words)))
+        × PatternHeld (now resources) (under (bound .values) (getD (patternsOf (now words)) top (pattern 0 0 0))) ⌝ }
+    ensures { λ m. ⌜ m ≡ enteredAs t (now (resources .entry))
+        (under (bound .values) (getD (patternsOf (now (words .entry))) top (pattern 0 0 0))) levels top bound ⌝ }
 {
     let x = under(bound, pattern_at(words, top));
     let mut q = Stack {
@@ -187,7 +199,8 @@ pub fn enter(
     }
 }
 
-// A live record that the chain's scan would give is put to the pattern: no match, on along the chain; a match of the last pattern, a
+// A live record that the chain's scan would give is put to the pattern: no match, on along the chain; a match of the
+// last pattern, a
 // whole solution; of an earlier one, the next pattern is entered at once.
 pub fn tried(
     c: Counters,
@@ -197,8 +210,13 @@ pub fn tried(
     q: Stack,
     next: u32,
 ) -> Turned
-    requires { ⌜ Ready (c .resources) (c .statements) (now resources) (now statements) (now words) × Stands (c .resources) (c .statements) (now statements) (now words) q × Visitable (c .resources) (now statements) q × (next ≡ linkOf (now statements) ((deepest q) .chain) ((deepest q) .statement .0 - 1)) ⌝ }
-    ensures { λ m. ⌜ TurnIs (c .resources) (c .statements) (now (statements .entry)) (now (words .entry)) (triedAt (c .resources) (c .statements) (now (resources .entry)) (now (statements .entry)) (patternsOf (now (words .entry))) q) m ⌝ }
+    requires { ⌜ Ready (c .resources) (c .statements) (now resources) (now statements) (now words)
+        × Stands (c .resources) (c .statements) (now statements) (now words) q
+        × Visitable (c .resources) (now statements) q × (next
+        ≡ linkOf (now statements) ((deepest q) .chain) ((deepest q) .statement .0 - 1)) ⌝ }
+    ensures { λ m. ⌜ TurnIs (c .resources) (c .statements) (now (statements .entry)) (now (words .entry))
+        (triedAt (c .resources) (c .statements) (now (resources .entry)) (now (statements .entry))
+        (patternsOf (now (words .entry))) q) m ⌝ }
 {
     let top = q.top;
     let l = q.levels[top as usize];
@@ -255,7 +273,27 @@ pub fn whole(s: Stack, visits: u32) -> QueryAnswer
     standing(QueryStep::Found, visits, solution, levels, s.top)
 }
 
-// The walk from a place, with at most `budget` visits, left from inside at the first whole solution. Chains that have run out are left
+// A level at another record of its chain.
+pub fn moved(l: Level, n: u32) -> Level
+    ensures { λ m. ⌜ m ≡ level (l .chain) n ⌝ }
+{
+    let chain = l.chain;
+    level(chain, n)
+}
+
+// A visit of a level's record, where x is the level's pattern under the earlier levels: damaged, a live record that x
+// lets through, or
+// another; with the next record on the chain.
+pub fn seen(statements: &[u32], r: u32, l: Level, x: Triple) -> Visited
+    requires { ⌜ StatementHeld (now statements) (l .statement .0) ⌝ }
+    ensures { λ v. ⌜ v ≡ visitOf LiveMatch r (now (statements .entry)) (l .chain) x (l .statement .0 - 1) ⌝ }
+{
+    let chain = l.chain;
+    visit(statements, r, chain, x, Sought::LiveMatch, l.statement.0)
+}
+
+// The walk from a place, with at most `budget` visits, left from inside at the first whole solution. Chains that have
+// run out are left
 // only once a further visit is sought.
 pub fn walk(
     c: Counters,
@@ -265,8 +303,10 @@ pub fn walk(
     from: Stack,
     budget: u32,
 ) -> QueryAnswer
-    requires { ⌜ Ready (c .resources) (c .statements) (now resources) (now statements) (now words) × Stands (c .resources) (c .statements) (now statements) (now words) from ⌝ }
-    ensures { λ a. ⌜ a ≡ packed (walk (c .resources) (c .statements) (now (resources .entry)) (now (statements .entry)) (patternsOf (now (words .entry))) budget (deepest from) (entered from) 0) ⌝ }
+    requires { ⌜ Ready (c .resources) (c .statements) (now resources) (now statements) (now words)
+        × Stands (c .resources) (c .statements) (now statements) (now words) from ⌝ }
+    ensures { λ a. ⌜ a ≡ packed (walk (c .resources) (c .statements) (now (resources .entry))
+        (now (statements .entry)) (patternsOf (now (words .entry))) budget (deepest from) (entered from) 0) ⌝ }
 {
     let mut q = from;
     let mut visits: u32 = 0;
@@ -285,19 +325,11 @@ pub fn walk(
             q = popped(statements, words, q);
         };
         visits += 1;
-        let chain = l.chain;
         let x = q.asked;
-        match visit(
-            statements,
-            c.resources,
-            chain,
-            x,
-            Sought::LiveMatch,
-            l.statement.0,
-        ) {
+        match seen(statements, c.resources, l, x) {
             Visited::Damaged => return refused(Refusal::Damaged),
             Visited::Miss(n) => {
-                let after = level(chain, n);
+                let after = moved(l, n);
                 q.levels[q.top as usize] = after;
             }
             Visited::Hit(n) => {

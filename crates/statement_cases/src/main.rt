@@ -140,45 +140,61 @@ fn call(
     index: &[u32],
     text: &[u8],
 ) -> State {
-    let r = script::at_most(s.lent.resources, resources.len());
-    let t = script::at_most(s.lent.statements, statements.len());
     let i = script::at_most(s.lent.index, index.len());
     let b = script::at_most(s.lent.text, text.len());
     match script::letter(line) {
-        b'A' => assert(
+        b'A' | b'R' => write(s, line, resources, statements, &index[0..i], &text[0..b]),
+        b'O' | b'N' => read(s, line, resources, statements, &index[0..i], &text[0..b]),
+        _ => s,
+    }
+}
+
+// Assert, or retract.
+fn write(
+    s: State,
+    line: &[u8],
+    resources: &mut [u32],
+    statements: &mut [u32],
+    index: &[u32],
+    text: &[u8],
+) -> State {
+    let r = script::at_most(s.lent.resources, resources.len());
+    let t = script::at_most(s.lent.statements, statements.len());
+    if script::letter(line) == b'A' {
+        return assert(
             s,
             line,
             &mut resources[0..r],
             &mut statements[0..t],
-            &index[0..i],
-            &text[0..b],
-        ),
-        b'R' => retract(
-            s,
-            line,
-            &resources[0..r],
-            &mut statements[0..t],
-            &index[0..i],
-            &text[0..b],
-        ),
-        b'O' => open(
-            s,
-            line,
-            &resources[0..r],
-            &statements[0..t],
-            &index[0..i],
-            &text[0..b],
-        ),
-        b'N' => next(
-            s,
-            line,
-            &resources[0..r],
-            &statements[0..t],
-            &index[0..i],
-            &text[0..b],
-        ),
-        _ => s,
+            index,
+            text,
+        );
     }
+    retract(
+        s,
+        line,
+        &resources[0..r],
+        &mut statements[0..t],
+        index,
+        text,
+    )
+}
+
+// Open a scan, or its next.
+fn read(
+    s: State,
+    line: &[u8],
+    resources: &[u32],
+    statements: &[u32],
+    index: &[u32],
+    text: &[u8],
+) -> State {
+    let r = script::at_most(s.lent.resources, resources.len());
+    let t = script::at_most(s.lent.statements, statements.len());
+    if script::letter(line) == b'O' {
+        return open(s, line, &resources[0..r], &statements[0..t], index, text);
+    }
+    next(s, line, &resources[0..r], &statements[0..t], index, text)
 }
 
 // ---- set-up

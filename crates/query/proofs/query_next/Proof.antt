@@ -1,7 +1,8 @@
 use mathlib.Core.Path.{_≡_, refl, sym, ap, _∙_}
 use Prim.Native.Nat.{ℕ, suc, _+_, _-_, _*_, _≤_, _<_}
 use native.Mathlib.Omega.{arith}
-use borrow.Author.Tests.{eq-eqb, ne-eqb, lt-ltb, le-ltb, le-leb, lt-leb, eqb-true, eqb-false, ltb-true, ltb-false, leb-true, leb-false, not-true, not-false}
+use borrow.Author.Tests.{eq-eqb, ne-eqb, lt-ltb, le-ltb, le-leb, lt-leb, eqb-true, eqb-false, ltb-true, ltb-false}
+use borrow.Author.Tests.{leb-true, leb-false, not-true, not-false}
 use Rattle.graph.specs.Query.{nextQueryOf, answerOf}
 use Rattle.store.specs.Tables.{tables}
 use Rattle.query.proofs.Stacks.{ready-query}
@@ -18,7 +19,11 @@ refused-requires c κs = search needs
 
 returns : tie.Need-returns
 unfolding nextQueryOf answerOf
-returns c = rw (← c .before .before .fits2 .ensures, not-true (c .before .before .fits2 .result) (c .before .if1 .taken)) (c .refused .ensures)
+returns c = rw (
+  ← c .before .before .fits2 .ensures,
+  not-true (c .before .before .fits2 .result)
+      (c .before .if1 .taken),
+) (c .refused .ensures)
 
 words-ok-requires : tie.Need-words-ok-requires
 words-ok-requires c κs = search needs
@@ -28,39 +33,98 @@ refused-requires-2 c κs = search needs
 
 returns-2 : tie.Need-returns-2
 unfolding nextQueryOf answerOf
-returns-2 c = rw (← c .before .before .before .before .fits2 .ensures, not-false (c .before .before .before .before .fits2 .result) (c .before .before .before .if1 .left), ← c .before .before .words-ok .ensures, not-true (c .before .before .words-ok .result) (c .before .if2 .taken)) (c .refused2 .ensures)
+returns-2 c = rw (
+  ← c .before .before .before .before .fits2 .ensures,
+  not-false
+      (c .before .before .before .before .fits2 .result) (c .before .before .before .if1 .left),
+  ← c .before .before
+      .words-ok .ensures,
+  not-true (c .before .before .words-ok .result) (c .before .if2 .taken),
+) (c .refused2 .ensures)
 
 place-ok-requires : tie.Need-place-ok-requires
 place-ok-requires c κs =
     let a = c .before .before .before .before .before .before .before .before .before .args in
     let m = tables (a .resources .now) (a .statements .now) (a .index .now) (a .text .now) in
-    let k = ready-of (a .c) m (a .words .now) (sym (c .before .before .before .fits2 .ensures) ∙ not-false (c .before .before .before .fits2 .result) (c .before .before .if1 .left)) (sym (c .before .words-ok .ensures) ∙ not-false (c .before .words-ok .result) (c .if2 .left)) in
-    (ready-query (a .c .resources) (a .c .statements) (a .resources .now) (a .statements .now) (a .words .now) k, k .in-statements)
+    let k = ready-of (a .c) m (a .words .now) (sym (c .before .before .before .fits2 .ensures)
+    ∙ not-false (c .before .before .before .fits2 .result) (c .before .before .if1 .left))
+    (sym (c .before .words-ok .ensures) ∙ not-false (c .before .words-ok .result) (c .if2 .left)) in (
+      ready-query (a .c .resources) (a .c .statements) (a .resources .now) (a .statements .now)
+          (a .words .now) k,
+      k .in-statements,
+    )
 
 refused-requires-3 : tie.Need-refused-requires-3
 refused-requires-3 c κs = search needs
 
 returns-3 : tie.Need-returns-3
 unfolding nextQueryOf answerOf
-returns-3 c = rw (← c .before .before .before .before .before .before .fits2 .ensures, not-false (c .before .before .before .before .before .before .fits2 .result) (c .before .before .before .before .before .if1 .left), ← c .before .before .before .before .words-ok .ensures, not-false (c .before .before .before .before .words-ok .result) (c .before .before .before .if2 .left), ← c .before .before .place-ok .ensures, not-true (c .before .before .place-ok .result) (c .before .if3 .taken)) (c .refused3 .ensures)
+returns-3 c = rw (
+  ← c .before .before .before .before .before .before .fits2 .ensures,
+  not-false
+      (c .before .before .before .before .before .before .fits2 .result)
+      (c .before .before .before .before .before .if1 .left),
+  ← c .before .before .before .before .words-ok .ensures,
+  not-false (c .before .before .before .before .words-ok .result)
+      (c .before .before .before .if2 .left),
+  ← c .before .before .place-ok .ensures,
+  not-true
+      (c .before .before .place-ok .result) (c .before .if3 .taken),
+) (c .refused3 .ensures)
 
 refused-requires-4 : tie.Need-refused-requires-4
 refused-requires-4 c κs = search needs
 
 returns-4 : tie.Need-returns-4
 unfolding nextQueryOf answerOf
-returns-4 c = rw (← c .before .before .before .before .before .before .before .fits2 .ensures, not-false (c .before .before .before .before .before .before .before .fits2 .result) (c .before .before .before .before .before .before .if1 .left), ← c .before .before .before .before .before .words-ok .ensures, not-false (c .before .before .before .before .before .words-ok .result) (c .before .before .before .before .if2 .left), ← c .before .before .before .place-ok .ensures, not-false (c .before .before .before .place-ok .result) (c .before .before .if3 .left), eq-eqb _ _ (c .before .if4 .taken)) (c .refused4 .ensures)
+returns-4 c = rw (
+  ← c .before .before .before .before .before .before .before .fits2 .ensures,
+  not-false
+      (c .before .before .before .before .before .before .before .fits2 .result)
+      (c .before .before .before .before .before .before .if1 .left),
+  ← c .before .before .before .before .before
+      .words-ok .ensures,
+  not-false (c .before .before .before .before .before .words-ok .result)
+      (c .before .before .before .before .if2 .left),
+  ← c .before .before .before .place-ok .ensures,
+  not-false
+      (c .before .before .before .place-ok .result) (c .before .before .if3 .left),
+  eq-eqb _ _
+      (c .before .if4 .taken),
+) (c .refused4 .ensures)
 
 resume-requires : tie.Need-resume-requires
 resume-requires c κs =
     let a = c .before .before .before .before .before .before .before .before .before .before .before .before .args in
     let m = tables (a .resources .now) (a .statements .now) (a .index .now) (a .text .now) in
-    let k = ready-of (a .c) m (a .words .now) (sym (c .before .before .before .before .before .before .fits2 .ensures) ∙ not-false (c .before .before .before .before .before .before .fits2 .result) (c .before .before .before .before .before .if1 .left)) (sym (c .before .before .before .before .words-ok .ensures) ∙ not-false (c .before .before .before .before .words-ok .result) (c .before .before .before .if2 .left)) in
-    (k, sym (c .before .before .place-ok .ensures) ∙ not-false (c .before .before .place-ok .result) (c .before .if3 .left))
+    let k = ready-of (a .c) m (a .words .now)
+    (sym (c .before .before .before .before .before .before .fits2 .ensures)
+    ∙ not-false (c .before .before .before .before .before .before .fits2 .result)
+    (c .before .before .before .before .before .if1 .left))
+    (sym (c .before .before .before .before .words-ok .ensures)
+    ∙ not-false (c .before .before .before .before .words-ok .result) (c .before .before .before .if2 .left)) in (
+      k,
+      sym (c .before .before .place-ok .ensures) ∙ not-false (c .before .before .place-ok .result)
+          (c .before .if3 .left),
+    )
 
 returns-5 : tie.Need-returns-5
 unfolding nextQueryOf answerOf
-returns-5 c = rw (← c .before .before .before .before .before .before .before .fits2 .ensures, not-false (c .before .before .before .before .before .before .before .fits2 .result) (c .before .before .before .before .before .before .if1 .left), ← c .before .before .before .before .before .words-ok .ensures, not-false (c .before .before .before .before .before .words-ok .result) (c .before .before .before .before .if2 .left), ← c .before .before .before .place-ok .ensures, not-false (c .before .before .before .place-ok .result) (c .before .before .if3 .left), ne-eqb _ _ (c .before .if4 .left)) (c .resume .ensures)
+returns-5 c = rw (
+  ← c .before .before .before .before .before .before .before .fits2 .ensures,
+  not-false
+      (c .before .before .before .before .before .before .before .fits2 .result)
+      (c .before .before .before .before .before .before .if1 .left),
+  ← c .before .before .before .before .before
+      .words-ok .ensures,
+  not-false (c .before .before .before .before .before .words-ok .result)
+      (c .before .before .before .before .if2 .left),
+  ← c .before .before .before .place-ok .ensures,
+  not-false
+      (c .before .before .before .place-ok .result) (c .before .before .if3 .left),
+  ne-eqb _ _
+      (c .before .if4 .left),
+) (c .resume .ensures)
 
 pub query-next-spec : {M : Type 1} → statement M
 query-next-spec =

@@ -10,7 +10,8 @@ value-of-requires : tie.Need-value-of-requires
 value-of-requires c κs = search needs
 
 sub-v : tie.Need-sub-v
-sub-v c = open-variable (c .before .before .args .bound .values) (c .before .before .args .w) (c .before .before .pre) (sym (c .before .value-of .ensures) ∙ c .if1 .taken)
+sub-v c = open-variable (c .before .before .args .bound .values) (c .before .before .args .w)
+    (c .before .before .pre) (sym (c .before .value-of .ensures) ∙ c .if1 .taken)
 
 cast-v : tie.Need-cast-v
 cast-v c = search needs
@@ -22,7 +23,8 @@ element-set-from-taken : tie.Need-element-set-from-taken
 element-set-from-taken c = search needs
 
 returns : tie.Need-returns
-returns c = let a = c .before .before .args in rw (bind-open (a .bound .values) (a .w) (a .n) (sym (c .before .value-of .ensures) ∙ c .if1 .taken))
+returns c = let a = c .before .before .args in
+    rw (bind-open (a .bound .values) (a .w) (a .n) (sym (c .before .value-of .ensures) ∙ c .if1 .taken))
 
 returns-2 : tie.Need-returns-2
 returns-2 c =

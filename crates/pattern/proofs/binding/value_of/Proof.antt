@@ -19,7 +19,8 @@ element-copy-out-y : tie.Need-element-copy-out-y
 element-copy-out-y c = search needs
 
 returns-2 : tie.Need-returns-2
-returns-2 c = sym (value-variable (c .before .before .args .t1 .values) (c .before .before .args .w) (c .before .if1 .left))
+returns-2 c = sym (value-variable (c .before .before .args .t1 .values) (c .before .before .args .w)
+    (c .before .if1 .left))
 
 pub value-of-spec : {M : Type 1} → statement M
 value-of-spec = tie.close (tie.spec returns cast-v mul-y element-copy-out-y returns-2)

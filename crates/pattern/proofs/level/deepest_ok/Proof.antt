@@ -1,7 +1,8 @@
 use mathlib.Core.Path.{_≡_, refl, sym, ap, _∙_}
 use Prim.Native.Nat.{ℕ, suc, _+_, _-_, _*_, _≤_, _<_}
 use native.Mathlib.Omega.{arith}
-use borrow.Author.Tests.{eq-eqb, ne-eqb, lt-ltb, le-ltb, le-leb, lt-leb, eqb-true, eqb-false, ltb-true, ltb-false, leb-true, leb-false, not-true, not-false}
+use borrow.Author.Tests.{eq-eqb, ne-eqb, lt-ltb, le-ltb, le-leb, lt-leb, eqb-true, eqb-false, ltb-true, ltb-false}
+use borrow.Author.Tests.{leb-true, leb-false, not-true, not-false}
 use Rattle.pattern.specs.Levels.{deepestOk}
 use borrow.Author.Needs.{needs}
 use Rattle.pattern.proofs.level.deepest_ok.Statement.{statement}
@@ -16,14 +17,24 @@ chain-ok-requires c κs = search needs
 
 returns-2 : tie.Need-returns-2
 unfolding deepestOk
-returns-2 c = rw (le-leb _ _ (c .before .before .if1 .left), ← c .before .chain-ok .ensures, not-true (c .before .chain-ok .result) (c .if2 .taken))
+returns-2 c = rw (
+  le-leb _ _ (c .before .before .if1 .left),
+  ← c .before .chain-ok .ensures,
+  not-true
+      (c .before .chain-ok .result) (c .if2 .taken),
+)
 
 record-ok-requires : tie.Need-record-ok-requires
 record-ok-requires c κs = search needs
 
 returns-3 : tie.Need-returns-3
 unfolding deepestOk
-returns-3 c = rw (le-leb _ _ (c .before .before .before .if1 .left), ← c .before .before .chain-ok .ensures, not-false (c .before .before .chain-ok .result) (c .before .if2 .left), ← c .record-ok .ensures)
+returns-3 c = rw (
+  le-leb _ _ (c .before .before .before .if1 .left),
+  ← c .before .before .chain-ok .ensures,
+  not-false (c .before .before .chain-ok .result) (c .before .if2 .left),
+  ← c .record-ok .ensures,
+)
 
 pub deepest-ok-spec : {M : Type 1} → statement M
 deepest-ok-spec =

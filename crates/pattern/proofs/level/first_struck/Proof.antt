@@ -2,7 +2,8 @@ use mathlib.Core.Path.{_≡_, refl, sym, ap, _∙_}
 use Prim.Native.Nat.{ℕ, suc, _+_, _-_, _*_, _≤_, _<_}
 use native.Mathlib.Omega.{arith}
 use mathlib.Core.Bool.{Bool, true, false}
-use borrow.Author.Tests.{eq-eqb, ne-eqb, lt-ltb, le-ltb, le-leb, lt-leb, eqb-true, eqb-false, ltb-true, ltb-false, leb-true, leb-false, not-true, not-false}
+use borrow.Author.Tests.{eq-eqb, ne-eqb, lt-ltb, le-ltb, le-leb, lt-leb, eqb-true, eqb-false, ltb-true, ltb-false}
+use borrow.Author.Tests.{leb-true, leb-false, not-true, not-false}
 use Rattle.graph.specs.Query.{levelsOf, anyStruck}
 use Rattle.pattern.proofs.LevelLaws.{struck-none, struck-step}
 use borrow.Author.Needs.{needs}
@@ -28,7 +29,8 @@ array-copy-out-l : tie.Need-array-copy-out-l Inv-loop μ-loop
 array-copy-out-l c = let q = c .before .before .before .pre .few in omega arith
 
 struck-requires : tie.Need-struck-requires Inv-loop μ-loop
-struck-requires c κs = c .before .before .before .before .pre .each (c .before .before .loop .i) (c .before .loop-test .taken)
+struck-requires c κs = c .before .before .before .before .pre .each (c .before .before .loop .i)
+    (c .before .loop-test .taken)
 
 add-i : tie.Need-add-i Inv-loop μ-loop
 add-i c = search needs
@@ -37,13 +39,28 @@ loop-less : tie.Need-loop-less Inv-loop μ-loop
 loop-less c = search needs
 
 loop-again : tie.Need-loop-again Inv-loop μ-loop
-loop-again c = let a = c .before .before .before .before .before .before .args in (omega arith, struck-step (a .statements .now) (a .t2) (c .before .before .before .before .loop .i) (sym (c .before .struck .ensures) ∙ c .if1 .left) (c .before .before .before .before .loop .inv .1))
+loop-again c =
+    let a = c .before .before .before .before .before .before .args in (
+      omega arith,
+      struck-step (a .statements .now) (a .t2) (c .before .before .before .before .loop .i)
+          (sym (c .before .struck .ensures) ∙ c .if1 .left) (c .before .before .before .before .loop .inv .1),
+    )
 
 returns : tie.Need-returns Inv-loop μ-loop
-returns c = let a = c .before .before .before .args in let l = c .before .loop in record { among = l .inv .0; none-before = l .inv .1; here = λ h. absurd (omega arith) }
+returns c =
+    let a = c .before .before .before .args in let l = c .before .loop in
+    record { among = l .inv .0; none-before = l .inv .1; here = λ h. absurd (omega arith) }
 
 returns-2 : tie.Need-returns-2 Inv-loop μ-loop
-returns-2 c = let a = c .before .before .before .before .before .before .args in let l = c .before .before .before .before .loop in record { among = l .inv .0; none-before = l .inv .1; here = λ h. sym (c .before .struck .ensures) ∙ c .if1 .taken }
+returns-2 c =
+    let a = c .before .before .before .before .before .before .args in
+    let l = c .before .before .before .before .loop in
+    record {
+      among = l .inv .0;
+      none-before = l .inv .1;
+      here = λ h. sym (c .before .struck .ensures)
+          ∙ c .if1 .taken;
+    }
 
 pub first-struck-spec : {M : Type 1} → statement M
 first-struck-spec =

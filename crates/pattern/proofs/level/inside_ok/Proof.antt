@@ -2,7 +2,8 @@ use mathlib.Core.Path.{_≡_, refl, sym, ap, _∙_}
 use Prim.Native.Nat.{ℕ, suc, _+_, _-_, _*_, _≤_, _<_}
 use native.Mathlib.Omega.{arith}
 use mathlib.Core.Bool.{Bool, true, false}
-use borrow.Author.Tests.{eq-eqb, ne-eqb, lt-ltb, le-ltb, le-leb, lt-leb, eqb-true, eqb-false, ltb-true, ltb-false, leb-true, leb-false, not-true, not-false}
+use borrow.Author.Tests.{eq-eqb, ne-eqb, lt-ltb, le-ltb, le-leb, lt-leb, eqb-true, eqb-false, ltb-true, ltb-false}
+use borrow.Author.Tests.{leb-true, leb-false, not-true, not-false}
 use lib.ListN.{length, getD, set, drop, replicate}
 use Rattle.store.specs.declared.Triple.{Triple}
 use Rattle.graph.specs.Query.{patternsOf, levelsOf, noLevel, enteredOk}
@@ -13,13 +14,18 @@ use Rattle.pattern.proofs.level.inside_ok.Statement.{statement}
 use Rattle.pattern.proofs.level.inside_ok.Tie as tie
 
 returns : tie.Need-returns
-returns c = let a = c .before .before .before .args in sym (place-none (a .c .resources) (a .c .statements) (a .statements .now) (patternsOf (a .words .now)) (a .t4) (a .d) (c .if1 .taken))
+returns c = let a = c .before .before .before .args in
+    sym (place-none (a .c .resources) (a .c .statements) (a .statements .now) (patternsOf (a .words .now)) (a .t4)
+    (a .d) (c .if1 .taken))
 
 patterns-requires : tie.Need-patterns-requires
 patterns-requires c κs = c .before .before .before .pre .0 .few
 
 returns-2 : tie.Need-returns-2
-returns-2 c = let a = c .before .before .before .before .before .args in sym (place-above (a .c .resources) (a .c .statements) (a .statements .now) (patternsOf (a .words .now)) (a .t4) (a .d) (rw (c .before .patterns .ensures) at (c .if2 .taken)))
+returns-2 c =
+    let a = c .before .before .before .before .before .args in
+    sym (place-above (a .c .resources) (a .c .statements) (a .statements .now) (patternsOf (a .words .now)) (a .t4)
+    (a .d) (rw (c .before .patterns .ensures) at (c .if2 .taken)))
 
 sub-top : tie.Need-sub-top
 sub-top c = search needs
@@ -29,15 +35,21 @@ levels-ok-requires c κs = search needs
 
 returns-3 : tie.Need-returns-3
 returns-3 c =
-    let a = c .before .before .before .before .before .before .before .before .args in let n = rw (c .before .before .before .before .patterns .ensures) at (c .before .before .before .if2 .left) in
-    let e = sym (c .before .before .levels-ok .ensures .told) ∙ not-true (c .before .before .levels-ok .result .hit) (c .if3 .taken) in
-    sym (place-entered (a .c .resources) (a .c .statements) (a .statements .now) (patternsOf (a .words .now)) (a .t4) (a .d) (c .before .before .before .before .before .if1 .left) n e)
+    let a = c .before .before .before .before .before .before .before .before .args in
+    let n = rw (c .before .before .before .before .patterns .ensures) at (c .before .before .before .if2 .left) in
+    let e = sym (c .before .before .levels-ok .ensures .told)
+    ∙ not-true (c .before .before .levels-ok .result .hit) (c .if3 .taken) in
+    sym (place-entered (a .c .resources) (a .c .statements) (a .statements .now) (patternsOf (a .words .now))
+    (a .t4) (a .d) (c .before .before .before .before .before .if1 .left) n e)
 
 pattern-at-requires : tie.Need-pattern-at-requires
 pattern-at-requires c κs = search needs
 
 under-requires : tie.Need-under-requires
-under-requires c κs = rw (c .pattern-at .ensures) (c .before .before .before .before .before .before .before .before .before .before .pre .0 .each (c .before .before .before .before .before .before .before .before .before .before .args .d - 1) (omega (arith, c .before .before .before .before .before .before .patterns .ensures)))
+under-requires c κs = rw (c .pattern-at .ensures)
+    (c .before .before .before .before .before .before .before .before .before .before .pre .0 .each
+    (c .before .before .before .before .before .before .before .before .before .before .args .d - 1)
+    (omega (arith, c .before .before .before .before .before .before .patterns .ensures)))
 
 cast-l : tie.Need-cast-l
 cast-l c = search needs
@@ -46,18 +58,30 @@ mul-l : tie.Need-mul-l
 mul-l c = search needs
 
 array-copy-out-l : tie.Need-array-copy-out-l
-array-copy-out-l c = let q = c .before .before .before .before .before .before .before .before .before .before .before .pre .0 .few in omega (arith, c .before .before .before .before .before .before .before .patterns .ensures)
+array-copy-out-l c = let q = c .before .before .before .before .before .before .before .before .before .before
+    .before .pre .0 .few in omega (arith, c .before .before .before .before .before .before .before .patterns .ensures)
 
 deepest-ok-requires : tie.Need-deepest-ok-requires
 deepest-ok-requires c κs = search needs
 
 returns-4 : tie.Need-returns-4
 returns-4 c =
-    let a = c .before .before .before .before .before .before .before .before .before .before .before .before .before .args in let n = rw (c .before .before .before .before .before .before .before .before .before .patterns .ensures) at (c .before .before .before .before .before .before .before .before .if2 .left) in
-    let h = not-false (c .before .before .before .before .before .before .before .levels-ok .result .hit) (c .before .before .before .before .before .if3 .left) in
+    let a = c .before .before .before .before .before .before .before .before .before .before .before .before
+    .before .args in let n = rw (c .before .before .before .before .before .before .before .before .before
+    .patterns .ensures) at (c .before .before .before .before .before .before .before .before .if2 .left) in
+    let h = not-false (c .before .before .before .before .before .before .before .levels-ok .result .hit)
+    (c .before .before .before .before .before .if3 .left) in
     let e = sym (c .before .before .before .before .before .before .before .levels-ok .ensures .told) ∙ h in
-    let x = asked-is (a .c .resources) (a .c .statements) (a .statements .now) (patternsOf (a .words .now)) (a .t4) (a .d - 1) (c .before .before .under .result) (c .before .before .before .pattern-at .result) (c .before .before .before .before .before .before .before .levels-ok .result .bound .values) (c .before .before .under .ensures) (c .before .before .before .pattern-at .ensures) (c .before .before .before .before .before .before .before .levels-ok .ensures .binds-all h) in
-    c .deepest-ok .ensures ∙ ap (λ (z : Triple). deepestOk (a .c .statements) (a .statements .now) z (getD (a .t4) (a .d - 1) noLevel)) x ∙ sym (place-deepest (a .c .resources) (a .c .statements) (a .statements .now) (patternsOf (a .words .now)) (a .t4) (a .d) (c .before .before .before .before .before .before .before .before .before .before .if1 .left) n e)
+    let x = asked-is (a .c .resources) (a .c .statements) (a .statements .now) (patternsOf (a .words .now)) (a .t4)
+    (a .d - 1) (c .before .before .under .result) (c .before .before .before .pattern-at .result)
+    (c .before .before .before .before .before .before .before .levels-ok .result .bound .values)
+    (c .before .before .under .ensures) (c .before .before .before .pattern-at .ensures)
+    (c .before .before .before .before .before .before .before .levels-ok .ensures .binds-all h) in
+    c .deepest-ok .ensures
+    ∙ ap (λ (z : Triple). deepestOk (a .c .statements) (a .statements .now) z (getD (a .t4) (a .d - 1) noLevel))
+    x ∙ sym (place-deepest (a .c .resources) (a .c .statements) (a .statements .now)
+    (patternsOf (a .words .now)) (a .t4) (a .d)
+    (c .before .before .before .before .before .before .before .before .before .before .if1 .left) n e)
 
 pub inside-ok-spec : {M : Type 1} → statement M
 inside-ok-spec =

@@ -2,7 +2,8 @@ use mathlib.Core.Path.{_≡_, refl, sym, ap, _∙_}
 use Prim.Native.Nat.{ℕ, suc, _+_, _-_, _*_, _≤_, _<_}
 use native.Mathlib.Omega.{arith}
 use mathlib.Core.Bool.{Bool, true, false}
-use borrow.Author.Tests.{eq-eqb, ne-eqb, lt-ltb, le-ltb, le-leb, lt-leb, eqb-true, eqb-false, ltb-true, ltb-false, leb-true, leb-false, not-true, not-false}
+use borrow.Author.Tests.{eq-eqb, ne-eqb, lt-ltb, le-ltb, le-leb, lt-leb, eqb-true, eqb-false, ltb-true, ltb-false}
+use borrow.Author.Tests.{leb-true, leb-false, not-true, not-false}
 use Rattle.graph.specs.Query.{levelsOf, intact}
 use Rattle.pattern.proofs.LevelLaws.{intact-none, intact-miss, intact-hit}
 use borrow.Author.Needs.{needs}
@@ -28,10 +29,15 @@ array-copy-out-l : tie.Need-array-copy-out-l Inv-loop μ-loop
 array-copy-out-l c = let q = c .before .before .before .pre .few in omega arith
 
 level-intact-requires : tie.Need-level-intact-requires Inv-loop μ-loop
-level-intact-requires c κs = c .before .before .before .before .pre .each (c .before .before .loop .i) (c .before .loop-test .taken)
+level-intact-requires c κs = c .before .before .before .before .pre .each (c .before .before .loop .i)
+    (c .before .loop-test .taken)
 
 returns : tie.Need-returns Inv-loop μ-loop
-returns c = let a = c .before .before .before .before .before .before .args in sym (intact-miss (a .statements .now) (a .t2) (c .before .before .before .before .loop .i) (a .d) (c .before .before .before .loop-test .taken) (sym (c .before .level-intact .ensures) ∙ not-true (c .before .level-intact .result) (c .if1 .taken)))
+returns c =
+    let a = c .before .before .before .before .before .before .args in
+    sym (intact-miss (a .statements .now) (a .t2) (c .before .before .before .before .loop .i) (a .d)
+    (c .before .before .before .loop-test .taken) (sym (c .before .level-intact .ensures)
+    ∙ not-true (c .before .level-intact .result) (c .if1 .taken)))
 
 add-i : tie.Need-add-i Inv-loop μ-loop
 add-i c = search needs
@@ -40,10 +46,18 @@ loop-less : tie.Need-loop-less Inv-loop μ-loop
 loop-less c = search needs
 
 loop-again : tie.Need-loop-again Inv-loop μ-loop
-loop-again c = let a = c .before .before .before .before .before .before .args in (omega arith, intact-hit (a .statements .now) (a .t2) (c .before .before .before .before .loop .i) (sym (c .before .level-intact .ensures) ∙ not-false (c .before .level-intact .result) (c .if1 .left)) (c .before .before .before .before .loop .inv .1))
+loop-again c =
+    let a = c .before .before .before .before .before .before .args in (
+      omega arith,
+      intact-hit (a .statements .now) (a .t2) (c .before .before .before .before .loop .i)
+          (sym (c .before .level-intact .ensures) ∙ not-false (c .before .level-intact .result) (c .if1 .left))
+          (c .before .before .before .before .loop .inv .1),
+    )
 
 returns-2 : tie.Need-returns-2 Inv-loop μ-loop
-returns-2 c = let a = c .before .before .before .args in let l = c .before .loop in let q : l .i ≡ a .d = omega arith in rw (← q) (sym (l .inv .1))
+returns-2 c =
+    let a = c .before .before .before .args in let l = c .before .loop in
+    let q : l .i ≡ a .d = omega arith in rw (← q) (sym (l .inv .1))
 
 pub intact-spec : {M : Type 1} → statement M
 intact-spec =

@@ -1,5 +1,6 @@
 use mathlib.Core.Path.{_≡_, refl, sym, ap, _∙_}
-use borrow.Author.Tests.{eq-eqb, ne-eqb, lt-ltb, le-ltb, le-leb, lt-leb, eqb-true, eqb-false, ltb-true, ltb-false, leb-true, leb-false, not-true, not-false}
+use borrow.Author.Tests.{eq-eqb, ne-eqb, lt-ltb, le-ltb, le-leb, lt-leb, eqb-true, eqb-false, ltb-true, ltb-false}
+use borrow.Author.Tests.{leb-true, leb-false, not-true, not-false}
 use Rattle.pattern.proofs.LevelLaws.{intact-at}
 use borrow.Author.Needs.{needs}
 use Rattle.pattern.proofs.level.level_intact.Statement.{statement}
@@ -9,13 +10,28 @@ flag-at-requires : tie.Need-flag-at-requires
 flag-at-requires c κs = search needs
 
 returns : tie.Need-returns
-returns c = let a = c .before .before .before .args in rw (intact-at (a .statements .now) (a .l) (c .before .before .before .pre .from-one), ← c .before .flag-at .ensures, lt-leb _ _ (c .if1 .taken))
+returns c = let a = c .before .before .before .args in
+    rw (
+      intact-at (a .statements .now) (a .l) (c .before .before .before .pre .from-one),
+      ← c .before .flag-at
+          .ensures,
+      lt-leb _ _ (c .if1 .taken),
+    )
 
 past-requires : tie.Need-past-requires
 past-requires c κs = search needs
 
 returns-2 : tie.Need-returns-2
-returns-2 c = let a = c .before .before .before .before .before .args in rw (intact-at (a .statements .now) (a .l) (c .before .before .before .before .before .pre .from-one), ← c .before .before .before .flag-at .ensures, le-leb _ _ (c .before .before .if1 .left), ← c .before .past .ensures)
+returns-2 c =
+    let a = c .before .before .before .before .before .args in
+    rw (
+      intact-at (a .statements .now) (a .l) (c .before .before .before .before .before .pre .from-one),
+      ← c
+          .before .before .before .flag-at .ensures,
+      le-leb _ _
+          (c .before .before .if1 .left),
+      ← c .before .past .ensures,
+    )
 
 pub level-intact-spec : {M : Type 1} → statement M
 level-intact-spec = tie.close (tie.spec flag-at-requires returns past-requires returns-2)

@@ -1,5 +1,6 @@
 use mathlib.Core.Path.{_≡_, refl, sym, ap, _∙_}
-use borrow.Author.Tests.{eq-eqb, ne-eqb, lt-ltb, le-ltb, le-leb, lt-leb, eqb-true, eqb-false, ltb-true, ltb-false, leb-true, leb-false, not-true, not-false}
+use borrow.Author.Tests.{eq-eqb, ne-eqb, lt-ltb, le-ltb, le-leb, lt-leb, eqb-true, eqb-false, ltb-true, ltb-false}
+use borrow.Author.Tests.{leb-true, leb-false, not-true, not-false}
 use Rattle.store.specs.Scan.{chainOk}
 use Rattle.store.specs.declared.Triple.{Triple}
 use Rattle.store.specs.Triple.{known}
@@ -9,10 +10,16 @@ use Rattle.pattern.proofs.level.level_ok.Statement.{statement}
 use Rattle.pattern.proofs.level.level_ok.Tie as tie
 
 returns : tie.Need-returns
-returns c = let a = c .before .before .args in tested-miss (a .c .resources) (a .c .statements) (a .statements .now) (a .x) (a .bound) (a .l) (ok-zero (a .c .resources) (a .c .statements) (a .statements .now) (a .x) (a .bound .values) (a .l) (c .if1 .taken))
+returns c = let a = c .before .before .args in tested-miss (a .c .resources) (a .c .statements) (a .statements .now)
+    (a .x) (a .bound) (a .l) (ok-zero (a .c .resources) (a .c .statements) (a .statements .now) (a .x)
+    (a .bound .values) (a .l) (c .if1 .taken))
 
 returns-2 : tie.Need-returns-2
-returns-2 c = let a = c .before .before .before .before .args in tested-miss (a .c .resources) (a .c .statements) (a .statements .now) (a .x) (a .bound) (a .l) (ok-above (a .c .resources) (a .c .statements) (a .statements .now) (a .x) (a .bound .values) (a .l) (c .if2 .taken))
+returns-2 c =
+    let a = c .before .before .before .before .args in
+    tested-miss (a .c .resources) (a .c .statements) (a .statements .now) (a .x) (a .bound) (a .l)
+    (ok-above (a .c .resources) (a .c .statements) (a .statements .now) (a .x) (a .bound .values) (a .l)
+    (c .if2 .taken))
 
 under-requires : tie.Need-under-requires
 under-requires c κs = search needs
@@ -21,7 +28,13 @@ chain-ok-requires : tie.Need-chain-ok-requires
 chain-ok-requires c κs = search needs
 
 returns-3 : tie.Need-returns-3
-returns-3 c = let a = c .before .before .before .before .before .before .before .args in let h = sym (c .before .chain-ok .ensures ∙ ap (λ (z : Triple). chainOk (a .l .chain) z) (c .before .before .under .ensures)) ∙ not-true (c .before .chain-ok .result) (c .if3 .taken) in tested-miss (a .c .resources) (a .c .statements) (a .statements .now) (a .x) (a .bound) (a .l) (ok-chain (a .c .resources) (a .c .statements) (a .statements .now) (a .x) (a .bound .values) (a .l) (c .before .before .before .before .before .if1 .left) (c .before .before .before .if2 .left) h)
+returns-3 c =
+    let a = c .before .before .before .before .before .before .before .args in
+    let h = sym (c .before .chain-ok .ensures ∙ ap (λ (z : Triple). chainOk (a .l .chain) z)
+    (c .before .before .under .ensures)) ∙ not-true (c .before .chain-ok .result) (c .if3 .taken) in tested-miss
+    (a .c .resources) (a .c .statements) (a .statements .now) (a .x) (a .bound) (a .l)
+    (ok-chain (a .c .resources) (a .c .statements) (a .statements .now) (a .x) (a .bound .values) (a .l)
+    (c .before .before .before .before .before .if1 .left) (c .before .before .before .if2 .left) h)
 
 triple-at-requires : tie.Need-triple-at-requires
 triple-at-requires c κs = search needs
@@ -30,13 +43,36 @@ known-requires : tie.Need-known-requires
 known-requires c κs = search needs
 
 returns-4 : tie.Need-returns-4
-returns-4 c = let a = c .before .before .before .before .before .before .before .before .before .before .args in let h = sym (c .before .before .before .before .chain-ok .ensures ∙ ap (λ (z : Triple). chainOk (a .l .chain) z) (c .before .before .before .before .before .under .ensures)) ∙ not-false (c .before .before .before .before .chain-ok .result) (c .before .before .before .if3 .left) in let k = sym (c .before .known .ensures ∙ ap (known (a .c .resources)) (c .before .before .triple-at .ensures)) ∙ not-true (c .before .known .result) (c .if4 .taken) in tested-miss (a .c .resources) (a .c .statements) (a .statements .now) (a .x) (a .bound) (a .l) (ok-known (a .c .resources) (a .c .statements) (a .statements .now) (a .x) (a .bound .values) (a .l) (c .before .before .before .before .before .before .before .before .if1 .left) (c .before .before .before .before .before .before .if2 .left) h k)
+returns-4 c =
+    let a = c .before .before .before .before .before .before .before .before .before .before .args in
+    let h = sym (c .before .before .before .before .chain-ok .ensures
+    ∙ ap (λ (z : Triple). chainOk (a .l .chain) z) (c .before .before .before .before .before .under .ensures))
+    ∙ not-false (c .before .before .before .before .chain-ok .result) (c .before .before .before .if3 .left) in
+    let k = sym (c .before .known .ensures ∙ ap (known (a .c .resources))
+    (c .before .before .triple-at .ensures)) ∙ not-true (c .before .known .result) (c .if4 .taken) in
+    tested-miss (a .c .resources) (a .c .statements) (a .statements .now) (a .x) (a .bound) (a .l)
+    (ok-known (a .c .resources) (a .c .statements) (a .statements .now) (a .x) (a .bound .values) (a .l)
+    (c .before .before .before .before .before .before .before .before .if1 .left)
+    (c .before .before .before .before .before .before .if2 .left) h k)
 
 meet-requires : tie.Need-meet-requires
 meet-requires c κs = search needs
 
 returns-5 : tie.Need-returns-5
-returns-5 c = let a = c .before .before .before .before .before .before .before .before .before .before .before .args in let h = sym (c .before .before .before .before .before .chain-ok .ensures ∙ ap (λ (z : Triple). chainOk (a .l .chain) z) (c .before .before .before .before .before .before .under .ensures)) ∙ not-false (c .before .before .before .before .before .chain-ok .result) (c .before .before .before .before .if3 .left) in let k = sym (c .before .before .known .ensures ∙ ap (known (a .c .resources)) (c .before .before .before .triple-at .ensures)) ∙ not-false (c .before .before .known .result) (c .before .if4 .left) in tested-meet (a .c .resources) (a .c .statements) (a .statements .now) (a .x) (a .bound) (a .l) (c .meet .result) (rw (← c .before .before .before .triple-at .ensures) (c .meet .ensures)) (ok-match (a .c .resources) (a .c .statements) (a .statements .now) (a .x) (a .bound .values) (a .l) (c .before .before .before .before .before .before .before .before .before .if1 .left) (c .before .before .before .before .before .before .before .if2 .left) h k)
+returns-5 c = let a = c .before .before .before .before .before .before .before .before .before .before .before
+    .args in let h = sym (c .before .before .before .before .before .chain-ok .ensures
+    ∙ ap (λ (z : Triple). chainOk (a .l .chain) z)
+    (c .before .before .before .before .before .before .under .ensures))
+    ∙ not-false (c .before .before .before .before .before .chain-ok .result)
+    (c .before .before .before .before .if3 .left) in let k = sym
+    (c .before .before .known .ensures ∙ ap (known (a .c .resources))
+    (c .before .before .before .triple-at .ensures)) ∙ not-false (c .before .before .known .result)
+    (c .before .if4 .left) in tested-meet (a .c .resources) (a .c .statements) (a .statements .now) (a .x)
+    (a .bound) (a .l) (c .meet .result) (rw (← c .before .before .before .triple-at .ensures)
+    (c .meet .ensures)) (ok-match (a .c .resources) (a .c .statements) (a .statements .now) (a .x)
+    (a .bound .values) (a .l)
+    (c .before .before .before .before .before .before .before .before .before .if1 .left)
+    (c .before .before .before .before .before .before .before .if2 .left) h k)
 
 pub level-ok-spec : {M : Type 1} → statement M
 level-ok-spec =

@@ -2,7 +2,8 @@ use mathlib.Core.Path.{_≡_, refl, sym, ap, _∙_}
 use Prim.Native.Nat.{ℕ, suc, _+_, _-_, _*_, _≤_, _<_}
 use native.Mathlib.Omega.{arith}
 use mathlib.Core.Bool.{Bool, true, false}
-use borrow.Author.Tests.{eq-eqb, ne-eqb, lt-ltb, le-ltb, le-leb, lt-leb, eqb-true, eqb-false, ltb-true, ltb-false, leb-true, leb-false, not-true, not-false}
+use borrow.Author.Tests.{eq-eqb, ne-eqb, lt-ltb, le-ltb, le-leb, lt-leb, eqb-true, eqb-false, ltb-true, ltb-false}
+use borrow.Author.Tests.{leb-true, leb-false, not-true, not-false}
 use Rattle.graph.specs.Query.{patternsOf, binds, enteredOk, levelsOf}
 use Rattle.pattern.proofs.LevelLaws.{binds-none, entered-none, levels-miss, levels-hit, levels-done}
 use borrow.Author.Needs.{needs}
@@ -21,7 +22,14 @@ none-bound-requires : tie.Need-none-bound-requires Inv-loop μ-loop
 none-bound-requires c κs = search needs
 
 loop-holds : tie.Need-loop-holds Inv-loop μ-loop
-loop-holds c = let a = c .before .before .before .args in (omega arith, c .none-bound .ensures ∙ sym (binds-none (a .c .resources) (a .c .statements) (a .statements .now) (patternsOf (a .words .now)) (a .t4)), entered-none (a .c .resources) (a .c .statements) (a .statements .now) (patternsOf (a .words .now)) (a .t4))
+loop-holds c = let a = c .before .before .before .args in (
+  omega arith,
+  c .none-bound .ensures
+      ∙ sym (binds-none (a .c .resources) (a .c .statements) (a .statements .now) (patternsOf (a .words .now))
+      (a .t4)),
+  entered-none (a .c .resources) (a .c .statements) (a .statements .now) (patternsOf (a .words .now))
+      (a .t4),
+)
 
 cast-l : tie.Need-cast-l Inv-loop μ-loop
 cast-l c = search needs
@@ -36,12 +44,21 @@ pattern-at-requires : tie.Need-pattern-at-requires Inv-loop μ-loop
 pattern-at-requires c κs = search needs
 
 level-ok-requires : tie.Need-level-ok-requires Inv-loop μ-loop
-level-ok-requires c κs = (rw (c .pattern-at .ensures) (c .before .before .before .before .before .before .before .pre .0 .each (c .before .before .before .loop .i) (omega arith)), c .before .before .before .before .before .before .before .pre .2)
+level-ok-requires c κs = (
+  rw (c .pattern-at .ensures) (c .before .before .before .before .before .before .before .pre .0 .each
+      (c .before .before .before .loop .i) (omega arith)),
+  c .before .before .before .before .before .before .before
+      .pre .2,
+)
 
 returns : tie.Need-returns Inv-loop μ-loop
 returns c =
-    let a = c .before .before .before .before .before .before .before .before .before .before .args in let l = c .before .before .before .before .before .before .loop in
-    levels-miss (a .c .resources) (a .c .statements) (a .statements .now) (patternsOf (a .words .now)) (a .t4) (l .i) (c .before .before .before .pattern-at .result) (l .bound) (c .before .before .level-ok .result) (a .d) (c .before .before .before .before .before .loop-test .taken) (c .before .before .before .pattern-at .ensures) (l .inv .1) (c .before .before .level-ok .ensures)
+    let a = c .before .before .before .before .before .before .before .before .before .before .args in
+    let l = c .before .before .before .before .before .before .loop in
+    levels-miss (a .c .resources) (a .c .statements) (a .statements .now) (patternsOf (a .words .now)) (a .t4)
+    (l .i) (c .before .before .before .pattern-at .result) (l .bound) (c .before .before .level-ok .result)
+    (a .d) (c .before .before .before .before .before .loop-test .taken)
+    (c .before .before .before .pattern-at .ensures) (l .inv .1) (c .before .before .level-ok .ensures)
     (not-true (c .before .before .level-ok .result .hit) (c .if1 .taken))
 
 add-i : tie.Need-add-i Inv-loop μ-loop
@@ -52,13 +69,20 @@ loop-less c = search needs
 
 loop-again : tie.Need-loop-again Inv-loop μ-loop
 loop-again c =
-    let a = c .before .before .before .before .before .before .before .before .before .before .before .args in let l = c .before .before .before .before .before .before .before .loop in
-    let q = levels-hit (a .c .resources) (a .c .statements) (a .statements .now) (patternsOf (a .words .now)) (a .t4) (l .i) (c .before .before .before .before .pattern-at .result) (l .bound) (c .before .before .before .level-ok .result) (c .before .before .before .before .pattern-at .ensures) (l .inv .1) (c .before .before .before .level-ok .ensures)
+    let a = c .before .before .before .before .before .before .before .before .before .before .before .args in
+    let l = c .before .before .before .before .before .before .before .loop in
+    let q = levels-hit (a .c .resources) (a .c .statements) (a .statements .now) (patternsOf (a .words .now))
+    (a .t4) (l .i) (c .before .before .before .before .pattern-at .result) (l .bound)
+    (c .before .before .before .level-ok .result) (c .before .before .before .before .pattern-at .ensures)
+    (l .inv .1) (c .before .before .before .level-ok .ensures)
     (not-false (c .before .before .before .level-ok .result .hit) (c .before .if1 .left)) (l .inv .2) in
     (omega arith, q .0, q .1)
 
 returns-2 : tie.Need-returns-2 Inv-loop μ-loop
-returns-2 c = let a = c .before .before .before .before .before .args in let l = c .before .loop in levels-done (a .c .resources) (a .c .statements) (a .statements .now) (patternsOf (a .words .now)) (a .t4) (l .i) (a .d) (l .bound) (omega arith) (l .inv .1) (l .inv .2)
+returns-2 c =
+    let a = c .before .before .before .before .before .args in let l = c .before .loop in
+    levels-done (a .c .resources) (a .c .statements) (a .statements .now) (patternsOf (a .words .now)) (a .t4)
+    (l .i) (a .d) (l .bound) (omega arith) (l .inv .1) (l .inv .2)
 
 pub levels-ok-spec : {M : Type 1} → statement M
 levels-ok-spec =

@@ -44,7 +44,12 @@ loop-less : tie.Need-loop-less Inv-loop μ-loop
 loop-less c = search needs
 
 loop-again : tie.Need-loop-again Inv-loop μ-loop
-loop-again c = let a = c .before .before .before .args in let l = c .before .before .loop in (omega arith, ap (λ (z : List Level). set z (l .i) (getD (a .t1) (l .i) noLevel)) (l .inv .1) ∙ sym (written-step (a .t1) (l .i)))
+loop-again c =
+    let a = c .before .before .before .args in let l = c .before .before .loop in (
+      omega arith,
+      ap (λ (z : List Level). set z (l .i) (getD (a .t1) (l .i) noLevel)) (l .inv .1)
+          ∙ sym (written-step (a .t1) (l .i)),
+    )
 
 returns : tie.Need-returns Inv-loop μ-loop
 returns c = let l = c .before .loop in let q : l .i ≡ c .before .before .args .d = omega arith in rw (← q) (l .inv .1)

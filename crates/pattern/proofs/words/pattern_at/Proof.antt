@@ -34,7 +34,8 @@ shared-slice-read-t14 : tie.Need-shared-slice-read-t14
 shared-slice-read-t14 c = let q = patterns-length (c .before .before .before .args .words .now) in omega (arith, q .0)
 
 returns : tie.Need-returns
-returns c = sym (pattern-words (c .before .before .before .args .words .now) (c .before .before .before .args .i) (c .before .before .before .pre))
+returns c = sym (pattern-words (c .before .before .before .args .words .now) (c .before .before .before .args .i)
+    (c .before .before .before .pre))
 
 pub pattern-at-spec : {M : Type 1} → statement M
 pattern-at-spec =

@@ -2,7 +2,8 @@ use mathlib.Core.Path.{_≡_, refl, sym, ap, _∙_}
 use Prim.Native.Nat.{ℕ, suc, _+_, _-_, _*_, _≤_, _<_}
 use native.Mathlib.Omega.{arith}
 use lib.ListN.{length, getD, set, drop, replicate}
-use borrow.Author.Tests.{eq-eqb, ne-eqb, lt-ltb, le-ltb, le-leb, lt-leb, eqb-true, eqb-false, ltb-true, ltb-false, leb-true, leb-false, not-true, not-false}
+use borrow.Author.Tests.{eq-eqb, ne-eqb, lt-ltb, le-ltb, le-leb, lt-leb, eqb-true, eqb-false, ltb-true, ltb-false}
+use borrow.Author.Tests.{leb-true, leb-false, not-true, not-false}
 use mathlib.Core.Bool.{_&&_}
 use Rattle.graph.specs.Query.{allOk}
 use Rattle.pattern.proofs.WordLaws.{broken-off, too-many, by-words, all-none, all-step}
@@ -23,7 +24,8 @@ mul-if2 : tie.Need-mul-if2 Inv-loop μ-loop
 mul-if2 c = search needs
 
 returns-2 : tie.Need-returns-2 Inv-loop μ-loop
-returns-2 c = sym (too-many (c .before .before .before .args .r) (c .before .before .before .args .words .now) (c .if2 .taken))
+returns-2 c = sym (too-many (c .before .before .before .args .r) (c .before .before .before .args .words .now)
+    (c .if2 .taken))
 
 loop-holds : tie.Need-loop-holds Inv-loop μ-loop
 loop-holds c = search needs
@@ -39,8 +41,11 @@ word-ok-requires c κs = search needs
 
 returns-3 : tie.Need-returns-3 Inv-loop μ-loop
 returns-3 c =
-    let a = c .before .before .before .before .before .before .before .before .args in let l = c .before .before .before .before .loop in
-    sym (by-words (a .r) (a .words .now) (c .before .before .before .before .before .before .if1 .left) (c .before .before .before .before .before .if2 .left) ∙ l .inv .1 ∙ all-step (a .r) (a .words .now) (l .i) (c .before .before .before .loop-test .taken)
+    let a = c .before .before .before .before .before .before .before .before .args in
+    let l = c .before .before .before .before .loop in
+    sym (by-words (a .r) (a .words .now) (c .before .before .before .before .before .before .if1 .left)
+    (c .before .before .before .before .before .if2 .left) ∙ l .inv .1
+    ∙ all-step (a .r) (a .words .now) (l .i) (c .before .before .before .loop-test .taken)
     ∙ rw (← c .before .word-ok .ensures, not-true (c .before .word-ok .result) (c .if3 .taken)))
 
 add-i : tie.Need-add-i Inv-loop μ-loop
@@ -51,7 +56,8 @@ loop-less c = search needs
 
 loop-again : tie.Need-loop-again Inv-loop μ-loop
 loop-again c =
-    let a = c .before .before .before .before .before .before .before .before .args in let l = c .before .before .before .before .loop in (
+    let a = c .before .before .before .before .before .before .before .before .args in
+    let l = c .before .before .before .before .loop in (
       omega arith,
       l .inv .1 ∙ all-step (a .r) (a .words .now) (l .i) (c .before .before .before .loop-test .taken)
           ∙ rw (← c .before .word-ok .ensures, not-false (c .before .word-ok .result) (c .if3 .left)),
@@ -60,7 +66,8 @@ loop-again c =
 returns-4 : tie.Need-returns-4 Inv-loop μ-loop
 returns-4 c =
     let a = c .before .before .before .before .before .args in let l = c .before .loop in
-    sym (by-words (a .r) (a .words .now) (c .before .before .before .if1 .left) (c .before .before .if2 .left) ∙ l .inv .1 ∙ all-none (a .r) (a .words .now) (l .i) (c .loop-test .left))
+    sym (by-words (a .r) (a .words .now) (c .before .before .before .if1 .left) (c .before .before .if2 .left)
+    ∙ l .inv .1 ∙ all-none (a .r) (a .words .now) (l .i) (c .loop-test .left))
 
 pub words-ok-spec : {M : Type 1} → statement M
 words-ok-spec =

@@ -12,10 +12,15 @@ first-struck-requires : tie.Need-first-struck-requires
 first-struck-requires c κs = search needs
 
 onward-requires : tie.Need-onward-requires
-onward-requires c κs = let e = c .before .before .before .pre .0 .few in let h = c .before .before .before .pre .1 in let f = c .first-struck .ensures .among in (omega arith, f, c .before .before .before .pre .2)
+onward-requires c κs =
+    let e = c .before .before .before .pre .0 .few in
+    let h = c .before .before .before .pre .1 in let f = c .first-struck .ensures .among in
+    (omega arith, f, c .before .before .before .pre .2)
 
 written-requires : tie.Need-written-requires
-written-requires c κs = let e = c .before .before .before .before .pre .0 .few in let h = c .before .before .before .before .pre .1 in let f = c .before .first-struck .ensures .among in omega arith
+written-requires c κs =
+    let e = c .before .before .before .before .pre .0 .few in
+    let h = c .before .before .before .before .pre .1 in let f = c .before .first-struck .ensures .among in omega arith
 
 cast-own : tie.Need-cast-own
 cast-own c = search needs
@@ -24,17 +29,30 @@ mul-own : tie.Need-mul-own
 mul-own c = search needs
 
 array-set-from-own : tie.Need-array-set-from-own
-array-set-from-own c = let e = c .before .before .before .before .before .pre .0 .few in let h = c .before .before .before .before .before .pre .1 in let f = c .before .before .first-struck .ensures .among in omega arith
+array-set-from-own c =
+    let e = c .before .before .before .before .before .pre .0 .few in
+    let h = c .before .before .before .before .before .pre .1 in
+    let f = c .before .before .first-struck .ensures .among in omega arith
 
 stand-requires : tie.Need-stand-requires
 stand-requires c κs =
-    let e = c .before .before .before .before .before .pre .0 .few in let h = c .before .before .before .before .before .pre .1 in let f = c .before .before .first-struck .ensures .among in let a = c .before .before .before .before .before .args in
-    (c .before .before .before .before .before .pre .0, omega arith, rw (c .written .ensures) (written-held (a .statements .now) (a .levels) (a .top) (c .before .before .first-struck .result) (c .before .onward .result) f (c .before .before .before .before .before .pre .2)))
+    let e = c .before .before .before .before .before .pre .0 .few in
+    let h = c .before .before .before .before .before .pre .1 in
+    let f = c .before .before .first-struck .ensures .among in
+    let a = c .before .before .before .before .before .args in (
+      c .before .before .before .before .before .pre .0,
+      omega arith,
+      rw (c .written .ensures)
+          (written-held (a .statements .now) (a .levels) (a .top) (c .before .before .first-struck .result)
+          (c .before .onward .result) f (c .before .before .before .before .before .pre .2)),
+    )
 
 returns : tie.Need-returns
 returns c =
     let a = c .before .before .before .before .before .before .args in
-    pruned-made (a .statements .now) (patternsOf (a .words .now)) (a .levels) (a .top) (c .before .before .before .first-struck .result) (c .stand .result) (c .before .before .before .first-struck .ensures)
+    pruned-made (a .statements .now) (patternsOf (a .words .now)) (a .levels) (a .top)
+    (c .before .before .before .first-struck .result) (c .stand .result)
+    (c .before .before .before .first-struck .ensures)
     (rw (← c .before .written .ensures, ← c .before .before .onward .ensures) (c .stand .ensures))
 
 pub pruned-spec : {M : Type 1} → statement M

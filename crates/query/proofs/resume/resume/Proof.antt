@@ -21,14 +21,22 @@ begin-requires-2 c κs = c .before .before .before .before .before .before .befo
 
 returns : tie.Need-returns
 unfolding placeAs
-returns c = let q = c .before .before .before .before .before .before .before .before .before .args .q in rw (c .before .before .before .enum-told2 .given .1, inside-none (q .levels) (q .depth) (c .before .if1 .taken)) (c .begin2 .ensures)
+returns c =
+    let q = c .before .before .before .before .before .before .before .before .before .args .q in
+    rw (c .before .before .before .enum-told2 .given .1, inside-none (q .levels) (q .depth) (c .before .if1 .taken))
+    (c .begin2 .ensures)
 
 sub-go-on : tie.Need-sub-go-on
 sub-go-on c = search needs
 
 go-on-requires : tie.Need-go-on-requires
 unfolding placeAs
-go-on-requires c κs = let q = c .before .before .before .before .before .before .before .before .before .args .q in (c .before .before .before .before .before .before .before .before .before .pre .0, rw (c .before .before .before .enum-told2 .given .1, inside-at (q .levels) (q .depth) (c .before .if1 .left)) at (c .before .before .before .before .before .before .before .before .before .pre .1))
+go-on-requires c κs =
+    let q = c .before .before .before .before .before .before .before .before .before .args .q in (
+      c .before .before .before .before .before .before .before .before .before .pre .0,
+      rw (c .before .before .before .enum-told2 .given .1, inside-at (q .levels) (q .depth) (c .before .if1 .left)) at
+          (c .before .before .before .before .before .before .before .before .before .pre .1),
+    )
 
 enum-told-3 : tie.Need-enum-told-3
 enum-told-3 c = search needs
@@ -42,7 +50,13 @@ returns-2 c = rw (c .before .enum-told .given .1) (c .begin .ensures)
 
 returns-3 : tie.Need-returns-3
 unfolding placeAs
-returns-3 c = let q = c .before .before .before .before .before .before .before .before .before .before .args .q in rw (c .before .before .before .before .enum-told2 .given .1, inside-at (q .levels) (q .depth) (c .before .before .if1 .left)) (c .go-on .ensures)
+returns-3 c =
+    let q = c .before .before .before .before .before .before .before .before .before .before .args .q in
+    rw (
+      c .before .before .before .before .enum-told2 .given .1,
+      inside-at (q .levels) (q .depth)
+          (c .before .before .if1 .left),
+    ) (c .go-on .ensures)
 
 returns-4 : tie.Need-returns-4
 unfolding placeAs resume

@@ -19,8 +19,11 @@ standing-requires c κs = search needs
 returns : tie.Need-returns
 unfolding packed
 returns c =
-    let a = c .before .before .before .before .before .before .args in rw (← c .before .before .before .remains .ensures, c .before .before .if1 .taken)
-    (c .standing .ensures ∙ ap (λ (z : Bindings). answered Spent (a .visits) z (inside (deepest (a .q)) (entered (a .q)))) (c .before .none-bound .ensures))
+    let a = c .before .before .before .before .before .before .args in
+    rw (← c .before .before .before .remains .ensures, c .before .before .if1 .taken)
+    (c .standing .ensures
+    ∙ ap (λ (z : Bindings). answered Spent (a .visits) z (inside (deepest (a .q)) (entered (a .q))))
+    (c .before .none-bound .ensures))
 
 ended-requires : tie.Need-ended-requires
 ended-requires c κs = search needs

@@ -22,7 +22,9 @@ array-copy-out-l : tie.Need-array-copy-out-l
 array-copy-out-l c = let q = c .before .before .before .before .pre .3 .few in omega arith
 
 past-requires : tie.Need-past-requires
-past-requires c κs = c .before .before .before .before .before .pre .3 .each (c .before .before .before .before .before .args .q .top - 1) (let q = c .before .before .before .before .before .pre .2 in omega arith)
+past-requires c κs = c .before .before .before .before .before .pre .3 .each
+    (c .before .before .before .before .before .args .q .top - 1)
+    (let q = c .before .before .before .before .before .pre .2 in omega arith)
 
 cast-levels : tie.Need-cast-levels
 cast-levels c = search needs
@@ -35,8 +37,15 @@ array-set-from-levels c = let q = c .before .before .before .before .before .bef
 
 stand-requires : tie.Need-stand-requires
 stand-requires c κs =
-    let q = c .before .before .before .before .before .before .args .q in let h = c .before .before .before .before .before .before .pre .1 in let o = c .before .before .before .before .before .before .pre .2 in
-    (c .before .before .before .before .before .before .pre .0, omega arith, held-set (c .before .before .before .before .before .before .args .statements .now) (q .levels) (q .top) (q .top - 1) (c .past .result) (omega arith) (c .before .before .before .before .before .before .pre .3))
+    let q = c .before .before .before .before .before .before .args .q in
+    let h = c .before .before .before .before .before .before .pre .1 in
+    let o = c .before .before .before .before .before .before .pre .2 in (
+      c .before .before .before .before .before .before .pre .0,
+      omega arith,
+      held-set
+          (c .before .before .before .before .before .before .args .statements .now) (q .levels) (q .top) (q .top - 1)
+          (c .past .result) (omega arith) (c .before .before .before .before .before .before .pre .3),
+    )
 
 returns : tie.Need-returns
 returns c = rw (c .stand .ensures, c .before .past .ensures)

@@ -13,7 +13,8 @@ no-levels-requires c κs = search needs
 
 returns : tie.Need-returns
 unfolding packed cursorAt
-returns c = answer-is _ _ (c .before .none-bound .result) _ (c .no-levels .result) _ (c .before .none-bound .ensures) (c .no-levels .ensures)
+returns c = answer-is _ _ (c .before .none-bound .result) _ (c .no-levels .result) _
+    (c .before .none-bound .ensures) (c .no-levels .ensures)
 
 pub refused-spec : {M : Type 1} → statement M
 refused-spec = tie.close (tie.spec none-bound-requires no-levels-requires returns)
