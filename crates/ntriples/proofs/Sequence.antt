@@ -40,7 +40,7 @@ use Rattle.ntriples.specs.Reader.{
   lineOf,
 }
 use Rattle.ntriples.specs.Text.{Unbroken, endsInCr, FirstLine, answerOf, readOf}
-use Rattle.ntriples.specs.Productions.{Dark, RunEnd, runEnd, onward, TermEnds, ObjectEnds, crDropped, EolAt}
+use Rattle.ntriples.specs.Productions.{Inline, Dark, RunEnd, runEnd, onward, TermEnds, ObjectEnds, crDropped, EolAt}
 use Rattle.ntriples.proofs.Forth.{gap-space}
 use Rattle.ntriples.proofs.Halts.{decide, strictly, step-to, at-end, onward-broken}
 use Rattle.ntriples.proofs.Runs.{slice-next, slice-none, run-turn, run-out, run-end, onward-next, onward-end}
@@ -409,3 +409,21 @@ dropped-facts text i e h =
     (omega arith, omega arith))
     (decide (eqb (getD text (e - 1) 0) 13)))
     (decide (eqb e i))
+
+-- where a line stops and where the next one begins, by its end
+abbrev pub Stops : List ℕ → ℕ → ℕ → ℕ → ℕ → Type 0
+Stops text i e s n = ((e ≡ length text) × (s ≡ e) × (n ≡ e)) ⊎ ((e ≡ length text → ⊥) × (s ≡ crDropped text i e) × (n ≡ e + 1))
+
+pub stops-inline : (text : List ℕ) (i e s n : ℕ) → EolAt text i e → Stops text i e s n → Inline text i s
+stops-inline text i e s n t (inl w) = rw (w .1) record { before = t .after; inText = t .before }
+stops-inline text i e s n t (inr w) =
+    let f = dropped-facts text i e (t .after) in
+    let f0 = f .0 in
+    let f1 = f .1 in
+    let b = t .before in
+    rw (w .1) record { before = f0; inText = omega arith }
+
+pub read-stops : (text : List ℕ) (i e s n : ℕ) → i < length text → EolAt text i e → Stops text i e s n
+    → readOf 255 text i ≡ record { line = answerOf i (onward text s i Begin); next = n }
+read-stops text i e s n h t (inl w) = rw (w .1, w .2) (read-last text i e h t (w .0))
+read-stops text i e s n h t (inr w) = rw (w .1, w .2) (read-broken text i e h t (w .0))

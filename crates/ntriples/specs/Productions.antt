@@ -94,14 +94,14 @@ cutOf a stop = pick (ltb (a + 256) stop) (a + 256) stop
 unfoldable pub crDropped : List ℕ → ℕ → ℕ → ℕ
 crDropped text i e = pick (eqb e i) e (pick (eqb (getD text (e - 1) 0) 13) (e - 1) e)
 
--- r is 0 only if b is no LF, and 1 at most
-pub record LfCount (b r : ℕ) : Type 0 where
-  pub most : r ≤ 1
-  pub none : r ≡ 0 → (b ≡ 10 → ⊥)
+-- r is false only if b is no LF, and none was seen before
+pub record Seen (b : ℕ) (before r : Bool) : Type 0 where
+  pub other : r ≡ false → (b ≡ 10 → ⊥)
+  pub none : r ≡ false → before ≡ false
 
--- no LF stands from i up to j, if their count is 0
-pub record BlockCount (text : List ℕ) (i j count : ℕ) : Type 0 where
-  pub none : count ≡ 0 → Unbroken (slice i j text)
+-- no LF stands from i up to j, if none was seen
+pub record BlockSeen (text : List ℕ) (i j : ℕ) (r : Bool) : Type 0 where
+  pub none : r ≡ false → Unbroken (slice i j text)
 
 -- no LF stands from i up to r
 pub record Passed (text : List ℕ) (i r : ℕ) : Type 0 where

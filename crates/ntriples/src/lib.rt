@@ -13,7 +13,7 @@ ghost use lib.ListN.{length};
 ghost use Rattle.ntriples.specs.Grammar.{white, commentByte};
 ghost use Rattle.ntriples.specs.Reader.{isDot, opens, Begin, Gap, After, Remark};
 ghost use Rattle.ntriples.specs.Text.{answerOf, readOf};
-ghost use Rattle.ntriples.specs.Productions.{Inline, OnLine, TermAt, Dark, Reached, RunEnd, onward, TermEnds, EarlierEnds, ObjectEnds, cutOf, crDropped, LfCount, BlockCount, Passed, EolAt};
+ghost use Rattle.ntriples.specs.Productions.{Inline, OnLine, TermAt, Dark, Reached, RunEnd, onward, TermEnds, EarlierEnds, ObjectEnds, cutOf, crDropped, Seen, BlockSeen, Passed, EolAt};
 use term::Scan;
 
 // A part of the text: the position of its first byte, and the position after its last.
@@ -362,28 +362,28 @@ fn whole_line(text: &[u8], at: usize, stop: usize) -> Line
     triple(text, at, a, stop)
 }
 
-// 1 for a LF, else 0.
-fn lf_count(b: u8) -> u8
-    ensures { λ r. ⌜ LfCount b r ⌝ }
+// Whether a LF was seen: this byte, or one before it.
+fn seen(b: u8, before: bool) -> bool
+    ensures { λ r. ⌜ Seen b before r ⌝ }
 {
     if b == b'\n' {
-        return 1;
+        return true;
     }
-    0
+    before
 }
 
-// How many of the 16 bytes from `from` on are LF. All are looked at, so that a machine may test them at once.
-fn block_count(text: &[u8], from: usize) -> u8
+// Whether one of the 16 bytes from `from` on is a LF. All are looked at, so that a machine may test them at once.
+fn block_seen(text: &[u8], from: usize) -> bool
     requires { ⌜ from + 16 ≤ length (now text) ⌝ }
-    ensures { λ r. ⌜ BlockCount (now (text .entry)) from (from + 16) r ⌝ }
+    ensures { λ r. ⌜ BlockSeen (now (text .entry)) from (from + 16) r ⌝ }
 {
-    let mut count = 0;
+    let mut found = false;
     let mut j = 0;
     while j < 16 {
-        count += lf_count(text[from + j]);
+        found = seen(text[from + j], found);
         j += 1;
     }
-    count
+    found
 }
 
 // A position from `at` on with no LF before it: whole blocks of 16 bytes are passed over.
@@ -393,7 +393,7 @@ fn skip_blocks(text: &[u8], at: usize) -> usize
 {
     let mut i = at;
     while text.len() - i >= 16 {
-        if block_count(text, i) != 0 {
+        if block_seen(text, i) {
             return i;
         }
         i += 16;
@@ -443,16 +443,15 @@ pub fn read_line(text: &[u8], at: usize) -> LineRead
         };
     }
     let eol = end_of_line(text, at);
-    if eol == text.len() {
-        let last = whole_line(text, at, eol);
-        return LineRead {
-            line: last,
-            next: eol,
-        };
+    let mut stop = eol;
+    let mut next = eol;
+    if eol < text.len() {
+        stop = drop_cr(text, at, eol);
+        next = eol + 1;
     }
-    let line = whole_line(text, at, drop_cr(text, at, eol));
+    let line = whole_line(text, at, stop);
     LineRead {
         line: line,
-        next: eol + 1,
+        next: next,
     }
 }

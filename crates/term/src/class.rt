@@ -1,6 +1,8 @@
 // The classes of bytes in a name (scope paper, "Names"), each a match on byte ranges. No class has the byte 0, which
 // `byte_at` gives past the end, so that a run of one class ends at the end of the bytes too.
+ghost use Prim.Native.Nat.{_<_};
 ghost use mathlib.Core.Path.{_≡_};
+ghost use mathlib.Core.Logic.{_⊎_};
 ghost use lib.ListN.{getD};
 ghost use Rattle.term.specs.Bytes.{iriByte, textByte, pairByte, firstByte, labelByte, labelOrDot, letter, alnum};
 
@@ -14,13 +16,48 @@ pub fn byte_at(bytes: &[u8], i: usize) -> u8
     0
 }
 
-// Of an IRI: 33..126 except < > " { } | ^ \ and the backquote.
+// Of an IRI: 33..126 except < > " { } | ^ \ and the backquote. A match of single bytes beside ranges is compiled to a
+// table of jumps, so the class is tested range by range, the most frequent bytes first.
 pub fn is_iri_byte(b: u8) -> bool
     ensures { λ r. ⌜ r ≡ iriByte b ⌝ }
 {
     match b {
-        b'<' | b'>' | b'"' | b'{'..=b'}' | b'^' | b'\\' | b'`' => false,
-        33..=126 => true,
+        b'a'..=b'z' => true,
+        _ => is_iri_low(b),
+    }
+}
+
+// No small letter: up to `;`, the digits among them.
+fn is_iri_low(b: u8) -> bool
+    requires { ⌜ (b < 97) ⊎ (122 < b) ⌝ }
+    ensures { λ r. ⌜ r ≡ iriByte b ⌝ }
+{
+    match b {
+        0..=b'"' => b == b'!',
+        b'#'..=b';' => true,
+        _ => is_iri_middle(b),
+    }
+}
+
+// No small letter, and after `;`: up to `[`, the capital letters among them.
+fn is_iri_middle(b: u8) -> bool
+    requires { ⌜ (59 < b) × ((b < 97) ⊎ (122 < b)) ⌝ }
+    ensures { λ r. ⌜ r ≡ iriByte b ⌝ }
+{
+    match b {
+        b'<'..=b'>' => b == b'=',
+        b'?'..=b'[' => true,
+        _ => is_iri_high(b),
+    }
+}
+
+// No small letter, and after `[`.
+fn is_iri_high(b: u8) -> bool
+    requires { ⌜ (91 < b) × ((b < 97) ⊎ (122 < b)) ⌝ }
+    ensures { λ r. ⌜ r ≡ iriByte b ⌝ }
+{
+    match b {
+        b']' | b'_' | b'~' => true,
         _ => false,
     }
 }

@@ -3,7 +3,8 @@ use mathlib.Core.Path.{_≡_, refl, sym, _∙_, ap}
 use native.Mathlib.Omega.{arith}
 use borrow.Author.Tests.{le-leb}
 use Rattle.ntriples.specs.Text.{readOf}
-use Rattle.ntriples.proofs.Sequence.{read-last, read-broken, dropped-facts}
+use mathlib.Core.Logic.{⊎-elim, inl, inr}
+use Rattle.ntriples.proofs.Sequence.{stops-inline, read-stops, Stops}
 use borrow.Author.Needs.{needs}
 use Rattle.ntriples.proofs.read_line.Statement.{statement}
 use Rattle.ntriples.proofs.read_line.Tie as tie
@@ -20,51 +21,39 @@ returns c = let a = c .before .before .args in rw (le-leb _ (a .at) (c .if1 .tak
 end-of-line-requires : tie.Need-end-of-line-requires
 end-of-line-requires c κs = let n = c .if1 .left in omega arith
 
-whole-line-requires : tie.Need-whole-line-requires
-whole-line-requires c κs = let e = c .before .end-of-line .ensures in record { before = e .after; inText = e .before }
-
-returns-2 : tie.Need-returns-2
-returns-2 c =
-    let c3 = c .before .before .before in
-    let c5 = c .before .before .before .before .before in
-    let a = c5 .args in
-    let w = c .whole-line .ensures in
-    let n = c3 .if1 .left in
-    rw w (sym (read-last (a .text .now) (a .at) _ (omega arith) (c .before .before .end-of-line .ensures)
-    (c .before .if2 .taken)))
-
 drop-cr-requires : tie.Need-drop-cr-requires
 drop-cr-requires c κs = let e = c .before .end-of-line .ensures in record { before = e .after; inText = e .before }
 
-whole-line-requires-2 : tie.Need-whole-line-requires-2
-whole-line-requires-2 c κs =
-    let c5 = c .before .before .before .before .before in
-    let a = c5 .args in
-    let e = c .before .before .end-of-line .ensures in
-    let b = e .before in
-    let f = dropped-facts (a .text .now) (a .at) (c .before .before .end-of-line .result) (e .after) in
-    let f0 = f .0 in
-    let f1 = f .1 in
-    let g = c .drop-cr .ensures in
-    record { before = omega arith; inText = omega arith }
-
-add-t7 : tie.Need-add-t7
-add-t7 c =
-    let c3 = c .before .before .before in
-    let e = c3 .end-of-line .ensures .before in
-    let n = c .before .before .if2 .left in
+add-next : tie.Need-add-next
+add-next c =
+    let e = c .before .before .end-of-line .ensures .before in
+    let n = c .before .if2 .taken in
     search needs
 
-returns-3 : tie.Need-returns-3
-returns-3 c =
-    let c3 = c .before .before .before in
-    let c4 = c .before .before .before .before in
-    let c6 = c .before .before .before .before .before .before in
-    let a = c6 .args in
-    let w = c .whole-line2 .ensures in
-    let n = c4 .if1 .left in
-    rw (w, c .before .drop-cr .ensures) (sym (read-broken (a .text .now) (a .at) _ (omega arith)
-    (c3 .end-of-line .ensures) (c .before .before .if2 .left)))
+whole-line-requires : tie.Need-whole-line-requires
+whole-line-requires c κs =
+    let a = c .before .before .before .before .args in
+    let e = c .before .end-of-line in
+    let b = e .ensures .before in
+    stops-inline (a .text .now) (a .at) (e .result) (c .if2 .stop) (c .if2 .next) (e .ensures)
+    (⊎-elim
+    (λ w. let t = w .0 .taken in inr ((λ (z : e .result ≡ _). omega arith), (w .2 ∙ w .1 .ensures), w .3))
+    (λ w. let t = w .0 .left in inl (omega arith, w .1, w .2))
+    (c .if2 .came))
+
+returns-2 : tie.Need-returns-2
+returns-2 c =
+    let a = c .before .before .before .before .before .args in
+    let e = c .before .before .end-of-line in
+    let b = e .ensures .before in
+    let l = c .before .before .before .if1 .left in
+    rw (c .whole-line .ensures)
+    (sym
+    (read-stops (a .text .now) (a .at) (e .result) (c .before .if2 .stop) (c .before .if2 .next) (omega arith) (e .ensures)
+    (⊎-elim
+    (λ w. let t = w .0 .taken in inr ((λ (z : e .result ≡ _). omega arith), (w .2 ∙ w .1 .ensures), w .3))
+    (λ w. let t = w .0 .left in inl (omega arith, w .1, w .2))
+    (c .before .if2 .came))))
 
 pub read-line-spec : {M : Type 1} → statement M
 read-line-spec =
@@ -72,9 +61,7 @@ read-line-spec =
     (tie.spec
     returns
     end-of-line-requires
-    whole-line-requires
-    returns-2
     drop-cr-requires
-    whole-line-requires-2
-    add-t7
-    returns-3)
+    add-next
+    whole-line-requires
+    returns-2)

@@ -9,7 +9,7 @@ use Rattle.ntriples.proofs.skip_blocks.Statement.{statement}
 use Rattle.ntriples.proofs.skip_blocks.Tie as tie
 use Rattle.ntriples.proofs.skip_blocks.Reads as reads
 use Rattle.ntriples.proofs.skip_blocks.Lts as lts
-use Rattle.ntriples.proofs.block_count.Reads as block-count-reads
+use Rattle.ntriples.proofs.block_seen.Reads as block-seen-reads
 
 abbrev Inv-loop : tie.InvT-loop
 Inv-loop text at i₀ i = (at ≤ i) × (i ≤ length text) × Unbroken (slice at i text)
@@ -24,8 +24,8 @@ loop-holds c =
 sub-loop : tie.Need-sub-loop Inv-loop μ-loop
 sub-loop c = let h = c .loop .inv .1 in omega arith
 
-block-count-requires : tie.Need-block-count-requires Inv-loop μ-loop
-block-count-requires c κs = let t = c .loop-test .taken in let h = c .before .loop .inv .1 in omega arith
+block-seen-requires : tie.Need-block-seen-requires Inv-loop μ-loop
+block-seen-requires c κs = let t = c .loop-test .taken in let h = c .before .loop .inv .1 in omega arith
 
 returns : tie.Need-returns Inv-loop μ-loop
 returns c =
@@ -51,7 +51,7 @@ loop-again c =
       omega arith,
       omega arith,
       eol-join (a .text .now) (a .at) (l .i) (l .i + 16) h (omega arith) (omega arith) (l .inv .2)
-          (c .before .block-count .ensures .none (c .if1 .left)),
+          (c .before .block-seen .ensures .none (c .if1 .left)),
     )
 
 returns-2 : tie.Need-returns-2 Inv-loop μ-loop
@@ -65,7 +65,7 @@ skip-blocks-spec =
     μ-loop
     loop-holds
     sub-loop
-    block-count-requires
+    block-seen-requires
     returns
     add-i
     loop-less

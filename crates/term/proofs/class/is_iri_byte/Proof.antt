@@ -1,62 +1,26 @@
--- The class is a match on byte ranges: in each arm the definition is constant, which computing it shows.
--- Assumes nothing.
+-- The range tested first is of the class, which computing it shows. Assumes nothing.
 use mathlib.Core.Path.{sym}
-use mathlib.Core.List.{[], _∷_}
+use mathlib.Core.List.{[]}
+use mathlib.Core.Logic.{⊎-elim, inl, inr}
 use native.Mathlib.Omega.{arith}
+use Rattle.term.proofs.Table.{at-range, eqBool, same-bool}
+use borrow.Author.Needs.{needs}
 use Rattle.term.specs.Bytes.{iriByte, among}
-use Rattle.term.proofs.Table.{at-keys, at-range, eqBool, same-bool}
 use Rattle.term.proofs.class.is_iri_byte.Statement.{statement}
 use Rattle.term.proofs.class.is_iri_byte.Tie as tie
+use Rattle.term.proofs.class.is_iri_byte.Reads as reads
+use Rattle.term.proofs.class.is_iri_low.Reads as is-iri-low-reads
+
+is-iri-low-requires : tie.Need-is-iri-low-requires
+is-iri-low-requires c κs = ⊎-elim (λ t. inl (t .taken)) (λ e. inr (e .1 .left)) (c .if1 .came)
 
 returns : tie.Need-returns
 unfolding iriByte among
 returns c =
-    sym
-    (at-range eqBool same-bool iriByte _ 0 32
-    ((33 ∷ (61 ∷ (93 ∷ (95 ∷ (126 ∷ []))))) ∷ ((34 ∷ (60 ∷ (62 ∷ (92 ∷ (94 ∷ (96 ∷ [])))))) ∷ []))
-    (c .before .before .args .b)
-    tt (omega arith) (omega arith) (c .before .match .rest))
+    sym (at-range eqBool same-bool iriByte _ 97 25 [] (c .before .before .args .b) tt (omega arith) (omega arith) tt)
 
 returns-2 : tie.Need-returns-2
-unfolding iriByte among
-returns-2 c =
-    sym
-    (at-range eqBool same-bool iriByte _ 126 129
-    ((33 ∷ (61 ∷ (93 ∷ (95 ∷ (126 ∷ []))))) ∷ ((34 ∷ (60 ∷ (62 ∷ (92 ∷ (94 ∷ (96 ∷ [])))))) ∷ []))
-    (c .before .before .before .before .args .b)
-    tt (omega arith) (omega arith) (c .before .before .before .match .rest))
-
-returns-3 : tie.Need-returns-3
-unfolding iriByte among
-returns-3 c =
-    sym
-    (at-keys eqBool same-bool iriByte _ (34 ∷ (60 ∷ (62 ∷ (92 ∷ (94 ∷ (96 ∷ [])))))) (c .before .args .b) tt
-    (c .match .keys1))
-
-returns-4 : tie.Need-returns-4
-unfolding iriByte among
-returns-4 c =
-    sym
-    (at-range eqBool same-bool iriByte _ 123 2
-    ((33 ∷ (61 ∷ (93 ∷ (95 ∷ (126 ∷ []))))) ∷ ((34 ∷ (60 ∷ (62 ∷ (92 ∷ (94 ∷ (96 ∷ [])))))) ∷ []))
-    (c .before .before .before .before .args .b)
-    tt (omega arith) (omega arith) (c .before .before .before .match .rest))
-
-returns-5 : tie.Need-returns-5
-unfolding iriByte among
-returns-5 c =
-    sym
-    (at-keys eqBool same-bool iriByte _ (33 ∷ (61 ∷ (93 ∷ (95 ∷ (126 ∷ []))))) (c .before .args .b) tt
-    (c .match .keys2))
-
-returns-6 : tie.Need-returns-6
-unfolding iriByte among
-returns-6 c =
-    sym
-    (at-range eqBool same-bool iriByte _ 33 89
-    ((33 ∷ (61 ∷ (93 ∷ (95 ∷ (126 ∷ []))))) ∷ ((34 ∷ (60 ∷ (62 ∷ (92 ∷ (94 ∷ (96 ∷ [])))))) ∷ []))
-    (c .before .before .before .args .b)
-    tt (omega arith) (omega arith) (c .before .before .match .rest))
+returns-2 c = c .is-iri-low .ensures
 
 pub is-iri-byte-spec : {M : Type 1} → statement M
-is-iri-byte-spec = tie.close (tie.spec returns returns-2 returns-3 returns-4 returns-5 returns-6)
+is-iri-byte-spec = tie.close (tie.spec is-iri-low-requires returns returns-2)
