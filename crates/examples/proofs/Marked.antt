@@ -18,6 +18,7 @@ use Rattle.store.specs.Scan.{openOf, chainOk, recordOk, cursorOk, walkFrom, nex
 use Rattle.store.specs.Dictionary.{compare, nameAt, rank, placeAt, indexPlaceOf, roomFor, bring, insertAt, internAs, internOf}
 use Rattle.store.specs.History.{Store, callStore, storeAfter}
 use Rattle.graph.specs.Query.{patternsOf, wordOk, allOk, wordsOk, valueOf, under, bind, match, recordAt, past, struck, intact, anyStruck, pruned, settle, remains, nextPattern, binds, asked, enteredOk, placeOk, enter, hit, tried, visit, walk, begun, resume, answerOf, levelsOf, insideOf, placeAs, written, cursorAt, packed, nextQueryOf}
+use Rattle.store.proofs.Tests.{and-l, and-r}
 use Rattle.examples.specs.Marked.{r21, trips, b4, b7, sampleLoad, sampleTables, sample, Row, readOn, solveOn, answer, markedRows, Answered, Marked}
 
 -- ---- the test and its law
@@ -31,14 +32,6 @@ eqNumbers (x ∷ xs) (y ∷ ys) = eqb x y && eqNumbers xs ys
 unfoldable agree : Store → List Row → Bool
 agree s [] = true
 agree s (r ∷ rows) = eqNumbers ((answer s (r .ask)) .1) (r .says) && agree ((answer s (r .ask)) .0) rows
-
-and-l : (a b : Bool) → a && b ≡ true → a ≡ true
-and-l true b e = refl
-and-l false b e = e
-
-and-r : (a b : Bool) → a && b ≡ true → b ≡ true
-and-r true b e = e
-and-r false b e = absurd (false≢true e)
 
 eq-numbers : (a b : List ℕ) → eqNumbers a b ≡ true → a ≡ b
 unfolding eqNumbers

@@ -11,9 +11,10 @@ ghost use Rattle.graph.specs.Query.{valueOf, under, bind, match};
 ghost use Rattle.pattern.specs.Matching.{PatternOk, WordFits, matchedAs};
 
 // Whether a triple meets a pattern, and what is bound from now on; where it does not, what was bound before.
+// The array comes first: copies of it then start at a whole word.
 pub struct Matched {
-    pub hit: bool,
     pub bound: Solution,
+    pub hit: bool,
 }
 
 // The number that a word stands for, or 0 where it is an open variable.

@@ -62,9 +62,10 @@ pub enum Outcome {
     Whole,
 }
 
+// The arrays come first: copies of them then start at a whole word.
 pub struct Turned {
-    pub outcome: Outcome,
     pub stack: Stack,
+    pub outcome: Outcome,
 }
 
 // A level of a chain, at record n.

@@ -19,20 +19,13 @@ use Rattle.store.specs.Tables.{resourceWords, statementWords, firstAt, countAt,
 use Rattle.store.specs.Model.{better, pick}
 use Rattle.store.specs.Walk.{pickChain, pickable, startOf, linkOf, sits, visitable, walk, Step, found, ended, spent, afterVisit, foundIn}
 use Rattle.store.specs.Scan.{recordOk}
+use Rattle.store.proofs.Tests.{and-l, and-r}
 use Rattle.statement.specs.declared.inner.Sought.{Sought}
 use Rattle.statement.specs.declared.inner.Visited.{Visited}
 use Rattle.statement.specs.declared.inner.Visited.the-variants.{Damaged as Torn, Hit, Miss}
 use Rattle.statement.specs.Chains.{PatternHeld, bound, hits, visitOf}
 
 -- ---- tests
-
-pub and-l : (a b : Bool) → a && b ≡ true → a ≡ true
-and-l true b e = refl
-and-l false b e = e
-
-pub and-r : (a b : Bool) → a && b ≡ true → b ≡ true
-and-r true b e = e
-and-r false b e = absurd (false≢true e)
 
 -- one half of a test is false, so the other holds
 or-r : (a b : Bool) → a || b ≡ true → a ≡ false → b ≡ true

@@ -33,7 +33,8 @@ use Rattle.statement.specs.declared.target.Located.{Located}
 use Rattle.statement.specs.declared.target.Located.the-variants.{Refused, At}
 use Rattle.statement.specs.Chains.{PatternHeld, hits, stepOf}
 use Rattle.statement.specs.Operations.{TripleHeld, locatedAs, Linkable, Appendable, assertTarget, retractTarget}
-use Rattle.statement.proofs.Chains.{and-l, and-r, known-one, known-most, within-most, held, count-within}
+use Rattle.store.proofs.Tests.{and-l, and-r}
+use Rattle.statement.proofs.Chains.{known-one, known-most, within-most, held, count-within}
 use Rattle.statement.proofs.Locate.{locate-pickable, locate-within}
 
 -- ---- counters within capacity

@@ -6,7 +6,6 @@
 // is an answer.
 use crate::triple::agrees;
 use crate::triple::at;
-use crate::triple::known;
 use crate::triple::same;
 use store::Chain;
 use store::Position;
@@ -18,6 +17,7 @@ use table::inner::flag_at;
 use table::inner::next_at;
 use table::inner::term_at;
 use table::inner::triple_at;
+use table::known;
 ghost use mathlib.Core.Path.{_≡_};
 ghost use mathlib.Core.Bool.{true, _&&_, _||_};
 ghost use Prim.Native.Nat.{ℕ, _-_, _*_, _≤_};

@@ -3,10 +3,10 @@
 use store::Position;
 use store::Triple;
 ghost use mathlib.Core.Path.{_≡_};
-ghost use mathlib.Core.Bool.{_&&_, _||_};
+ghost use mathlib.Core.Bool.{_||_};
 ghost use Prim.Native.Nat.{ℕ};
-ghost use lib.Dec.{eqb, leb, ltb};
-ghost use Rattle.store.specs.Triple.{at, known, within, same, agrees};
+ghost use lib.Dec.{eqb};
+ghost use Rattle.store.specs.Triple.{at, within, same, agrees};
 
 // The number at a position.
 pub fn at(p: Position, x: Triple) -> u32
@@ -19,16 +19,6 @@ pub fn at(p: Position, x: Triple) -> u32
     }
 }
 
-// Whether y is in 1..=n.
-pub fn in_range(n: u32, y: u32) -> bool
-    ensures { λ b. ⌜ b ≡ (ltb 0 y && leb y n) ⌝ }
-{
-    if y == 0 {
-        return false;
-    }
-    y <= n
-}
-
 // Whether a pattern's number y admits the number z: 0 stands for any.
 pub fn admits(y: u32, z: u32) -> bool
     ensures { λ b. ⌜ b ≡ (eqb y 0 || eqb z y) ⌝ }
@@ -37,19 +27,6 @@ pub fn admits(y: u32, z: u32) -> bool
         return true;
     }
     z == y
-}
-
-// Whether every number is in 1..=n.
-pub fn known(n: u32, x: Triple) -> bool
-    ensures { λ b. ⌜ b ≡ known n x ⌝ }
-{
-    if !in_range(n, x.subject.0) {
-        return false;
-    }
-    if !in_range(n, x.predicate.0) {
-        return false;
-    }
-    in_range(n, x.object.0)
 }
 
 // Whether no number exceeds n.

@@ -52,7 +52,7 @@ pub fn fits(c: Counters, resources: &[u32], statements: &[u32], index: &[u32], t
     if c.resources > Counters::MAX_RESOURCES {
         return false;
     }
-    if r > resources.len() / RESOURCE_WORDS {
+    if RESOURCE_WORDS * r > resources.len() {
         return false;
     }
     if r > index.len() {
@@ -61,7 +61,7 @@ pub fn fits(c: Counters, resources: &[u32], statements: &[u32], index: &[u32], t
     if c.statements > Counters::MAX_STATEMENTS {
         return false;
     }
-    if t > statements.len() / STATEMENT_WORDS {
+    if STATEMENT_WORDS * t > statements.len() {
         return false;
     }
     if c.text > Counters::MAX_TEXT {

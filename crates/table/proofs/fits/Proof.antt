@@ -19,6 +19,9 @@ cast-b c = search needs
 returns : tie.Need-returns
 returns c = sym (over-resources _ _ (omega arith))
 
+mul-if2 : tie.Need-mul-if2
+mul-if2 c = search needs
+
 returns-2 : tie.Need-returns-2
 returns-2 c = sym (over-resources _ _ (omega arith))
 
@@ -27,6 +30,9 @@ returns-3 c = sym (over-resources _ _ (omega arith))
 
 returns-4 : tie.Need-returns-4
 returns-4 c = sym (over-statements _ _ (omega arith) (omega arith))
+
+mul-if5 : tie.Need-mul-if5
+mul-if5 c = search needs
 
 returns-5 : tie.Need-returns-5
 returns-5 c = sym (over-statements _ _ (omega arith) (omega arith))
@@ -45,9 +51,11 @@ fits-spec =
     cast-t
     cast-b
     returns
+    mul-if2
     returns-2
     returns-3
     returns-4
+    mul-if5
     returns-5
     returns-6
     returns-7)

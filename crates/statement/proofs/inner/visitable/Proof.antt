@@ -10,7 +10,7 @@ use Rattle.statement.proofs.inner.visitable.Reads as reads
 use Rattle.statement.proofs.inner.visitable.Lts as lts
 use Rattle.statement.proofs.inner.link_of.Reads as link-of-reads
 use Rattle.statement.proofs.inner.sits.Reads as sits-reads
-use Rattle.statement.proofs.triple.known.Reads as known-reads
+use Rattle.table.proofs.known.Reads as known-reads
 use Rattle.table.proofs.inner.flag_at.Reads as flag-at-reads
 use Rattle.table.proofs.inner.triple_at.Reads as triple-at-reads
 

@@ -13,7 +13,7 @@ use Rattle.statement.proofs.target.assert_target.Lts as lts
 use Rattle.statement.proofs.target.kinded.Reads as kinded-reads
 use Rattle.statement.proofs.target.locate.Reads as locate-reads
 use Rattle.statement.proofs.target.permitted.Reads as permitted-reads
-use Rattle.statement.proofs.triple.known.Reads as known-reads
+use Rattle.table.proofs.known.Reads as known-reads
 use Rattle.table.proofs.fits.Reads as fits-reads
 
 fits-requires : tie.Need-fits-requires

@@ -11,7 +11,7 @@ use Rattle.statement.proofs.target.retract_target.Tie as tie
 use Rattle.statement.proofs.target.retract_target.Reads as reads
 use Rattle.statement.proofs.target.retract_target.Lts as lts
 use Rattle.statement.proofs.target.locate.Reads as locate-reads
-use Rattle.statement.proofs.triple.known.Reads as known-reads
+use Rattle.table.proofs.known.Reads as known-reads
 use Rattle.table.proofs.fits.Reads as fits-reads
 
 fits-requires : tie.Need-fits-requires
