@@ -33,8 +33,12 @@ use Rattle.capi.specs.declared.LineAnswer.{LineAnswer}
 
 -- ---- limits, each named once
 
+-- the words of the lent counters, and of a lent cursor
 abbrev pub counterWords : ℕ
 counterWords = 3
+
+abbrev pub cursorWords : ℕ
+cursorWords = 5
 
 -- the result where a lent counters, cursor or reply slice is too short
 abbrev pub tooShort : ℕ
@@ -90,9 +94,6 @@ readAnswer (Triple s p o) n =
 readAnswer (Refused k) n = lineAnswer 10 0 n k
 
 -- ---- a cursor: subject, predicate, object, chain, next
-
-abbrev pub cursorWords : ℕ
-cursorWords = 5
 
 abbrev pub chainWord : Chain → ℕ
 chainWord All = 0
