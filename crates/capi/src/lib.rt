@@ -445,10 +445,10 @@ pub extern "C" fn lt_enter(
     }
     let c = counters_of(counters);
     let entered = dictionary::intern(c, resources, statements, index, text, name);
-    let a = enter_answer(entered);
-    reply[0] = a.first;
-    if a.result != 0 {
-        return a.result;
+    let told = enter_answer(entered);
+    reply[0] = told.first;
+    if told.result != 0 {
+        return told.result;
     }
     let d = interned_counters(entered);
     put_counters(counters, d);
