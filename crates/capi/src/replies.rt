@@ -10,7 +10,6 @@ use store::Interned;
 use store::Lookup;
 use store::NameRead;
 use store::Position;
-use store::Refusal;
 use store::ResourceId;
 use store::Retracted;
 use store::ScanCursor;
@@ -18,28 +17,11 @@ use store::Scanned;
 use store::StatementId;
 use store::StatementRead;
 use store::Triple;
+use store::refusal_number;
 ghost use mathlib.Core.Path.{_≡_};
-ghost use Rattle.store.specs.Values.{refusalNumber, scannedValues, assertedValues, internedValues, noCursor};
+ghost use Rattle.store.specs.Values.{scannedValues, assertedValues, internedValues, noCursor};
 ghost use Rattle.store.specs.declared.Chain.the-variants.{By};
 ghost use Rattle.capi.specs.Words.{answer, kindAnswer, checkAnswer, lookupAnswer, nameAnswer, statementAnswer, retractAnswer, scannedAnswer, assertAnswer, enterAnswer, chainOf, chainWord, sizeOf, lineAnswer, readAnswer};
-
-// The paper's number of a refusal.
-pub fn refusal_number(e: Refusal) -> u32
-    ensures { λ r. ⌜ r ≡ refusalNumber e ⌝ }
-{
-    match e {
-        Refusal::Capacity => 1,
-        Refusal::Malformed => 2,
-        Refusal::Full => 3,
-        Refusal::UnknownNumber => 4,
-        Refusal::KindNotPermitted => 5,
-        Refusal::BadCursor => 6,
-        Refusal::NoBudget => 7,
-        Refusal::BadQuery => 8,
-        Refusal::Damaged => 9,
-        Refusal::BadLine => 10,
-    }
-}
 
 // A result and two words.
 fn words(result: u32, first: u32, second: u32) -> Answer

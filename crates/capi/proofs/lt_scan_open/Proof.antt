@@ -13,7 +13,7 @@ use Rattle.capi.proofs.lt_scan_open.Reads as reads
 use Rattle.capi.proofs.lt_scan_open.Lts as lts
 use Rattle.capi.proofs.counters_of.Reads as counters-of-reads
 use Rattle.capi.proofs.put_cursor.Reads as put-cursor-reads
-use Rattle.capi.proofs.replies.refusal_number.Reads as refusal-number-reads
+use Rattle.store.proofs.refusal_number.Reads as refusal-number-reads
 use Rattle.capi.proofs.triple_of.Reads as triple-of-reads
 use Rattle.statement.proofs.scan_open.Reads as scan-open-reads
 
