@@ -1,4 +1,4 @@
--- Slices that are lent too short have no room. Assumes nothing.
+-- Slices that are lent too short have no room, and those that are long enough have. Assumes nothing.
 use mathlib.Core.Path.{_≡_, sym, _∙_}
 use mathlib.Core.Bool.{Bool, true, false, cond}
 use mathlib.Core.List.{List}
@@ -20,3 +20,10 @@ unfolding lent
 no-reply cw n w h k e =
     let f : roomy cw n w ≡ false = simp (le-ltb (length cw) counterWords h, lt-ltb (length w) n k) in
     never (sym f ∙ e)
+
+pub some-room : {A : Type 0} (cw : List ℕ) (n : ℕ) (w : List ℕ)
+    → counterWords ≤ length cw → n ≤ length w → roomy cw n w ≡ false → A
+unfolding lent
+some-room cw n w h k e =
+    let f : roomy cw n w ≡ true = simp (le-ltb (length cw) counterWords h, le-ltb (length w) n k) in
+    never (sym e ∙ f)

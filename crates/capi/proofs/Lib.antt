@@ -1,2 +1,5 @@
 pub mod Lent
 pub mod Writes
+pub mod ReadBack
+pub mod Unanswered
+pub mod Runs

@@ -11,6 +11,8 @@ use Rattle.store.specs.declared.Triple.{Triple}
 use Rattle.store.specs.declared.Retracted.{Retracted}
 use Rattle.store.specs.declared.Scanned.{Scanned}
 use Rattle.store.specs.declared.Asserted.{Asserted}
+use Rattle.store.specs.declared.Interned.{Interned}
+use Rattle.store.specs.declared.Interned.the-variants.{Refused as NotInterned}
 use Rattle.store.specs.declared.Refusal.{Refusal}
 use Rattle.store.specs.declared.Refusal.the-variants.{Capacity, Malformed, Full, UnknownNumber, KindNotPermitted, BadCursor, NoBudget, BadQuery, Damaged, BadLine}
 use Rattle.store.specs.declared.ScanCursor.{ScanCursor}
@@ -19,10 +21,12 @@ use Rattle.store.specs.declared.ScanOpened.the-variants.{Cursor, Refused as Not
 use Rattle.store.specs.Tables.{Tables, after}
 use Rattle.store.specs.Statement.{retractOf, assertOf}
 use Rattle.store.specs.Scan.{openOf}
-use Rattle.store.specs.Values.{refusalNumber, scannedValues, assertedValues}
+use Rattle.store.specs.Dictionary.{InternAnswer}
+use Rattle.store.specs.Values.{refusalNumber, scannedValues, assertedValues, internedValues}
 use Rattle.capi.specs.declared.Answer.{Answer}
-use Rattle.capi.specs.Words.{counterWords, countersOf, cursorWords, retractAnswer, withCursor, lent, done, wrote, nextFrom, scannedAnswer, assertAnswer, withCounters}
-use Rattle.capi.specs.Calls.{retractCall, openCall, nextCall, assertCall}
+use Rattle.capi.specs.Words.{tooShort, counterWords, countersOf, cursorWords, retractAnswer, withCursor, lent, done, wrote, nextFrom, scannedAnswer, assertAnswer, enterAnswer, withCounters}
+use Rattle.capi.specs.Calls.{retractCall, openCall, nextCall, assertCall, enterAs, EnterCall}
+use Rattle.capi.proofs.Lent.{no-counters, no-reply, some-room}
 
 pub retract-done : (cw w : List ℕ) (m : Tables) {m′ : Tables} {r : Retracted} {c : Counters} {x y : Triple} {a : Answer}
     → c ≡ countersOf cw → x ≡ y → after m′ r ≡ retractOf c m x → a ≡ retractAnswer r → counterWords ≤ length cw → 1 ≤ length w
@@ -100,3 +104,51 @@ assert-answered cw w m {m′} {r} {c} {d} {x} {y} {a} {cw′} ec ex e ea eo ed e
     let z : assertOf (countersOf cw) m y ≡ after m′ r = cc in
     let f : (assertAnswer r) .result ≡ 0 = sym (ap (λ (t : Answer). t .result) ea) ∙ eo in
     simp (le-ltb (length cw) counterWords h, le-ltb (length w) 2 k, z, ew, ed, ea, f)
+
+pub enter-no-counters : (cw w : List ℕ) {name : List ℕ} {m : Tables} → length cw < counterWords
+    → EnterCall cw m m name w (tooShort, (cw, w))
+unfolding enterAs lent
+enter-no-counters cw w h = record {
+  entered = NotInterned Capacity;
+  told = simp (lt-ltb (length cw) counterWords h);
+  exact = no-counters cw 1 w h;
+  kept = λ _. refl;
+}
+
+pub enter-no-reply : (cw w : List ℕ) {name : List ℕ} {m : Tables} → counterWords ≤ length cw → length w < 1
+    → EnterCall cw m m name w (tooShort, (cw, w))
+unfolding enterAs lent
+enter-no-reply cw w h k = record {
+  entered = NotInterned Capacity;
+  told = simp (le-ltb (length cw) counterWords h, lt-ltb (length w) 1 k);
+  exact = no-reply cw 1 w h k;
+  kept = λ _. refl;
+}
+
+pub enter-refused : (cw w : List ℕ) {name : List ℕ} {m m′ : Tables} {r : Interned} {c : Counters} {a : Answer}
+    → c ≡ countersOf cw → InternAnswer c m m′ name r → a ≡ enterAnswer r → (a .result ≡ 0 → ⊥)
+    → counterWords ≤ length cw → 1 ≤ length w
+    → EnterCall cw m m′ name w (a .result, (cw, set w 0 (a .first)))
+unfolding enterAs lent
+enter-refused cw w {name} {m} {m′} {r} {c} {a} ec es ea ne h k =
+    let f : eqb ((enterAnswer r) .result) 0 ≡ false = ne-eqb ((enterAnswer r) .result) 0 (λ o. ne (ap (λ (t : Answer). t .result) ea ∙ o)) in
+    record {
+      entered = r;
+      told = simp (le-ltb (length cw) counterWords h, le-ltb (length w) 1 k, f, ea);
+      exact = λ _. rw (← ec) es;
+      kept = some-room cw 1 w h k;
+    }
+
+pub enter-answered : (cw w : List ℕ) {name : List ℕ} {m m′ : Tables} {r : Interned} {c d : Counters} {a : Answer} {cw′ : List ℕ}
+    → c ≡ countersOf cw → InternAnswer c m m′ name r → a ≡ enterAnswer r → a .result ≡ 0
+    → d ≡ (internedValues r) .counters → cw′ ≡ withCounters cw d → counterWords ≤ length cw → 1 ≤ length w
+    → EnterCall cw m m′ name w (0, (cw′, set w 0 (a .first)))
+unfolding enterAs lent
+enter-answered cw w {name} {m} {m′} {r} {c} {d} {a} {cw′} ec es ea eo ed ew h k =
+    let f : (enterAnswer r) .result ≡ 0 = sym (ap (λ (t : Answer). t .result) ea) ∙ eo in
+    record {
+      entered = r;
+      told = simp (le-ltb (length cw) counterWords h, le-ltb (length w) 1 k, ew, ed, ea, f);
+      exact = λ _. rw (← ec) es;
+      kept = some-room cw 1 w h k;
+    }

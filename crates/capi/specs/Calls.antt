@@ -10,6 +10,7 @@ use lib.Dec.{ltb}
 use Rattle.term.specs.Grammar.{nameLimit}
 use Rattle.term.specs.Scanner.{kindOf}
 use Rattle.store.specs.declared.Lookup.{Lookup}
+use Rattle.store.specs.declared.Interned.{Interned}
 use Rattle.store.specs.declared.Triple.{Triple}
 use Rattle.store.specs.Tables.{Tables}
 use Rattle.store.specs.Statement.{assertOf, retractOf}
@@ -17,8 +18,8 @@ use Rattle.store.specs.Scan.{openOf}
 use Rattle.ntriples.specs.Text.{readOf}
 use Rattle.store.specs.Soundness.{Sound}
 use Rattle.store.specs.Reading.{nameSpanOf, statementOf}
-use Rattle.store.specs.Dictionary.{FindAnswer}
-use Rattle.capi.specs.Words.{tooShort, countersOf, kindAnswer, checkAnswer, lookupAnswer, nameAnswer, statementAnswer, done, one, two, four, lent, roomy, wrote, retractAs, openedAs, lineAs, readAnswer, cursorWords, counterWords, nextFrom, scannedAs, assertAs}
+use Rattle.store.specs.Dictionary.{FindAnswer, InternAnswer}
+use Rattle.capi.specs.Words.{tooShort, countersOf, kindAnswer, checkAnswer, lookupAnswer, nameAnswer, statementAnswer, done, one, two, four, lent, roomy, wrote, retractAs, openedAs, lineAs, readAnswer, cursorWords, counterWords, nextFrom, scannedAs, assertAs, enteredAs}
 
 -- `lt_name_kind`: the name, the reply
 unfoldable pub kindCall : List ℕ → List ℕ → ℕ × List ℕ
@@ -74,3 +75,13 @@ nextCall cw m q b w =
 -- `lt_assert`: the triple; counters, tables and reply after it
 unfoldable pub assertCall : List ℕ → Tables → Triple → List ℕ → ℕ × (List ℕ × (Tables × List ℕ))
 assertCall cw m x w = lent cw 2 w (tooShort, (cw, (m, w))) (assertAs cw w (assertOf (countersOf cw) m x))
+
+-- `lt_enter`: m′ are the tables after it; counters and reply tell what intern answers
+unfoldable pub enterAs : List ℕ → List ℕ → Interned → ℕ × (List ℕ × List ℕ)
+enterAs cw w a = lent cw 1 w (tooShort, (cw, w)) (enteredAs cw w a)
+
+pub record EnterCall (cw : List ℕ) (m m′ : Tables) (name w : List ℕ) (z : ℕ × (List ℕ × List ℕ)) : Type 0 where
+  pub entered : Interned
+  pub told : z ≡ enterAs cw w entered
+  pub exact : roomy cw 1 w ≡ true → InternAnswer (countersOf cw) m m′ name entered
+  pub kept : roomy cw 1 w ≡ false → m′ ≡ m

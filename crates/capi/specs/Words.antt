@@ -19,6 +19,7 @@ use Rattle.store.specs.declared.Scanned.{Scanned}
 use Rattle.store.specs.declared.Scanned.the-variants.{Refused as NotScanned}
 use Rattle.store.specs.declared.Refusal.the-variants.{Capacity, BadCursor}
 use Rattle.store.specs.declared.Asserted.{Asserted}
+use Rattle.store.specs.declared.Interned.{Interned}
 use Rattle.store.specs.Triple.{triple}
 use Rattle.store.specs.Scan.{nextOf}
 use Rattle.store.specs.declared.Position.the-variants.{Subject, Predicate, Object}
@@ -26,14 +27,18 @@ use Rattle.store.specs.declared.Chain.{Chain}
 use Rattle.store.specs.declared.Chain.the-variants.{All, By}
 use Rattle.store.specs.declared.ScanCursor.{ScanCursor}
 use Rattle.store.specs.Tables.{Tables, word, fits}
-use Rattle.store.specs.Values.{lookupValues, nameValues, statementValues, retractedValues, openedValues, scannedValues, assertedValues}
+use Rattle.store.specs.Values.{lookupValues, nameValues, statementValues, retractedValues, openedValues, scannedValues, assertedValues, internedValues}
 use Rattle.capi.specs.declared.Answer.{Answer}
 use Rattle.capi.specs.declared.LineAnswer.{LineAnswer}
 
 -- ---- limits, each named once
 
+-- the words of the lent counters, and of a lent cursor
 abbrev pub counterWords : ℕ
 counterWords = 3
+
+abbrev pub cursorWords : ℕ
+cursorWords = 5
 
 -- the result where a lent counters, cursor or reply slice is too short
 abbrev pub tooShort : ℕ
@@ -90,9 +95,6 @@ readAnswer (Refused k) n = lineAnswer 10 0 n k
 
 -- ---- a cursor: subject, predicate, object, chain, next
 
-abbrev pub cursorWords : ℕ
-cursorWords = 5
-
 abbrev pub chainWord : Chain → ℕ
 chainWord All = 0
 chainWord (By Subject) = 1
@@ -118,6 +120,9 @@ scannedAnswer a = answer ((scannedValues a) .refusal) ((scannedValues a) .status
 
 abbrev pub assertAnswer : Asserted → Answer
 assertAnswer a = answer ((assertedValues a) .refusal) ((assertedValues a) .status) ((assertedValues a) .number) 0 0
+
+abbrev pub enterAnswer : Interned → Answer
+enterAnswer a = answer ((internedValues a) .refusal) ((internedValues a) .number) 0 0 0
 
 -- ---- what a call gives back, and the reply slice after it; words past those named keep their values
 
@@ -167,6 +172,13 @@ assertAs cw w z = (
     cond (eqb ((assertAnswer (z .1)) .result) 0) (withCounters cw ((assertedValues (z .1)) .counters)) cw,
     (z .0, set (set w 0 ((assertAnswer (z .1)) .first)) 1 ((assertAnswer (z .1)) .second)),
   ),
+)
+
+-- the tables stand apart: on unsound tables intern is bounded, not equal to a definition
+abbrev pub enteredAs : List ℕ → List ℕ → Interned → ℕ × (List ℕ × List ℕ)
+enteredAs cw w a = (
+  (enterAnswer a) .result,
+  (cond (eqb ((enterAnswer a) .result) 0) (withCounters cw ((internedValues a) .counters)) cw, set w 0 ((enterAnswer a) .first)),
 )
 
 -- s where the counters or the reply, of n words, are lent too short, else a

@@ -9,11 +9,12 @@ use crate::replies::asserted_counters;
 use crate::replies::chain_of;
 use crate::replies::chain_word;
 use crate::replies::check_answer;
+use crate::replies::enter_answer;
+use crate::replies::interned_counters;
 use crate::replies::kind_answer;
 use crate::replies::line_answer;
 use crate::replies::lookup_answer;
 use crate::replies::name_answer;
-use crate::replies::refusal_number;
 use crate::replies::retract_answer;
 use crate::replies::scanned_answer;
 use crate::replies::scanned_cursor;
@@ -26,13 +27,14 @@ use store::ScanOpened;
 use store::Scanned;
 use store::StatementId;
 use store::Triple;
+use store::refusal_number;
 ghost use mathlib.Core.Path.{_≡_};
 ghost use Prim.Native.Nat.{_≤_};
 ghost use lib.ListN.{length};
 ghost use Rattle.store.specs.Tables.{tables};
 ghost use Rattle.store.specs.Triple.{triple};
 ghost use Rattle.capi.specs.Words.{counterWords, cursorWords, countersOf, withCounters, cursorOf, withCursor, nextFrom, done, wrote};
-ghost use Rattle.capi.specs.Calls.{kindCall, CheckCall, FindCall, nameCall, statementCall, lineCall, retractCall, openCall, nextCall, assertCall};
+ghost use Rattle.capi.specs.Calls.{kindCall, CheckCall, FindCall, nameCall, statementCall, lineCall, retractCall, openCall, nextCall, assertCall, EnterCall};
 
 mod replies;
 
@@ -418,6 +420,37 @@ pub extern "C" fn lt_assert(
         return a.result;
     }
     let d = asserted_counters(done);
+    put_counters(counters, d);
+    0
+}
+
+// Enter a name: its number, old or new; counters and tables as answered.
+#[no_mangle]
+pub extern "C" fn lt_enter(
+    counters: &mut [u32],
+    resources: &mut [u32],
+    statements: &[u32],
+    index: &mut [u32],
+    text: &mut [u8],
+    name: &[u8],
+    reply: &mut [u32],
+) -> u32
+    ensures { λ r. ⌜ EnterCall (now (counters .entry)) (tables (now (resources .entry)) (now (statements .entry)) (now (index .entry)) (now (text .entry))) (tables (now (resources .exit)) (now (statements .entry)) (now (index .exit)) (now (text .exit))) (now (name .entry)) (now (reply .entry)) (r, (now (counters .exit), now (reply .exit))) ⌝ }
+{
+    if counters.len() < COUNTER_WORDS {
+        return TOO_SHORT;
+    }
+    if reply.len() < 1 {
+        return TOO_SHORT;
+    }
+    let c = counters_of(counters);
+    let entered = dictionary::intern(c, resources, statements, index, text, name);
+    let told = enter_answer(entered);
+    reply[0] = told.first;
+    if told.result != 0 {
+        return told.result;
+    }
+    let d = interned_counters(entered);
     put_counters(counters, d);
     0
 }

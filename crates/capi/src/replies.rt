@@ -6,10 +6,10 @@ use ntriples::Span;
 use store::Asserted;
 use store::Chain;
 use store::Counters;
+use store::Interned;
 use store::Lookup;
 use store::NameRead;
 use store::Position;
-use store::Refusal;
 use store::ResourceId;
 use store::Retracted;
 use store::ScanCursor;
@@ -17,28 +17,11 @@ use store::Scanned;
 use store::StatementId;
 use store::StatementRead;
 use store::Triple;
+use store::refusal_number;
 ghost use mathlib.Core.Path.{_≡_};
-ghost use Rattle.store.specs.Values.{refusalNumber, scannedValues, assertedValues, noCursor};
+ghost use Rattle.store.specs.Values.{scannedValues, assertedValues, internedValues, noCursor};
 ghost use Rattle.store.specs.declared.Chain.the-variants.{By};
-ghost use Rattle.capi.specs.Words.{answer, kindAnswer, checkAnswer, lookupAnswer, nameAnswer, statementAnswer, retractAnswer, scannedAnswer, assertAnswer, chainOf, chainWord, sizeOf, lineAnswer, readAnswer};
-
-// The paper's number of a refusal.
-pub fn refusal_number(e: Refusal) -> u32
-    ensures { λ r. ⌜ r ≡ refusalNumber e ⌝ }
-{
-    match e {
-        Refusal::Capacity => 1,
-        Refusal::Malformed => 2,
-        Refusal::Full => 3,
-        Refusal::UnknownNumber => 4,
-        Refusal::KindNotPermitted => 5,
-        Refusal::BadCursor => 6,
-        Refusal::NoBudget => 7,
-        Refusal::BadQuery => 8,
-        Refusal::Damaged => 9,
-        Refusal::BadLine => 10,
-    }
-}
+ghost use Rattle.capi.specs.Words.{answer, kindAnswer, checkAnswer, lookupAnswer, nameAnswer, statementAnswer, retractAnswer, scannedAnswer, assertAnswer, enterAnswer, chainOf, chainWord, sizeOf, lineAnswer, readAnswer};
 
 // A result and two words.
 fn words(result: u32, first: u32, second: u32) -> Answer
@@ -277,5 +260,24 @@ pub fn asserted_counters(a: Asserted) -> Counters
         Asserted::Already(_, c) => c,
         Asserted::Revived(_, c) => c,
         Asserted::Refused(_) => Counters::fresh(),
+    }
+}
+
+pub fn enter_answer(a: Interned) -> Answer
+    ensures { λ r. ⌜ r ≡ enterAnswer a ⌝ }
+{
+    match a {
+        Interned::Number(n, _) => words(0, n.0, 0),
+        Interned::Refused(e) => words(refusal_number(e), 0, 0),
+    }
+}
+
+// The counters from now on.
+pub fn interned_counters(a: Interned) -> Counters
+    ensures { λ r. ⌜ r ≡ (internedValues a) .counters ⌝ }
+{
+    match a {
+        Interned::Number(_, c) => c,
+        Interned::Refused(_) => Counters::fresh(),
     }
 }

@@ -3,10 +3,8 @@
 // A line's bytes gather in a lent buffer of `LINE_BUFFER` bytes until its LF or the end of the input. Every line is numbered. A statement
 // line is answered by one line of output, `NUMBER new|already N` or `NUMBER refused N`; a blank or comment line by none. Names are entered
 // once the whole line is read, subject first; those entered before a refusal remain.
-ghost use mathlib.Core.Path.{_≡_};
 ghost use Prim.Native.Nat.{ℕ, _≤_};
 ghost use lib.ListN.{length};
-ghost use Rattle.store.specs.Values.{refusalNumber};
 use ntriples::Line;
 use ntriples::Span;
 use store::Asserted;
@@ -15,6 +13,7 @@ use store::Interned;
 use store::Refusal;
 use store::ResourceId;
 use store::Triple;
+use store::refusal_number;
 
 pub mod file;
 pub mod output;
@@ -64,24 +63,6 @@ pub fn start() -> Load {
         lines: 0,
         used: 0,
         over: false,
-    }
-}
-
-// The paper's number of a refusal.
-pub fn refusal_number(r: Refusal) -> u32
-    ensures { λ n. ⌜ n ≡ refusalNumber r ⌝ }
-{
-    match r {
-        Refusal::Capacity => 1,
-        Refusal::Malformed => 2,
-        Refusal::Full => 3,
-        Refusal::UnknownNumber => 4,
-        Refusal::KindNotPermitted => 5,
-        Refusal::BadCursor => 6,
-        Refusal::NoBudget => 7,
-        Refusal::BadQuery => 8,
-        Refusal::Damaged => 9,
-        Refusal::BadLine => 10,
     }
 }
 

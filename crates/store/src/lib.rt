@@ -4,6 +4,7 @@
 // `specs/`, which `specs/Values.antt` ties to the paper's numbers: the refusal's number, and zeros beside it.
 ghost use mathlib.Core.Path.{_≡_};
 ghost use Rattle.store.specs.Tables.{freshCounters};
+ghost use Rattle.store.specs.Values.{refusalNumber};
 
 // A resource's number, from 1; 0 is null, or "any" in a pattern.
 pub struct ResourceId(pub u32);
@@ -88,6 +89,24 @@ pub enum Refusal {
     Damaged,
     // 10: bytes that are no line.
     BadLine,
+}
+
+// The paper's number of a refusal.
+pub fn refusal_number(e: Refusal) -> u32
+    ensures { λ r. ⌜ r ≡ refusalNumber e ⌝ }
+{
+    match e {
+        Refusal::Capacity => 1,
+        Refusal::Malformed => 2,
+        Refusal::Full => 3,
+        Refusal::UnknownNumber => 4,
+        Refusal::KindNotPermitted => 5,
+        Refusal::BadCursor => 6,
+        Refusal::NoBudget => 7,
+        Refusal::BadQuery => 8,
+        Refusal::Damaged => 9,
+        Refusal::BadLine => 10,
+    }
 }
 
 // Read a statement: the triple, and 1 if it is retracted, else 0.

@@ -1,4 +1,5 @@
 -- `capi::lt_scan_next` meets its contract. Assumes nothing.
+use Rattle.capi.specs.Words.{counterWords, cursorWords}
 use Rattle.capi.proofs.Writes.{next-refused, next-answered}
 use Rattle.store.specs.Tables.{tables}
 use Rattle.capi.specs.Calls.{nextCall}
@@ -19,15 +20,15 @@ use Rattle.capi.proofs.replies.scanned_cursor.Reads as scanned-cursor-r
 
 returns : tie.Need-returns
 unfolding nextCall
-returns c = simp (lt-ltb (length (c .before .before .before .before .before .before .before .before .args .counters .now)) 3 (c .if1 .taken))
+returns c = simp (lt-ltb (length (c .before .before .before .before .before .before .before .before .args .counters .now)) counterWords (c .if1 .taken))
 
 returns-2 : tie.Need-returns-2
 unfolding nextCall
-returns-2 c = simp (le-ltb (length (c .before .before .before .before .before .before .before .before .before .args .counters .now)) 3 (c .before .if1 .left), lt-ltb (length (c .before .before .before .before .before .before .before .before .before .args .cursor .now)) 5 (c .if2 .taken))
+returns-2 c = simp (le-ltb (length (c .before .before .before .before .before .before .before .before .before .args .counters .now)) counterWords (c .before .if1 .left), lt-ltb (length (c .before .before .before .before .before .before .before .before .before .args .cursor .now)) cursorWords (c .if2 .taken))
 
 returns-3 : tie.Need-returns-3
 unfolding nextCall
-returns-3 c = simp (le-ltb (length (c .before .before .before .before .before .before .before .before .before .before .args .counters .now)) 3 (c .before .before .if1 .left), le-ltb (length (c .before .before .before .before .before .before .before .before .before .before .args .cursor .now)) 5 (c .before .if2 .left), lt-ltb (length (c .before .before .before .before .before .before .before .before .before .before .args .reply .now)) 3 (c .if3 .taken))
+returns-3 c = simp (le-ltb (length (c .before .before .before .before .before .before .before .before .before .before .args .counters .now)) counterWords (c .before .before .if1 .left), le-ltb (length (c .before .before .before .before .before .before .before .before .before .before .args .cursor .now)) cursorWords (c .before .if2 .left), lt-ltb (length (c .before .before .before .before .before .before .before .before .before .before .args .reply .now)) 3 (c .if3 .taken))
 
 counters-of-requires : tie.Need-counters-of-requires
 counters-of-requires c κs = search needs

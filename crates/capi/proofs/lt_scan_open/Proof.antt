@@ -1,7 +1,7 @@
 -- `capi::lt_scan_open` meets its contract. Assumes nothing.
 use Rattle.capi.proofs.Writes.{open-refused, open-opened}
 use Rattle.store.specs.Tables.{tables}
-use Rattle.capi.specs.Words.{lent}
+use Rattle.capi.specs.Words.{counterWords, cursorWords, lent}
 use Rattle.capi.specs.Calls.{openCall}
 use lib.ListN.{length, set, length-set}
 use borrow.Author.Tests.{lt-ltb, le-ltb, eq-eqb, ne-eqb}
@@ -13,17 +13,17 @@ use Rattle.capi.proofs.lt_scan_open.Reads as reads
 use Rattle.capi.proofs.lt_scan_open.Lts as lts
 use Rattle.capi.proofs.counters_of.Reads as counters-of-reads
 use Rattle.capi.proofs.put_cursor.Reads as put-cursor-reads
-use Rattle.capi.proofs.replies.refusal_number.Reads as refusal-number-reads
+use Rattle.store.proofs.refusal_number.Reads as refusal-number-reads
 use Rattle.capi.proofs.triple_of.Reads as triple-of-reads
 use Rattle.statement.proofs.scan_open.Reads as scan-open-reads
 
 returns : tie.Need-returns
 unfolding openCall lent
-returns c = simp (lt-ltb (length (c .before .before .before .before .before .before .before .args .counters .now)) 3 (c .if1 .taken))
+returns c = simp (lt-ltb (length (c .before .before .before .before .before .before .before .args .counters .now)) counterWords (c .if1 .taken))
 
 returns-2 : tie.Need-returns-2
 unfolding openCall lent
-returns-2 c = simp (le-ltb (length (c .before .before .before .before .before .before .before .before .args .counters .now)) 3 (c .before .if1 .left), lt-ltb (length (c .before .before .before .before .before .before .before .before .args .cursor .now)) 5 (c .if2 .taken))
+returns-2 c = simp (le-ltb (length (c .before .before .before .before .before .before .before .before .args .counters .now)) counterWords (c .before .if1 .left), lt-ltb (length (c .before .before .before .before .before .before .before .before .args .cursor .now)) cursorWords (c .if2 .taken))
 
 counters-of-requires : tie.Need-counters-of-requires
 counters-of-requires c κs = search needs

@@ -1,5 +1,5 @@
 -- `capi::lt_statement` meets its contract. Assumes nothing.
-use Rattle.capi.specs.Words.{lent}
+use Rattle.capi.specs.Words.{counterWords, lent}
 use Rattle.capi.specs.Calls.{statementCall}
 use native.Mathlib.Omega.{arith}
 use lib.ListN.{length, set, length-set}
@@ -16,11 +16,11 @@ use Rattle.table.proofs.read_statement.Reads as read-statement-reads
 
 returns : tie.Need-returns
 unfolding statementCall lent
-returns c = simp (lt-ltb (length (c .before .before .before .before .before .before .before .args .counters .now)) 3 (c .if1 .taken))
+returns c = simp (lt-ltb (length (c .before .before .before .before .before .before .before .args .counters .now)) counterWords (c .if1 .taken))
 
 returns-2 : tie.Need-returns-2
 unfolding statementCall lent
-returns-2 c = simp (le-ltb (length (c .before .before .before .before .before .before .before .before .args .counters .now)) 3 (c .before .if1 .left), lt-ltb (length (c .before .before .before .before .before .before .before .before .args .reply .now)) 4 (c .if2 .taken))
+returns-2 c = simp (le-ltb (length (c .before .before .before .before .before .before .before .before .args .counters .now)) counterWords (c .before .if1 .left), lt-ltb (length (c .before .before .before .before .before .before .before .before .args .reply .now)) 4 (c .if2 .taken))
 
 counters-of-requires : tie.Need-counters-of-requires
 counters-of-requires c κs = search needs
@@ -48,7 +48,7 @@ same-length c = search needs
 
 returns-3 : tie.Need-returns-3
 unfolding statementCall lent
-returns-3 c = simp (c .statement-answer .ensures, c .before .read-statement .ensures, c .before .before .counters-of .ensures, le-ltb (length (c .before .before .before .before .before .before .before .before .before .before .before .args .counters .now)) 3 (c .before .before .before .before .if1 .left), le-ltb (length (c .before .before .before .before .before .before .before .before .before .before .before .args .reply .now)) 4 (c .before .before .before .if2 .left))
+returns-3 c = simp (c .statement-answer .ensures, c .before .read-statement .ensures, c .before .before .counters-of .ensures, le-ltb (length (c .before .before .before .before .before .before .before .before .before .before .before .args .counters .now)) counterWords (c .before .before .before .before .if1 .left), le-ltb (length (c .before .before .before .before .before .before .before .before .before .before .before .args .reply .now)) 4 (c .before .before .before .if2 .left))
 
 pub lt-statement-spec : {M : Type 1} → statement M
 lt-statement-spec =
