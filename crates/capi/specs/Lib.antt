@@ -1,2 +1,4 @@
 pub mod Words
 pub mod Calls
+pub mod QueryWords
+pub mod QueryCalls
