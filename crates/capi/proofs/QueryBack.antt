@@ -1,7 +1,8 @@
--- A query cursor that is written is read back as it was, its words tell one, and the words past it stay. Assumes nothing.
+-- A query cursor that is written is read back as it was, its words tell one, and the words past it stay; every cursor that is answered
+-- fills the slots. Assumes nothing.
 use mathlib.Core.Path.{_≡_, refl, sym, ap, ap₂, _∙_}
 use mathlib.Core.Bool.{true}
-use mathlib.Core.List.{List, _∷_, _++_}
+use mathlib.Core.List.{List, [], _∷_, _++_}
 use Prim.Native.Nat.{ℕ, zero, suc, _+_, _*_, _≤_, _<_}
 use native.Mathlib.Omega.{arith}
 use lib.ListN.{length, getD, take, drop}
@@ -18,12 +19,15 @@ use Rattle.graph.specs.declared.Progress.{Progress}
 use Rattle.graph.specs.declared.Progress.the-variants.{Start, Within, End}
 use Rattle.graph.specs.declared.QueryCursor.{QueryCursor}
 use Rattle.graph.specs.Query.{maxPatterns, variables, Bindings, level, noLevel}
+use Rattle.graph.specs.Query.{Place, start, inside, finish, cursorAt, Answer, refused, found, ended, spent, packed, answerOf, placeOf}
+use Rattle.graph.specs.Query.{openQueryOf, nextQueryOf}
 use Rattle.graph.specs.Values.{queryValues}
+use Rattle.graph.proofs.Laws.{written-length}
 use Rattle.integrity.proofs.Ranges.{all-of}
 use Rattle.capi.specs.Words.{chainOf, chainWord}
 use Rattle.capi.specs.QueryWords.{queryCursorWords, queryReplyWords, progressOf, progressWord, levelsFrom, queryCursorOf, chainSpelt}
-use Rattle.capi.specs.QueryWords.{slotsOf, spelt, levelWords, numbersFrom, withQueryCursor}
-use Rattle.capi.specs.QueryCalls.{QueryCursorsKept, QueryRepliesKept}
+use Rattle.capi.specs.QueryWords.{slotsOf, spelt, misspelt, nextQueryFrom, levelWords, numbersFrom, withQueryCursor}
+use Rattle.capi.specs.QueryCalls.{QueryCursorsKept, QueryCursorsFull, QueryRepliesKept}
 
 -- ---- a word and what it tells
 
@@ -129,6 +133,26 @@ query-cursors-kept w q h k =
       spelt-again = ap spelt e ∙ spelt-as (q .progress) (q .depth) (xs ++ rest) (λ i. chains-low (q .levels) rest 0 maxPatterns i);
       rest-kept = kept vs w queryCursorWords size h;
     }
+
+place-full : (q : Place) → length ((cursorAt q) .levels) ≡ maxPatterns
+unfolding cursorAt
+place-full start = written-length []
+place-full (inside l up) = written-length (l ∷ up)
+place-full finish = written-length []
+
+answer-full : (a : Answer) → length ((packed a) .cursor .levels) ≡ maxPatterns
+unfolding packed
+answer-full (refused e) = place-full start
+answer-full (found b v q) = place-full q
+answer-full (ended v) = place-full finish
+answer-full (spent v q) = place-full q
+
+pub query-cursors-full : QueryCursorsFull
+unfolding openQueryOf nextQueryFrom nextQueryOf
+query-cursors-full c m ws w b =
+    let told = answer-full (answerOf c m ws (placeOf (queryCursorOf w)) b) in
+    let none = answer-full (refused (misspelt ((openQueryOf c m ws) .opening))) in
+    (written-length [], decide (spelt w) (λ e. rw e told) (λ e. rw e none))
 
 pub query-replies-kept : QueryRepliesKept
 query-replies-kept w a h =

@@ -7,6 +7,7 @@ use mathlib.Core.List.{List}
 use Prim.Native.Nat.{ℕ, _≤_}
 use lib.ListN.{length, drop}
 use lib.Dec.{eqb, ltb}
+use Rattle.store.specs.declared.Counters.{Counters}
 use Rattle.store.specs.Tables.{Tables}
 use Rattle.graph.specs.declared.QueryCursor.{QueryCursor}
 use Rattle.graph.specs.declared.QueryOpened.{QueryOpened}
@@ -50,6 +51,12 @@ pub record QueryCursorKept (w : List ℕ) (q : QueryCursor) : Type 0 where
 
 abbrev pub QueryCursorsKept : Type 0
 QueryCursorsKept = (w : List ℕ) (q : QueryCursor) → queryCursorWords ≤ length w → length (q .levels) ≡ maxPatterns → QueryCursorKept w q
+
+-- every cursor that is answered has a level for each slot, so the above holds of it
+abbrev pub QueryCursorsFull : Type 0
+QueryCursorsFull = (c : Counters) (m : Tables) (ws w : List ℕ) (b : ℕ)
+    → (length ((openQueryOf c m ws) .cursor .levels) ≡ maxPatterns)
+    × (length ((nextQueryFrom c m ws w b) .cursor .levels) ≡ maxPatterns)
 
 abbrev pub QueryRepliesKept : Type 0
 QueryRepliesKept = (w : List ℕ) (a : QueryAnswer) → queryReplyWords ≤ length w

@@ -69,7 +69,7 @@ fn progress_word(progress: Progress) -> u32
     }
 }
 
-// The levels in a cursor's slots.
+// The levels in a cursor's slots. A chain's word above 3 reads as none: it stands in a slot that is ignored, or `spelt` has refused it.
 fn levels_of(words: &[u32]) -> [Level; MAX_PATTERNS]
     requires { ⌜ queryCursorWords ≤ length (now words) ⌝ }
     ensures { λ r. ⌜ r ≡ levelsFrom (now (words .entry)) 2 maxPatterns ⌝ }
