@@ -3,3 +3,7 @@ pub mod Writes
 pub mod ReadBack
 pub mod Unanswered
 pub mod Runs
+pub mod QueryRuns
+pub mod QueryLaws
+pub mod QueryBack
+pub mod QueryWrites

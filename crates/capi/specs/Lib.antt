@@ -1,3 +1,5 @@
 pub mod Words
 pub mod Calls
 pub mod Claims
+pub mod QueryWords
+pub mod QueryCalls

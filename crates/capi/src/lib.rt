@@ -36,6 +36,7 @@ ghost use Rattle.store.specs.Triple.{triple};
 ghost use Rattle.capi.specs.Words.{counterWords, cursorWords, countersOf, withCounters, cursorOf, withCursor, nextFrom, done, wrote};
 ghost use Rattle.capi.specs.Calls.{kindCall, CheckCall, FindCall, nameCall, statementCall, lineCall, retractCall, openCall, nextCall, assertCall, EnterCall};
 
+pub mod queries;
 mod replies;
 
 // The words of the lent counters.
