@@ -26,7 +26,6 @@ use query::walk::refused;
 use store::Chain;
 use store::Counters;
 use store::Refusal;
-use store::StatementId;
 use store::refusal_number;
 ghost use mathlib.Core.Path.{_≡_};
 ghost use Prim.Native.Nat.{_≤_};
