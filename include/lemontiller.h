@@ -1,18 +1,21 @@
-/* Lemontiller: a store of statements inside a test set, for C.
+/* Lemontiller: a store of statements inside a test set, for C and C++.
  *
  * Every slice is a pointer and a length in elements. A pointer may not be null, also where the length is 0; slices of one call must
  * not overlap where one of them is written. All memory is the caller's: it is lent for the duration of one call, nothing of it is kept
  * or freed, and no memory is asked for. Two calls on the same tables must not run at once.
  *
  * Every store function begins with the same five slices:
- *   counters    3 words: resources R, statements T, text bytes B; all 0 for a fresh store, whose tables may hold anything
- *   resources   8 words a resource: first statement as subject, predicate, object; count as each; text offset; kind
- *   statements  7 words a statement: subject, predicate, object; next statement for each; flag, 1 if retracted
+ *   counters    LT_COUNTER_WORDS words: resources R, statements T, text bytes B; all 0 for a fresh store, whose tables may hold anything
+ *   resources   LT_RESOURCE_WORDS words a resource: first statement as subject, predicate, object; count as each; text offset; kind
+ *   statements  LT_STATEMENT_WORDS words a statement: subject, predicate, object; next statement for each; flag, 1 if retracted
  *   index       1 word a resource, in rising byte order of name
  *   text        bytes: the names, each closed by a zero byte
+ * Resources and statements are numbered from 1; 0 is none. How much a store holds follows from the lengths lent: whole records (and for
+ * resources index words too), up to the limits below.
  *
  * What a function gives back is an `lt_result`. Beside a refusal the reply's words are 0, and counters, cursor and tables stay as they
- * were. With LT_TOO_SHORT nothing at all is written. Words past those that a reply names keep their values.
+ * were. With LT_TOO_SHORT nothing at all is written. Words past those that a reply or a cursor names keep their values.
+ * The refusals of a function are tested in the order in which its sentence names them.
  */
 #ifndef LEMONTILLER_H
 #define LEMONTILLER_H
@@ -27,7 +30,7 @@ extern "C" {
 enum lt_result {
     LT_ANSWERED = 0,
     LT_CAPACITY = 1,           /* a counter exceeds its capacity */
-    LT_MALFORMED = 2,          /* a name that is not well formed, or over 255 bytes */
+    LT_MALFORMED = 2,          /* a name that is not well formed, or over LT_MAX_NAME bytes */
     LT_FULL = 3,               /* no room for one more */
     LT_UNKNOWN_NUMBER = 4,     /* a number that names nothing */
     LT_KIND_NOT_PERMITTED = 5, /* a literal as subject, or a predicate that is no IRI */
@@ -39,50 +42,121 @@ enum lt_result {
     LT_TOO_SHORT = 100         /* a lent counters, cursor or reply slice is too short */
 };
 
-/* Words of the lent counters, and of a scan's cursor: subject, predicate, object (0 for any), chain (0 none, 1 subject, 2 predicate,
- * 3 object), next statement or 0. */
-enum { LT_COUNTER_WORDS = 3, LT_CURSOR_WORDS = 5 };
+/* The limits. Tables may be longer, the rest of them is then not used. */
+enum {
+    LT_MAX_RESOURCES = 65535,
+    LT_MAX_STATEMENTS = 65535,
+    LT_MAX_TEXT = 1048576, /* bytes of all names, a closing zero for each included */
+    LT_MAX_NAME = 255,     /* bytes of one name, its closing zero not included */
+    LT_MAX_PATTERNS = 8,   /* of a query, and so the levels of its cursor */
+    LT_VARIABLES = 16      /* of a query: 0 to 15 */
+};
+
+/* Words of the lent counters and of one record. */
+enum { LT_COUNTER_WORDS = 3, LT_RESOURCE_WORDS = 8, LT_STATEMENT_WORDS = 7 };
+
+/* Words of a scan's cursor: subject, predicate, object (0 for any), chain (an `lt_chain`), next statement or 0; and of a scan's reply. */
+enum { LT_CURSOR_WORDS = 5, LT_SCAN_REPLY_WORDS = 3 };
+
+/* Words of a query's cursor: an `lt_place`, levels entered, then chain and record for each level, zeros past those entered; and of a
+ * query's reply: an `lt_step`, visits, the resource of each variable, 0 for one that the query does not use. */
+enum { LT_QUERY_CURSOR_WORDS = 2 + 2 * LT_MAX_PATTERNS, LT_QUERY_REPLY_WORDS = 2 + LT_VARIABLES };
+
+/* Words, of 64 bits, of a line's reply. */
+enum { LT_LINE_WORDS = 8 };
+
+/* What the words of replies, cursors and records say. */
+enum lt_kind { LT_IRI = 1, LT_BLANK = 2, LT_LITERAL = 3 };
+enum lt_chain { LT_BY_NONE = 0, LT_BY_SUBJECT = 1, LT_BY_PREDICATE = 2, LT_BY_OBJECT = 3 };
+enum lt_place { LT_START = 0, LT_WITHIN = 1, LT_END = 2 };
+enum lt_line { LT_LINE_END = 0, LT_LINE_NOTHING = 1, LT_LINE_TRIPLE = 2 };
+enum lt_asserted { LT_NEW = 1, LT_ALREADY = 2, LT_REVIVED = 3 };
+enum lt_step { LT_FOUND = 1, LT_ENDED = 2, LT_SPENT = 3 };
+
+/* A query is three words a pattern: subject, predicate, object, each a resource's number or LT_VARIABLE(v), v below LT_VARIABLES. */
+#define LT_FIRST_VARIABLE UINT32_C(0x80000000)
+#define LT_VARIABLE(v) (LT_FIRST_VARIABLE + (uint32_t)(v))
+
+/* A text for what a function gave back. It is constant and need not be freed. */
+static inline const char *lt_strerror(uint32_t result)
+{
+    switch (result) {
+    case LT_ANSWERED: return "answered";
+    case LT_CAPACITY: return "a counter exceeds its capacity";
+    case LT_MALFORMED: return "the name is not well formed or too long";
+    case LT_FULL: return "no room for one more";
+    case LT_UNKNOWN_NUMBER: return "the number names nothing";
+    case LT_KIND_NOT_PERMITTED: return "a literal as subject, or a predicate that is no IRI";
+    case LT_BAD_CURSOR: return "the cursor fits neither the store nor the pattern";
+    case LT_NO_BUDGET: return "a budget of 0";
+    case LT_BAD_QUERY: return "the words are no query";
+    case LT_DAMAGED: return "the tables are damaged";
+    case LT_BAD_LINE: return "the line cannot be read";
+    case LT_TOO_SHORT: return "a lent slice is too short";
+    default: return "not a result of the store";
+    }
+}
 
 #define LT_STORE                                                                                     \
     const uint32_t *counters, size_t counters_len, const uint32_t *resources, size_t resources_len, \
         const uint32_t *statements, size_t statements_len, const uint32_t *index, size_t index_len, \
         const uint8_t *text, size_t text_len
 
-/* The kind of a name. reply 1: 1 an IRI, 2 a blank node, 3 a literal. */
+/* The kind of a name, or LT_MALFORMED. reply 1: an `lt_kind`. */
 uint32_t lt_name_kind(const uint8_t *name, size_t name_len, uint32_t *reply, size_t reply_len);
 
-/* Reads the line at a position of a text. reply 8: what (0 end, 1 nothing, 2 triple), position after, start and length of subject,
- * predicate, object. With LT_BAD_LINE: 0, position after, the offset in the line, zeros. */
+/* Reads the line at a position of a text. reply LT_LINE_WORDS: an `lt_line`, position after, start and length in the text of subject,
+ * predicate, object. With LT_BAD_LINE: 0, position after, the offset in the line of the first byte that fits no line, zeros. */
 uint32_t lt_read_line(const uint8_t *text, size_t text_len, size_t at, uint64_t *reply, size_t reply_len);
 
-/* Whether the store is sound. reply 1: 1 or 0. It refuses nothing. */
+/* Whether the store is sound: every word of it is as entering, asserting and retracting leave it. reply 1: 1 or 0. It refuses nothing. */
 uint32_t lt_check(LT_STORE, uint32_t *reply, size_t reply_len);
 
-/* Finds a name. reply 1: its number, or 0. */
+/* Finds a name. LT_CAPACITY, LT_MALFORMED, LT_DAMAGED. reply 1: its number, or 0. */
 uint32_t lt_find(LT_STORE, const uint8_t *name, size_t name_len, uint32_t *reply, size_t reply_len);
 
-/* The name of a resource's number. reply 2: its start and length in the text, which hold as long as the caller keeps the text. */
+/* Enters a name: finds it, or gives it the next number. LT_CAPACITY, LT_MALFORMED, LT_DAMAGED, LT_FULL. reply 1: its number. Writes
+ * counters, resources, index, text. */
+uint32_t lt_enter(uint32_t *counters, size_t counters_len, uint32_t *resources, size_t resources_len, const uint32_t *statements,
+                  size_t statements_len, uint32_t *index, size_t index_len, uint8_t *text, size_t text_len, const uint8_t *name,
+                  size_t name_len, uint32_t *reply, size_t reply_len);
+
+/* The name of a resource's number. LT_CAPACITY, LT_UNKNOWN_NUMBER, LT_DAMAGED. reply 2: its start and length in the text, which hold as
+ * long as the caller keeps the text. */
 uint32_t lt_name(LT_STORE, uint32_t number, uint32_t *reply, size_t reply_len);
 
-/* Reads a statement. reply 4: subject, predicate, object, 1 if it is retracted. */
+/* Reads a statement. LT_CAPACITY, LT_UNKNOWN_NUMBER, LT_DAMAGED. reply 4: subject, predicate, object, 1 if it is retracted. */
 uint32_t lt_statement(LT_STORE, uint32_t number, uint32_t *reply, size_t reply_len);
 
-/* Asserts a triple. reply 2: status (1 new, 2 already, 3 revived), the statement's number. Writes counters, resources, statements. */
+/* Asserts a triple. LT_CAPACITY, LT_UNKNOWN_NUMBER, LT_DAMAGED for a kind, LT_KIND_NOT_PERMITTED, LT_DAMAGED, LT_FULL. reply 2: an
+ * `lt_asserted`, the statement's number. Writes counters, resources, statements. */
 uint32_t lt_assert(uint32_t *counters, size_t counters_len, uint32_t *resources, size_t resources_len, uint32_t *statements,
                    size_t statements_len, const uint32_t *index, size_t index_len, const uint8_t *text, size_t text_len,
                    uint32_t subject, uint32_t predicate, uint32_t object, uint32_t *reply, size_t reply_len);
 
-/* Retracts a triple. reply 1: the number of the statement that was live until now, or 0. Writes statements. */
+/* Retracts a triple. LT_CAPACITY, LT_UNKNOWN_NUMBER, LT_DAMAGED. reply 1: the number of the statement that was live until now, or 0.
+ * Writes statements. */
 uint32_t lt_retract(const uint32_t *counters, size_t counters_len, const uint32_t *resources, size_t resources_len,
                     uint32_t *statements, size_t statements_len, const uint32_t *index, size_t index_len, const uint8_t *text,
                     size_t text_len, uint32_t subject, uint32_t predicate, uint32_t object, uint32_t *reply, size_t reply_len);
 
-/* Opens a scan of the statements that match a pattern, 0 for any. Writes the cursor. */
+/* Opens a scan of the statements that match a pattern, 0 for any. LT_CAPACITY, LT_UNKNOWN_NUMBER, LT_DAMAGED. Writes the cursor,
+ * LT_CURSOR_WORDS. */
 uint32_t lt_scan_open(LT_STORE, uint32_t subject, uint32_t predicate, uint32_t object, uint32_t *cursor, size_t cursor_len);
 
-/* Next of a scan, visiting at most `budget` records. reply 3: status (1 found, 2 ended, 3 spent), the statement or 0, visits made.
- * Writes the cursor. */
+/* Next of a scan, visiting at most `budget` records, the newest statement first. LT_CAPACITY, LT_BAD_CURSOR, LT_NO_BUDGET, LT_DAMAGED.
+ * reply LT_SCAN_REPLY_WORDS: an `lt_step`, the statement or 0, visits made. Writes the cursor. */
 uint32_t lt_scan_next(LT_STORE, uint32_t *cursor, size_t cursor_len, uint32_t budget, uint32_t *reply, size_t reply_len);
+
+/* Opens a query of up to LT_MAX_PATTERNS patterns. LT_CAPACITY, LT_BAD_QUERY. Writes the cursor, LT_QUERY_CURSOR_WORDS: the start. It
+ * does not hold the words: every next call is given them again. */
+uint32_t lt_query_open(LT_STORE, const uint32_t *words, size_t words_len, uint32_t *cursor, size_t cursor_len);
+
+/* Next of a query: the resources for which every pattern is a live statement, visiting at most `budget` records; the newest statement
+ * of the first pattern comes first. LT_CAPACITY, LT_BAD_QUERY, LT_BAD_CURSOR, LT_NO_BUDGET, LT_DAMAGED. reply LT_QUERY_REPLY_WORDS: an
+ * `lt_step`, visits made, the resource of each variable. Writes the cursor. */
+uint32_t lt_query_next(LT_STORE, const uint32_t *words, size_t words_len, uint32_t *cursor, size_t cursor_len, uint32_t budget,
+                       uint32_t *reply, size_t reply_len);
 
 #undef LT_STORE
 

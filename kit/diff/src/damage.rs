@@ -1,0 +1,145 @@
+//! Damages to a store: words that are wrong by themselves, and statements and names that are wrong although every link to them is right.
+
+use crate::plain::Lent;
+use crate::random::Random;
+
+/// Damages a store in one to three places, mostly in the words of its records.
+pub fn damage(random: &mut Random, lent: &mut Lent) {
+    for _ in 0..random.from_to(1, 3) {
+        match random.below(20) {
+            0..=10 => word(random, lent),
+            11 => index(random, lent),
+            12 => text(random, lent),
+            13 | 14 => counter(random, lent),
+            15 => length(random, lent),
+            16 | 17 => statement(random, lent),
+            _ => name(random, lent),
+        }
+    }
+}
+
+/// The words of the records in use.
+fn used(words: &mut [u32], counter: u32, record: usize) -> &mut [u32] {
+    let end = words.len().min(record * counter as usize);
+    &mut words[..end]
+}
+
+fn word(random: &mut Random, lent: &mut Lent) {
+    let counters = lent.counters[..3].to_vec();
+    let words = match random.below(2) {
+        0 => used(&mut lent.resources, counters[0], 8),
+        _ => used(&mut lent.statements, counters[1], 7),
+    };
+    random.damage(words, &counters, 1);
+}
+
+fn index(random: &mut Random, lent: &mut Lent) {
+    let counters = lent.counters[..3].to_vec();
+    random.damage(used(&mut lent.index, counters[0], 1), &counters, 1);
+}
+
+fn text(random: &mut Random, lent: &mut Lent) {
+    let end = lent.text.len().min(lent.counters[2] as usize);
+    if end > 0 {
+        lent.text[random.below(end)] = random.of(&[0, 0, b'a', b'>', b'<', b'"', 200]);
+    }
+}
+
+fn counter(random: &mut Random, lent: &mut Lent) {
+    let counters = lent.counters[..3].to_vec();
+    let which = random.below(3);
+    match random.below(3) {
+        0 => random.damage(&mut lent.counters[..3], &counters, 1),
+        _ => lent.counters[which] = lent.counters[which].wrapping_add(random.of(&[1, 1, u32::MAX])),
+    }
+}
+
+/// A table that is one word or byte too short for what it holds.
+fn length(random: &mut Random, lent: &mut Lent) {
+    let [r, t, b] = [0, 1, 2].map(|k| lent.counters[k] as usize);
+    match random.below(4) {
+        0 => lent.resources.truncate((8 * r).saturating_sub(1)),
+        1 => lent.statements.truncate((7 * t).saturating_sub(1)),
+        2 => lent.index.truncate(r.saturating_sub(1)),
+        _ => lent.text.truncate(b.saturating_sub(1)),
+    }
+}
+
+/// Another triple in a statement's place, perhaps one that is there already or of kinds that are not permitted, with every chain right.
+fn statement(random: &mut Random, lent: &mut Lent) {
+    let (r, t) = (lent.counters[0] as usize, lent.counters[1] as usize);
+    if t == 0 || !lent.within_capacity() {
+        return;
+    }
+    let triple = random.triple(lent);
+    let at = 7 * random.below(t);
+    lent.statements[at..at + 3].copy_from_slice(&triple);
+    for k in 0..r {
+        lent.resources[8 * k..8 * k + 6].fill(0);
+    }
+    for n in 1..=t {
+        for place in 0..3 {
+            let member = lent.statements[7 * (n - 1) + place] as usize;
+            if 1 <= member && member <= r {
+                let record = 8 * (member - 1);
+                lent.statements[7 * (n - 1) + 3 + place] = lent.resources[record + place];
+                lent.resources[record + place] = n as u32;
+                lent.resources[record + 3 + place] += 1;
+            }
+        }
+    }
+}
+
+/// Other names: one changed, doubled or of no form, with every offset, kind and place in the index as its bytes have it.
+fn name(random: &mut Random, lent: &mut Lent) {
+    let (r, b) = (lent.counters[0] as usize, lent.counters[2] as usize);
+    if r == 0 || !lent.within_capacity() {
+        return;
+    }
+    let mut names: Vec<Vec<u8>> = lent.text[..b].split(|&byte| byte == 0).map(|name| name.to_vec()).collect();
+    names.resize(r, vec![]);
+    let which = random.below(r);
+    match random.below(3) {
+        0 => names[which] = names[random.below(r)].clone(),
+        1 => names[which] = random.name(),
+        _ => random.mutate(&mut names[which]),
+    }
+    let text: Vec<u8> = names.iter().flat_map(|name| name.iter().chain(&[0])).copied().collect();
+    if text.len() > lent.text.len() {
+        return;
+    }
+    lent.counters[2] = text.len() as u32;
+    lent.text[..text.len()].copy_from_slice(&text);
+    let mut offset = 0;
+    for (k, name) in names.iter().enumerate() {
+        let kind = match name.first() {
+            Some(b'<') => 1,
+            Some(b'_') => 2,
+            _ => 3,
+        };
+        lent.resources[8 * k + 6..8 * k + 8].copy_from_slice(&[offset, kind]);
+        offset += name.len() as u32 + 1;
+    }
+    let mut sorted: Vec<u32> = (1..=r as u32).collect();
+    sorted.sort_by_key(|&n| &names[n as usize - 1]);
+    lent.index[..r].copy_from_slice(&sorted);
+}
+
+/// Strikes out or damages records that a question's cursor has entered: flags, and the nexts on their chains.
+pub fn entered_records(random: &mut Random, lent: &mut Lent, cursor: &[u32]) {
+    for level in
+        cursor.get(2..).unwrap_or(&[]).chunks_exact(2).take(cursor.get(1).map_or(0, |levels| levels.saturating_sub(1)) as usize)
+    {
+        let (chain, n) = (level[0] as usize, level[1] as usize);
+        if n == 0 || n > lent.statements.len() / 7 || random.one_in(2) {
+            continue;
+        }
+        let record = &mut lent.statements[7 * (n - 1)..7 * n];
+        match random.below(4) {
+            0 | 1 => record[6] = 1,
+            2 => record[6] = 2,
+            _ if (1..=3).contains(&chain) => record[2 + chain] = n as u32 + random.below(2) as u32,
+            _ => {}
+        }
+    }
+}

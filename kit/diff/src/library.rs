@@ -1,0 +1,95 @@
+//! A call through the C interface. Everything lent stands between guard words, so that a write outside of it shows.
+
+use crate::plain::{Call, Lent};
+use lemontiller::ffi;
+
+const GUARDS: usize = 16;
+
+/// A slice between guards.
+struct Guarded<T> {
+    all: Vec<T>,
+    guard: T,
+}
+
+impl<T: Copy + PartialEq> Guarded<T> {
+    fn new(contents: &[T], guard: T) -> Guarded<T> {
+        let mut all = Vec::with_capacity(contents.len() + 2 * GUARDS);
+        all.resize(GUARDS, guard);
+        all.extend_from_slice(contents);
+        all.resize(contents.len() + 2 * GUARDS, guard);
+        Guarded { all, guard }
+    }
+
+    /// The slice as it is lent.
+    fn lend(&mut self) -> (*mut T, usize) {
+        let length = self.all.len() - 2 * GUARDS;
+        (self.all[GUARDS..].as_mut_ptr(), length)
+    }
+
+    /// What the slice holds, if its guards are as they were.
+    fn unguarded(self, name: &str) -> Result<Vec<T>, String> {
+        let end = self.all.len() - GUARDS;
+        if self.all[..GUARDS].iter().chain(&self.all[end..]).any(|&word| word != self.guard) {
+            return Err(format!("the library wrote outside of {name}"));
+        }
+        Ok(self.all[GUARDS..end].to_vec())
+    }
+}
+
+/// Makes the call on a copy of what is lent: its result, and what the copy holds afterwards.
+pub fn make(call: &Call, lent: &Lent) -> Result<(u32, Lent), String> {
+    const WORD: u32 = 0xA5A5_5A5A;
+    let mut counters = Guarded::new(&lent.counters, WORD);
+    let mut resources = Guarded::new(&lent.resources, WORD);
+    let mut statements = Guarded::new(&lent.statements, WORD);
+    let mut index = Guarded::new(&lent.index, WORD);
+    let mut text = Guarded::new(&lent.text, 0xA5);
+    let mut cursor = Guarded::new(&lent.cursor, WORD);
+    let mut reply = Guarded::new(&lent.reply, WORD);
+    let mut line_reply = Guarded::new(&lent.line_reply, 0xA5A5_5A5A_A5A5_5A5A);
+
+    let (c, c_len) = counters.lend();
+    let (r, r_len) = resources.lend();
+    let (s, s_len) = statements.lend();
+    let (i, i_len) = index.lend();
+    let (t, t_len) = text.lend();
+    let (at, at_len) = cursor.lend();
+    let (out, out_len) = reply.lend();
+    let (line, line_len) = line_reply.lend();
+    macro_rules! store {
+        ($function:ident $(, $arg:expr)*) => {
+            ffi::$function(c, c_len, r, r_len, s, s_len, i, i_len, t, t_len $(, $arg)*)
+        };
+    }
+    // SAFETY: every pointer and length is that of a live slice, and those that are written are apart from each other.
+    let result = unsafe {
+        match call {
+            Call::NameKind { name } => ffi::lt_name_kind(name.as_ptr(), name.len(), out, out_len),
+            Call::ReadLine { line_text, at } => ffi::lt_read_line(line_text.as_ptr(), line_text.len(), *at, line, line_len),
+            Call::Check => store!(lt_check, out, out_len),
+            Call::Find { name } => store!(lt_find, name.as_ptr(), name.len(), out, out_len),
+            Call::Enter { name } => store!(lt_enter, name.as_ptr(), name.len(), out, out_len),
+            Call::Name { number } => store!(lt_name, *number, out, out_len),
+            Call::Statement { number } => store!(lt_statement, *number, out, out_len),
+            Call::Assert { triple: [a, b, o] } => store!(lt_assert, *a, *b, *o, out, out_len),
+            Call::Retract { triple: [a, b, o] } => store!(lt_retract, *a, *b, *o, out, out_len),
+            Call::ScanOpen { pattern: [a, b, o] } => store!(lt_scan_open, *a, *b, *o, at, at_len),
+            Call::ScanNext { budget } => store!(lt_scan_next, at, at_len, *budget, out, out_len),
+            Call::QueryOpen { words } => store!(lt_query_open, words.as_ptr(), words.len(), at, at_len),
+            Call::QueryNext { words, budget } => {
+                store!(lt_query_next, words.as_ptr(), words.len(), at, at_len, *budget, out, out_len)
+            }
+        }
+    };
+    let after = Lent {
+        counters: counters.unguarded("counters")?,
+        resources: resources.unguarded("resources")?,
+        statements: statements.unguarded("statements")?,
+        index: index.unguarded("index")?,
+        text: text.unguarded("text")?,
+        cursor: cursor.unguarded("cursor")?,
+        reply: reply.unguarded("reply")?,
+        line_reply: line_reply.unguarded("reply")?,
+    };
+    Ok((result, after))
+}

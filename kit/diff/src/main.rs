@@ -1,0 +1,356 @@
+//! The differential test: random calls through the C interface against the plain implementation in `plain.rs` and `names.rs`, which is
+//! written from paper 01 alone.
+//!
+//!     diff SEED CALLS SECONDS
+//!
+//! makes calls from a seed until there are so many or so much time has passed. After each call the result, the reply, the cursor, the
+//! counters and every byte of the tables must be what the paper says; where find and enter meet a dictionary that is not sound, what
+//! the paper leaves open is bounded. The first difference is told with the seed, the call's number and both answers, and ends the run
+//! with status 1. At the end stands how many calls of each kind had each result; a run of 300,000 calls or more must have met them all.
+
+mod damage;
+#[cfg(test)]
+mod examples;
+mod library;
+mod names;
+mod plain;
+mod random;
+mod tally;
+
+use damage::damage;
+use plain::{Call, Expected, Lent};
+use random::Random;
+use std::process::ExitCode;
+use std::time::{Duration, Instant};
+use tally::Tally;
+
+/// Calls after which every result must have been met.
+const ENOUGH: u64 = 300_000;
+
+struct Run {
+    random: Random,
+    made: u64,
+    tally: Tally,
+}
+
+/// What is told of a difference.
+type Difference = String;
+
+/// What a store is at: its first names and statements, calls of all kinds, or such calls on a damaged copy.
+#[derive(Clone, Copy, PartialEq)]
+enum Phase {
+    Building,
+    Sound,
+    Damaged,
+}
+
+/// Open listings and questions: the words of a question, and the cursor.
+#[derive(Default)]
+struct Open {
+    scans: Vec<Vec<u32>>,
+    queries: Vec<(Vec<u32>, Vec<u32>)>,
+}
+
+impl Run {
+    /// Makes one call both ways and compares.
+    fn compare(&mut self, call: &Call, lent: &mut Lent) -> Result<(), Difference> {
+        self.made += 1;
+        let before = lent.clone();
+        let told = |what: String| {
+            let lent = if before.resources.len() < 1000 { format!("{before:?}") } else { "the tables of the limits".to_string() };
+            format!("call {}: {call:?}\n{what}\nlent: {lent}", self.made)
+        };
+        let (result, after) = library::make(call, &before).map_err(told)?;
+        let expected = call.make(lent);
+        match expected {
+            Expected::Exactly(right) if result == right && after == *lent => {}
+            Expected::Exactly(right) => {
+                return Err(told(format!(
+                    "the library: {result} {}\nthe paper:   {right} {}",
+                    after.changes(&before),
+                    lent.changes(&before)
+                )))
+            }
+            Expected::Bounded => {
+                let kept = call.bounds_kept(&before, result, &after);
+                kept.map_err(|what| told(format!("the library: {what} {}", after.changes(&before))))?;
+                *lent = after;
+            }
+        }
+        self.tally.count(call, result, lent, expected == Expected::Bounded);
+        Ok(())
+    }
+
+    /// Tables of up to a few records, some words short or over, holding anything. The counters are 0, with words past them at times.
+    fn tables(&mut self) -> Lent {
+        let random = &mut self.random;
+        let records = |random: &mut Random| if random.one_in(5) { random.below(3) } else { random.from_to(3, 6) };
+        let partial = |random: &mut Random, words: usize| if random.one_in(4) { random.below(words) } else { 0 };
+        let named = records(random);
+        let mut lent = Lent {
+            counters: vec![0; 3],
+            resources: vec![0; 8 * named + partial(random, 8)],
+            statements: vec![0; 7 * records(random) + partial(random, 7)],
+            index: vec![0; (named + random.of(&[0, 0, 0, 0, 1, 2])).saturating_sub(random.below(5) / 4)],
+            text: vec![0; if random.one_in(5) { random.below(24) } else { random.from_to(24, 60) }],
+            ..Lent::default()
+        };
+        if random.one_in(4) {
+            lent.statements.resize(7 * random.from_to(7, 12), 0);
+        }
+        if random.one_in(40) {
+            lent.text.resize(600, 0);
+        }
+        if random.one_in(8) {
+            lent.counters.extend([7, 8]);
+        }
+        if !random.one_in(3) {
+            for words in [&mut lent.resources, &mut lent.statements, &mut lent.index] {
+                words.iter_mut().for_each(|word| *word = random.wild(&[6]));
+            }
+            lent.text.iter_mut().for_each(|byte| *byte = random.any() as u8);
+        }
+        lent
+    }
+
+    /// A call, the cursor for it, and which of the open listings or questions it goes on with.
+    fn choose(&mut self, lent: &Lent, open: &Open, phase: Phase) -> (Call, Vec<u32>, Option<usize>) {
+        let random = &mut self.random;
+        let few = lent.counters[0] < 3;
+        let choice = match phase {
+            Phase::Building if random.one_in(if few { 2 } else { 4 }) => 0,
+            Phase::Building => random.of(&[17, 17, 17, 31]),
+            Phase::Sound | Phase::Damaged => random.below(100),
+        };
+        let alone = |call| (call, vec![], None);
+        match choice {
+            0..=11 => alone(Call::Enter { name: random.short_name() }),
+            12..=16 => alone(Call::Find { name: random.short_name() }),
+            17..=30 => alone(Call::Assert { triple: random.triple(lent) }),
+            31..=37 => alone(Call::Retract { triple: random.triple(lent) }),
+            38..=40 => alone(Call::Name { number: random.resource(lent) }),
+            41..=43 => alone(Call::Statement { number: random.statement(lent) }),
+            44..=47 => alone(Call::Check),
+            48..=50 => alone(Call::NameKind { name: random.name() }),
+            51..=55 => {
+                let (line_text, at) = random.line_text();
+                alone(Call::ReadLine { line_text, at })
+            }
+            56..=63 => (Call::ScanOpen { pattern: random.pattern(lent) }, vec![0x77; 5], None),
+            64..=75 => {
+                let call = Call::ScanNext { budget: random.budget(0) };
+                if open.scans.is_empty() || random.one_in(5) {
+                    return (call, random.scan_cursor(lent), None);
+                }
+                let which = random.below(open.scans.len());
+                let mut cursor = open.scans[which].clone();
+                if random.one_in(6) {
+                    random.damage(&mut cursor, &lent.counters, 1);
+                    return (call, cursor, None);
+                }
+                (call, cursor, Some(which))
+            }
+            76..=80 => (Call::QueryOpen { words: random.words(lent) }, vec![0x77; 18], None),
+            _ => {
+                if open.queries.is_empty() || random.one_in(4) {
+                    let words = random.words(lent);
+                    let cursor = random.query_cursor(lent, words.len() / 3);
+                    return (Call::QueryNext { budget: random.budget(words.len() / 3), words }, cursor, None);
+                }
+                let which = random.below(open.queries.len());
+                let (mut words, mut cursor) = open.queries[which].clone();
+                let budget = random.budget(words.len() / 3);
+                let mut kept = Some(which);
+                if random.one_in(6) {
+                    random.damage(&mut cursor, &lent.counters, 1);
+                    kept = None;
+                }
+                if random.one_in(20) {
+                    words = random.words(lent);
+                    kept = None;
+                }
+                (Call::QueryNext { words, budget }, cursor, kept)
+            }
+        }
+    }
+
+    /// A length for a slice that must have so many words: mostly those, sometimes more, seldom fewer.
+    fn length(&mut self, words: usize) -> usize {
+        match self.random.below(60) {
+            0 if words > 0 => self.random.below(words),
+            1..=6 => words + self.random.from_to(1, 3),
+            _ => words,
+        }
+    }
+
+    /// One call on a store, with slices of mostly the right lengths, and what it leaves of the open listings and questions.
+    fn step(&mut self, lent: &mut Lent, open: &mut Open, phase: Phase) -> Result<(), Difference> {
+        let (call, mut cursor, which) = self.choose(lent, open, phase);
+        if call.cursor_words() > 0 {
+            cursor.resize(self.length(call.cursor_words()), 0x77);
+        }
+        if phase == Phase::Damaged && matches!(call, Call::QueryNext { .. }) && self.random.one_in(2) {
+            damage::entered_records(&mut self.random, lent, &cursor);
+        }
+        lent.cursor = cursor;
+        lent.reply = vec![0x55; if call.reply_words() > 0 { self.length(call.reply_words()) } else { 0 }];
+        lent.line_reply = vec![0x55; if call.line_words() > 0 { self.length(call.line_words()) } else { 0 }];
+        if call.takes_tables() && self.random.one_in(100) {
+            let whole = lent.counters.clone();
+            lent.counters.truncate(self.random.below(3));
+            self.compare(&call, lent)?;
+            lent.counters = whole;
+            return Ok(());
+        }
+        self.compare(&call, lent)?;
+
+        const KEPT: usize = 3;
+        if lent.cursor.len() < call.cursor_words() {
+            return Ok(());
+        }
+        let cursor = lent.cursor[..call.cursor_words()].to_vec();
+        match (call, which) {
+            // What has ended is asked again at times, then dropped.
+            (Call::ScanNext { .. }, Some(which)) if cursor[4] == 0 && self.random.one_in(2) => drop(open.scans.remove(which)),
+            (Call::QueryNext { .. }, Some(which)) if cursor[0] == 2 && self.random.one_in(2) => drop(open.queries.remove(which)),
+            (Call::ScanNext { .. }, Some(which)) => open.scans[which] = cursor,
+            (Call::QueryNext { .. }, Some(which)) => open.queries[which].1 = cursor,
+            // A refused opening leaves the cursor as it was, which is no cursor.
+            (Call::ScanOpen { .. }, _) if cursor != [0x77; 5] => {
+                open.scans.insert(0, cursor);
+                open.scans.truncate(KEPT);
+            }
+            (Call::QueryOpen { words }, _) if cursor != [0x77; 18] => {
+                open.queries.insert(0, (words, cursor));
+                open.queries.truncate(KEPT);
+            }
+            // A cursor that was made up and accepted is gone on with, too.
+            (Call::QueryNext { words, .. }, None) if cursor[0] == 1 && self.random.one_in(2) => {
+                open.queries.insert(0, (words, cursor));
+                open.queries.truncate(KEPT);
+            }
+            _ => {}
+        }
+        Ok(())
+    }
+
+    /// A store from its first call on: names and statements, then calls of all kinds, between them some on damaged copies of it.
+    fn episode(&mut self) -> Result<(), Difference> {
+        let mut lent = self.tables();
+        let mut open = Open::default();
+        if self.random.one_in(20) {
+            damage(&mut self.random, &mut lent);
+        }
+        for _ in 0..self.random.of(&[0, 5, 20, 30, 40]) {
+            self.step(&mut lent, &mut open, Phase::Building)?;
+        }
+        for _ in 0..self.random.from_to(1, 6) {
+            for _ in 0..self.random.from_to(1, 15) {
+                self.step(&mut lent, &mut open, Phase::Sound)?;
+            }
+            let sound = lent.clone();
+            damage(&mut self.random, &mut lent);
+            lent.reply = vec![0x55];
+            self.compare(&Call::Check, &mut lent)?;
+            for _ in 0..self.random.from_to(1, 12) {
+                self.step(&mut lent, &mut open, Phase::Damaged)?;
+            }
+            lent = sound;
+        }
+        Ok(())
+    }
+
+    /// The limits of 65,535 records and 1,048,576 bytes of text, on tables that have more.
+    fn limits(&mut self) -> Result<(), Difference> {
+        let named = |k: u32, length: usize| {
+            let mixed = (k.wrapping_mul(40_503)) & 0xFFFF; // a permutation, so that the names are in no order
+            format!("<{mixed:04x}{}>", "a".repeat(length - 6)).into_bytes()
+        };
+        for (count, length) in [(65_535u32, 6), (65_534, 6), (4_096, 255), (4_095, 255)] {
+            let mut lent = Lent {
+                counters: vec![count, 0, count * (length as u32 + 1)],
+                resources: vec![0; 65_537 * 8 + 3],
+                statements: vec![0; 65_537 * 7 + 3],
+                index: vec![0; 65_538],
+                text: vec![0; 1_048_576 + 300],
+                reply: vec![0; 18],
+                cursor: vec![0; 18],
+                ..Lent::default()
+            };
+            let mut names: Vec<(Vec<u8>, u32)> = (1..=count).map(|n| (named(n, length), n)).collect();
+            for (k, (name, _)) in names.iter().enumerate() {
+                lent.text[k * (length + 1)..][..length].copy_from_slice(name);
+                lent.resources[k * 8 + 6..][..2].copy_from_slice(&[(k * (length + 1)) as u32, 1]);
+            }
+            names.sort();
+            names.iter().enumerate().for_each(|(k, (_, n))| lent.index[k] = *n);
+
+            // The window of a name: its zero is the 256th byte from the offset, then the 257th.
+            let damaged = &mut lent.clone();
+            if length == 255 {
+                damaged.text[255] = b'a';
+                for offset in [256, 255] {
+                    damaged.resources[8 + 6] = offset;
+                    self.compare(&Call::Name { number: 2 }, damaged)?;
+                }
+            }
+
+            let new = [named(0, length), b"<a>".to_vec()];
+            self.compare(&Call::Check, &mut lent)?;
+            self.compare(&Call::Find { name: named(count, length) }, &mut lent)?;
+            self.compare(&Call::Enter { name: named(count, length) }, &mut lent)?;
+            self.compare(&Call::Name { number: count }, &mut lent)?;
+            self.compare(&Call::Name { number: count + 1 }, &mut lent)?;
+            for name in new {
+                self.compare(&Call::Enter { name }, &mut lent)?;
+            }
+            let triple = [1, 2, lent.counters[0]];
+            self.compare(&Call::Assert { triple }, &mut lent)?;
+            for statements in [65_534, 65_535, 65_536] {
+                lent.counters[1] = statements;
+                self.compare(&Call::Assert { triple: [3, 2, 1] }, &mut lent)?;
+                self.compare(&Call::ScanOpen { pattern: [0, 0, 3] }, &mut lent)?;
+                self.compare(&Call::QueryOpen { words: vec![1, 2, 3] }, &mut lent)?;
+            }
+            for (counter, over) in [(0, 65_536), (2, 1_048_576), (2, 1_048_577)] {
+                let kept = lent.counters.clone();
+                lent.counters[1] = 0;
+                lent.counters[counter] = over;
+                self.compare(&Call::Find { name: b"<a>".to_vec() }, &mut lent)?;
+                self.compare(&Call::Check, &mut lent)?;
+                lent.counters = kept;
+            }
+        }
+        Ok(())
+    }
+
+    fn run(&mut self, calls: u64, until: Instant) -> Result<(), Difference> {
+        self.limits()?;
+        while self.made < calls && Instant::now() < until {
+            self.episode()?;
+        }
+        Ok(())
+    }
+}
+
+fn main() -> ExitCode {
+    let arguments: Vec<u64> = std::env::args().skip(1).filter_map(|word| word.parse().ok()).collect();
+    let [seed, calls, seconds] = arguments[..] else {
+        eprintln!("usage: diff SEED CALLS SECONDS");
+        return ExitCode::from(2);
+    };
+    let mut run = Run { random: Random::new(seed), made: 0, tally: Tally::default() };
+    let end = run.run(calls, Instant::now() + Duration::from_secs(seconds));
+    print!("{}", run.tally);
+    if let Err(difference) = end {
+        println!("seed {seed}, {difference}");
+        return ExitCode::FAILURE;
+    }
+    let missing = run.tally.missing();
+    if run.made >= ENOUGH && !missing.is_empty() {
+        println!("seed {seed}: {} calls, and none of {}", run.made, missing.join(", "));
+        return ExitCode::FAILURE;
+    }
+    println!("seed {seed}: {} calls, no difference", run.made);
+    ExitCode::SUCCESS
+}

@@ -1,0 +1,711 @@
+//! The store, plainly: paper 01, "Tables and counters" and "Operations and refusals", as read in `docs/DECISIONS.md`. Nothing here is
+//! meant to be fast. Every operation works on what is lent, as the library's does, so that the two can be compared byte by byte.
+//! Refusals are the `Err` of a `Result`, by their number.
+
+use crate::names::{kind_of, read_line, Line};
+
+const MAX_RECORDS: usize = 65_535;
+const MAX_TEXT: usize = 1_048_576;
+const PATTERNS: usize = 8;
+const VARIABLES: usize = 16;
+const FIRST_VARIABLE: u32 = 1 << 31;
+
+/// Statuses of a next call and of assert.
+const FOUND: u32 = 1;
+const ENDED: u32 = 2;
+const SPENT: u32 = 3;
+const NEW: u32 = 1;
+const ALREADY: u32 = 2;
+const REVIVED: u32 = 3;
+
+/// Everything that one call is lent.
+#[derive(Clone, Debug, PartialEq, Default)]
+pub struct Lent {
+    pub counters: Vec<u32>,
+    pub resources: Vec<u32>,
+    pub statements: Vec<u32>,
+    pub index: Vec<u32>,
+    pub text: Vec<u8>,
+    pub cursor: Vec<u32>,
+    pub reply: Vec<u32>,
+    pub line_reply: Vec<u64>,
+}
+
+/// One call of the interface, with what it is given beside the lent memory.
+#[derive(Clone, Debug)]
+pub enum Call {
+    NameKind { name: Vec<u8> },
+    ReadLine { line_text: Vec<u8>, at: usize },
+    Check,
+    Find { name: Vec<u8> },
+    Enter { name: Vec<u8> },
+    Name { number: u32 },
+    Statement { number: u32 },
+    Assert { triple: [u32; 3] },
+    Retract { triple: [u32; 3] },
+    ScanOpen { pattern: [u32; 3] },
+    ScanNext { budget: u32 },
+    QueryOpen { words: Vec<u32> },
+    QueryNext { words: Vec<u32>, budget: u32 },
+}
+
+/// What the paper says of a call: the one result, or no more than bounds (find and enter, where the dictionary is not sound).
+#[derive(Debug, PartialEq)]
+pub enum Expected {
+    Exactly(u32),
+    Bounded,
+}
+
+impl Lent {
+    pub fn r(&self) -> u32 {
+        self.counters[0]
+    }
+    pub fn t(&self) -> u32 {
+        self.counters[1]
+    }
+    fn b(&self) -> u32 {
+        self.counters[2]
+    }
+
+    fn resource_capacity(&self) -> usize {
+        (self.resources.len() / 8).min(self.index.len()).min(MAX_RECORDS)
+    }
+    fn statement_capacity(&self) -> usize {
+        (self.statements.len() / 7).min(MAX_RECORDS)
+    }
+    fn text_capacity(&self) -> usize {
+        self.text.len().min(MAX_TEXT)
+    }
+    pub fn within_capacity(&self) -> bool {
+        self.r() as usize <= self.resource_capacity()
+            && self.t() as usize <= self.statement_capacity()
+            && self.b() as usize <= self.text_capacity()
+    }
+
+    // Words of record n, for a place 0 subject, 1 predicate, 2 object.
+    fn resource_word(&self, n: u32, word: usize) -> u32 {
+        self.resources[(n as usize - 1) * 8 + word]
+    }
+    fn first(&self, n: u32, place: usize) -> u32 {
+        self.resource_word(n, place)
+    }
+    fn count(&self, n: u32, place: usize) -> u32 {
+        self.resource_word(n, 3 + place)
+    }
+    fn offset(&self, n: u32) -> u32 {
+        self.resource_word(n, 6)
+    }
+    fn kind(&self, n: u32) -> u32 {
+        self.resource_word(n, 7)
+    }
+    fn statement_word(&self, n: u32, word: usize) -> u32 {
+        self.statements[(n as usize - 1) * 7 + word]
+    }
+    fn member(&self, n: u32, place: usize) -> u32 {
+        self.statement_word(n, place)
+    }
+    fn triple(&self, n: u32) -> [u32; 3] {
+        [0, 1, 2].map(|place| self.member(n, place))
+    }
+    fn next(&self, n: u32, place: usize) -> u32 {
+        self.statement_word(n, 3 + place)
+    }
+    fn flag(&self, n: u32) -> u32 {
+        self.statement_word(n, 6)
+    }
+    fn set_flag(&mut self, n: u32, flag: u32) {
+        self.statements[(n as usize - 1) * 7 + 6] = flag;
+    }
+
+    fn is_resource(&self, number: u32) -> bool {
+        1 <= number && number <= self.r()
+    }
+    fn resources_known(&self, n: u32) -> bool {
+        self.triple(n).iter().all(|&number| self.is_resource(number))
+    }
+
+    // ---- soundness
+
+    fn sound(&self) -> bool {
+        self.within_capacity() && self.names().is_some() && self.statements_sound() && self.chains_sound()
+    }
+
+    /// The names in resource order, if text, offsets, kinds and index are sound. Counters must be within capacity.
+    pub fn names(&self) -> Option<Vec<&[u8]>> {
+        let used = &self.text[..self.b() as usize];
+        let mut names = vec![];
+        let mut at = 0;
+        for n in 1..=self.r() {
+            let length = used[at..].iter().position(|&b| b == 0)?;
+            let name = &used[at..at + length];
+            if self.offset(n) as usize != at || kind_of(name) != Some(self.kind(n)) {
+                return None;
+            }
+            names.push(name);
+            at += length + 1;
+        }
+        // The index is the numbers sorted by name, and no name stands there twice.
+        let mut sorted: Vec<u32> = (1..=self.r()).collect();
+        sorted.sort_by_key(|&n| names[n as usize - 1]);
+        let rising = sorted.windows(2).all(|two| names[two[0] as usize - 1] < names[two[1] as usize - 1]);
+        (at == used.len() && rising && self.index[..self.r() as usize] == sorted[..]).then_some(names)
+    }
+
+    fn statements_sound(&self) -> bool {
+        (1..=self.t()).all(|n| {
+            self.resources_known(n)
+                && matches!(self.kind(self.member(n, 0)), 1 | 2)
+                && self.kind(self.member(n, 1)) == 1
+                && matches!(self.kind(self.member(n, 2)), 1..=3)
+                && self.flag(n) <= 1
+                && (1..n).all(|m| self.triple(m) != self.triple(n))
+        })
+    }
+
+    /// The records before `end` that hold a resource in a place, falling.
+    fn holding(&self, resource: u32, place: usize, end: u32) -> Vec<u32> {
+        (1..end).rev().filter(|&n| self.member(n, place) == resource).collect()
+    }
+
+    fn chains_sound(&self) -> bool {
+        let head = |records: &[u32]| records.first().copied().unwrap_or(0);
+        (0..3).all(|place| {
+            (1..=self.r()).all(|resource| {
+                let records = self.holding(resource, place, self.t() + 1);
+                self.first(resource, place) == head(&records) && self.count(resource, place) as usize == records.len()
+            }) && (1..=self.t()).all(|n| self.next(n, place) == head(&self.holding(self.member(n, place), place, n)))
+        })
+    }
+
+    // ---- chains
+
+    /// The chain a listing takes, 0 for all records, 1 to 3 for a place, and its first record. `bound` has 0 for any.
+    fn pick(&self, bound: [u32; 3]) -> Result<(u32, u32), u32> {
+        let mut picked = None;
+        for place in 0..3 {
+            if bound[place] != 0 {
+                let (count, first) = (self.count(bound[place], place), self.first(bound[place], place));
+                if count > self.t() || first > self.t() {
+                    return Err(9);
+                }
+                if picked.map_or(true, |(least, _, _)| count < least) {
+                    picked = Some((count, place as u32 + 1, first));
+                }
+            }
+        }
+        Ok(picked.map_or((0, self.t()), |(_, chain, first)| (chain, first)))
+    }
+
+    /// The record after n on a chain.
+    fn after(&self, chain: u32, n: u32) -> u32 {
+        match chain {
+            0 => n - 1,
+            _ => self.next(n, chain as usize - 1),
+        }
+    }
+
+    /// Refusal 9 of a visit.
+    fn visit(&self, chain: u32, bound: [u32; 3], n: u32) -> Result<(), u32> {
+        let lacks = chain != 0 && self.member(n, chain as usize - 1) != bound[chain as usize - 1];
+        if !self.resources_known(n) || lacks || self.after(chain, n) >= n || self.flag(n) > 1 {
+            return Err(9);
+        }
+        Ok(())
+    }
+
+    /// Whether a chain is no bound place, or none though one is bound.
+    fn chain_refused(&self, bound: [u32; 3], chain: u32) -> bool {
+        match chain {
+            0 => bound != [0; 3],
+            1..=3 => bound[chain as usize - 1] == 0,
+            _ => true,
+        }
+    }
+
+    /// Whether a listing refuses a chain with its next record.
+    fn place_refused(&self, bound: [u32; 3], chain: u32, next: u32) -> bool {
+        self.chain_refused(bound, chain)
+            || next > self.t()
+            || next != 0 && chain != 0 && self.member(next, chain as usize - 1) != bound[chain as usize - 1]
+    }
+
+    // ---- operations; each begins with refusal 1
+
+    fn capacity(&self) -> Result<(), u32> {
+        if self.within_capacity() {
+            Ok(())
+        } else {
+            Err(1)
+        }
+    }
+
+    fn find(&self, name: &[u8]) -> Result<u32, u32> {
+        self.capacity()?;
+        kind_of(name).ok_or(2u32)?;
+        let names = self.names().expect("a sound dictionary");
+        Ok(names.iter().position(|&n| n == name).map_or(0, |k| k as u32 + 1))
+    }
+
+    /// Whether one more name of this length fits.
+    pub fn room_for_name(&self, length: usize) -> bool {
+        (self.r() as usize) < self.resource_capacity() && self.b() as usize + length + 1 <= self.text_capacity()
+    }
+
+    fn enter(&mut self, name: &[u8]) -> Result<u32, u32> {
+        let found = self.find(name)?;
+        if found != 0 {
+            return Ok(found);
+        }
+        if !self.room_for_name(name.len()) {
+            return Err(3);
+        }
+        let below = self.names().expect("a sound dictionary").iter().filter(|&&n| n < name).count();
+        let (r, b) = (self.r() as usize, self.b() as usize);
+        self.index[..=r].copy_within(below..r, below + 1);
+        self.index[below] = r as u32 + 1;
+        let record = [0, 0, 0, 0, 0, 0, b as u32, kind_of(name).unwrap()];
+        self.resources[r * 8..][..8].copy_from_slice(&record);
+        self.text[b..][..name.len()].copy_from_slice(name);
+        self.text[b + name.len()] = 0;
+        self.counters[0] += 1;
+        self.counters[2] += name.len() as u32 + 1;
+        Ok(r as u32 + 1)
+    }
+
+    fn name(&self, number: u32) -> Result<(u32, u32), u32> {
+        self.capacity()?;
+        if !self.is_resource(number) {
+            return Err(4);
+        }
+        let (offset, end) = (self.offset(number) as usize, self.b() as usize);
+        if offset >= end {
+            return Err(9);
+        }
+        let length = self.text[offset..end.min(offset + 256)].iter().position(|&b| b == 0).ok_or(9u32)?;
+        Ok((offset as u32, length as u32))
+    }
+
+    fn statement(&self, number: u32) -> Result<[u32; 4], u32> {
+        self.capacity()?;
+        if number == 0 || number > self.t() {
+            return Err(4);
+        }
+        if !self.resources_known(number) || self.flag(number) > 1 {
+            return Err(9);
+        }
+        let [subject, predicate, object] = self.triple(number);
+        Ok([subject, predicate, object, self.flag(number)])
+    }
+
+    /// The first record with a triple on the chain that a listing of it would take, or 0.
+    fn walk_to(&self, triple: [u32; 3]) -> Result<u32, u32> {
+        let (chain, mut n) = self.pick(triple)?;
+        while n != 0 {
+            self.visit(chain, triple, n)?;
+            if self.triple(n) == triple {
+                break;
+            }
+            n = self.after(chain, n);
+        }
+        Ok(n)
+    }
+
+    fn assert(&mut self, triple: [u32; 3]) -> Result<(u32, u32), u32> {
+        self.capacity()?;
+        if triple.iter().any(|&number| !self.is_resource(number)) {
+            return Err(4);
+        }
+        let kinds = triple.map(|number| self.kind(number));
+        if kinds.iter().any(|kind| !(1..=3).contains(kind)) {
+            return Err(9);
+        }
+        if kinds[0] == 3 || kinds[1] != 1 {
+            return Err(5);
+        }
+        let n = self.walk_to(triple)?;
+        if n != 0 {
+            let status = if self.flag(n) == 0 { ALREADY } else { REVIVED };
+            self.set_flag(n, 0);
+            return Ok((status, n));
+        }
+        if self.t() as usize == self.statement_capacity() {
+            return Err(3);
+        }
+        let n = self.t() + 1;
+        let firsts = [0, 1, 2].map(|place| self.first(triple[place], place));
+        let record = [triple[0], triple[1], triple[2], firsts[0], firsts[1], firsts[2], 0];
+        self.statements[(n as usize - 1) * 7..][..7].copy_from_slice(&record);
+        for place in 0..3 {
+            let at = (triple[place] as usize - 1) * 8;
+            self.resources[at + place] = n;
+            self.resources[at + 3 + place] += 1;
+        }
+        self.counters[1] = n;
+        Ok((NEW, n))
+    }
+
+    fn retract(&mut self, triple: [u32; 3]) -> Result<u32, u32> {
+        self.capacity()?;
+        if triple.iter().any(|&number| !self.is_resource(number)) {
+            return Err(4);
+        }
+        let n = self.walk_to(triple)?;
+        if n == 0 || self.flag(n) == 1 {
+            return Ok(0);
+        }
+        self.set_flag(n, 1);
+        Ok(n)
+    }
+
+    fn scan_open(&self, pattern: [u32; 3]) -> Result<[u32; 5], u32> {
+        self.capacity()?;
+        if pattern.iter().any(|&number| number > self.r()) {
+            return Err(4);
+        }
+        let (chain, first) = self.pick(pattern)?;
+        Ok([pattern[0], pattern[1], pattern[2], chain, first])
+    }
+
+    /// Status, statement, visits; and the cursor's next.
+    fn scan_next(&self, budget: u32) -> Result<([u32; 3], u32), u32> {
+        self.capacity()?;
+        let bound = [self.cursor[0], self.cursor[1], self.cursor[2]];
+        let (chain, mut n) = (self.cursor[3], self.cursor[4]);
+        if bound.iter().any(|&number| number > self.r()) || self.place_refused(bound, chain, n) {
+            return Err(6);
+        }
+        if budget == 0 {
+            return Err(7);
+        }
+        let mut visits = 0;
+        loop {
+            if n == 0 {
+                return Ok(([ENDED, 0, visits], 0));
+            }
+            if visits == budget {
+                return Ok(([SPENT, 0, visits], n));
+            }
+            self.visit(chain, bound, n)?;
+            visits += 1;
+            let (at, triple) = (n, self.triple(n));
+            n = self.after(chain, n);
+            if self.flag(at) == 0 && (0..3).all(|place| bound[place] == 0 || bound[place] == triple[place]) {
+                return Ok(([FOUND, at, visits], n));
+            }
+        }
+    }
+
+    fn words_refused(&self, words: &[u32]) -> bool {
+        let word_fits = |&w: &u32| self.is_resource(w) || (w >= FIRST_VARIABLE && w - FIRST_VARIABLE < VARIABLES as u32);
+        words.len() % 3 != 0 || words.len() > 3 * PATTERNS || !words.iter().all(word_fits)
+    }
+
+    fn query_open(&self, words: &[u32]) -> Result<(), u32> {
+        self.capacity()?;
+        if self.words_refused(words) {
+            return Err(8);
+        }
+        Ok(())
+    }
+
+    /// The solution with which a record matches a pattern under the variables bound so far, if it does. Its resources are known.
+    fn matched(&self, pattern: &[u32], bound: [u32; VARIABLES], n: u32) -> Option<[u32; VARIABLES]> {
+        let mut solution = bound;
+        for place in 0..3 {
+            let (word, member) = (pattern[place], self.member(n, place));
+            if word >= FIRST_VARIABLE {
+                let variable = &mut solution[(word - FIRST_VARIABLE) as usize];
+                if *variable == 0 {
+                    *variable = member;
+                }
+                if *variable != member {
+                    return None;
+                }
+            } else if word != member {
+                return None;
+            }
+        }
+        Some(solution)
+    }
+
+    /// Status, visits and solution; and the cursor.
+    fn query_next(&self, words: &[u32], budget: u32) -> Result<(u32, u32, [u32; VARIABLES], [u32; 18]), u32> {
+        const END: [u32; 18] = [2, 0, 0, 0, 0, 0, 0, 0, 0, 0, 0, 0, 0, 0, 0, 0, 0, 0];
+        self.capacity()?;
+        if self.words_refused(words) {
+            return Err(8);
+        }
+        let patterns: Vec<&[u32]> = words.chunks(3).collect();
+        if self.cursor[0] > 2 || self.cursor[0] == 1 && self.cursor[1] as usize > patterns.len() {
+            return Err(6);
+        }
+
+        // The levels of the cursor: chain and record, and before each the variables that the earlier records bind.
+        let mut levels: Vec<(u32, u32)> = vec![];
+        let mut solutions: Vec<[u32; VARIABLES]> = vec![[0; VARIABLES]];
+        if self.cursor[0] == 1 {
+            let given = self.cursor[1] as usize;
+            for k in 0..given {
+                let (chain, record) = (self.cursor[2 + 2 * k], self.cursor[3 + 2 * k]);
+                let bound = bound_places(patterns[k], &solutions[k]);
+                if k + 1 < given {
+                    if self.chain_refused(bound, chain) || record == 0 || record > self.t() || !self.resources_known(record) {
+                        return Err(6);
+                    }
+                    solutions.push(self.matched(patterns[k], solutions[k], record).ok_or(6u32)?);
+                } else if self.place_refused(bound, chain, record) {
+                    return Err(6);
+                }
+                levels.push((chain, record));
+            }
+        }
+        if budget == 0 {
+            return Err(7);
+        }
+        let ended = |visits| Ok((ENDED, visits, [0; VARIABLES], END));
+        if self.cursor[0] == 2 {
+            return ended(0);
+        }
+        if patterns.is_empty() {
+            return Ok((FOUND, 0, [0; VARIABLES], END));
+        }
+        if levels.is_empty() {
+            levels.push(self.pick(bound_places(patterns[0], &solutions[0]))?);
+        }
+
+        // The entered records before the deepest: their flags and nexts, and the first that is struck out.
+        let entered = levels.len() - 1;
+        if levels[..entered].iter().any(|&(chain, n)| self.flag(n) > 1 || self.after(chain, n) >= n) {
+            return Err(9);
+        }
+        if let Some(k) = levels[..entered].iter().position(|&(_, n)| self.flag(n) == 1) {
+            levels.truncate(k + 1);
+            solutions.truncate(k + 1);
+            levels[k].1 = self.after(levels[k].0, levels[k].1);
+        }
+
+        let mut visits = 0;
+        loop {
+            if visits == budget {
+                let (_, deepest) = levels[levels.len() - 1];
+                let above = &levels[..levels.len() - 1];
+                if deepest != 0 || above.iter().any(|&(chain, n)| self.after(chain, n) != 0) {
+                    return Ok((SPENT, visits, [0; VARIABLES], within(&levels)));
+                }
+                return ended(visits);
+            }
+            // A further visit is sought: leave the chains that have run out.
+            while levels[levels.len() - 1].1 == 0 {
+                levels.pop();
+                solutions.pop();
+                match levels.last_mut() {
+                    None => return ended(visits),
+                    Some((chain, n)) => *n = self.after(*chain, *n),
+                }
+            }
+            let k = levels.len() - 1;
+            let (chain, n) = levels[k];
+            self.visit(chain, bound_places(patterns[k], &solutions[k]), n)?;
+            visits += 1;
+            match self.matched(patterns[k], solutions[k], n) {
+                Some(solution) if self.flag(n) == 0 => {
+                    if k + 1 == patterns.len() {
+                        levels[k].1 = self.after(chain, n);
+                        return Ok((FOUND, visits, solution, within(&levels)));
+                    }
+                    levels.push(self.pick(bound_places(patterns[k + 1], &solution))?);
+                    solutions.push(solution);
+                }
+                _ => levels[k].1 = self.after(chain, n),
+            }
+        }
+    }
+}
+
+/// The resource that each place of a pattern is bound to, or 0.
+fn bound_places(pattern: &[u32], solution: &[u32; VARIABLES]) -> [u32; 3] {
+    [0, 1, 2].map(|place| match pattern[place] {
+        word if word >= FIRST_VARIABLE => solution[(word - FIRST_VARIABLE) as usize],
+        word => word,
+    })
+}
+
+fn within(levels: &[(u32, u32)]) -> [u32; 18] {
+    let mut cursor = [0; 18];
+    cursor[0] = 1;
+    cursor[1] = levels.len() as u32;
+    for (k, &(chain, record)) in levels.iter().enumerate() {
+        cursor[2 + 2 * k] = chain;
+        cursor[3 + 2 * k] = record;
+    }
+    cursor
+}
+
+/// Writes an answer's words at the front of a slice, or zeros beside a refusal, and gives the result's number.
+fn put(reply: &mut [u32], length: usize, answer: Result<Vec<u32>, u32>) -> u32 {
+    let (result, words) = match answer {
+        Ok(words) => (0, words),
+        Err(refusal) => (refusal, vec![0; length]),
+    };
+    reply[..length].copy_from_slice(&words);
+    result
+}
+
+impl Call {
+    /// Whether the call takes the five slices of the store.
+    pub fn takes_tables(&self) -> bool {
+        !matches!(self, Call::NameKind { .. } | Call::ReadLine { .. })
+    }
+
+    pub fn cursor_words(&self) -> usize {
+        match self {
+            Call::ScanOpen { .. } | Call::ScanNext { .. } => 5,
+            Call::QueryOpen { .. } | Call::QueryNext { .. } => 18,
+            _ => 0,
+        }
+    }
+
+    /// Words of the reply; a line's are in `line_reply`.
+    pub fn reply_words(&self) -> usize {
+        match self {
+            Call::NameKind { .. } | Call::Check | Call::Find { .. } | Call::Enter { .. } | Call::Retract { .. } => 1,
+            Call::Name { .. } | Call::Assert { .. } => 2,
+            Call::ScanNext { .. } => 3,
+            Call::Statement { .. } => 4,
+            Call::QueryNext { .. } => 18,
+            Call::ReadLine { .. } | Call::ScanOpen { .. } | Call::QueryOpen { .. } => 0,
+        }
+    }
+
+    pub fn line_words(&self) -> usize {
+        match self {
+            Call::ReadLine { .. } => 8,
+            _ => 0,
+        }
+    }
+
+    /// Makes the call on what is lent, as the paper says.
+    pub fn make(&self, lent: &mut Lent) -> Expected {
+        if self.takes_tables() && lent.counters.len() < 3
+            || lent.cursor.len() < self.cursor_words()
+            || lent.reply.len() < self.reply_words()
+            || lent.line_reply.len() < self.line_words()
+        {
+            return Expected::Exactly(100);
+        }
+        if let Call::Find { name } | Call::Enter { name } = self {
+            if lent.within_capacity() && kind_of(name).is_some() && lent.names().is_none() {
+                return Expected::Bounded;
+            }
+        }
+        let answer: Result<Vec<u32>, u32> = match self {
+            Call::NameKind { name } => kind_of(name).map(|kind| vec![kind]).ok_or(2),
+            Call::ReadLine { line_text, at } => return Expected::Exactly(put_line(lent, line_text, *at)),
+            Call::Check => Ok(vec![lent.sound() as u32]),
+            Call::Find { name } => lent.find(name).map(|n| vec![n]),
+            Call::Enter { name } => lent.enter(name).map(|n| vec![n]),
+            Call::Name { number } => lent.name(*number).map(|(start, length)| vec![start, length]),
+            Call::Statement { number } => lent.statement(*number).map(|words| words.to_vec()),
+            Call::Assert { triple } => lent.assert(*triple).map(|(status, n)| vec![status, n]),
+            Call::Retract { triple } => lent.retract(*triple).map(|n| vec![n]),
+            Call::ScanOpen { pattern } => lent.scan_open(*pattern).map(|cursor| {
+                lent.cursor[..5].copy_from_slice(&cursor);
+                vec![]
+            }),
+            Call::ScanNext { budget } => lent.scan_next(*budget).map(|(words, next)| {
+                lent.cursor[4] = next;
+                words.to_vec()
+            }),
+            Call::QueryOpen { words } => lent.query_open(words).map(|()| {
+                lent.cursor[..18].fill(0);
+                vec![]
+            }),
+            Call::QueryNext { words, budget } => lent.query_next(words, *budget).map(|(status, visits, solution, cursor)| {
+                lent.cursor[..18].copy_from_slice(&cursor);
+                [&[status, visits], &solution[..]].concat()
+            }),
+        };
+        Expected::Exactly(put(&mut lent.reply, self.reply_words(), answer))
+    }
+
+    /// What holds of find and enter where the dictionary is not sound: 9, or a number up to R; absent is 0 in find, and in enter 3 or
+    /// R + 1, by the room there is. Only an answer of R + 1 writes: the index, record R + 1, text from B on, and the counters.
+    pub fn bounds_kept(&self, before: &Lent, result: u32, after: &Lent) -> Result<(), String> {
+        let (Call::Find { name } | Call::Enter { name }) = self else { return Err("only find and enter are bounded".into()) };
+        let entering = matches!(self, Call::Enter { .. });
+        let room = before.room_for_name(name.len());
+        let mut expected = before.clone();
+        let answer = after.reply[0];
+        match result {
+            9 => expected.reply[0] = 0,
+            3 if entering && !room => expected.reply[0] = 0,
+            0 if answer == 0 && !entering => expected.reply[0] = 0,
+            0 if before.is_resource(answer) => expected.reply[0] = answer,
+            0 if entering && room && answer == before.r() + 1 => {
+                let (r, b) = (before.r() as usize, before.b() as usize);
+                expected.reply[0] = answer;
+                expected.counters[0] += 1;
+                expected.counters[2] += name.len() as u32 + 1;
+                expected.index = after.index.clone();
+                expected.resources[r * 8..][..8].copy_from_slice(&after.resources[r * 8..][..8]);
+                expected.text[b..].copy_from_slice(&after.text[b..]);
+            }
+            _ => return Err(format!("{result} with {answer} is out of bounds")),
+        }
+        if expected == *after {
+            Ok(())
+        } else {
+            Err(format!("{result} with {answer} wrote what it may not"))
+        }
+    }
+}
+
+fn put_line(lent: &mut Lent, text: &[u8], at: usize) -> u32 {
+    let (line, after) = read_line(text, at);
+    let mut words = [0; 8];
+    words[1] = after as u64;
+    let result = match line {
+        Line::End => 0,
+        Line::Nothing => {
+            words[0] = 1;
+            0
+        }
+        Line::Triple(parts) => {
+            words[0] = 2;
+            for (k, (start, length)) in parts.into_iter().enumerate() {
+                words[2 + 2 * k] = start as u64;
+                words[3 + 2 * k] = length as u64;
+            }
+            0
+        }
+        Line::Broken { offset } => {
+            words[2] = offset as u64;
+            10
+        }
+    };
+    lent.line_reply[..8].copy_from_slice(&words);
+    result
+}
+
+impl Lent {
+    /// The reply, and which words differ from those before, for a report.
+    pub fn changes(&self, before: &Lent) -> String {
+        let mut told = format!("reply {:?} {:?}", self.reply, self.line_reply);
+        let slices = [
+            ("counters", &self.counters, &before.counters),
+            ("resources", &self.resources, &before.resources),
+            ("statements", &self.statements, &before.statements),
+            ("index", &self.index, &before.index),
+            ("cursor", &self.cursor, &before.cursor),
+        ];
+        for (name, now, then) in slices {
+            for k in (0..now.len()).filter(|&k| now[k] != then[k]) {
+                told += &format!(", {name}[{k}] {} to {}", then[k], now[k]);
+            }
+        }
+        for k in (0..self.text.len()).filter(|&k| self.text[k] != before.text[k]) {
+            told += &format!(", text[{k}] {} to {}", before.text[k], self.text[k]);
+        }
+        told
+    }
+}

@@ -1,0 +1,320 @@
+//! Random numbers from a seed (splitmix64), and the random values that calls are made of.
+
+use crate::names::MAX_NAME;
+use crate::plain::Lent;
+
+pub struct Random {
+    state: u64,
+}
+
+const FIRST_VARIABLE: u32 = 1 << 31;
+
+impl Random {
+    pub fn new(seed: u64) -> Random {
+        Random { state: seed }
+    }
+
+    pub fn any(&mut self) -> u64 {
+        self.state = self.state.wrapping_add(0x9E37_79B9_7F4A_7C15);
+        let mut z = self.state;
+        z = (z ^ (z >> 30)).wrapping_mul(0xBF58_476D_1CE4_E5B9);
+        z = (z ^ (z >> 27)).wrapping_mul(0x94D0_49BB_1331_11EB);
+        z ^ (z >> 31)
+    }
+
+    /// A number from 0 to below `n`.
+    pub fn below(&mut self, n: usize) -> usize {
+        (self.any() % n as u64) as usize
+    }
+
+    /// A number from `low` to `high`, both included.
+    pub fn from_to(&mut self, low: usize, high: usize) -> usize {
+        low + self.below(high - low + 1)
+    }
+
+    pub fn one_in(&mut self, n: usize) -> bool {
+        self.below(n) == 0
+    }
+
+    pub fn of<T: Copy>(&mut self, choices: &[T]) -> T {
+        choices[self.below(choices.len())]
+    }
+
+    /// A word of the kind that damages: near 0, near a counter, near where variables begin and end, near the top, or any.
+    pub fn wild(&mut self, counters: &[u32]) -> u32 {
+        let near = match self.below(8) {
+            0 | 1 => 1,
+            2..=4 if !counters.is_empty() => self.of(counters),
+            5 => FIRST_VARIABLE,
+            6 => FIRST_VARIABLE + 16,
+            7 if self.one_in(4) => self.any() as u32,
+            _ => 0,
+        };
+        near.wrapping_add(self.of(&[0, 0, 1, 2, u32::MAX, u32::MAX - 1]))
+    }
+
+    /// A resource's number, mostly one that exists.
+    pub fn resource(&mut self, lent: &Lent) -> u32 {
+        self.number(lent, 0)
+    }
+
+    /// A statement's number, mostly one that exists.
+    pub fn statement(&mut self, lent: &Lent) -> u32 {
+        self.number(lent, 1)
+    }
+
+    fn number(&mut self, lent: &Lent, counter: usize) -> u32 {
+        match lent.counters.get(counter) {
+            Some(&count @ 1..=1000) if !self.one_in(20) => {
+                // The low numbers more often, so that triples and patterns meet.
+                let most = if self.one_in(2) { count.min(2) } else { count };
+                self.from_to(1, most as usize) as u32
+            }
+            Some(&count) if count > 1000 && !self.one_in(4) => count - self.below(3) as u32,
+            _ => self.wild(&lent.counters),
+        }
+    }
+
+    /// A triple, often that of a statement, so that it is met again.
+    pub fn triple(&mut self, lent: &Lent) -> [u32; 3] {
+        let at = 7 * (self.statement(lent) as usize).saturating_sub(1);
+        match lent.statements.get(at..at + 3) {
+            Some(words) if self.one_in(2) => [words[0], words[1], words[2]],
+            _ => [0; 3].map(|_| self.resource(lent)),
+        }
+    }
+
+    /// A listing's pattern: each place is any or a number.
+    pub fn pattern(&mut self, lent: &Lent) -> [u32; 3] {
+        let open = self.of(&[2, 2, 3, 6]);
+        self.triple(lent).map(|number| if self.one_in(open) { 0 } else { number })
+    }
+
+    pub fn budget(&mut self, patterns: usize) -> u32 {
+        match self.below(10) {
+            0 => 0,
+            1..=3 => 1,
+            4..=6 => self.from_to(2, 4) as u32,
+            7 | 8 => self.from_to(5, 60) as u32,
+            // A question of many patterns may take all records to the power of its patterns.
+            _ if patterns > 4 => 500,
+            _ => u32::MAX,
+        }
+    }
+
+    /// The words of a question, mostly right.
+    pub fn words(&mut self, lent: &Lent) -> Vec<u32> {
+        let patterns = if self.one_in(5) { self.from_to(0, 8) } else { self.from_to(1, 3) };
+        let variables = self.of(&[1, 2, 3, 4, 16]);
+        let sparse = self.of(&[2, 3, 4]);
+        // A variable stands for one resource throughout at times, so that statements that are there make a solution.
+        let consistent = self.one_in(2);
+        let mut words = vec![];
+        for _ in 0..patterns {
+            for number in self.triple(lent) {
+                let variable = if consistent { number as usize % variables } else { self.below(variables) };
+                let constant = self.one_in(sparse);
+                words.push(if constant { number } else { FIRST_VARIABLE + variable as u32 });
+            }
+        }
+        match self.below(40) {
+            0 => words.push(FIRST_VARIABLE),
+            1 => words.truncate(words.len().saturating_sub(1)),
+            2 => words.resize(self.from_to(23, 30), FIRST_VARIABLE),
+            3 | 4 if !words.is_empty() => {
+                let at = self.below(words.len());
+                words[at] = self.wild(&lent.counters);
+            }
+            _ => {}
+        }
+        words
+    }
+
+    pub fn scan_cursor(&mut self, lent: &Lent) -> Vec<u32> {
+        let pattern = self.pattern(lent);
+        vec![pattern[0], pattern[1], pattern[2], self.below(5) as u32, self.statement(lent)]
+    }
+
+    pub fn query_cursor(&mut self, lent: &Lent, patterns: usize) -> Vec<u32> {
+        let levels = self.below(patterns + 2);
+        let mut cursor = vec![self.of(&[0, 1, 1, 1, 1, 1, 1, 1, 2, 3]), levels as u32];
+        for level in 0..8 {
+            // Mostly the chains that a question of variables takes: all records first, then any place.
+            let chain = if level == 0 && self.one_in(2) { 0 } else { self.below(4) as u32 };
+            let chain = if self.one_in(40) { self.wild(&lent.counters) } else { chain };
+            let record = if self.one_in(6) { 0 } else { self.statement(lent) };
+            cursor.extend([chain, record]);
+        }
+        if self.one_in(10) {
+            cursor[self.below(2)] = self.wild(&lent.counters);
+        }
+        cursor
+    }
+
+    /// Damages some words of a slice.
+    pub fn damage(&mut self, words: &mut [u32], counters: &[u32], times: usize) {
+        for _ in 0..times {
+            if !words.is_empty() {
+                let at = self.below(words.len());
+                words[at] = match self.below(3) {
+                    0 => words[at] ^ (1 << self.below(32)),
+                    1 => words[at].wrapping_add(self.of(&[1, u32::MAX])),
+                    _ => self.wild(counters),
+                };
+            }
+        }
+    }
+
+    // ---- names and lines
+
+    /// A short name for a store, from few, so that many are met again.
+    pub fn short_name(&mut self) -> Vec<u8> {
+        const NAMES: [&str; 14] =
+            ["<a>", "<b>", "<c>", "<d>", "<ab>", "<a/b>", "_:a", "_:b", "_:a.b", "\"\"", "\"a\"", "\"a\"@en", "\"b\"^^<a>", "<B>"];
+        if self.one_in(60) {
+            return self.name();
+        }
+        let kinds = if self.one_in(3) { NAMES.len() } else { 6 };
+        NAMES[self.below(kinds)].as_bytes().to_vec()
+    }
+
+    fn bytes(&mut self, length: usize, alphabet: &[u8]) -> Vec<u8> {
+        (0..length).map(|_| self.of(alphabet)).collect()
+    }
+
+    fn inner_length(&mut self) -> usize {
+        match self.below(12) {
+            0 => self.from_to(MAX_NAME - 12, MAX_NAME + 3),
+            1 => self.from_to(5, 40),
+            _ => self.from_to(0, 4),
+        }
+    }
+
+    /// A name, mostly well formed, of any kind and of lengths around the limit too.
+    pub fn name(&mut self) -> Vec<u8> {
+        let length = self.inner_length();
+        let mut name = match self.below(8) {
+            0..=2 => [b"<".to_vec(), self.bytes(length.max(1), b"ab/#:._-~!"), b">".to_vec()].concat(),
+            3 | 4 => {
+                let dots = self.one_in(2);
+                let label = self.bytes(length, if dots { b"a0_-." } else { b"aZ9_-" });
+                [b"_:a".to_vec(), label].concat()
+            }
+            _ => self.literal(length),
+        };
+        if self.one_in(4) {
+            self.mutate(&mut name);
+        }
+        if self.one_in(8) && name.len() > MAX_NAME - 8 {
+            // Cut or grown to lie at the limit, whatever that does to its form.
+            let closing = name.pop();
+            name.resize(self.from_to(MAX_NAME - 3, MAX_NAME + 1), b'a');
+            name.extend(closing);
+        }
+        name
+    }
+
+    fn literal(&mut self, length: usize) -> Vec<u8> {
+        let mut name = vec![b'"'];
+        while name.len() < length + 1 {
+            let pair = self.of(&["a", "b", " ", "#", "<", ">", ".", "\\\"", "\\\\", "\\n", "\\r", "@", "^"]);
+            name.extend_from_slice(pair.as_bytes());
+        }
+        name.push(b'"');
+        let tail = self.of(&["", "", "", "@en", "@en-GB", "@a-1-b", "^^<t>", "^^<a:b#c>", "@", "@en-", "@1", "^^", "^<t>", "^^<>"]);
+        name.extend_from_slice(tail.as_bytes());
+        name
+    }
+
+    /// A byte that matters to names or lines, or any.
+    fn byte(&mut self) -> u8 {
+        if self.one_in(6) {
+            return self.any() as u8;
+        }
+        self.of(b"<>\"_:.@^#\\ \t\r\n-aZ0nr{}|`\x00\x0b\x1f!~\x7f\x80,")
+    }
+
+    pub fn mutate(&mut self, bytes: &mut Vec<u8>) {
+        for _ in 0..self.from_to(1, 2) {
+            let at = self.below(bytes.len() + 1);
+            let byte = self.byte();
+            match self.below(4) {
+                0 => bytes.insert(at, byte),
+                1 if at < bytes.len() => {
+                    bytes.remove(at);
+                }
+                2 if at < bytes.len() => bytes[at] = byte,
+                _ if self.one_in(3) => bytes.truncate(at),
+                _ => {}
+            }
+        }
+    }
+
+    fn gap(&mut self) -> &'static str {
+        self.of(&["", " ", " ", " ", "\t", "  ", " \t "])
+    }
+
+    fn line(&mut self) -> Vec<u8> {
+        let mut line = vec![];
+        if self.one_in(8) {
+            let length = self.below(8);
+            line.extend(self.bytes(length, b" \t#<a"));
+            return line;
+        }
+        for place in 0..3 {
+            line.extend_from_slice(self.gap().as_bytes());
+            let name = match self.below(10) {
+                0 => self.name(),
+                1..=4 if place == 2 => self.name(),
+                1 | 2 if place == 0 => {
+                    let length = self.inner_length();
+                    [b"_:a".to_vec(), self.bytes(length, b"ab.")].concat()
+                }
+                _ => {
+                    let length = self.inner_length().max(1);
+                    [b"<".to_vec(), self.bytes(length, b"ab:"), b">".to_vec()].concat()
+                }
+            };
+            line.extend(name);
+        }
+        line.extend_from_slice(self.gap().as_bytes());
+        if !self.one_in(20) {
+            line.push(b'.');
+        }
+        line.extend_from_slice(self.gap().as_bytes());
+        if self.one_in(4) {
+            line.push(b'#');
+            let length = self.below(6);
+            line.extend(self.bytes(length, b"ab \t\".<~"));
+        }
+        if self.one_in(3) {
+            self.mutate(&mut line);
+        }
+        line
+    }
+
+    /// A text of some lines, and a position, mostly its beginning or that of a line.
+    pub fn line_text(&mut self) -> (Vec<u8>, usize) {
+        let mut text = vec![];
+        let mut starts = vec![0];
+        for _ in 0..self.of(&[0, 1, 1, 1, 1, 2, 3]) {
+            if self.one_in(12) {
+                let length = self.below(12);
+                text.extend((0..length).map(|_| self.byte()));
+            } else {
+                text.extend(self.line());
+            }
+            let ends = ["\n", "\n", "\n", "\r\n", "\r\n", "\r\r\n", "\n\n", "\r", ""];
+            let end = self.of(&ends);
+            text.extend_from_slice(end.as_bytes());
+            starts.push(text.len());
+        }
+        let at = match self.below(12) {
+            0 => self.below(text.len() + 3),
+            1 => self.of(&[usize::MAX, usize::MAX - 1, 1 << 32, (1 << 32) - 1, 1 << 63]),
+            2..=4 => self.of(&starts),
+            _ => 0,
+        };
+        (text, at)
+    }
+}

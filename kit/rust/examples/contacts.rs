@@ -1,0 +1,120 @@
+//! A relay's contacts by name, and a question: the Rust twin of `kit/c/contacts.c`, with the same output.
+//!
+//!     contacts FILE
+//!
+//! reads a file of N-Triples into tables of its own, lists what relay <r:21> trips, and asks which breakers are tripped by a relay that
+//! trips <b:4>. Refused lines are told and passed over; any other refusal ends the program with status 1.
+
+use lemontiller::{Error, Line, Lines, Outcome, Question, ResourceId, Store, Term};
+use lemontiller::{COUNTER_WORDS, RESOURCE_WORDS, STATEMENT_WORDS};
+use std::{env, fs, process::ExitCode};
+
+const RESOURCES: usize = 512;
+const STATEMENTS: usize = 1024;
+const TEXT_BYTES: usize = 16384;
+
+/// The records that one call may visit. A screen picks what its frame allows and comes back with the cursor for more.
+const BUDGET: u32 = 1;
+
+/// Enters the three names of a line and asserts their triple. Names are entered one by one: those before a refusal remain.
+fn load_triple(store: &mut Store, parts: [&[u8]; 3]) -> Result<(), Error> {
+    let subject = store.enter(parts[0])?;
+    let predicate = store.enter(parts[1])?;
+    let object = store.enter(parts[2])?;
+    store.assert(subject, predicate, object)?;
+    Ok(())
+}
+
+fn load(store: &mut Store, input: &[u8]) {
+    for (line, read) in Lines::new(input).enumerate() {
+        let loaded = match read {
+            Ok(Line::Triple(parts)) => load_triple(store, parts),
+            Ok(Line::Nothing) => Ok(()),
+            Err(error) => Err(error),
+        };
+        if let Err(error) = loaded {
+            println!("line {}: {error}", line + 1);
+        }
+    }
+}
+
+fn number_of(store: &Store, name: &str) -> Result<ResourceId, String> {
+    let found = store.find(name.as_bytes()).map_err(|error| format!("{name}: {error}"))?;
+    found.ok_or_else(|| format!("{name} is in no statement"))
+}
+
+fn name_of(store: &Store, id: ResourceId) -> Result<String, Error> {
+    Ok(String::from_utf8_lossy(store.name(id)?).into_owned())
+}
+
+/// Lists the objects of a relay's statements, the newest first, a few visits at a time. `store.scan` would give them all as an iterator.
+fn list_contacts(store: &Store, relay: &str, trips: &str) -> Result<(), String> {
+    let pattern = [Some(number_of(store, relay)?), Some(number_of(store, trips)?), None];
+    let mut cursor = store.scan_open(pattern).map_err(|error| error.to_string())?;
+    println!("contacts of {relay}");
+    loop {
+        match store.scan_next(&mut cursor, BUDGET).map_err(|error| error.to_string())?.outcome {
+            Outcome::Ended => return Ok(()),
+            Outcome::Spent => continue, // records remain: here a screen would draw, then go on
+            Outcome::Found(id) => {
+                let object = store.statement(id).map_err(|error| error.to_string())?.object;
+                println!("  {}", name_of(store, object).map_err(|error| error.to_string())?);
+            }
+        }
+    }
+}
+
+/// Asks for every relay ?0 that trips the breaker, and every ?1 that this relay trips.
+fn ask_tripped_with(store: &Store, breaker: &str, trips: &str) -> Result<(), String> {
+    let (relay, with) = (0, 1);
+    let trips = Term::Resource(number_of(store, trips)?);
+    let question = Question::new(&[
+        [Term::Variable(relay), trips, Term::Resource(number_of(store, breaker)?)],
+        [Term::Variable(relay), trips, Term::Variable(with)],
+    ]);
+    println!("tripped together with {breaker}");
+    for solution in store.ask(&question).map_err(|error| error.to_string())? {
+        let solution = solution.map_err(|error| error.to_string())?;
+        let name = |variable| match solution.get(variable) {
+            Some(id) => name_of(store, id).map_err(|error| error.to_string()),
+            None => Ok("nothing".to_string()),
+        };
+        println!("  {} by {}", name(with)?, name(relay)?);
+    }
+    Ok(())
+}
+
+fn run(path: &str) -> Result<(), String> {
+    let input = fs::read(path).map_err(|error| format!("{path}: {error}"))?;
+    let mut counters = [0; COUNTER_WORDS];
+    let mut resources = vec![0; RESOURCES * RESOURCE_WORDS];
+    let mut statements = vec![0; STATEMENTS * STATEMENT_WORDS];
+    let mut index = vec![0; RESOURCES];
+    let mut text = vec![0; TEXT_BYTES];
+    let mut store =
+        Store::new(&mut counters, &mut resources, &mut statements, &mut index, &mut text).map_err(|error| error.to_string())?;
+
+    load(&mut store, &input);
+    println!("{} resources, {} statements", store.counters().resources, store.counters().statements);
+    list_contacts(&store, "<r:21>", "<p:trips>")?;
+    ask_tripped_with(&store, "<b:4>", "<p:trips>")?;
+
+    // A store that comes from a file or a wire is checked once; one made by this library's own calls is sound.
+    println!("{}", if store.is_sound() { "sound" } else { "not sound" });
+    Ok(())
+}
+
+fn main() -> ExitCode {
+    let arguments: Vec<String> = env::args().collect();
+    let [_, path] = arguments.as_slice() else {
+        eprintln!("usage: contacts FILE");
+        return ExitCode::FAILURE;
+    };
+    match run(path) {
+        Ok(()) => ExitCode::SUCCESS,
+        Err(message) => {
+            eprintln!("{message}");
+            ExitCode::FAILURE
+        }
+    }
+}

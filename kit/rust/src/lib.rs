@@ -1,0 +1,514 @@
+//! The Lemontiller store for Rust, `std` only. A [`Store`] holds the five slices that the caller lends, so the borrow checker sees to it
+//! that one table is not lent twice, that nothing is written while a scan or a solution is read through an iterator, and that a name
+//! does not outlive its text. Refusals are values of [`Error`], slices that are too short among them. Cursors are plain arrays, which the
+//! caller may keep while the store changes.
+//!
+//! `include/lemontiller.h` has the layout of the tables and what each refusal means.
+
+use std::fmt;
+
+pub mod ffi;
+
+#[cfg(test)]
+mod tests;
+
+/// Words of the counters, of a resource's record and of a statement's.
+pub const COUNTER_WORDS: usize = 3;
+pub const RESOURCE_WORDS: usize = 8;
+pub const STATEMENT_WORDS: usize = 7;
+
+/// The most patterns of a question, and its variables: 0 to 15.
+pub const MAX_PATTERNS: usize = 8;
+pub const VARIABLES: usize = 16;
+const FIRST_VARIABLE: u32 = 1 << 31;
+
+pub const SCAN_CURSOR_WORDS: usize = 5;
+pub const QUERY_CURSOR_WORDS: usize = 2 + 2 * MAX_PATTERNS;
+const QUERY_REPLY_WORDS: usize = 2 + VARIABLES;
+const LINE_WORDS: usize = 8;
+
+/// Where a scan or a question stands. All zeros is the start of a question.
+pub type ScanCursor = [u32; SCAN_CURSOR_WORDS];
+pub type QueryCursor = [u32; QUERY_CURSOR_WORDS];
+
+/// A refusal. Nothing is written where one is given.
+#[derive(Clone, Copy, Debug, PartialEq, Eq)]
+pub enum Error {
+    Capacity,
+    Malformed,
+    Full,
+    UnknownNumber,
+    KindNotPermitted,
+    BadCursor,
+    NoBudget,
+    BadQuery,
+    Damaged,
+    /// `offset` is that of the first byte in the line that fits no line.
+    BadLine {
+        offset: usize,
+    },
+    TooShort,
+}
+
+impl Error {
+    /// The number that the paper and the C header give to this refusal.
+    pub fn number(self) -> u32 {
+        match self {
+            Error::Capacity => 1,
+            Error::Malformed => 2,
+            Error::Full => 3,
+            Error::UnknownNumber => 4,
+            Error::KindNotPermitted => 5,
+            Error::BadCursor => 6,
+            Error::NoBudget => 7,
+            Error::BadQuery => 8,
+            Error::Damaged => 9,
+            Error::BadLine { .. } => 10,
+            Error::TooShort => 100,
+        }
+    }
+
+    /// What a function of the store gave back. `offset` matters to 10 alone.
+    fn result_of(number: u32, offset: usize) -> Result<(), Error> {
+        Err(match number {
+            0 => return Ok(()),
+            1 => Error::Capacity,
+            2 => Error::Malformed,
+            3 => Error::Full,
+            4 => Error::UnknownNumber,
+            5 => Error::KindNotPermitted,
+            6 => Error::BadCursor,
+            7 => Error::NoBudget,
+            8 => Error::BadQuery,
+            9 => Error::Damaged,
+            10 => Error::BadLine { offset },
+            100 => Error::TooShort,
+            _ => unreachable!("the store gives no result {number}"),
+        })
+    }
+}
+
+impl fmt::Display for Error {
+    fn fmt(&self, f: &mut fmt::Formatter<'_>) -> fmt::Result {
+        match self {
+            Error::Capacity => write!(f, "a counter exceeds its capacity"),
+            Error::Malformed => write!(f, "the name is not well formed or too long"),
+            Error::Full => write!(f, "no room for one more"),
+            Error::UnknownNumber => write!(f, "the number names nothing"),
+            Error::KindNotPermitted => write!(f, "a literal as subject, or a predicate that is no IRI"),
+            Error::BadCursor => write!(f, "the cursor fits neither the store nor the pattern"),
+            Error::NoBudget => write!(f, "a budget of 0"),
+            Error::BadQuery => write!(f, "the words are no query"),
+            Error::Damaged => write!(f, "the tables are damaged"),
+            Error::BadLine { offset } => write!(f, "the line cannot be read, byte {offset}"),
+            Error::TooShort => write!(f, "a lent slice is too short"),
+        }
+    }
+}
+
+impl std::error::Error for Error {}
+
+/// A resource's number, and a statement's: one is never taken for the other.
+#[derive(Clone, Copy, Debug, PartialEq, Eq, PartialOrd, Ord, Hash)]
+pub struct ResourceId(pub u32);
+#[derive(Clone, Copy, Debug, PartialEq, Eq, PartialOrd, Ord, Hash)]
+pub struct StatementId(pub u32);
+
+#[derive(Clone, Copy, Debug, PartialEq, Eq)]
+pub enum Kind {
+    Iri,
+    Blank,
+    Literal,
+}
+
+/// How much of the tables is in use.
+#[derive(Clone, Copy, Debug, PartialEq, Eq)]
+pub struct Counters {
+    pub resources: u32,
+    pub statements: u32,
+    pub text: u32,
+}
+
+#[derive(Clone, Copy, Debug, PartialEq, Eq)]
+pub struct Statement {
+    pub subject: ResourceId,
+    pub predicate: ResourceId,
+    pub object: ResourceId,
+    pub retracted: bool,
+}
+
+/// What became of a triple that was asserted, with its statement's number.
+#[derive(Clone, Copy, Debug, PartialEq, Eq)]
+pub enum Asserted {
+    New(StatementId),
+    Already(StatementId),
+    Revived(StatementId),
+}
+
+/// What one next call did, within its budget of visits.
+#[derive(Clone, Copy, Debug, PartialEq, Eq)]
+pub struct Step<T> {
+    pub outcome: Outcome<T>,
+    pub visits: u32,
+}
+
+#[derive(Clone, Copy, Debug, PartialEq, Eq)]
+pub enum Outcome<T> {
+    Found(T),
+    Ended,
+    /// The budget is gone and a record remains: call again with the same cursor.
+    Spent,
+}
+
+impl<T> Step<T> {
+    fn of(status: u32, found: T, visits: u32) -> Step<T> {
+        let outcome = match status {
+            1 => Outcome::Found(found),
+            2 => Outcome::Ended,
+            3 => Outcome::Spent,
+            _ => unreachable!("the store answers no status {status}"),
+        };
+        Step { outcome, visits }
+    }
+}
+
+/// A place of a question's pattern: a resource, or a variable below [`VARIABLES`].
+#[derive(Clone, Copy, Debug, PartialEq, Eq)]
+pub enum Term {
+    Resource(ResourceId),
+    Variable(u8),
+}
+
+/// A question: triples that must all be live statements, one resource standing for each variable throughout.
+#[derive(Clone, Debug, PartialEq, Eq)]
+pub struct Question {
+    words: Vec<u32>,
+}
+
+impl Question {
+    pub fn new(patterns: &[[Term; 3]]) -> Question {
+        let word = |term: &Term| match *term {
+            Term::Resource(ResourceId(number)) => number,
+            Term::Variable(v) => FIRST_VARIABLE + u32::from(v),
+        };
+        Question { words: patterns.iter().flatten().map(word).collect() }
+    }
+
+    /// A question of raw words, as the C interface has it.
+    pub fn from_words(words: &[u32]) -> Question {
+        Question { words: words.to_vec() }
+    }
+}
+
+/// The resource that stands for each variable in one answer to a question.
+#[derive(Clone, Copy, Debug, PartialEq, Eq)]
+pub struct Solution {
+    numbers: [u32; VARIABLES],
+}
+
+impl Solution {
+    /// None for a variable that the question does not use.
+    pub fn get(&self, variable: u8) -> Option<ResourceId> {
+        self.numbers.get(usize::from(variable)).and_then(|&number| resource(number))
+    }
+}
+
+fn resource(number: u32) -> Option<ResourceId> {
+    (number != 0).then_some(ResourceId(number))
+}
+
+fn number_or_any(place: Option<ResourceId>) -> u32 {
+    place.map_or(0, |id| id.0)
+}
+
+/// The kind of a name, or [`Error::Malformed`].
+pub fn name_kind(name: &[u8]) -> Result<Kind, Error> {
+    let mut reply = [0u32; 1];
+    // SAFETY: both slices are whole and live, and they are two.
+    let result = unsafe { ffi::lt_name_kind(name.as_ptr(), name.len(), reply.as_mut_ptr(), reply.len()) };
+    Error::result_of(result, 0)?;
+    Ok(match reply[0] {
+        1 => Kind::Iri,
+        2 => Kind::Blank,
+        _ => Kind::Literal,
+    })
+}
+
+/// Reads N-Triples, line by line. It carries the text and how far it has read, and moves past a line that it refuses too.
+#[derive(Clone, Debug)]
+pub struct Lines<'t> {
+    text: &'t [u8],
+    at: usize,
+}
+
+#[derive(Clone, Copy, Debug, PartialEq, Eq)]
+pub enum Line<'t> {
+    /// A blank line or a comment.
+    Nothing,
+    /// Subject, predicate, object.
+    Triple([&'t [u8]; 3]),
+}
+
+impl<'t> Lines<'t> {
+    pub fn new(text: &'t [u8]) -> Lines<'t> {
+        Lines { text, at: 0 }
+    }
+
+    /// The position after what has been read.
+    pub fn position(&self) -> usize {
+        self.at
+    }
+}
+
+impl<'t> Iterator for Lines<'t> {
+    type Item = Result<Line<'t>, Error>;
+
+    fn next(&mut self) -> Option<Self::Item> {
+        let mut reply = [0u64; LINE_WORDS];
+        // SAFETY: both slices are whole and live, and they are two.
+        let result = unsafe { ffi::lt_read_line(self.text.as_ptr(), self.text.len(), self.at, reply.as_mut_ptr(), reply.len()) };
+        self.at = reply[1] as usize;
+        if let Err(error) = Error::result_of(result, reply[2] as usize) {
+            return Some(Err(error));
+        }
+        let part = |k: usize| &self.text[reply[2 + 2 * k] as usize..][..reply[3 + 2 * k] as usize];
+        match reply[0] {
+            0 => None,
+            1 => Some(Ok(Line::Nothing)),
+            _ => Some(Ok(Line::Triple([part(0), part(1), part(2)]))),
+        }
+    }
+}
+
+/// Calls a store function with the five slices lent for reading, then the arguments given.
+macro_rules! reading {
+    ($function:ident, $store:expr $(, $arg:expr)* $(,)?) => {
+        // SAFETY: the five slices are held by the store and are whole; what is written is a slice of its own.
+        Error::result_of(unsafe {
+            ffi::$function(
+                $store.counters.as_ptr(), $store.counters.len(),
+                $store.resources.as_ptr(), $store.resources.len(),
+                $store.statements.as_ptr(), $store.statements.len(),
+                $store.index.as_ptr(), $store.index.len(),
+                $store.text.as_ptr(), $store.text.len(),
+                $($arg),*
+            )
+        }, 0)
+    };
+}
+
+/// The same, with the five slices lent for writing: the store is borrowed for it alone.
+macro_rules! writing {
+    ($function:ident, $store:expr $(, $arg:expr)* $(,)?) => {
+        // SAFETY: the five slices are held by the store, borrowed for this call alone, whole and apart from each other.
+        Error::result_of(unsafe {
+            ffi::$function(
+                $store.counters.as_mut_ptr(), $store.counters.len(),
+                $store.resources.as_mut_ptr(), $store.resources.len(),
+                $store.statements.as_mut_ptr(), $store.statements.len(),
+                $store.index.as_mut_ptr(), $store.index.len(),
+                $store.text.as_mut_ptr(), $store.text.len(),
+                $($arg),*
+            )
+        }, 0)
+    };
+}
+
+/// A store over lent tables. With counters of 0 it is fresh, and the tables may hold anything.
+///
+/// One table cannot be lent twice:
+///
+/// ```compile_fail,E0499
+/// let (mut counters, mut words, mut text) = ([0; 3], [0; 64], [0; 64]);
+/// lemontiller::Store::new(&mut counters, &mut words, &mut words, &mut [0; 8], &mut text);
+/// ```
+pub struct Store<'a> {
+    counters: &'a mut [u32],
+    resources: &'a mut [u32],
+    statements: &'a mut [u32],
+    index: &'a mut [u32],
+    text: &'a mut [u8],
+}
+
+impl<'a> Store<'a> {
+    /// Lends the tables. Counters of fewer than [`COUNTER_WORDS`] words are [`Error::TooShort`]; the other slices may have any length.
+    pub fn new(
+        counters: &'a mut [u32],
+        resources: &'a mut [u32],
+        statements: &'a mut [u32],
+        index: &'a mut [u32],
+        text: &'a mut [u8],
+    ) -> Result<Store<'a>, Error> {
+        if counters.len() < COUNTER_WORDS {
+            return Err(Error::TooShort);
+        }
+        Ok(Store { counters, resources, statements, index, text })
+    }
+
+    pub fn counters(&self) -> Counters {
+        Counters { resources: self.counters[0], statements: self.counters[1], text: self.counters[2] }
+    }
+
+    /// Whether every word of the store is as entering, asserting and retracting leave it.
+    pub fn is_sound(&self) -> bool {
+        let mut reply = [0u32; 1];
+        reading!(lt_check, self, reply.as_mut_ptr(), reply.len()).is_ok() && reply[0] == 1
+    }
+
+    pub fn find(&self, name: &[u8]) -> Result<Option<ResourceId>, Error> {
+        let mut reply = [0u32; 1];
+        reading!(lt_find, self, name.as_ptr(), name.len(), reply.as_mut_ptr(), reply.len())?;
+        Ok(resource(reply[0]))
+    }
+
+    /// Finds a name, or gives it the next number.
+    pub fn enter(&mut self, name: &[u8]) -> Result<ResourceId, Error> {
+        let mut reply = [0u32; 1];
+        writing!(lt_enter, self, name.as_ptr(), name.len(), reply.as_mut_ptr(), reply.len())?;
+        Ok(ResourceId(reply[0]))
+    }
+
+    /// The name of a number, a part of the lent text.
+    pub fn name(&self, id: ResourceId) -> Result<&[u8], Error> {
+        let mut reply = [0u32; 2];
+        reading!(lt_name, self, id.0, reply.as_mut_ptr(), reply.len())?;
+        Ok(&self.text[reply[0] as usize..][..reply[1] as usize])
+    }
+
+    pub fn statement(&self, id: StatementId) -> Result<Statement, Error> {
+        let mut reply = [0u32; 4];
+        reading!(lt_statement, self, id.0, reply.as_mut_ptr(), reply.len())?;
+        let [subject, predicate, object] = [reply[0], reply[1], reply[2]].map(ResourceId);
+        Ok(Statement { subject, predicate, object, retracted: reply[3] == 1 })
+    }
+
+    pub fn assert(&mut self, subject: ResourceId, predicate: ResourceId, object: ResourceId) -> Result<Asserted, Error> {
+        let mut reply = [0u32; 2];
+        writing!(lt_assert, self, subject.0, predicate.0, object.0, reply.as_mut_ptr(), reply.len())?;
+        let id = StatementId(reply[1]);
+        Ok(match reply[0] {
+            1 => Asserted::New(id),
+            2 => Asserted::Already(id),
+            3 => Asserted::Revived(id),
+            status => unreachable!("the store answers no status {status}"),
+        })
+    }
+
+    /// The statement that was live until now, or none.
+    pub fn retract(
+        &mut self,
+        subject: ResourceId,
+        predicate: ResourceId,
+        object: ResourceId,
+    ) -> Result<Option<StatementId>, Error> {
+        let mut reply = [0u32; 1];
+        writing!(lt_retract, self, subject.0, predicate.0, object.0, reply.as_mut_ptr(), reply.len())?;
+        Ok((reply[0] != 0).then_some(StatementId(reply[0])))
+    }
+
+    /// Opens a scan of the live statements with the resources given, `None` for any.
+    pub fn scan_open(&self, pattern: [Option<ResourceId>; 3]) -> Result<ScanCursor, Error> {
+        let [subject, predicate, object] = pattern.map(number_or_any);
+        let mut cursor = [0; SCAN_CURSOR_WORDS];
+        reading!(lt_scan_open, self, subject, predicate, object, cursor.as_mut_ptr(), cursor.len())?;
+        Ok(cursor)
+    }
+
+    /// Next of a scan, the newest statement first. The cursor may be any slice that holds one; a short one is [`Error::TooShort`].
+    pub fn scan_next(&self, cursor: &mut [u32], budget: u32) -> Result<Step<StatementId>, Error> {
+        let mut reply = [0u32; 3];
+        reading!(lt_scan_next, self, cursor.as_mut_ptr(), cursor.len(), budget, reply.as_mut_ptr(), reply.len())?;
+        Ok(Step::of(reply[0], StatementId(reply[1]), reply[2]))
+    }
+
+    /// Opens a question of up to [`MAX_PATTERNS`] patterns.
+    pub fn query_open(&self, question: &Question) -> Result<QueryCursor, Error> {
+        let words = &question.words;
+        let mut cursor = [0; QUERY_CURSOR_WORDS];
+        reading!(lt_query_open, self, words.as_ptr(), words.len(), cursor.as_mut_ptr(), cursor.len())?;
+        Ok(cursor)
+    }
+
+    /// Next of a question. The cursor may be any slice that holds one; a short one is [`Error::TooShort`].
+    pub fn query_next(&self, question: &Question, cursor: &mut [u32], budget: u32) -> Result<Step<Solution>, Error> {
+        let words = &question.words;
+        let mut reply = [0u32; QUERY_REPLY_WORDS];
+        reading!(
+            lt_query_next,
+            self,
+            words.as_ptr(),
+            words.len(),
+            cursor.as_mut_ptr(),
+            cursor.len(),
+            budget,
+            reply.as_mut_ptr(),
+            reply.len(),
+        )?;
+        let mut numbers = [0; VARIABLES];
+        numbers.copy_from_slice(&reply[2..]);
+        Ok(Step::of(reply[0], Solution { numbers }, reply[1]))
+    }
+
+    /// All statements of a scan. The store cannot change meanwhile; for that, keep a cursor.
+    pub fn scan(&self, pattern: [Option<ResourceId>; 3]) -> Result<Scan<'_, 'a>, Error> {
+        Ok(Scan { store: self, cursor: self.scan_open(pattern)?, refused: false })
+    }
+
+    /// All solutions of a question. The store cannot change meanwhile; for that, keep a cursor.
+    pub fn ask<'s>(&'s self, question: &'s Question) -> Result<Solutions<'s, 'a>, Error> {
+        Ok(Solutions { store: self, question, cursor: self.query_open(question)?, refused: false })
+    }
+}
+
+/// The statements of a scan; a refusal is given once and ends it.
+pub struct Scan<'s, 'a> {
+    store: &'s Store<'a>,
+    cursor: ScanCursor,
+    refused: bool,
+}
+
+impl Iterator for Scan<'_, '_> {
+    type Item = Result<StatementId, Error>;
+
+    fn next(&mut self) -> Option<Self::Item> {
+        while !self.refused {
+            match self.store.scan_next(&mut self.cursor, u32::MAX).map(|step| step.outcome) {
+                Ok(Outcome::Found(id)) => return Some(Ok(id)),
+                Ok(Outcome::Ended) => return None,
+                Ok(Outcome::Spent) => continue,
+                Err(error) => {
+                    self.refused = true;
+                    return Some(Err(error));
+                }
+            }
+        }
+        None
+    }
+}
+
+/// The solutions of a question; a refusal is given once and ends them.
+pub struct Solutions<'s, 'a> {
+    store: &'s Store<'a>,
+    question: &'s Question,
+    cursor: QueryCursor,
+    refused: bool,
+}
+
+impl Iterator for Solutions<'_, '_> {
+    type Item = Result<Solution, Error>;
+
+    fn next(&mut self) -> Option<Self::Item> {
+        while !self.refused {
+            match self.store.query_next(self.question, &mut self.cursor, u32::MAX).map(|step| step.outcome) {
+                Ok(Outcome::Found(solution)) => return Some(Ok(solution)),
+                Ok(Outcome::Ended) => return None,
+                Ok(Outcome::Spent) => continue,
+                Err(error) => {
+                    self.refused = true;
+                    return Some(Err(error));
+                }
+            }
+        }
+        None
+    }
+}

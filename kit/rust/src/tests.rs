@@ -1,0 +1,175 @@
+//! The wrapper's own tests: that values go over to the library and come back as they are, refusals and short slices among them. What the
+//! library answers on any tables is the differential test's matter.
+use super::*;
+
+/// Tables of six resources and four statements, and a store over them, which the test body is given.
+fn with_store(body: impl FnOnce(&mut Store)) {
+    let (mut counters, mut resources, mut statements) = ([0; 3], [7; 6 * RESOURCE_WORDS], [7; 4 * STATEMENT_WORDS]);
+    let (mut index, mut text) = ([7; 6], [7; 64]);
+    let mut store = Store::new(&mut counters, &mut resources, &mut statements, &mut index, &mut text).unwrap();
+    body(&mut store)
+}
+
+/// The paper's example: 1 `<r:21>`, 2 `<p:trips>`, 3 `<b:4>`, 4 `<b:7>`; statements (1,2,3) and (1,2,4).
+fn with_bay(body: impl FnOnce(&mut Store, [ResourceId; 4])) {
+    with_store(|store| {
+        let ids = ["<r:21>", "<p:trips>", "<b:4>", "<b:7>"].map(|name| store.enter(name.as_bytes()).unwrap());
+        assert_eq!(ids, [1, 2, 3, 4].map(ResourceId));
+        assert_eq!(store.assert(ids[0], ids[1], ids[2]), Ok(Asserted::New(StatementId(1))));
+        assert_eq!(store.assert(ids[0], ids[1], ids[3]), Ok(Asserted::New(StatementId(2))));
+        body(store, ids)
+    })
+}
+
+#[test]
+fn names_come_back() {
+    with_bay(|store, ids| {
+        assert_eq!(store.find(b"<b:7>"), Ok(Some(ids[3])));
+        assert_eq!(store.find(b"<b:8>"), Ok(None));
+        assert_eq!(store.name(ids[3]), Ok(&b"<b:7>"[..]));
+        assert_eq!(store.counters(), Counters { resources: 4, statements: 2, text: 7 + 10 + 6 + 6 });
+        assert!(store.is_sound());
+    })
+}
+
+#[test]
+fn statements_live_and_die() {
+    with_bay(|store, [relay, trips, b4, b7]| {
+        assert_eq!(store.assert(relay, trips, b4), Ok(Asserted::Already(StatementId(1))));
+        assert_eq!(store.retract(relay, trips, b4), Ok(Some(StatementId(1))));
+        assert_eq!(store.retract(relay, trips, b4), Ok(None));
+        let read = Statement { subject: relay, predicate: trips, object: b4, retracted: true };
+        assert_eq!(store.statement(StatementId(1)), Ok(read));
+        assert_eq!(store.scan([None; 3]).unwrap().collect::<Vec<_>>(), [Ok(StatementId(2))]);
+        assert_eq!(store.assert(relay, trips, b4), Ok(Asserted::Revived(StatementId(1))));
+        let scan = store.scan([Some(relay), None, None]).unwrap();
+        assert_eq!(scan.collect::<Vec<_>>(), [Ok(StatementId(2)), Ok(StatementId(1))]);
+        assert_eq!(store.scan([None, None, Some(b7)]).unwrap().count(), 1);
+    })
+}
+
+#[test]
+fn a_cursor_outlives_a_change() {
+    with_bay(|store, [relay, trips, b4, _]| {
+        let mut cursor = store.scan_open([Some(relay), Some(trips), None]).unwrap();
+        let found = Step { outcome: Outcome::Found(StatementId(2)), visits: 1 };
+        assert_eq!(store.scan_next(&mut cursor, 1), Ok(found));
+        store.retract(relay, trips, b4).unwrap();
+        assert_eq!(store.scan_next(&mut cursor, 1), Ok(Step { outcome: Outcome::Ended, visits: 1 }));
+        let mut opened = store.scan_open([Some(relay), None, None]).unwrap();
+        store.retract(relay, trips, ResourceId(4)).unwrap();
+        assert_eq!(store.scan_next(&mut opened, 1), Ok(Step { outcome: Outcome::Spent, visits: 1 }));
+    })
+}
+
+#[test]
+fn a_question_is_answered() {
+    with_bay(|store, [_, trips, b4, b7]| {
+        let trips = Term::Resource(trips);
+        let question =
+            Question::new(&[[Term::Variable(0), trips, Term::Resource(b4)], [Term::Variable(0), trips, Term::Variable(15)]]);
+        let solutions: Vec<_> = store.ask(&question).unwrap().map(|s| s.unwrap()).collect();
+        assert_eq!(solutions.iter().map(|s| s.get(15)).collect::<Vec<_>>(), [Some(b7), Some(b4)]);
+        assert_eq!(solutions[0].get(0), Some(ResourceId(1)));
+        assert_eq!((solutions[0].get(1), solutions[0].get(16)), (None, None));
+        let empty = Question::new(&[]);
+        assert_eq!(store.ask(&empty).unwrap().count(), 1);
+    })
+}
+
+#[test]
+fn refusals_are_values() {
+    with_bay(|store, [relay, trips, b4, _]| {
+        assert_eq!(store.find(b"trips"), Err(Error::Malformed));
+        assert_eq!(store.enter(b""), Err(Error::Malformed));
+        assert_eq!(store.name(ResourceId(5)), Err(Error::UnknownNumber));
+        assert_eq!(store.statement(StatementId(0)), Err(Error::UnknownNumber));
+        let literal = store.enter(b"\"A\"").unwrap();
+        assert_eq!(store.assert(literal, trips, b4), Err(Error::KindNotPermitted));
+        store.enter(b"_:x").unwrap();
+        assert_eq!(store.enter(b"_:y"), Err(Error::Full));
+        let mut cursor = store.scan_open([Some(relay), None, None]).unwrap();
+        assert_eq!(store.scan_next(&mut cursor, 0), Err(Error::NoBudget));
+        cursor[4] = 9;
+        assert_eq!(store.scan_next(&mut cursor, 1), Err(Error::BadCursor));
+        let nine = Question::new(&[[Term::Variable(0); 3]; MAX_PATTERNS + 1]);
+        assert_eq!(store.ask(&nine).err(), Some(Error::BadQuery));
+        let beyond = Question::new(&[[Term::Variable(16); 3]]);
+        assert_eq!(store.query_open(&beyond), Err(Error::BadQuery));
+        assert_eq!(store.query_open(&Question::from_words(&[1, 2])), Err(Error::BadQuery));
+        assert!(store.is_sound());
+    })
+}
+
+#[test]
+fn damage_is_a_value_and_ends_an_iterator() {
+    let (mut counters, mut resources, mut statements) = ([1, 1, 4], [1, 1, 1, 1, 1, 1, 0, 1], [1, 1, 1, 0, 0, 0, 2]);
+    let (mut index, mut text) = ([1], *b"<a>\0");
+    let store = Store::new(&mut counters, &mut resources, &mut statements, &mut index, &mut text).unwrap();
+    assert!(!store.is_sound());
+    assert_eq!(store.statement(StatementId(1)), Err(Error::Damaged));
+    assert_eq!(store.scan([None; 3]).unwrap().collect::<Vec<_>>(), [Err(Error::Damaged)]);
+}
+
+#[test]
+fn short_slices_are_values() {
+    let mut two = [0; COUNTER_WORDS - 1];
+    assert_eq!(Store::new(&mut two, &mut [], &mut [], &mut [], &mut []).err(), Some(Error::TooShort));
+    with_bay(|store, _| {
+        let cursor = store.scan_open([None; 3]).unwrap();
+        let mut short = cursor[..4].to_vec();
+        assert_eq!(store.scan_next(&mut short, 1), Err(Error::TooShort));
+        assert_eq!(short, cursor[..4]);
+        let question = Question::new(&[]);
+        assert_eq!(store.query_next(&question, &mut [0; QUERY_CURSOR_WORDS - 1], 1), Err(Error::TooShort));
+        let mut long = [cursor.as_slice(), &[77]].concat();
+        assert!(store.scan_next(&mut long, 1).is_ok());
+        assert_eq!(long[SCAN_CURSOR_WORDS], 77);
+    })
+}
+
+#[test]
+fn empty_tables_have_pointers() {
+    let (mut counters, mut words, mut bytes) = ([0; 3], Vec::<u32>::new(), Vec::<u8>::new());
+    assert!(words.as_ptr() as usize != 0 && bytes.as_ptr() as usize != 0);
+    let (statements, index): (&mut [u32], &mut [u32]) = (&mut [], &mut []);
+    assert!(statements.as_ptr() as usize != 0 && index.as_ptr() as usize != 0);
+    let mut store = Store::new(&mut counters, &mut words, statements, index, &mut bytes).unwrap();
+    assert!(store.is_sound());
+    assert_eq!(store.enter(b"<a>"), Err(Error::Full));
+    assert_eq!(store.find(&[]), Err(Error::Malformed));
+    assert_eq!(store.scan([None; 3]).unwrap().count(), 0);
+    let mut over = [1, 0, 0];
+    let store = Store::new(&mut over, &mut [], &mut [], &mut [], &mut []).unwrap();
+    assert_eq!(store.find(b"<a>"), Err(Error::Capacity));
+    assert_eq!(Lines::new(&[]).next(), None);
+}
+
+#[test]
+fn lines_are_parts_of_the_text() {
+    let text = b"<a> <b> _:c.\n# nothing\r\n<a>\n\"a\"";
+    let mut lines = Lines::new(text);
+    assert_eq!(lines.next(), Some(Ok(Line::Triple([b"<a>", b"<b>", b"_:c"]))));
+    assert_eq!(lines.next(), Some(Ok(Line::Nothing)));
+    assert_eq!(lines.next(), Some(Err(Error::BadLine { offset: 3 })));
+    assert_eq!(lines.next(), Some(Err(Error::BadLine { offset: 0 })));
+    assert_eq!((lines.next(), lines.position()), (None, text.len()));
+    assert_eq!(name_kind(b"<a>"), Ok(Kind::Iri));
+    assert_eq!(name_kind(b"_:a"), Ok(Kind::Blank));
+    assert_eq!(name_kind(b"\"a\"@en"), Ok(Kind::Literal));
+    assert_eq!(name_kind(b"_:a."), Err(Error::Malformed));
+}
+
+#[test]
+fn every_refusal_has_its_number_and_text() {
+    let mut texts = Vec::new();
+    for number in (1..=10).chain([100]) {
+        let error = Error::result_of(number, 0).unwrap_err();
+        assert_eq!(error.number(), number);
+        texts.push(error.to_string());
+    }
+    texts.sort();
+    texts.dedup();
+    assert_eq!(texts.len(), 11);
+    assert_eq!(Error::result_of(0, 0), Ok(()));
+}
