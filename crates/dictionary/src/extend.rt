@@ -5,13 +5,14 @@ ghost use mathlib.Core.List.{[], _∷_, _++_};
 ghost use Prim.Native.Nat.{ℕ, suc, _+_, _-_, _*_, _≤_, _<_};
 ghost use lib.ListN.{length};
 ghost use lib.Seq.{sets};
-ghost use Rattle.store.specs.Tables.{resourceWords, maxResources, maxText, maxName};
+ghost use Rattle.term.specs.Grammar.{nameLimit};
+ghost use Rattle.store.specs.Tables.{resourceWords, maxResources, maxText};
 ghost use Rattle.store.specs.Dictionary.{oneNameMore, freshRecord, bring, insertAt};
 ghost use Rattle.dictionary.specs.Extend.{Roomy, Extended};
 
 // The counters with one name more.
 pub fn one_name_more(c: Counters, name: &[u8]) -> Counters
-    requires { ⌜ (length (now name) ≤ maxName) × (c .resources ≤ maxResources) × (c .text ≤ maxText) ⌝ }
+    requires { ⌜ (length (now name) ≤ nameLimit) × (c .resources ≤ maxResources) × (c .text ≤ maxText) ⌝ }
     ensures { λ g. ⌜ g ≡ oneNameMore c (now (name .entry)) ⌝ }
 {
     Counters {

@@ -11,7 +11,8 @@ use lib.Seq.{drop-cons}
 use lib.Dec.{eqb, ltb}
 use borrow.Author.Tests.{eqb-true, eqb-false, ltb-true, ltb-false, eq-eqb, ne-eqb, lt-ltb, le-ltb}
 use Rattle.term.specs.Scanner.{kindOf}
-use Rattle.store.specs.Tables.{maxName, offsetAt, kindAt}
+use Rattle.term.specs.Grammar.{nameLimit}
+use Rattle.store.specs.Tables.{offsetAt, kindAt}
 use Rattle.store.specs.Model.{wellFormed}
 use Rattle.store.specs.Dictionary.{upToZero, compare, isLess}
 use Rattle.store.proofs.Tests.{and-l}
@@ -99,18 +100,18 @@ module _ (res used : List ℕ) (y o : ℕ) where
   unfolding nameOk
   name-moved h e = rw (lt-ltb (o + length n) (length used) h, ne-eqb (offsetAt res y) o e)
 
-  pub name-ill : o + length n < length used → offsetAt res y ≡ o → kindOf maxName n ≡ 0 → nameOk res used y o ≡ false
+  pub name-ill : o + length n < length used → offsetAt res y ≡ o → kindOf nameLimit n ≡ 0 → nameOk res used y o ≡ false
   unfolding nameOk wellFormed
   name-ill h e k = rw (lt-ltb (o + length n) (length used) h, eq-eqb (offsetAt res y) o e, k)
 
-  pub name-kinds : o + length n < length used → offsetAt res y ≡ o → (kindOf maxName n ≡ 0 → ⊥)
-      → nameOk res used y o ≡ eqb (kindAt res y) (kindOf maxName n)
+  pub name-kinds : o + length n < length used → offsetAt res y ≡ o → (kindOf nameLimit n ≡ 0 → ⊥)
+      → nameOk res used y o ≡ eqb (kindAt res y) (kindOf nameLimit n)
   unfolding nameOk wellFormed
   name-kinds h e k =
       rw (
         lt-ltb (o + length n) (length used) h,
         eq-eqb (offsetAt res y) o e,
-        lt-ltb 0 (kindOf maxName n) (omega arith),
+        lt-ltb 0 (kindOf nameLimit n) (omega arith),
       )
 
 module _ (res used : List ℕ) (r y o : ℕ) where

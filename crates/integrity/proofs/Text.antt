@@ -11,7 +11,8 @@ use lib.Seq.{drop-drop}
 use lib.Dec.{eqb, ltb}
 use borrow.Author.Tests.{eqb-true, eq-eqb, ltb-true, lt-ltb}
 use Rattle.term.specs.Scanner.{firstKindOf, kindOf}
-use Rattle.store.specs.Tables.{maxName, offsetAt, kindAt}
+use Rattle.term.specs.Grammar.{nameLimit}
+use Rattle.store.specs.Tables.{offsetAt, kindAt}
 use Rattle.store.specs.Model.{wellFormed, bytesOf}
 use Rattle.store.specs.Dictionary.{joined, upToZero}
 use Rattle.store.proofs.Tests.{and-l, and-r, and-of}
@@ -61,7 +62,7 @@ module _ (res used : List ℕ) where
       let n = nameFrom used o in
       let a = ltb (o + length n) (length used) in
       let b = eqb (offsetAt res y) o in
-      let d = eqb (kindAt res y) (kindOf maxName n) in
+      let d = eqb (kindAt res y) (kindOf nameLimit n) in
       let e1 = and-r a (b && (wellFormed n && d)) e in
       let e2 = and-r b (wellFormed n && d) e1 in
       let w = and-l (wellFormed n) d e2 in
@@ -69,7 +70,7 @@ module _ (res used : List ℕ) where
         closed = ltb-true (o + length n) (length used) (and-l a _ e);
         offset = eqb-true (offsetAt res y) o (and-l b _ e1);
         formed = w;
-        kind = eqb-true (kindAt res y) (kindOf maxName n) (and-r (wellFormed n) d e2) ∙ form-kindOf n w;
+        kind = eqb-true (kindAt res y) (kindOf nameLimit n) (and-r (wellFormed n) d e2) ∙ form-kindOf n w;
       }
 
   tested-ok : (y o : ℕ) → Tested res used y o → nameOk res used y o ≡ true
@@ -79,7 +80,7 @@ module _ (res used : List ℕ) where
         lt-ltb (o + length (nameFrom used o)) (length used) (T .closed),
         eq-eqb (offsetAt res y) o (T .offset),
         T .formed,
-        eq-eqb (kindAt res y) (kindOf maxName (nameFrom used o)) (T .kind ∙ sym (form-kindOf (nameFrom used o) (T .formed))),
+        eq-eqb (kindAt res y) (kindOf nameLimit (nameFrom used o)) (T .kind ∙ sym (form-kindOf (nameFrom used o) (T .formed))),
       )
 
   split-name : (o : ℕ) → o + length (nameFrom used o) < length used → drop o used ≡ nameFrom used o ++ 0 ∷ drop (after o) used

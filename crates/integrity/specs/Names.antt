@@ -6,7 +6,8 @@ use Prim.Native.Nat.{ℕ, zero, suc, _+_}
 use lib.ListN.{length, drop}
 use lib.Dec.{eqb, ltb}
 use Rattle.term.specs.Scanner.{kindOf}
-use Rattle.store.specs.Tables.{maxName, offsetAt, kindAt}
+use Rattle.term.specs.Grammar.{nameLimit}
+use Rattle.store.specs.Tables.{offsetAt, kindAt}
 use Rattle.store.specs.Model.{wellFormed}
 use Rattle.store.specs.Dictionary.{upToZero}
 
@@ -19,7 +20,7 @@ unfoldable pub nameOk : List ℕ → List ℕ → ℕ → ℕ → Bool
 nameOk res used y o =
     ltb (o + length (nameFrom used o)) (length used)
     && (eqb (offsetAt res y) o
-    && (wellFormed (nameFrom used o) && eqb (kindAt res y) (kindOf maxName (nameFrom used o))))
+    && (wellFormed (nameFrom used o) && eqb (kindAt res y) (kindOf nameLimit (nameFrom used o))))
 
 -- the names of k resources, y the first of them, make up the used text from o on
 unfoldable pub namesOk : List ℕ → List ℕ → ℕ → ℕ → ℕ → Bool

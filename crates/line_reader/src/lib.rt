@@ -4,6 +4,7 @@
 // A function that takes, makes or holds a `LineReader` is proved by a walk of its code, since the struct holds a reference.
 // `line_at` has plain parameters: its callers need no walk.
 ghost use mathlib.Core.Path.{_≡_};
+ghost use Rattle.term.specs.Grammar.{nameLimit};
 ghost use Rattle.ntriples.specs.Text.{readOf};
 use ntriples::Line;
 use ntriples::LineRead;
@@ -23,9 +24,9 @@ pub fn reader<'a>(text: &'a [u8]) -> LineReader<'a>
 
 // Reads a line and moves past it, after refusal 10 too. At the text's end the answer is End and the reader stays.
 pub fn read_line<'s, 'a>(r: &'s mut LineReader<'a>) -> Line
-    ensures { λ l. ⌜ (l ≡ readOf 255 (now (now (r .entry) .text)) (now (r .entry) .at) .line)
+    ensures { λ l. ⌜ (l ≡ readOf nameLimit (now (now (r .entry) .text)) (now (r .entry) .at) .line)
         × (now (r .exit) .text ≡ now (r .entry) .text)
-        × (now (r .exit) .at ≡ readOf 255 (now (now (r .entry) .text)) (now (r .entry) .at) .next) ⌝ }
+        × (now (r .exit) .at ≡ readOf nameLimit (now (now (r .entry) .text)) (now (r .entry) .at) .next) ⌝ }
 {
     let got = ntriples::read_line(r.text, r.at);
     r.at = got.next;
@@ -35,7 +36,7 @@ pub fn read_line<'s, 'a>(r: &'s mut LineReader<'a>) -> Line
 // The line at a position of a text, and the position after it: a reader that stands there reads it. The parameters are plain,
 // so a caller needs no walk.
 pub fn line_at(text: &[u8], at: usize) -> LineRead
-    ensures { λ l. ⌜ l ≡ readOf 255 (now (text .entry)) at ⌝ }
+    ensures { λ l. ⌜ l ≡ readOf nameLimit (now (text .entry)) at ⌝ }
 {
     let mut r = LineReader { text, at };
     let line = read_line(&mut r);

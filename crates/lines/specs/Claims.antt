@@ -5,6 +5,7 @@ use mathlib.Core.Path.{_≡_}
 use mathlib.Core.List.{List}
 use Prim.Native.Nat.{ℕ, _<_}
 use lib.ListN.{length, drop}
+use Rattle.term.specs.Grammar.{nameLimit}
 use Rattle.store.specs.History.{Store}
 use Rattle.ntriples.specs.declared.Span.{Span}
 use Rattle.ntriples.specs.declared.Line.the-variants as answer
@@ -22,11 +23,11 @@ pub record LineLoads (text l : List ℕ) (s p o : Span) (before : Store) : Type 
   -- its terms are those of the standard
   pub meant : Meant l text s p o
   -- its parts are names of permitted kinds
-  pub enterable : Enterable 255 text s p o
+  pub enterable : Enterable nameLimit text s p o
   -- its triple is added, and nothing else; a refusal leaves the graph
   pub loaded : Loaded before ((loadOf before (spelled text s p o)) .0) (spelled text s p o) ((loadOf before (spelled text s p o)) .1)
 
 abbrev pub LinesLoad : Type 0
 LinesLoad = (text : List ℕ) (at : ℕ) (l : List ℕ) (n : ℕ) → at < length text → FirstLine (drop at text) l n
-    → (s p o : Span) → readOf 255 text at .line ≡ answer.Triple s p o → (before : Store) → SoundStore before
+    → (s p o : Span) → readOf nameLimit text at .line ≡ answer.Triple s p o → (before : Store) → SoundStore before
     → LineLoads text l s p o before

@@ -9,6 +9,7 @@ use lib.Dec.{leb, ltb, eqb}
 use lib.ListN.{length, getD}
 use lib.Seq.{slice}
 use Rattle.term.specs.Bytes.{pick}
+use Rattle.term.specs.Grammar.{nameLimit}
 use Rattle.ntriples.specs.declared.Span.{Span}
 use Rattle.ntriples.specs.declared.TermEnd.{TermEnd}
 use Rattle.ntriples.specs.declared.TermEnd.the-variants as term
@@ -62,7 +63,7 @@ pub record RunEnd (f : ℕ → Bool) (text : List ℕ) (i stop r : ℕ) : Type 0
 
 -- what the line gives if the reading stands at the position i in the place p
 unfoldable pub onward : List ℕ → ℕ → ℕ → Place → Outcome
-onward text stop i p = endOf stop (placeOf 255 i p (slice i stop text))
+onward text stop i p = endOf stop (placeOf nameLimit i p (slice i stop text))
 
 -- The subject or the predicate that begins at a, after which n more terms follow, ends before e: the reading is between terms
 -- there. Or no line goes on at k.

@@ -10,6 +10,7 @@ ghost use Prim.Native.Nat.{_+_, _≤_};
 ghost use mathlib.Core.Path.{_≡_};
 ghost use mathlib.Core.List.{[], _∷_};
 ghost use lib.ListN.{length};
+ghost use Rattle.term.specs.Grammar.{nameLimit};
 ghost use Rattle.ntriples.specs.Grammar.{white, commentByte};
 ghost use Rattle.ntriples.specs.Reader.{isDot, opens, Begin, Gap, After, Remark};
 ghost use Rattle.ntriples.specs.Text.{answerOf, readOf};
@@ -433,7 +434,7 @@ fn drop_cr(text: &[u8], at: usize, lf: usize) -> usize
 // Reads the line at the position `at` of the text. The position may stand anywhere, also inside a line, which is then read
 // from there. The next position is past the line and its EOL, after a refusal too; at or past the text's end it is `at`.
 pub fn read_line(text: &[u8], at: usize) -> LineRead
-    ensures { λ r. ⌜ r ≡ readOf 255 (now (text .entry)) at ⌝ }
+    ensures { λ r. ⌜ r ≡ readOf nameLimit (now (text .entry)) at ⌝ }
 {
     if at >= text.len() {
         let end = Line::End;

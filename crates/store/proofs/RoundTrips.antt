@@ -20,7 +20,8 @@ use Rattle.store.specs.declared.NameRead.the-variants.{Span, Refused as 
 use Rattle.store.specs.declared.Lookup.{Lookup}
 use Rattle.store.specs.declared.Lookup.the-variants.{Number, Absent, Refused as NotFound}
 use Rattle.store.specs.Triple.{below, head0}
-use Rattle.store.specs.Tables.{Tables, fits, word, offsetAt, maxName}
+use Rattle.term.specs.Grammar.{nameLimit}
+use Rattle.store.specs.Tables.{Tables, fits, word, offsetAt}
 use Rattle.store.specs.Model.{wellFormed, eqBytes, lookupName, nameOf, bytesOf}
 use Rattle.store.specs.Reading.{inRange, zeroFrom, spanTo, nameSpanOf}
 use Rattle.store.specs.Dictionary.{Named, joined, findOf, foundAs, indexPlaceOf}
@@ -98,8 +99,8 @@ module _ (c : Counters) (m : Tables) (S : Sound c m) where
   span-of y a b =
       let o = offsetAt (m .resources) (y .0) in
       let l = length (nameOf ns (y .0)) in
-      let z : zeroFrom (m .text) (c .text) (maxName + 1) o ≡ some (o + l) =
-      zero-closes (nameOf ns (y .0)) (m .text) _ (c .text) (maxName + 1) o (form-clean _ (name-formed (y .0) a b))
+      let z : zeroFrom (m .text) (c .text) (nameLimit + 1) o ≡ some (o + l) =
+      zero-closes (nameOf ns (y .0)) (m .text) _ (c .text) (nameLimit + 1) o (form-clean _ (name-formed (y .0) a b))
       (bytes-at (y .0) a b)
       (omega (arith, form-short _ (name-formed (y .0) a b))) (name-ends (y .0) a b) in
       let d : o + l - o ≡ l = omega arith in

@@ -6,6 +6,7 @@ use mathlib.Core.List.{List, [], _∷_, _++_}
 use Prim.Native.Nat.{ℕ, zero, suc, _+_, _-_}
 use lib.ListN.{length, getD, set}
 use lib.Dec.{eqb, leb, ltb}
+use Rattle.term.specs.Grammar.{nameLimit}
 use Rattle.term.specs.Scanner.{kindOf, firstKindOf}
 use Rattle.store.specs.declared.Position.{Position}
 use Rattle.store.specs.declared.Position.the-variants.{Subject, Predicate, Object}
@@ -56,9 +57,9 @@ pub data Call : Type 0 where
 
 -- ---- names
 
--- well formed, and at most 255 bytes
+-- well formed, and not over the limit of a name's bytes
 unfoldable pub wellFormed : List ℕ → Bool
-wellFormed w = ltb 0 (kindOf 255 w)
+wellFormed w = ltb 0 (kindOf nameLimit w)
 
 unfoldable pub eqBytes : List ℕ → List ℕ → Bool
 eqBytes [] [] = true

@@ -14,7 +14,8 @@ use Rattle.store.specs.declared.StatementRead.the-variants.{Is, Refused 
 use Rattle.store.specs.declared.NameRead.{NameRead}
 use Rattle.store.specs.declared.NameRead.the-variants.{Span, Refused as NotNamed}
 use Rattle.store.specs.Triple.{known}
-use Rattle.store.specs.Tables.{Tables, fits, tripleAt, flagAt, offsetAt, word, maxName}
+use Rattle.term.specs.Grammar.{nameLimit}
+use Rattle.store.specs.Tables.{Tables, fits, tripleAt, flagAt, offsetAt, word}
 
 -- a number from 1 to n
 unfoldable pub inRange : ℕ → ℕ → Bool
@@ -47,6 +48,6 @@ unfoldable pub nameSpanOf : Counters → Tables → ResourceId → NameRead
 nameSpanOf c m n =
     cond (fits c m)
     (cond (inRange (c .resources) (n .0))
-    (spanTo (offsetAt (m .resources) (n .0)) (zeroFrom (m .text) (c .text) (maxName + 1) (offsetAt (m .resources) (n .0))))
+    (spanTo (offsetAt (m .resources) (n .0)) (zeroFrom (m .text) (c .text) (nameLimit + 1) (offsetAt (m .resources) (n .0))))
     (NotNamed UnknownNumber))
     (NotNamed Capacity)

@@ -22,9 +22,6 @@ maxStatements = 65535
 abbrev pub maxText : ℕ
 maxText = 1048576
 
-abbrev pub maxName : ℕ
-maxName = 255
-
 -- a resource record: first statement as subject, predicate, object; count as each; text offset; kind
 abbrev pub resourceWords : ℕ
 resourceWords = 8
