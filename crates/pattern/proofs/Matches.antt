@@ -22,7 +22,7 @@ use Rattle.graph.specs.Query.{Bindings, resource, unbound, boundTo, isVariable,
 use Rattle.graph.specs.Query.{under, bind, match, after}
 use Rattle.graph.proofs.Levels.{Low}
 use Rattle.pattern.specs.declared.binding.Matched.{Matched}
-use Rattle.pattern.specs.Matching.{WordFits, PatternOk, matchedAs}
+use Rattle.pattern.specs.Matching.{WordFits, PatternOk, wordAt, numberAt, matchedAs}
 use Rattle.pattern.proofs.WordLaws.{PatternIn}
 
 -- ---- the number a word stands for
@@ -58,17 +58,6 @@ module _ (b : Bindings) (w n : ℕ) where
 
 -- ---- the code's reply
 
-pub same-kept : (b : Solution) (t : Bool) → _≡_ {A = Matched} (record { hit = t; bound = b })
-    (matchedAs b (cond t (some (b .values)) none))
-same-kept b true = refl
-same-kept b false = refl
-
-pub hit-whole : (m : Matched) → m .hit ≡ true → m ≡ record { hit = true; bound = record { values = m .bound .values } }
-hit-whole m e = ap (λ (t : Bool). told t) e
-  where
-    told : Bool → Matched
-    told t = record { hit = t; bound = m .bound }
-
 module _ (m : Matched) (b : Solution) where
   pub missed : (o : Option Bindings) → m ≡ matchedAs b o → m .hit ≡ false → o ≡ none
   missed none e h = refl
@@ -80,22 +69,76 @@ module _ (m : Matched) (b : Solution) where
 
 -- ---- a triple against a pattern, word by word
 
-module _ (x : QueryPattern) (t : Triple) (b : Bindings) where
-  pub match-s : bind (x .subject) (t .subject .0) b ≡ none → match x t b ≡ none
-  unfolding match
-  match-s e = rw e
+-- the match from place k on: 0 subject, 1 predicate, 2 object
+unfoldable pub matchFrom : QueryPattern → Triple → ℕ → Bindings → Option Bindings
+matchFrom x t zero b = match x t b
+matchFrom x t (suc zero) b =
+    after (bind (x .predicate) (t .predicate .0) b) (λ b. bind (x .object) (t .object .0) b)
+matchFrom x t (suc (suc zero)) b = bind (x .object) (t .object .0) b
+matchFrom x t (suc (suc (suc k))) b = some b
 
-  pub match-p : (b₁ : Bindings) → bind (x .subject) (t .subject .0) b ≡ some b₁
-      → bind (x .predicate) (t .predicate .0) b₁ ≡ none
-      → match x t b ≡ none
-  unfolding match
-  match-p b₁ e f = rw (e, f)
+module _ (x : QueryPattern) (t : Triple) where
+  pub from-start : (b : Bindings) → match x t b ≡ matchFrom x t 0 b
+  unfolding matchFrom
+  from-start b = refl
 
-  pub match-o : (b₁ b₂ : Bindings) → bind (x .subject) (t .subject .0) b ≡ some b₁
-      → bind (x .predicate) (t .predicate .0) b₁ ≡ some b₂
-      → match x t b ≡ bind (x .object) (t .object .0) b₂
-  unfolding match
-  match-o b₁ b₂ e f = rw (e, f)
+  pub from-end : (k : ℕ) (b : Bindings) → 3 ≤ k → matchFrom x t k b ≡ some b
+  unfolding matchFrom
+  from-end zero b h = absurd (omega arith)
+  from-end (suc zero) b h = absurd (omega arith)
+  from-end (suc (suc zero)) b h = absurd (omega arith)
+  from-end (suc (suc (suc k))) b h = refl
+
+  from-none : (k : ℕ) (b : Bindings) → k < 3 → bind (wordAt x k) (numberAt t k) b ≡ none → matchFrom x t k b ≡ none
+  unfolding matchFrom match
+  from-none zero b h e = rw e
+  from-none (suc zero) b h e = rw e
+  from-none (suc (suc zero)) b h e = e
+  from-none (suc (suc (suc k))) b h e = absurd (omega arith)
+
+  from-some : (k : ℕ) (b b′ : Bindings) → k < 3 → bind (wordAt x k) (numberAt t k) b ≡ some b′
+      → matchFrom x t k b ≡ matchFrom x t (k + 1) b′
+  unfolding matchFrom match
+  from-some zero b b′ h e = rw e
+  from-some (suc zero) b b′ h e = rw e
+  from-some (suc (suc zero)) b b′ h e = e
+  from-some (suc (suc (suc k))) b b′ h e = absurd (omega arith)
+
+  -- the word w and the resource n at place k: a number, an open variable, a bound one
+  module _ (k w n : ℕ) (b : Bindings) (h : k < 3) (e : w ≡ wordAt x k) (f : n ≡ numberAt t k) (o : WordFits w) where
+    none-of : bind w n b ≡ none → matchFrom x t k b ≡ none
+    none-of d = from-none k b h (rw (e, f) at d)
+
+    some-of : (b′ : Bindings) → bind w n b ≡ some b′ → matchFrom x t k b ≡ matchFrom x t (k + 1) b′
+    some-of b′ d = from-some k b b′ h (rw (e, f) at d)
+
+    other : (valueOf b w ≡ 0 → ⊥) → (valueOf b w ≡ n → ⊥) → matchFrom x t k b ≡ none
+    other z d = none-of (bind-bound b w n z ∙ rw (ne-eqb (valueOf b w) n d))
+
+    same : (valueOf b w ≡ 0 → ⊥) → valueOf b w ≡ n → matchFrom x t k b ≡ matchFrom x t (k + 1) b
+    same z d = some-of b (bind-bound b w n z ∙ rw (eq-eqb (valueOf b w) n d))
+
+    number-value : w < firstVariable → (valueOf b w ≡ w) × (valueOf b w ≡ 0 → ⊥)
+    number-value l = let v = value-number b w l in let y = o .some-word in (v, λ z. absurd (omega arith))
+
+    pub number-unmet : w < firstVariable → (w ≡ n → ⊥) → matchFrom x t k b ≡ none
+    number-unmet l d = let v = number-value l in other (v .1) (λ z. d (sym (v .0) ∙ z))
+
+    pub number-met : w < firstVariable → w ≡ n → matchFrom x t k b ≡ matchFrom x t (k + 1) b
+    number-met l d = let v = number-value l in same (v .1) (v .0 ∙ d)
+
+    module _ (l : firstVariable ≤ w) where
+      pub open-met : boundTo b (w - firstVariable) ≡ 0
+          → matchFrom x t k b ≡ matchFrom x t (k + 1) (set b (w - firstVariable) (resource n))
+      open-met d = some-of (set b (w - firstVariable) (resource n)) (bind-open b w n (value-variable b w l ∙ d))
+
+      pub bound-unmet : (boundTo b (w - firstVariable) ≡ 0 → ⊥) → (boundTo b (w - firstVariable) ≡ n → ⊥)
+          → matchFrom x t k b ≡ none
+      bound-unmet z d = let v = value-variable b w l in other (λ y. z (sym v ∙ y)) (λ y. d (sym v ∙ y))
+
+      pub bound-met : (boundTo b (w - firstVariable) ≡ 0 → ⊥) → boundTo b (w - firstVariable) ≡ n
+          → matchFrom x t k b ≡ matchFrom x t (k + 1) b
+      bound-met z d = let v = value-variable b w l in same (λ y. z (sym v ∙ y)) (v ∙ d)
 
 -- ---- what a word binds: a resource of the triple, and nothing that was bound changes
 

@@ -1,9 +1,11 @@
 -- What the code's `Matched` says of a match, and the words that a pattern may hold.
 -- Assumes nothing.
 use mathlib.Core.Path.{_≡_}
-use mathlib.Core.Bool.{Bool, true, false}
+use mathlib.Core.Bool.{Bool, true, false, cond}
 use mathlib.Core.Option.{Option, none, some}
 use Prim.Native.Nat.{ℕ, _+_, _<_}
+use lib.Dec.{eqb}
+use Rattle.store.specs.declared.Triple.{Triple}
 use Rattle.graph.specs.declared.QueryPattern.{QueryPattern}
 use Rattle.graph.specs.declared.Solution.{Solution}
 use Rattle.graph.specs.Query.{Bindings, firstVariable, variables}
@@ -18,6 +20,13 @@ pub record PatternOk (x : QueryPattern) : Type 0 where
   pub s-fits : WordFits (x .subject)
   pub p-fits : WordFits (x .predicate)
   pub o-fits : WordFits (x .object)
+
+-- the word and the resource at place k: 0 subject, 1 predicate, 2 object
+abbrev pub wordAt : QueryPattern → ℕ → ℕ
+wordAt x k = cond (eqb k 0) (x .subject) (cond (eqb k 1) (x .predicate) (x .object))
+
+abbrev pub numberAt : Triple → ℕ → ℕ
+numberAt t k = cond (eqb k 0) (t .subject .0) (cond (eqb k 1) (t .predicate .0) (t .object .0))
 
 abbrev pub matchedAs : Solution → Option Bindings → Matched
 matchedAs b none = record { hit = false; bound = b }

@@ -7,8 +7,9 @@ use store::ResourceId;
 use store::Triple;
 ghost use mathlib.Core.Path.{_≡_};
 ghost use Prim.Native.Nat.{ℕ, _<_};
-ghost use Rattle.graph.specs.Query.{valueOf, under, bind, match};
-ghost use Rattle.pattern.specs.Matching.{PatternOk, WordFits, matchedAs};
+ghost use mathlib.Core.Option.{none};
+ghost use Rattle.graph.specs.Query.{valueOf, under, match};
+ghost use Rattle.pattern.specs.Matching.{PatternOk, WordFits, wordAt, numberAt, matchedAs};
 
 // Whether a triple meets a pattern, and what is bound from now on; where it does not, what was bound before.
 // The array comes first: copies of it then start at a whole word.
@@ -42,50 +43,75 @@ pub fn under(bound: Solution, x: QueryPattern) -> Triple
     }
 }
 
-// One word of a pattern meets resource n: an open variable takes it, anything else must be it.
-pub fn bind(w: u32, n: u32, bound: Solution) -> Matched
-    requires { ⌜ WordFits w ⌝ }
-    ensures { λ m. ⌜ m ≡ matchedAs bound (bind w n (bound .values)) ⌝ }
+// A pattern's word at place k: 0 subject, 1 predicate, 2 object.
+pub fn word_at(x: QueryPattern, k: u32) -> u32
+    requires { ⌜ PatternOk x ⌝ }
+    ensures { λ w. ⌜ (w ≡ wordAt x k) × WordFits w ⌝ }
 {
-    let y = value_of(bound, w);
-    if y == 0 {
-        let v = (w - FIRST_VARIABLE) as usize;
-        let taken = ResourceId(n);
-        let mut b = bound;
-        b.values[v] = taken;
-        return Matched {
-            hit: true,
-            bound: b,
-        };
+    if k == 0 {
+        return x.subject;
     }
+    if k == 1 {
+        return x.predicate;
+    }
+    x.object
+}
+
+// A triple's resource at place k.
+pub fn number_at(t: Triple, k: u32) -> u32
+    ensures { λ n. ⌜ n ≡ numberAt t k ⌝ }
+{
+    if k == 0 {
+        return t.subject.0;
+    }
+    if k == 1 {
+        return t.predicate.0;
+    }
+    t.object.0
+}
+
+// No match: what was bound before.
+pub fn unmet(bound: Solution) -> Matched
+    ensures { λ m. ⌜ m ≡ matchedAs bound none ⌝ }
+{
     Matched {
-        hit: y == n,
+        hit: false,
         bound: bound,
     }
 }
 
-// A triple meets a pattern, subject, predicate, object in turn.
+// A triple meets a pattern, subject, predicate, object in turn: an open variable takes the resource, anything else
+// must be it. One
+// copy of what is bound is written in place.
 pub fn meet(x: QueryPattern, t: Triple, bound: Solution) -> Matched
     requires { ⌜ PatternOk x ⌝ }
     ensures { λ m. ⌜ m ≡ matchedAs bound (match x t (bound .values)) ⌝ }
 {
-    let miss = Matched {
-        hit: false,
-        bound: bound,
-    };
-    let s = bind(x.subject, t.subject.0, bound);
-    if !s.hit {
-        return miss;
+    let mut b = bound;
+    let mut k: u32 = 0;
+    while k < 3 {
+        let w = word_at(x, k);
+        let n = number_at(t, k);
+        k += 1;
+        if w < FIRST_VARIABLE {
+            if w != n {
+                return unmet(bound);
+            }
+            continue;
+        }
+        let v = (w - FIRST_VARIABLE) as usize;
+        let y = b.values[v];
+        if y.0 == 0 {
+            let taken = ResourceId(n);
+            b.values[v] = taken;
+            continue;
+        }
+        if y.0 != n {
+            return unmet(bound);
+        }
     }
-    let b = s.bound;
-    let p = bind(x.predicate, t.predicate.0, b);
-    if !p.hit {
-        return miss;
+    Matched {
+        hit: true,
+        bound: b,
     }
-    let d = p.bound;
-    let o = bind(x.object, t.object.0, d);
-    if !o.hit {
-        return miss;
-    }
-    o
 }

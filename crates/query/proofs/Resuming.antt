@@ -32,7 +32,8 @@ use Rattle.query.specs.declared.walk.Stack.{Stack}
 use Rattle.query.specs.declared.walk.Outcome.{Outcome}
 use Rattle.query.specs.declared.walk.Outcome.the-variants.{Damaged, Onward, Whole}
 use Rattle.query.specs.declared.walk.Turned.{Turned}
-use Rattle.query.specs.Stack.{deepest, entered, Ready, LevelSure, Stands, standAs, enteredAs, turnAs, TurnIs}
+use Rattle.query.specs.Stack.{deepest, entered, Ready, LevelSure, Stands, standAs, onto, enteredAs, turnAs}
+use Rattle.query.specs.Stack.{TurnIs}
 use Rattle.query.specs.Resume.{onwardAs, Pruned}
 use Rattle.query.proofs.Stacks.{levels-none, levels-step, ready-query, Sure, sure-none, sure-less, top-is}
 use Rattle.query.proofs.Stacks.{stands-new}
@@ -290,20 +291,20 @@ module _ (r t : ℕ) (res stm ws : List ℕ) (budget : ℕ) where
 
   module _ (k : Ready r t res stm ws) (some-pattern : length (patternsOf ws) ≡ 0 → ⊥) (ls : List Level)
       (size : length ls ≡ 8) (b : Solution) (open-all : b .values ≡ unbound) (m : Turned)
-      (e : m ≡ enteredAs t res (under (b .values) (getD (patternsOf ws) 0 (pattern 0 0 0))) ls 0 b) where
-    first-turn : TurnIs r t stm ws (enter r t res stm (patternsOf ws) []) m
+      (e : m ≡ enteredAs t res (under (b .values) (getD (patternsOf ws) 0 (pattern 0 0 0))) 0 b) where
+    first-turn : TurnIs r t stm ws (enter r t res stm (patternsOf ws) []) ls m
     first-turn =
         rw (e, ← levels-none ls)
         (entering r t res stm ws ls 0 b (omega arith) (omega arith) size (sure-none r t stm ls)
         (open-all ∙ sym (binds-none 0 0 stm (patternsOf ws) ls)))
 
     starts : (o : Outcome) → m .outcome ≡ o → resume r t res stm (patternsOf ws) start budget
-        ≡ begun r t res stm (patternsOf ws) budget (turnAs o (m .stack))
+        ≡ begun r t res stm (patternsOf ws) budget (turnAs o (onto ls m))
     unfolding resume
     starts o f =
         rw (ne-eqb (length (patternsOf ws)) 0 some-pattern)
         (ap (begun r t res stm (patternsOf ws) budget) (sym (first-turn .told)
-        ∙ ap (λ (z : Outcome). turnAs z (m .stack)) f))
+        ∙ ap (λ (z : Outcome). turnAs z (onto ls m)) f))
 
     pub begin-damaged : m .outcome ≡ Damaged → resume r t res stm (patternsOf ws) start budget ≡ refused Nine
     unfolding begun
@@ -314,9 +315,12 @@ module _ (r t : ℕ) (res stm ws : List ℕ) (budget : ℕ) where
     begin-whole f = starts Whole f
 
     pub begin-onward : m .outcome ≡ Onward → resume r t res stm (patternsOf ws) start budget
-        ≡ walk r t res stm (patternsOf ws) budget (deepest (m .stack)) (entered (m .stack)) 0
+        ≡ walk r t res stm (patternsOf ws) budget (deepest (onto ls m)) (entered (onto ls m)) 0
     unfolding begun
     begin-onward f = starts Onward f
 
-    pub begin-stands : m .outcome ≡ Onward → Stands r t stm ws (m .stack)
+    pub begin-stands : m .outcome ≡ Onward → Stands r t stm ws (onto ls m)
     begin-stands f = first-turn .stands f
+
+    pub begin-slot : m .top < 8
+    begin-slot = first-turn .slot

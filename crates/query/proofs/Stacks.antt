@@ -34,7 +34,9 @@ use Rattle.pattern.proofs.Matches.{under-within}
 use Rattle.graph.proofs.Laws.{levels-set}
 use Rattle.graph.proofs.Levels.{Low, low-none, match-low}
 use Rattle.query.specs.declared.walk.Stack.{Stack}
-use Rattle.query.specs.Stack.{deepest, entered, Ready, LevelSure, Stands, standAs}
+use Rattle.query.specs.declared.walk.Outcome.the-variants.{Onward}
+use Rattle.query.specs.declared.walk.Turned.{Turned}
+use Rattle.query.specs.Stack.{deepest, entered, Ready, LevelSure, Stands, standAs, poppedAs}
 
 -- ---- answers and stacks by their parts
 
@@ -53,6 +55,20 @@ stack-is stm ps ls top b x e f = ap₂ (λ (y : Bindings) (z : Triple). made y z
   where
     made : Bindings → Triple → Stack
     made y z = record { top = top; levels = ls; bound = record { values = y }; asked = z }
+
+pub popped-is : (stm : List ℕ) (ps : List QueryPattern) (q : Stack) (b : Solution) (x : Triple) (l : Level)
+    → b .values ≡ binds stm ps (levelsOf (q .levels) (q .top - 1))
+    → x ≡ asked stm ps (levelsOf (q .levels) (q .top - 1)) → l ≡ past stm (getD (q .levels) (q .top - 1) noLevel)
+    → _≡_ {A = Turned} (record { bound = b; asked = x; level = l; top = q .top - 1; outcome = Onward })
+    (poppedAs stm ps q)
+popped-is stm ps q b x l e f g =
+    ap₂ (λ (y : Bindings) (z : Triple). made y z l) e f
+    ∙ ap (λ (y : Level). made (binds stm ps (levelsOf (q .levels) (q .top - 1)))
+    (asked stm ps (levelsOf (q .levels) (q .top - 1))) y) g
+  where
+    made : Bindings → Triple → Level → Turned
+    made y z l =
+        record { bound = record { values = y }; asked = z; level = l; top = q .top - 1; outcome = Onward }
 
 -- ---- levels in an array
 

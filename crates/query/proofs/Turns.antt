@@ -12,6 +12,7 @@ use lib.ListN.{length, getD, set, length-set}
 use lib.Dec.{eqb, leb, ltb}
 use borrow.Author.Tests.{eqb-true, eqb-false, eq-eqb, ne-eqb, ltb-true, leb-true, lt-ltb, le-ltb}
 use Rattle.store.specs.declared.Chain.{Chain}
+use Rattle.store.specs.declared.Chain.the-variants.{All}
 use Rattle.store.specs.declared.Triple.{Triple}
 use Rattle.store.specs.declared.Refusal.the-variants.{Damaged as Nine}
 use Rattle.store.specs.Triple.{known, agrees, prev}
@@ -43,9 +44,9 @@ use Rattle.query.specs.declared.walk.Outcome.{Outcome}
 use Rattle.query.specs.declared.walk.Outcome.the-variants.{Damaged, Onward, Whole}
 use Rattle.query.specs.declared.walk.Turned.{Turned}
 use Rattle.query.specs.Stack.{deepest, entered, Ready, LevelSure, Stands, Visitable, standAs, poppedAs}
-use Rattle.query.specs.Stack.{enteredAs, turnAs, triedAt, TurnIs}
+use Rattle.query.specs.Stack.{onto, enteredAs, turnAs, triedAt, TurnIs, metAt, NextHeld, triedAs}
 use Rattle.query.proofs.Stacks.{levels-none, levels-step, levels-down, ready-query, Sure, sure-less, sure-more}
-use Rattle.query.proofs.Stacks.{sure-of, sure-held, top-is, stands-new, binds-within}
+use Rattle.query.proofs.Stacks.{sure-of, sure-held, top-is, stands-new, binds-within, asked-held}
 
 -- ---- chains that have run out
 
@@ -60,8 +61,12 @@ module _ (stm : List ℕ) where
       ∙ settle-none stm (deepest q) h
 
 -- the stack popped: what holds of it, and nothing is lost
-module _ (r t : ℕ) (stm ws : List ℕ) (q : Stack) (s : Stands r t stm ws q) (h : 1 ≤ q .top) (small : q .top < 8) where
-  pub popped-stands : Stands r t stm ws (poppedAs stm (patternsOf ws) q)
+module _ (r t : ℕ) (stm ws : List ℕ) (q : Stack) (s : Stands r t stm ws q) (h : 1 ≤ q .top) (small : q .top < 8)
+    (m : Turned) (made : m ≡ poppedAs stm (patternsOf ws) q) where
+  pub popped-top : m .top ≡ q .top - 1
+  popped-top = ap (λ (z : Turned). z .top) made
+
+  pub popped-stands : Stands r t stm ws (onto (q .levels) m)
   popped-stands =
       let e = s .sure (q .top - 1) (omega arith) in
       let f = e .falls in
@@ -70,25 +75,23 @@ module _ (r t : ℕ) (stm ws : List ℕ) (q : Stack) (s : Stands r t stm ws q) (
       let ls = q .levels in
       let d = q .top - 1 in
       let l = past stm (getD ls d noLevel) in
-      stands-new r t stm ws ls d l (omega arith) (omega arith) (s .slots)
-      (record { values = binds stm (patternsOf ws) (levelsOf (set ls d l) d) })
-      (asked stm (patternsOf ws) (levelsOf (set ls d l) d))
-      (sure-less r t stm ls (q .top) d (omega arith) (sure-of r t stm ws q s)) (omega arith)
-      (ap (binds stm (patternsOf ws)) (levels-set ls d d l (omega arith)))
-      (ap (asked stm (patternsOf ws)) (levels-set ls d d l (omega arith)))
+      rw made
+      (stands-new r t stm ws ls d l (omega arith) (omega arith) (s .slots)
+      (record { values = binds stm (patternsOf ws) (levelsOf ls d) }) (asked stm (patternsOf ws) (levelsOf ls d))
+      (sure-less r t stm ls (q .top) d (omega arith) (sure-of r t stm ws q s)) (omega arith) refl refl)
 
   pub popped-settles : (deepest q) .statement .0 ≡ 0
-      → settle stm (deepest q) (entered q)
-      ≡ settle stm (deepest (poppedAs stm (patternsOf ws) q)) (entered (poppedAs stm (patternsOf ws) q))
+      → settle stm (deepest q) (entered q) ≡ settle stm (deepest (onto (q .levels) m)) (entered (onto (q .levels) m))
   popped-settles z =
       let n = s .few in
       let ls = q .levels in
       let d = q .top - 1 in
       let l = past stm (getD ls d noLevel) in
-      ap (settle stm (deepest q)) (levels-down ls (q .top) h)
+      rw made
+      (ap (settle stm (deepest q)) (levels-down ls (q .top) h)
       ∙ settle-pop stm (deepest q) (getD ls d noLevel) (levelsOf ls d) z
       ∙ ap₂ (settle stm) (sym (top-is r t stm ws ls d l (omega arith) (omega arith) (s .slots)))
-      (sym (levels-set ls d d l (omega arith)))
+      (sym (levels-set ls d d l (omega arith))))
 
 -- ---- a pattern entered
 
@@ -117,23 +120,25 @@ module _ (r t : ℕ) (res stm ws : List ℕ) (ls : List Level) (d : ℕ) (b : So
   unfolding enter
   enter-is = rw asked-entry
 
-  entered-yes : pickable t res entry ≡ true
-      → enteredAs t res entry ls d b
-      ≡ record { outcome = Onward; stack = record { top = d; levels = set ls d first-level; bound = b; asked = entry } }
+  abbrev goes : Turned
+  goes = record { bound = b; asked = entry; level = first-level; top = d; outcome = Onward }
+
+  abbrev torn-entry : Turned
+  torn-entry = record { bound = b; asked = entry; level = level All 0; top = d; outcome = Damaged }
+
+  entered-yes : pickable t res entry ≡ true → enteredAs t res entry d b ≡ goes
   unfolding enteredAs
   entered-yes e = rw e
 
-  entered-no : pickable t res entry ≡ false
-      → enteredAs t res entry ls d b
-      ≡ record { outcome = Damaged; stack = record { top = d; levels = ls; bound = b; asked = entry } }
+  entered-no : pickable t res entry ≡ false → enteredAs t res entry d b ≡ torn-entry
   unfolding enteredAs
   entered-no e = rw e
 
-  pub entering : TurnIs r t stm ws (enter r t res stm (patternsOf ws) (levelsOf ls d)) (enteredAs t res entry ls d b)
+  pub entering : TurnIs r t stm ws (enter r t res stm (patternsOf ws) (levelsOf ls d)) ls (enteredAs t res entry d b)
   entering = decide (pickable t res entry) yes no
     where
-      yes : pickable t res entry ≡ true → TurnIs r t stm ws (enter r t res stm (patternsOf ws) (levelsOf ls d))
-          (enteredAs t res entry ls d b)
+      yes : pickable t res entry ≡ true → TurnIs r t stm ws (enter r t res stm (patternsOf ws) (levelsOf ls d)) ls
+          (enteredAs t res entry d b)
       yes e =
           rw (entered-yes e)
           (record {
@@ -146,9 +151,53 @@ module _ (r t : ℕ) (res stm ws : List ℕ) (ls : List Level) (d : ℕ) (b : So
             slot = small;
           })
 
-      no : pickable t res entry ≡ false → TurnIs r t stm ws (enter r t res stm (patternsOf ws) (levelsOf ls d))
-          (enteredAs t res entry ls d b)
+      no : pickable t res entry ≡ false → TurnIs r t stm ws (enter r t res stm (patternsOf ws) (levelsOf ls d)) ls
+          (enteredAs t res entry d b)
       no e = rw (entered-no e) (record { told = sym (enter-is ∙ rw e); stands = λ z. not-damaged z; slot = small })
+
+-- ---- a record put to a pattern, by what the code's `meet` told
+
+module _ (t : ℕ) (res stm : List ℕ) (ps : List QueryPattern) (top : ℕ) (l : Level) (x : Triple) (b : Solution) (n : ℕ)
+    (m : Matched) (d : m ≡ matchedAs b (metAt stm ps top l b)) where
+  abbrev reply : Option Bindings → Turned
+  reply o = triedAs t res ps top l x b n o
+
+  abbrev stays : Solution → Level → Outcome → Turned
+  stays y e o = record { bound = y; asked = x; level = e; top = top; outcome = o }
+
+  pub tried-unmet : m .hit ≡ false → (e : Level) → e ≡ level (l .chain) n
+      → stays (m .bound) e Onward ≡ reply (metAt stm ps top l b)
+  unfolding triedAs
+  tried-unmet h e f = by (metAt stm ps top l b) d
+    where
+      by : (o : Option Bindings) → m ≡ matchedAs b o → stays (m .bound) e Onward ≡ reply o
+      by none z = ap₂ (λ (y : Solution) (g : Level). stays y g Onward) (ap (λ (y : Matched). y .bound) z) f
+      by (some b′) z = absurd (false≢true (sym h ∙ ap (λ (y : Matched). y .hit) z))
+
+  pub tried-last : m .hit ≡ true → (e : Level) → e ≡ level (l .chain) n → top + 1 ≡ length ps
+      → stays (m .bound) e Whole ≡ reply (metAt stm ps top l b)
+  unfolding triedAs
+  tried-last h e f g = by (metAt stm ps top l b) d
+    where
+      by : (o : Option Bindings) → m ≡ matchedAs b o → stays (m .bound) e Whole ≡ reply o
+      by none z = absurd (false≢true (sym (ap (λ (y : Matched). y .hit) z) ∙ h))
+      by (some b′) z =
+          rw (eq-eqb (top + 1) (length ps) g)
+          (ap₂ (λ (y : Solution) (g : Level). stays y g Whole) (ap (λ (y : Matched). y .bound) z) f)
+
+  pub tried-more : m .hit ≡ true → (top + 1 ≡ length ps → ⊥) → (e : Turned)
+      → e ≡ enteredAs t res (under (m .bound .values) (getD ps (top + 1) (pattern 0 0 0))) (top + 1) (m .bound)
+      → e ≡ reply (metAt stm ps top l b)
+  unfolding triedAs
+  tried-more h g e f = by (metAt stm ps top l b) d
+    where
+      by : (o : Option Bindings) → m ≡ matchedAs b o → e ≡ reply o
+      by none z = absurd (false≢true (sym (ap (λ (y : Matched). y .hit) z) ∙ h))
+      by (some b′) z =
+          rw (ne-eqb (top + 1) (length ps) g)
+          (f
+          ∙ ap (λ (y : Solution). enteredAs t res (under (y .values) (getD ps (top + 1) (pattern 0 0 0))) (top + 1) y)
+          (ap (λ (y : Matched). y .bound) z))
 
 -- ---- a visit
 
@@ -304,11 +353,11 @@ module _ (r t : ℕ) (res stm ws : List ℕ) (k : Ready r t res stm ws) (q : Sta
   abbrev turn : Turn
   turn = tried r t res stm (patternsOf ws) (deepest q) (entered q) meeting
 
-  abbrev moved : Solution → ℕ → Stack
-  moved b n = record { top = q .top; levels = set (q .levels) (q .top) (level chainOf n); bound = b; asked = q .asked }
+  abbrev moved : Solution → ℕ → Outcome → Turned
+  moved b n o = record { bound = b; asked = q .asked; level = level chainOf n; top = q .top; outcome = o }
 
-  pub turned-miss : (n : ℕ) → Visitable r stm q → n ≡ linkOf stm chainOf (num - 1) → meeting ≡ none
-      → TurnIs r t stm ws turn (record { outcome = Onward; stack = moved (q .bound) n })
+  turned-miss : (n : ℕ) → Visitable r stm q → n ≡ linkOf stm chainOf (num - 1) → meeting ≡ none
+      → TurnIs r t stm ws turn (q .levels) (moved (q .bound) n Onward)
   unfolding tried
   turned-miss n v e o =
       let p = moved-place (level chainOf n) in
@@ -321,9 +370,8 @@ module _ (r t : ℕ) (res stm ws : List ℕ) (k : Ready r t res stm ws) (q : Sta
         slot = top-small;
       }
 
-  pub turned-whole : (n : ℕ) (b : Solution) → n ≡ linkOf stm chainOf (num - 1) → meeting ≡ some (b .values)
-      → q .top + 1 ≡ length (patternsOf ws)
-      → TurnIs r t stm ws turn (record { outcome = Whole; stack = moved b n })
+  turned-whole : (n : ℕ) (b : Solution) → n ≡ linkOf stm chainOf (num - 1) → meeting ≡ some (b .values)
+      → q .top + 1 ≡ length (patternsOf ws) → TurnIs r t stm ws turn (q .levels) (moved b n Whole)
   unfolding tried
   turned-whole n b e o h =
       let p = moved-place (level chainOf n) in
@@ -339,7 +387,7 @@ module _ (r t : ℕ) (res stm ws : List ℕ) (k : Ready r t res stm ws) (q : Sta
       }
 
   module _ (b : Solution) (o : meeting ≡ some (b .values)) (more : q .top + 1 ≡ length (patternsOf ws) → ⊥) where
-    pub binds-next : binds stm (patternsOf ws) (levelsOf (q .levels) (q .top + 1)) ≡ b .values
+    binds-next : binds stm (patternsOf ws) (levelsOf (q .levels) (q .top + 1)) ≡ b .values
     binds-next =
         binds-step 0 0 stm (patternsOf ws) (q .levels) (q .top)
         ∙ rw (← next-at (patternsOf ws) (q .levels) (q .top), o)
@@ -353,10 +401,9 @@ module _ (r t : ℕ) (res stm ws : List ℕ) (k : Ready r t res stm ws) (q : Sta
         ap (tried r t res stm (patternsOf ws) (deepest q) (entered q)) o
         ∙ rw (ne-eqb (suc (length (entered q))) (length (patternsOf ws)) g, ← levels-step (q .levels) (q .top))
 
-    pub turned-enter : Visitable r stm q
-        → TurnIs r t stm ws turn
-        (enteredAs t res (under (b .values) (getD (patternsOf ws) (q .top + 1) (pattern 0 0 0))) (q .levels)
-        (q .top + 1) b)
+    turned-enter : Visitable r stm q
+        → TurnIs r t stm ws turn (q .levels)
+        (enteredAs t res (under (b .values) (getD (patternsOf ws) (q .top + 1) (pattern 0 0 0))) (q .top + 1) b)
     turned-enter v =
         let n = s .few in
         let e = (ready-query r t res stm ws k) .few in
@@ -365,10 +412,40 @@ module _ (r t : ℕ) (res stm ws : List ℕ) (k : Ready r t res stm ws) (q : Sta
         (sure-more r t stm (q .levels) (q .top) (sure-of r t stm ws q s) (visited-sure v)) (sym binds-next))
 
     -- what the next pattern asks lies in the table
-    pub next-low : Visitable r stm q → Low r (b .values)
+    next-low : Visitable r stm q → Low r (b .values)
     next-low v =
         rw (← binds-next) (binds-within r t stm (q .levels) (patternsOf ws) (q .top + 1)
         (sure-more r t stm (q .levels) (q .top) (sure-of r t stm ws q s) (visited-sure v)))
+
+  met-is : metAt stm (patternsOf ws) (q .top) (deepest q) (q .bound) ≡ meeting
+  met-is = meeting-is (getD (patternsOf ws) (q .top) (pattern 0 0 0)) (tripleAt stm (num - 1)) refl refl
+
+  pub next-held : Visitable r stm q → NextHeld res stm (patternsOf ws) (q .top) (deepest q) (q .bound)
+  next-held v =
+      record {
+        held =
+            λ b′ o more.
+            let n = s .few in
+            let h : q .top + 1 < length (patternsOf ws) = omega arith in
+            asked-held r t res stm ws k b′ (q .top + 1)
+            (next-low (record { values = b′ }) (sym met-is ∙ o) more v) h;
+      }
+
+  turned-by : (n : ℕ) → Visitable r stm q → n ≡ linkOf stm chainOf (num - 1) → (o : Option Bindings) → meeting ≡ o
+      → TurnIs r t stm ws turn (q .levels)
+      (triedAs t res (patternsOf ws) (q .top) (deepest q) (q .asked) (q .bound) n o)
+  unfolding triedAs
+  turned-by n v e none d = turned-miss n v e d
+  turned-by n v e (some b′) d =
+      decide (eqb (q .top + 1) (length (patternsOf ws)))
+      (λ z. rw z (turned-whole n (record { values = b′ }) e d (eqb-true (q .top + 1) (length (patternsOf ws)) z)))
+      (λ z. rw z (turned-enter (record { values = b′ }) d (eqb-false (q .top + 1) (length (patternsOf ws)) z) v))
+
+  pub turned-is : (n : ℕ) (m : Turned) → Visitable r stm q → n ≡ linkOf stm chainOf (num - 1)
+      → m ≡ triedAs t res (patternsOf ws) (q .top) (deepest q) (q .asked) (q .bound) n
+      (metAt stm (patternsOf ws) (q .top) (deepest q) (q .bound))
+      → TurnIs r t stm ws turn (q .levels) m
+  turned-is n m v e d = rw (d, met-is) (turned-by n v e meeting refl)
 
 -- ---- the loop: v of `budget` visits are made, w is where the turn began, q where chains that have run out are left
 
@@ -426,24 +503,33 @@ module _ (r t : ℕ) (res stm ws : List ℕ) (k : Ready r t res stm ws) (budget 
               (sym (p .0 ∙ f)) (sym (p .1)),
         )
 
-    module _ (m : Turned) (n : ℕ) (d : seen ≡ Hit n) (T : TurnIs r t stm ws
-        (triedAt r t res stm (patternsOf ws) q) m) where
-      turn-is : visit r t res stm (patternsOf ws) (deepest q) (entered q) ≡ turnAs (m .outcome) (m .stack)
+    module _ (m : Turned) (n : ℕ) (d : seen ≡ Hit n)
+        (made : m ≡ triedAs t res (patternsOf ws) (q .top) (deepest q) (q .asked) (q .bound) n
+        (metAt stm (patternsOf ws) (q .top) (deepest q) (q .bound))) where
+      abbrev after : Stack
+      after = onto (q .levels) m
+
+      T : TurnIs r t stm ws (triedAt r t res stm (patternsOf ws) q) (q .levels) m
+      T = let h = visit-hit r t res stm ws k q s n d some-record in turned-is r t res stm ws k q s n m (h .1) (h .2) made
+
+      turn-is : visit r t res stm (patternsOf ws) (deepest q) (entered q) ≡ turnAs (m .outcome) after
       turn-is = (visit-hit r t res stm ws k q s n d some-record) .0 ∙ sym (T .told)
 
       outcome-is : (o : Outcome) → m .outcome ≡ o → visit r t res stm (patternsOf ws) (deepest q) (entered q)
-          ≡ turnAs o (m .stack)
-      outcome-is o f = turn-is ∙ ap (λ (z : Outcome). turnAs z (m .stack)) f
+          ≡ turnAs o after
+      outcome-is o f = turn-is ∙ ap (λ (z : Outcome). turnAs z after) f
+
+      pub tried-top : m .top < 8
+      tried-top = T .slot
 
       pub tried-damaged : m .outcome ≡ Damaged → from-here ≡ refused Nine
       tried-damaged f = bad-here (outcome-is Damaged f)
 
-      pub tried-onward : m .outcome ≡ Onward → from-here ≡ onward (m .stack)
-      tried-onward f = go-here (deepest (m .stack)) (entered (m .stack)) (m .stack) (outcome-is Onward f) refl refl
+      pub tried-onward : m .outcome ≡ Onward → Stands r t stm ws after × (from-here ≡ onward after)
+      tried-onward f = (T .stands f, go-here (deepest after) (entered after) after (outcome-is Onward f) refl refl)
 
-      pub tried-whole : m .outcome ≡ Whole → from-here ≡ found (m .stack .bound .values) (v + 1)
-          (inside (deepest (m .stack)) (entered (m .stack)))
+      pub tried-whole : m .outcome ≡ Whole → from-here ≡ found (m .bound .values) (v + 1)
+          (inside (deepest after) (entered after))
       tried-whole f =
           turn-whole r t res stm (patternsOf ws) (deepest w) (entered w) v (budget - v) (deepest q) (entered q)
-          (m .stack .bound .values) (deepest (m .stack)) (entered (m .stack))
-          left-some here (outcome-is Whole f)
+          (m .bound .values) (deepest after) (entered after) left-some here (outcome-is Whole f)

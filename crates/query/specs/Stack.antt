@@ -2,16 +2,20 @@
 use mathlib.Core.Path.{_≡_}
 use mathlib.Core.Bool.{Bool, true, false, cond}
 use mathlib.Core.List.{List, [], _∷_}
-use Prim.Native.Nat.{ℕ, suc, _-_, _*_, _≤_, _<_}
+use mathlib.Core.Option.{Option, none, some}
+use Prim.Native.Nat.{ℕ, suc, _+_, _-_, _*_, _≤_, _<_}
 use lib.ListN.{length, getD, set}
-use lib.Dec.{ltb}
+use lib.Dec.{eqb, ltb}
 use Rattle.store.specs.declared.Triple.{Triple}
 use Rattle.store.specs.Triple.{known, prev}
-use Rattle.store.specs.Tables.{resourceWords, statementWords, maxResources}
+use Rattle.store.specs.declared.Chain.the-variants.{All}
+use Rattle.store.specs.Tables.{tripleAt, resourceWords, statementWords, maxResources}
+use Rattle.statement.specs.Chains.{PatternHeld}
 use Rattle.store.specs.Walk.{pickChain, pickable, startOf, visitable}
 use Rattle.graph.specs.declared.QueryPattern.{QueryPattern}
 use Rattle.graph.specs.declared.Solution.{Solution}
 use Rattle.graph.specs.declared.Level.{Level}
+use Rattle.graph.specs.Query.{Bindings, pattern, under}
 use Rattle.graph.specs.Query.{patternsOf, wordsOk, level, noLevel, recordAt, past, binds, asked, levelsOf, inside}
 use Rattle.graph.specs.Query.{nextPattern, match, remains, Turn, bad, go, whole, tried, Answer, spent, ended}
 use Rattle.query.specs.declared.walk.Stack.{Stack}
@@ -67,26 +71,57 @@ standAs stm ps ls top =
       asked = asked stm ps (levelsOf ls top);
     }
 
-abbrev pub poppedAs : List ℕ → List QueryPattern → Stack → Stack
-poppedAs stm ps q =
-    standAs stm ps (set (q .levels) (q .top - 1) (past stm (getD (q .levels) (q .top - 1) noLevel))) (q .top - 1)
+-- ---- a turn
 
-unfoldable pub enteredAs : ℕ → List ℕ → Triple → List Level → ℕ → Solution → Turned
-enteredAs t res x ls top b =
+-- the levels with what a turn writes over them
+abbrev pub onto : List Level → Turned → Stack
+onto ls m = record { top = m .top; levels = set ls (m .top) (m .level); bound = m .bound; asked = m .asked }
+
+abbrev pub poppedAs : List ℕ → List QueryPattern → Stack → Turned
+poppedAs stm ps q =
+    record {
+      bound = record { values = binds stm ps (levelsOf (q .levels) (q .top - 1)) };
+      asked = asked stm ps (levelsOf (q .levels) (q .top - 1));
+      level = past stm (getD (q .levels) (q .top - 1) noLevel);
+      top = q .top - 1;
+      outcome = Onward;
+    }
+
+unfoldable pub enteredAs : ℕ → List ℕ → Triple → ℕ → Solution → Turned
+enteredAs t res x top b =
     cond (pickable t res x)
     (record {
+      bound = b;
+      asked = x;
+      level = level (pickChain res x) (startOf t res (pickChain res x) x);
+      top = top;
       outcome = Onward;
-      stack =
-          record {
-            top = top;
-            levels = set ls top (level (pickChain res x) (startOf t res (pickChain res x) x));
-            bound = b;
-            asked = x;
-          };
     })
-    (record { outcome = Damaged; stack = record { top = top; levels = ls; bound = b; asked = x } })
+    (record { bound = b; asked = x; level = level All 0; top = top; outcome = Damaged })
 
--- ---- a turn
+-- what the record of level l binds by pattern `top`, where b is bound before it
+abbrev pub metAt : List ℕ → List QueryPattern → ℕ → Level → Solution → Option Bindings
+metAt stm ps top l b = match (getD ps top (pattern 0 0 0)) (tripleAt stm (l .statement .0 - 1)) (b .values)
+
+-- what the pattern after `top` asks once that record is entered lies in the table
+pub record NextHeld (res stm : List ℕ) (ps : List QueryPattern) (top : ℕ) (l : Level) (b : Solution) : Type 0 where
+  pub held : (b′ : Bindings) → metAt stm ps top l b ≡ some b′ → (top + 1 ≡ length ps → ⊥)
+      → PatternHeld res (under b′ (getD ps (top + 1) (pattern 0 0 0)))
+
+-- a record put to pattern `top`: no match, a whole solution, or the next pattern entered
+unfoldable pub triedAs : ℕ → List ℕ → List QueryPattern → ℕ → Level → Triple → Solution → ℕ → Option Bindings → Turned
+triedAs t res ps top l x b n none =
+    record { bound = b; asked = x; level = level (l .chain) n; top = top; outcome = Onward }
+triedAs t res ps top l x b n (some b′) =
+    cond (eqb (top + 1) (length ps))
+    (record {
+      bound = record { values = b′ };
+      asked = x;
+      level = level (l .chain) n;
+      top = top;
+      outcome = Whole;
+    })
+    (enteredAs t res (under b′ (getD ps (top + 1) (pattern 0 0 0))) (top + 1) (record { values = b′ }))
 
 -- the code's turn as the definition's; a whole solution is what the stack has bound
 abbrev pub turnAs : Outcome → Stack → Turn
@@ -94,10 +129,10 @@ turnAs Damaged q = bad
 turnAs Onward q = go (deepest q) (entered q)
 turnAs Whole q = whole (q .bound .values) (deepest q) (entered q)
 
-pub record TurnIs (r t : ℕ) (stm ws : List ℕ) (turn : Turn) (m : Turned) : Type 0 where
-  pub told : turnAs (m .outcome) (m .stack) ≡ turn
-  pub stands : m .outcome ≡ Onward → Stands r t stm ws (m .stack)
-  pub slot : m .stack .top < 8
+pub record TurnIs (r t : ℕ) (stm ws : List ℕ) (turn : Turn) (ls : List Level) (m : Turned) : Type 0 where
+  pub told : turnAs (m .outcome) (onto ls m) ≡ turn
+  pub stands : m .outcome ≡ Onward → Stands r t stm ws (onto ls m)
+  pub slot : m .top < 8
 
 -- the deepest record, live and on its chain, put to the pattern
 abbrev pub triedAt : (r t : ℕ) → List ℕ → List ℕ → List QueryPattern → Stack → Turn

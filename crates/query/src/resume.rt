@@ -53,10 +53,19 @@ pub fn begin(
         };
     }
     let bare = no_levels(Progress::Start);
-    let levels = bare.levels;
-    let m = enter(c.statements, resources, words, levels, 0, none_bound());
-    let s = m.stack;
+    let mut levels = bare.levels;
+    let m = enter(c.statements, resources, words, 0, none_bound());
+    let b = m.bound;
+    let x = m.asked;
+    let e = m.level;
     let outcome = m.outcome;
+    levels[m.top as usize] = e;
+    let s = Stack {
+        top: m.top,
+        levels: levels,
+        bound: b,
+        asked: x,
+    };
     match outcome {
         Outcome::Damaged => refused(Refusal::Damaged),
         Outcome::Onward => walk(c, resources, statements, words, s, budget),

@@ -42,8 +42,8 @@ ghost use Rattle.statement.specs.Chains.{PatternHeld, visitOf};
 ghost use Rattle.graph.specs.Query.{patternsOf, pattern, under, noLevel, levelsOf, inside, level, refused, ended};
 ghost use Rattle.graph.specs.Query.{found, answered, packed, cursorWith, walk};
 ghost use Rattle.pattern.specs.Levels.{QueryOk, LevelsHeld};
-ghost use Rattle.query.specs.Stack.{Ready, Stands, deepest, entered, standAs, enteredAs, Visitable, TurnIs};
-ghost use Rattle.query.specs.Stack.{poppedAs, triedAt, overAs};
+ghost use Rattle.query.specs.Stack.{Ready, Stands, deepest, entered, standAs, poppedAs, enteredAs, metAt};
+ghost use Rattle.query.specs.Stack.{NextHeld, triedAs, overAs};
 
 // Where the walk stands: the deepest level, from 0; the levels; what those before the deepest bind; the deepest
 // level's pattern under
@@ -55,16 +55,21 @@ pub struct Stack {
     pub asked: Triple,
 }
 
-// What a match leads to: refusal 9, another place, or a whole solution, which is then what the stack has bound.
+// What a turn leads to: refusal 9, another place, or a whole solution, which is then what the stack has bound.
 pub enum Outcome {
     Damaged,
     Onward,
     Whole,
 }
 
-// The arrays come first: copies of them then start at a whole word.
+// What a turn writes over the stack: what the levels before the deepest bind; the deepest level's pattern under them;
+// that level; its
+// number, from 0. The array comes first: copies of it then start at a whole word.
 pub struct Turned {
-    pub stack: Stack,
+    pub bound: Solution,
+    pub asked: Triple,
+    pub level: Level,
+    pub top: u32,
     pub outcome: Outcome,
 }
 
@@ -148,108 +153,98 @@ pub fn stand(statements: &[u32], words: &[u32], levels: [Level; MAX_PATTERNS], t
 }
 
 // The deepest level is left: the one before it goes on along its chain.
-pub fn popped(statements: &[u32], words: &[u32], q: Stack) -> Stack
+pub fn popped(statements: &[u32], words: &[u32], q: Stack) -> Turned
     requires { ⌜ QueryOk (now words) × (q .top < length (patternsOf (now words))) × (1 ≤ q .top)
         × LevelsHeld (now statements) (q .levels) (q .top) ⌝ }
-    ensures { λ r. ⌜ r ≡ poppedAs (now (statements .entry)) (patternsOf (now (words .entry))) q ⌝ }
+    ensures { λ m. ⌜ m ≡ poppedAs (now (statements .entry)) (patternsOf (now (words .entry))) q ⌝ }
 {
     let top = q.top - 1;
-    let mut levels = q.levels;
+    let levels = q.levels;
     let l = levels[top as usize];
-    let e = past(statements, l);
-    levels[top as usize] = e;
-    stand(statements, words, levels, top)
+    let bound = bindings(statements, words, levels, top);
+    Turned {
+        bound: bound,
+        asked: under(bound, pattern_at(words, top)),
+        level: past(statements, l),
+        top: top,
+        outcome: Outcome::Onward,
+    }
 }
 
 // The next pattern is entered, at no visit: its chain is picked as a scan's.
-pub fn enter(
-    t: u32,
-    resources: &[u32],
-    words: &[u32],
-    levels: [Level; MAX_PATTERNS],
-    top: u32,
-    bound: Solution,
-) -> Turned
+pub fn enter(t: u32, resources: &[u32], words: &[u32], top: u32, bound: Solution) -> Turned
     requires { ⌜ QueryOk (now words) × (top < length (patternsOf (now words)))
         × PatternHeld (now resources) (under (bound .values) (getD (patternsOf (now words)) top (pattern 0 0 0))) ⌝ }
     ensures { λ m. ⌜ m ≡ enteredAs t (now (resources .entry))
-        (under (bound .values) (getD (patternsOf (now (words .entry))) top (pattern 0 0 0))) levels top bound ⌝ }
+        (under (bound .values) (getD (patternsOf (now (words .entry))) top (pattern 0 0 0))) top bound ⌝ }
 {
     let x = under(bound, pattern_at(words, top));
-    let mut q = Stack {
-        top: top,
-        levels: levels,
-        bound: bound,
-        asked: x,
-    };
     if !pickable(t, resources, x) {
         return Turned {
+            bound: bound,
+            asked: x,
+            level: level(Chain::All, 0),
+            top: top,
             outcome: Outcome::Damaged,
-            stack: q,
         };
     }
     let chain = pick_chain(resources, x);
-    let l = Level {
-        chain: chain,
-        statement: StatementId(start_of(t, resources, chain, x)),
-    };
-    q.levels[top as usize] = l;
     Turned {
+        bound: bound,
+        asked: x,
+        level: level(chain, start_of(t, resources, chain, x)),
+        top: top,
         outcome: Outcome::Onward,
-        stack: q,
     }
 }
 
-// A live record that the chain's scan would give is put to the pattern: no match, on along the chain; a match of the
-// last pattern, a
-// whole solution; of an earlier one, the next pattern is entered at once.
+// A live record of level l that the chain's scan would give is put to the pattern: no match, on along the chain to
+// record `next`; a
+// match of the last pattern, a whole solution; of an earlier one, the next pattern is entered at once. Before it, b is
+// bound, and the
+// pattern is x.
 pub fn tried(
-    c: Counters,
+    t: u32,
     resources: &[u32],
     statements: &[u32],
     words: &[u32],
-    q: Stack,
+    top: u32,
+    l: Level,
+    x: Triple,
+    b: Solution,
     next: u32,
 ) -> Turned
-    requires { ⌜ Ready (c .resources) (c .statements) (now resources) (now statements) (now words)
-        × Stands (c .resources) (c .statements) (now statements) (now words) q
-        × Visitable (c .resources) (now statements) q × (next
-        ≡ linkOf (now statements) ((deepest q) .chain) ((deepest q) .statement .0 - 1)) ⌝ }
-    ensures { λ m. ⌜ TurnIs (c .resources) (c .statements) (now (statements .entry)) (now (words .entry))
-        (triedAt (c .resources) (c .statements) (now (resources .entry)) (now (statements .entry))
-        (patternsOf (now (words .entry))) q) m ⌝ }
+    requires { ⌜ QueryOk (now words) × (top < length (patternsOf (now words)))
+        × StatementHeld (now statements) (l .statement .0)
+        × NextHeld (now resources) (now statements) (patternsOf (now words)) top l b ⌝ }
+    ensures { λ m. ⌜ m ≡ triedAs t (now (resources .entry)) (patternsOf (now (words .entry))) top l x b next
+        (metAt (now (statements .entry)) (patternsOf (now (words .entry))) top l b) ⌝ }
 {
-    let top = q.top;
-    let l = q.levels[top as usize];
-    let chain = l.chain;
-    let b = q.bound;
     let m = meet(
         pattern_at(words, top),
         triple_at(statements, l.statement.0),
         b,
     );
-    let after = Level {
-        chain: chain,
-        statement: StatementId(next),
-    };
-    let mut s = q;
-    s.levels[top as usize] = after;
+    let bound = m.bound;
     if !m.hit {
         return Turned {
+            bound: bound,
+            asked: x,
+            level: moved(l, next),
+            top: top,
             outcome: Outcome::Onward,
-            stack: s,
         };
     }
-    let bound = m.bound;
     if top + 1 == patterns(words) {
-        s.bound = bound;
         return Turned {
+            bound: bound,
+            asked: x,
+            level: moved(l, next),
+            top: top,
             outcome: Outcome::Whole,
-            stack: s,
         };
     }
-    let levels = q.levels;
-    enter(c.statements, resources, words, levels, top + 1, bound)
+    enter(t, resources, words, top + 1, bound)
 }
 
 // The budget is spent: ended where no chain has a record left. Chains that have run out stay in the place.
@@ -311,7 +306,7 @@ pub fn walk(
 {
     let mut q = from;
     let mut visits: u32 = 0;
-    let found = 'walk: loop {
+    'walk: loop {
         if visits == budget {
             return out_of_budget(statements, q, visits);
         }
@@ -323,7 +318,14 @@ pub fn walk(
             if q.top == 0 {
                 return ended(visits);
             }
-            q = popped(statements, words, q);
+            let m = popped(statements, words, q);
+            let b = m.bound;
+            let x = m.asked;
+            let e = m.level;
+            q.bound = b;
+            q.asked = x;
+            q.top = m.top;
+            q.levels[m.top as usize] = e;
         };
         visits += 1;
         let x = q.asked;
@@ -334,16 +336,33 @@ pub fn walk(
                 q.levels[q.top as usize] = after;
             }
             Visited::Hit(n) => {
-                let m = tried(c, resources, statements, words, q, n);
-                let s = m.stack;
+                let b = q.bound;
+                let m = tried(
+                    c.statements,
+                    resources,
+                    statements,
+                    words,
+                    q.top,
+                    l,
+                    x,
+                    b,
+                    n,
+                );
+                let b = m.bound;
+                let x = m.asked;
+                let e = m.level;
                 let outcome = m.outcome;
+                q.bound = b;
+                q.asked = x;
+                q.top = m.top;
+                q.levels[m.top as usize] = e;
                 match outcome {
                     Outcome::Damaged => return refused(Refusal::Damaged),
-                    Outcome::Onward => q = s,
-                    Outcome::Whole => break 'walk s,
+                    Outcome::Onward => {}
+                    Outcome::Whole => break 'walk,
                 }
             }
         }
-    };
-    whole(found, visits)
+    }
+    whole(q, visits)
 }

@@ -1,68 +1,152 @@
-use mathlib.Core.Path.{_≡_, refl, sym, ap, _∙_}
-use Prim.Native.Nat.{ℕ, suc, _+_, _-_, _*_, _≤_, _<_}
+use Rattle.pattern.proofs.Matches.{matchFrom, from-start, from-end, number-unmet, number-met, open-met, bound-unmet, bound-met}
+use Rattle.pattern.specs.Matching.{matchedAs}
+use Rattle.graph.specs.Query.{match}
 use native.Mathlib.Omega.{arith}
-use borrow.Author.Tests.{eq-eqb, ne-eqb, lt-ltb, le-ltb, le-leb, lt-leb, eqb-true, eqb-false, ltb-true, ltb-false}
-use borrow.Author.Tests.{leb-true, leb-false, not-true, not-false}
-use Rattle.pattern.proofs.Matches.{missed, met, hit-whole, match-s, match-p, match-o}
-use Rattle.graph.specs.Query.{bind}
+use Prim.Native.Nat.{ℕ, suc, _+_, _-_, _*_, _≤_, _<_}
+use mathlib.Core.Path.{_≡_, refl, sym, ap, _∙_}
 use borrow.Author.Needs.{needs}
 use Rattle.pattern.proofs.binding.meet.Statement.{statement}
 use Rattle.pattern.proofs.binding.meet.Tie as tie
 
-bind-requires : tie.Need-bind-requires
-bind-requires c κs = search needs
+abbrev Inv-loop : tie.InvT-loop
+Inv-loop x t bound b₀ k₀ b k = match x t (bound .values) ≡ matchFrom x t k (b .values)
 
-returns : tie.Need-returns
-returns c = let a = c .before .before .before .args in
-    rw (match-s (a .x) (a .t) (a .bound .values) (missed (c .before .before .bind .result) (a .bound) _
-    (c .before .before .bind .ensures) (not-true (c .before .before .bind .result .hit) (c .if1 .taken))))
+abbrev μ-loop : tie.MeasureT-loop
+μ-loop x t bound b₀ k₀ b k = 3 - k
 
-bind-requires-2 : tie.Need-bind-requires-2
-bind-requires-2 c κs = search needs
+loop-holds : tie.Need-loop-holds Inv-loop μ-loop
+loop-holds c =
+    let a = c .args in
+    from-start (a .x) (a .t) (a .bound .values)
 
-returns-2 : tie.Need-returns-2
-returns-2 c =
+word-at-requires : tie.Need-word-at-requires Inv-loop μ-loop
+word-at-requires c κs = search needs
+
+number-at-requires : tie.Need-number-at-requires Inv-loop μ-loop
+number-at-requires c κs = search needs
+
+add-k : tie.Need-add-k Inv-loop μ-loop
+add-k c = search needs
+
+unmet-requires : tie.Need-unmet-requires Inv-loop μ-loop
+unmet-requires c κs = search needs
+
+returns : tie.Need-returns Inv-loop μ-loop
+returns c =
     let a = c .before .before .before .before .before .before .before .args in
-    let s = c .before .before .before .before .before .before .bind in
-    let p = c .before .before .bind2 in
-    let e = met (s .result) (a .bound) _ (s .ensures) (not-false (s .result .hit)
-    (c .before .before .before .before .if1 .left)) in
-    let f = missed (p .result) (s .result .bound) _ (p .ensures) (not-true (p .result .hit) (c .if2 .taken)) in
-    rw (match-p (a .x) (a .t) (a .bound .values) (s .result .bound .values) e f)
+    let loop = c .before .before .before .before .before .before .loop in
+    let loop-test = c .before .before .before .before .before .loop-test in
+    let word-at = c .before .before .before .before .word-at in
+    let number-at = c .before .before .before .number-at in
+    let if1 = c .before .before .if1 in
+    let if2 = c .before .if2 in
+    let unmet = c .unmet in
+    unmet .ensures ∙ ap (matchedAs (a .bound)) (sym (loop .inv ∙ number-unmet (a .x) (a .t) (loop .k) (word-at .result) (number-at .result) (loop .b .values) (loop-test .taken) (word-at .ensures .0) (number-at .ensures) (word-at .ensures .1) (if1 .taken) (if2 .taken)))
 
-bind-requires-3 : tie.Need-bind-requires-3
-bind-requires-3 c κs = search needs
+loop-less : tie.Need-loop-less Inv-loop μ-loop
+loop-less c = search needs
 
-returns-3 : tie.Need-returns-3
+loop-again : tie.Need-loop-again Inv-loop μ-loop
+loop-again c =
+    let a = c .before .before .before .before .before .before .args in
+    let loop = c .before .before .before .before .before .loop in
+    let loop-test = c .before .before .before .before .loop-test in
+    let word-at = c .before .before .before .word-at in
+    let number-at = c .before .before .number-at in
+    let if1 = c .before .if1 in
+    let if2 = c .if2 in
+    loop .inv ∙ number-met (a .x) (a .t) (loop .k) (word-at .result) (number-at .result) (loop .b .values) (loop-test .taken) (word-at .ensures .0) (number-at .ensures) (word-at .ensures .1) (if1 .taken) (if2 .left)
+
+cast-v : tie.Need-cast-v Inv-loop μ-loop
+cast-v c = search needs
+
+mul-y : tie.Need-mul-y Inv-loop μ-loop
+mul-y c = search needs
+
+element-copy-out-y : tie.Need-element-copy-out-y Inv-loop μ-loop
+element-copy-out-y c = search needs
+
+mul-taken : tie.Need-mul-taken Inv-loop μ-loop
+mul-taken c = search needs
+
+element-set-from-taken : tie.Need-element-set-from-taken Inv-loop μ-loop
+element-set-from-taken c = search needs
+
+loop-less-2 : tie.Need-loop-less-2 Inv-loop μ-loop
+loop-less-2 c = search needs
+
+loop-again-2 : tie.Need-loop-again-2 Inv-loop μ-loop
+loop-again-2 c =
+    let a = c .before .before .before .before .before .before .before .before .args in
+    let loop = c .before .before .before .before .before .before .before .loop in
+    let loop-test = c .before .before .before .before .before .before .loop-test in
+    let word-at = c .before .before .before .before .before .word-at in
+    let number-at = c .before .before .before .before .number-at in
+    let if1 = c .before .before .before .if1 in
+    let if3 = c .if3 in
+    loop .inv ∙ open-met (a .x) (a .t) (loop .k) (word-at .result) (number-at .result) (loop .b .values) (loop-test .taken) (word-at .ensures .0) (number-at .ensures) (word-at .ensures .1) (if1 .left) (if3 .taken)
+
+unmet-requires-2 : tie.Need-unmet-requires-2 Inv-loop μ-loop
+unmet-requires-2 c κs = search needs
+
+returns-2 : tie.Need-returns-2 Inv-loop μ-loop
+returns-2 c =
+    let a = c .before .before .before .before .before .before .before .before .before .before .before .args in
+    let loop = c .before .before .before .before .before .before .before .before .before .before .loop in
+    let loop-test = c .before .before .before .before .before .before .before .before .before .loop-test in
+    let word-at = c .before .before .before .before .before .before .before .before .word-at in
+    let number-at = c .before .before .before .before .before .before .before .number-at in
+    let if1 = c .before .before .before .before .before .before .if1 in
+    let if3 = c .before .before .before .if3 in
+    let if4 = c .before .if4 in
+    let unmet2 = c .unmet2 in
+    unmet2 .ensures ∙ ap (matchedAs (a .bound)) (sym (loop .inv ∙ bound-unmet (a .x) (a .t) (loop .k) (word-at .result) (number-at .result) (loop .b .values) (loop-test .taken) (word-at .ensures .0) (number-at .ensures) (word-at .ensures .1) (if1 .left) (if3 .left) (if4 .taken)))
+
+loop-less-3 : tie.Need-loop-less-3 Inv-loop μ-loop
+loop-less-3 c = search needs
+
+loop-again-3 : tie.Need-loop-again-3 Inv-loop μ-loop
+loop-again-3 c =
+    let a = c .before .before .before .before .before .before .before .before .before .before .args in
+    let loop = c .before .before .before .before .before .before .before .before .before .loop in
+    let loop-test = c .before .before .before .before .before .before .before .before .loop-test in
+    let word-at = c .before .before .before .before .before .before .before .word-at in
+    let number-at = c .before .before .before .before .before .before .number-at in
+    let if1 = c .before .before .before .before .before .if1 in
+    let if3 = c .before .before .if3 in
+    let if4 = c .if4 in
+    loop .inv ∙ bound-met (a .x) (a .t) (loop .k) (word-at .result) (number-at .result) (loop .b .values) (loop-test .taken) (word-at .ensures .0) (number-at .ensures) (word-at .ensures .1) (if1 .left) (if3 .left) (if4 .left)
+
+returns-3 : tie.Need-returns-3 Inv-loop μ-loop
 returns-3 c =
-    let a = c .before .before .before .before .before .before .before .before .before .before .before .args in
-    let s = c .before .before .before .before .before .before .before .before .before .before .bind in
-    let p = c .before .before .before .before .before .before .bind2 in
-    let o = c .before .before .bind3 in
-    let e = met (s .result) (a .bound) _ (s .ensures) (not-false (s .result .hit)
-    (c .before .before .before .before .before .before .before .before .if1 .left)) in
-    let f = met (p .result) (s .result .bound) _ (p .ensures)
-    (not-false (p .result .hit) (c .before .before .before .before .if2 .left)) in
-    let g = missed (o .result) (p .result .bound) (bind (a .x .object) (a .t .object .0) (p .result .bound .values))
-    (o .ensures) (not-true (o .result .hit) (c .if3 .taken)) in
-    rw (match-o (a .x) (a .t) (a .bound .values) (s .result .bound .values) (p .result .bound .values) e f, g)
-
-returns-4 : tie.Need-returns-4
-returns-4 c =
-    let a = c .before .before .before .before .before .before .before .before .before .before .before .args in
-    let s = c .before .before .before .before .before .before .before .before .before .before .bind in
-    let p = c .before .before .before .before .before .before .bind2 in
-    let o = c .before .before .bind3 in
-    let e = met (s .result) (a .bound) _ (s .ensures) (not-false (s .result .hit)
-    (c .before .before .before .before .before .before .before .before .if1 .left)) in
-    let f = met (p .result) (s .result .bound) _ (p .ensures)
-    (not-false (p .result .hit) (c .before .before .before .before .if2 .left)) in
-    let g = met (o .result) (p .result .bound) (bind (a .x .object) (a .t .object .0) (p .result .bound .values))
-    (o .ensures) (not-false (o .result .hit) (c .if3 .left)) in
-    rw (match-o (a .x) (a .t) (a .bound .values) (s .result .bound .values) (p .result .bound .values) e f, g)
-    (hit-whole (o .result) (not-false (o .result .hit) (c .if3 .left)))
+    let a = c .before .before .args in
+    let loop = c .before .loop in
+    let loop-test = c .loop-test in
+    ap (matchedAs (a .bound)) (sym (loop .inv ∙ from-end (a .x) (a .t) (loop .k) (loop .b .values) (let h = loop-test .left in omega arith)))
 
 pub meet-spec : {M : Type 1} → statement M
 meet-spec =
     tie.close
-    (tie.spec bind-requires returns bind-requires-2 returns-2 bind-requires-3 returns-3 returns-4)
+    (tie.spec
+    Inv-loop
+    μ-loop
+    loop-holds
+    word-at-requires
+    number-at-requires
+    add-k
+    unmet-requires
+    returns
+    loop-less
+    loop-again
+    cast-v
+    mul-y
+    element-copy-out-y
+    mul-taken
+    element-set-from-taken
+    loop-less-2
+    loop-again-2
+    unmet-requires-2
+    returns-2
+    loop-less-3
+    loop-again-3
+    returns-3)

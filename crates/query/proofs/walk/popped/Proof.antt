@@ -1,10 +1,11 @@
-use mathlib.Core.Path.{_≡_, refl, sym, ap, _∙_}
-use Prim.Native.Nat.{ℕ, suc, _+_, _-_, _*_, _≤_, _<_}
+use Rattle.query.proofs.Stacks.{popped-is}
+use Rattle.pattern.proofs.LevelLaws.{asked-is}
+use Rattle.graph.specs.Query.{patternsOf}
+use lib.ListN.{length, getD}
+use borrow.Author.Tests.{eq-eqb, ne-eqb, not-true, not-false}
 use native.Mathlib.Omega.{arith}
-use lib.ListN.{length, getD, set, drop, replicate}
-use Rattle.table.specs.Held.{StatementHeld}
-use Rattle.query.proofs.Stacks.{held-set}
-use Rattle.graph.specs.Query.{noLevel, past}
+use Prim.Native.Nat.{ℕ, suc, _+_, _-_, _*_, _≤_, _<_}
+use mathlib.Core.Path.{_≡_, refl, sym, ap, _∙_}
 use borrow.Author.Needs.{needs}
 use Rattle.query.proofs.walk.popped.Statement.{statement}
 use Rattle.query.proofs.walk.popped.Tie as tie
@@ -19,36 +20,39 @@ mul-l : tie.Need-mul-l
 mul-l c = search needs
 
 array-copy-out-l : tie.Need-array-copy-out-l
-array-copy-out-l c = let q = c .before .before .before .before .pre .3 .few in omega arith
+array-copy-out-l c = search needs
+
+bindings-requires : tie.Need-bindings-requires
+bindings-requires c κs =
+    let pre = c .before .before .before .before .before .pre in
+    let h = pre .1 in let o = pre .2 in (pre .0, omega arith, record { few = let q = pre .3 .few in omega arith; each = λ i g. pre .3 .each i (omega arith) })
+
+pattern-at-requires : tie.Need-pattern-at-requires
+pattern-at-requires c κs = search needs
+
+under-requires : tie.Need-under-requires
+under-requires c κs =
+    let a = c .before .before .before .before .before .before .before .args in
+    let pre = c .before .before .before .before .before .before .before .pre in
+    let pattern-at = c .pattern-at in
+    let h = pre .1 in let o = pre .2 in rw (pattern-at .ensures) (pre .0 .each (a .q .top - 1) (omega arith))
 
 past-requires : tie.Need-past-requires
-past-requires c κs = c .before .before .before .before .before .pre .3 .each
-    (c .before .before .before .before .before .args .q .top - 1)
-    (let q = c .before .before .before .before .before .pre .2 in omega arith)
-
-cast-levels : tie.Need-cast-levels
-cast-levels c = search needs
-
-mul-levels : tie.Need-mul-levels
-mul-levels c = search needs
-
-array-set-from-levels : tie.Need-array-set-from-levels
-array-set-from-levels c = let q = c .before .before .before .before .before .before .pre .3 .few in omega arith
-
-stand-requires : tie.Need-stand-requires
-stand-requires c κs =
-    let q = c .before .before .before .before .before .before .args .q in
-    let h = c .before .before .before .before .before .before .pre .1 in
-    let o = c .before .before .before .before .before .before .pre .2 in (
-      c .before .before .before .before .before .before .pre .0,
-      omega arith,
-      held-set
-          (c .before .before .before .before .before .before .args .statements .now) (q .levels) (q .top) (q .top - 1)
-          (c .past .result) (omega arith) (c .before .before .before .before .before .before .pre .3),
-    )
+past-requires c κs =
+    let a = c .before .before .before .before .before .before .before .before .args in
+    let pre = c .before .before .before .before .before .before .before .before .pre in
+    let o = pre .2 in pre .3 .each (a .q .top - 1) (omega arith)
 
 returns : tie.Need-returns
-returns c = rw (c .stand .ensures, c .before .past .ensures)
+returns c =
+    let a = c .before .before .before .before .before .before .before .before .before .args in
+    let bindings = c .before .before .before .bindings in
+    let pattern-at = c .before .before .pattern-at in
+    let under = c .before .under in
+    let past = c .past in
+    let s = a .statements .now in let ps = patternsOf (a .words .now) in let q = a .q in
+    popped-is s ps q (bindings .result) (under .result) (past .result) (bindings .ensures)
+    (asked-is 0 0 s ps (q .levels) (q .top - 1) (under .result) (pattern-at .result) (bindings .result .values) (under .ensures) (pattern-at .ensures) (bindings .ensures)) (past .ensures)
 
 pub popped-spec : {M : Type 1} → statement M
 popped-spec =
@@ -58,9 +62,8 @@ popped-spec =
     cast-l
     mul-l
     array-copy-out-l
+    bindings-requires
+    pattern-at-requires
+    under-requires
     past-requires
-    cast-levels
-    mul-levels
-    array-set-from-levels
-    stand-requires
     returns)

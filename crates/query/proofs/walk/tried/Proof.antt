@@ -1,241 +1,111 @@
-use mathlib.Core.Path.{_≡_, refl, sym, ap, _∙_}
-use Prim.Native.Nat.{ℕ, suc, _+_, _-_, _*_, _≤_, _<_}
+use Rattle.query.proofs.Turns.{tried-unmet, tried-last, tried-more}
+use Rattle.query.specs.Stack.{metAt}
+use Rattle.pattern.proofs.Matches.{met}
+use Rattle.pattern.specs.Matching.{matchedAs}
+use Rattle.graph.specs.Query.{patternsOf, pattern}
+use lib.ListN.{length, getD}
+use borrow.Author.Tests.{eq-eqb, ne-eqb, not-true, not-false}
 use native.Mathlib.Omega.{arith}
-use lib.ListN.{length, getD, set, drop, replicate}
-use borrow.Author.Tests.{eq-eqb, ne-eqb, lt-ltb, le-ltb, le-leb, lt-leb, eqb-true, eqb-false, ltb-true, ltb-false}
-use borrow.Author.Tests.{leb-true, leb-false, not-true, not-false}
-use mathlib.Core.Bool.{Bool, true, false}
-use Rattle.graph.specs.Query.{match, patternsOf}
-use Rattle.pattern.proofs.Matches.{met, missed}
-use Rattle.table.specs.Held.{StatementHeld}
-use Rattle.query.proofs.Stacks.{ready-query, asked-held}
-use Rattle.query.proofs.Turns.{meeting-is, turned-miss, turned-whole, turned-enter, next-low}
+use Prim.Native.Nat.{ℕ, suc, _+_, _-_, _*_, _≤_, _<_}
+use mathlib.Core.Path.{_≡_, refl, sym, ap, _∙_}
 use borrow.Author.Needs.{needs}
 use Rattle.query.proofs.walk.tried.Statement.{statement}
 use Rattle.query.proofs.walk.tried.Tie as tie
 
-cast-l : tie.Need-cast-l
-cast-l c = search needs
-
-mul-l : tie.Need-mul-l
-mul-l c = search needs
-
-element-copy-out-l : tie.Need-element-copy-out-l
-element-copy-out-l c =
-    let n = c .before .before .before .pre .1 .few in
-    let e = (ready-query (c .before .before .before .args .c .resources)
-    (c .before .before .before .args .c .statements) (c .before .before .before .args .resources .now)
-    (c .before .before .before .args .statements .now) (c .before .before .before .args .words .now)
-    (c .before .before .before .pre .0)) .few in omega arith
-
 pattern-at-requires : tie.Need-pattern-at-requires
-pattern-at-requires c κs = c .before .before .before .before .before .pre .1 .few
+pattern-at-requires c κs = search needs
 
 triple-at-requires : tie.Need-triple-at-requires
-triple-at-requires c κs =
-    let w = c .before .before .before .before .before .before .pre .1 .next-within in
-    let z = c .before .before .before .before .before .before .pre .0 .in-statements in
-    record { from-one = c .before .before .before .before .before .before .pre .2 .some-record; whole = omega arith }
+triple-at-requires c κs = search needs
 
 meet-requires : tie.Need-meet-requires
 meet-requires c κs =
-    let a = c .before .before .before .before .before .before .before .args in
-    let r = a .c .resources in let t = a .c .statements in let res = a .resources .now in
-    let stm = a .statements .now in let ws = a .words .now in let q = a .t5 in
-    let k = c .before .before .before .before .before .before .before .pre .0 in
-    let s = c .before .before .before .before .before .before .before .pre .1 in
-    let v = c .before .before .before .before .before .before .before .pre .2 in
-    rw (c .before .pattern-at .ensures) ((ready-query r t res stm ws k) .each (q .top) (s .few))
+    let a = c .before .before .before .before .before .args in
+    let pre = c .before .before .before .before .before .pre in
+    let pattern-at = c .before .pattern-at in
+    rw (pattern-at .ensures) (pre .0 .each (a .top) (pre .1))
 
-cast-after : tie.Need-cast-after
-cast-after c =
-    let n = c .before .before .before .before .before .before .before .before .pre .1 .few in
-    let e = (ready-query (c .before .before .before .before .before .before .before .before .args .c .resources)
-    (c .before .before .before .before .before .before .before .before .args .c .statements)
-    (c .before .before .before .before .before .before .before .before .args .resources .now)
-    (c .before .before .before .before .before .before .before .before .args .statements .now)
-    (c .before .before .before .before .before .before .before .before .args .words .now)
-    (c .before .before .before .before .before .before .before .before .pre .0)) .few in omega arith
-
-mul-after : tie.Need-mul-after
-mul-after c =
-    let n = c .before .before .before .before .before .before .before .before .pre .1 .few in
-    let e = (ready-query (c .before .before .before .before .before .before .before .before .args .c .resources)
-    (c .before .before .before .before .before .before .before .before .args .c .statements)
-    (c .before .before .before .before .before .before .before .before .args .resources .now)
-    (c .before .before .before .before .before .before .before .before .args .statements .now)
-    (c .before .before .before .before .before .before .before .before .args .words .now)
-    (c .before .before .before .before .before .before .before .before .pre .0)) .few in omega arith
-
-element-set-from-after : tie.Need-element-set-from-after
-element-set-from-after c =
-    let n = c .before .before .before .before .before .before .before .before .pre .1 .few in
-    let e = (ready-query (c .before .before .before .before .before .before .before .before .args .c .resources)
-    (c .before .before .before .before .before .before .before .before .args .c .statements)
-    (c .before .before .before .before .before .before .before .before .args .resources .now)
-    (c .before .before .before .before .before .before .before .before .args .statements .now)
-    (c .before .before .before .before .before .before .before .before .args .words .now)
-    (c .before .before .before .before .before .before .before .before .pre .0)) .few in omega arith
+moved-requires : tie.Need-moved-requires
+moved-requires c κs = search needs
 
 returns : tie.Need-returns
 returns c =
     let a = c .before .before .before .before .before .before .before .before .before .before .args in
-    let r = a .c .resources in let t = a .c .statements in let res = a .resources .now in
-    let stm = a .statements .now in let ws = a .words .now in let q = a .t5 in
-    let k = c .before .before .before .before .before .before .before .before .before .before .pre .0 in
-    let s = c .before .before .before .before .before .before .before .before .before .before .pre .1 in
-    let v = c .before .before .before .before .before .before .before .before .before .before .pre .2 in
-    let o = meeting-is r t res stm ws k q s (c .before .before .before .before .pattern-at .result)
-    (c .before .before .before .triple-at .result) (c .before .before .before .before .pattern-at .ensures)
-    (c .before .before .before .triple-at .ensures) in
-    turned-miss r t res stm ws k q s (a .next) v
-    (c .before .before .before .before .before .before .before .before .before .before .pre .3)
-    (sym o ∙ missed (c .before .before .meet .result) (q .bound)
-    (match (c .before .before .before .before .pattern-at .result) (c .before .before .before .triple-at .result)
-    (q .bound .values)) (c .before .before .meet .ensures) (not-true (c .before .before .meet .result .hit)
-    (c .if1 .taken)))
+    let pattern-at = c .before .before .before .before .before .before .pattern-at in
+    let triple-at = c .before .before .before .before .before .triple-at in
+    let meet = c .before .before .before .before .meet in
+    let if1 = c .before .if1 in
+    let moved = c .moved in
+    let t = a .t in let res = a .resources .now in let stm = a .statements .now in let ps = patternsOf (a .words .now) in
+    let d : meet .result ≡ matchedAs (a .b) (metAt stm ps (a .top) (a .l) (a .b)) = meet .ensures ∙ rw (pattern-at .ensures, triple-at .ensures) in
+    tried-unmet t res stm ps (a .top) (a .l) (a .x) (a .b) (a .next) (meet .result) d (not-true (meet .result .hit) (if1 .taken)) (moved .result) (moved .ensures)
 
 add-if2 : tie.Need-add-if2
-add-if2 c = let n = c .before .before .before .before .before .before .before .before .before .before .before .pre
-    .1 .few in let e = (ready-query
-    (c .before .before .before .before .before .before .before .before .before .before .before .args .c
-    .resources) (c .before .before .before .before .before .before .before .before .before .before .before .args
-    .c .statements) (c .before .before .before .before .before .before .before .before .before .before
-    .before .args .resources .now)
-    (c .before .before .before .before .before .before .before .before .before .before .before .args
-    .statements .now) (c .before .before .before .before .before .before .before .before .before
-    .before .before .args .words .now)
-    (c .before .before .before .before .before .before .before .before .before .before
-    .before .pre .0)) .few in omega arith
+add-if2 c = search needs
 
 patterns-requires : tie.Need-patterns-requires
-patterns-requires c κs = let a = c .before .before .before .before .before .before .before .before .before .before
-    .before .args in let r = a .c .resources in let t = a .c .statements in let res = a .resources .now in
-    let stm = a .statements .now in let ws = a .words .now in let q = a .t5 in
-    let k = c .before .before .before .before .before .before .before .before .before .before .before .pre .0 in
-    let s = c .before .before .before .before .before .before .before .before .before .before .before .pre .1 in
-    let v = c .before .before .before .before .before .before .before .before .before .before .before .pre .2 in
-    (ready-query r t res stm ws k) .few
+patterns-requires c κs = search needs
+
+moved-requires-2 : tie.Need-moved-requires-2
+moved-requires-2 c κs = search needs
 
 returns-2 : tie.Need-returns-2
 returns-2 c =
-    let a = c .before .before .before .before .before .before .before .before .before .before .before .before
-    .before .args in let r = a .c .resources in let t = a .c .statements in let res = a .resources .now in
-    let stm = a .statements .now in let ws = a .words .now in let q = a .t5 in
-    let k = c .before .before .before .before .before .before .before .before .before .before .before .before
-    .before .pre .0 in let s = c .before .before .before .before .before .before .before .before .before
-    .before .before .before .before .pre .1 in
-    let v = c .before .before .before .before .before .before .before .before .before .before
-    .before .before .before .pre .2 in
-    let o = meeting-is r t res stm ws k q s
-    (c .before .before .before .before .before .before .before .pattern-at .result)
-    (c .before .before .before .before .before .before .triple-at .result)
-    (c .before .before .before .before .before .before .before .pattern-at .ensures)
-    (c .before .before .before .before .before .before .triple-at .ensures) in
-    let f = sym o ∙ met (c .before .before .before .before .before .meet .result) (q .bound)
-    (match (c .before .before .before .before .before .before .before .pattern-at .result)
-    (c .before .before .before .before .before .before .triple-at .result) (q .bound .values))
-    (c .before .before .before .before .before .meet .ensures)
-    (not-false (c .before .before .before .before .before .meet .result .hit)
-    (c .before .before .before .if1 .left)) in
-    turned-whole r t res stm ws k q s (a .next) (c .before .before .before .before .before .meet .result .bound)
-    (c .before .before .before .before .before .before .before .before .before .before .before .before .before
-    .pre .3) f (c .if2 .taken ∙ c .before .patterns .ensures)
+    let a = c .before .before .before .before .before .before .before .before .before .before .before .before .args in
+    let pattern-at = c .before .before .before .before .before .before .before .before .pattern-at in
+    let triple-at = c .before .before .before .before .before .before .before .triple-at in
+    let meet = c .before .before .before .before .before .before .meet in
+    let if1 = c .before .before .before .if1 in
+    let patterns = c .before .before .patterns in
+    let if2 = c .before .if2 in
+    let moved2 = c .moved2 in
+    let t = a .t in let res = a .resources .now in let stm = a .statements .now in let ps = patternsOf (a .words .now) in
+    let d : meet .result ≡ matchedAs (a .b) (metAt stm ps (a .top) (a .l) (a .b)) = meet .ensures ∙ rw (pattern-at .ensures, triple-at .ensures) in
+    tried-last t res stm ps (a .top) (a .l) (a .x) (a .b) (a .next) (meet .result) d (not-false (meet .result .hit) (if1 .left)) (moved2 .result) (moved2 .ensures) (if2 .taken ∙ patterns .ensures)
 
 add-enter : tie.Need-add-enter
-add-enter c = let n = c .before .before .before .before .before .before .before .before .before .before .before
-    .before .before .before .pre .1 .few in
-    let e = (ready-query
-    (c .before .before .before .before .before .before .before .before .before .before .before .before
-    .before .before .args .c .resources)
-    (c .before .before .before .before .before .before .before .before .before .before .before .before
-    .before .before .args .c .statements)
-    (c .before .before .before .before .before .before .before .before .before .before .before
-    .before .before .before .args .resources .now)
-    (c .before .before .before .before .before .before .before .before .before .before .before
-    .before .before .before .args .statements .now)
-    (c .before .before .before .before .before .before .before .before .before .before
-    .before .before .before .before .args .words .now)
-    (c .before .before .before .before .before .before .before .before .before .before
-    .before .before .before .before .pre .0)) .few in omega arith
+add-enter c = search needs
 
 enter-requires : tie.Need-enter-requires
 enter-requires c κs =
-    let a = c .before .before .before .before .before .before .before .before .before .before .before .before
-    .before .before .args in let r = a .c .resources in let t = a .c .statements in
-    let res = a .resources .now in let stm = a .statements .now in let ws = a .words .now in let q = a .t5 in
-    let k = c .before .before .before .before .before .before .before .before .before .before .before .before
-    .before .before .pre .0 in
-    let s = c .before .before .before .before .before .before .before .before .before .before .before
-    .before .before .before .pre .1 in
-    let v = c .before .before .before .before .before .before .before .before .before .before
-    .before .before .before .before .pre .2 in
-    let o = meeting-is r t res stm ws k q s
-    (c .before .before .before .before .before .before .before .before .pattern-at .result)
-    (c .before .before .before .before .before .before .before .triple-at .result)
-    (c .before .before .before .before .before .before .before .before .pattern-at .ensures)
-    (c .before .before .before .before .before .before .before .triple-at .ensures) in
-    let f = sym o ∙ met (c .before .before .before .before .before .before .meet .result) (q .bound)
-    (match (c .before .before .before .before .before .before .before .before .pattern-at .result)
-    (c .before .before .before .before .before .before .before .triple-at .result) (q .bound .values))
-    (c .before .before .before .before .before .before .meet .ensures)
-    (not-false (c .before .before .before .before .before .before .meet .result .hit)
-    (c .before .before .before .before .if1 .left)) in
-    let m : q .top + 1 ≡ length (patternsOf ws) → ⊥ = λ z. c .before .if2 .left
-    (z ∙ sym (c .before .before .patterns .ensures)) in
-    let n = s .few in
-    let small : q .top + 1 < length (patternsOf ws) = omega arith in (
-      ready-query r t res stm ws k,
-      small,
-      asked-held r t res stm ws k
-          (c .before .before .before .before .before .before .meet .result .bound .values) (q .top + 1)
-          (next-low r t res stm ws k q s (c .before .before .before .before .before .before .meet .result .bound) f m v)
-          small,
-    )
+    let a = c .before .before .before .before .before .before .before .before .before .before .before .args in
+    let pre = c .before .before .before .before .before .before .before .before .before .before .before .pre in
+    let pattern-at = c .before .before .before .before .before .before .before .pattern-at in
+    let triple-at = c .before .before .before .before .before .before .triple-at in
+    let meet = c .before .before .before .before .before .meet in
+    let if1 = c .before .before .if1 in
+    let patterns = c .before .patterns in
+    let if2 = c .if2 in
+    let t = a .t in let res = a .resources .now in let stm = a .statements .now in let ps = patternsOf (a .words .now) in
+    let d : meet .result ≡ matchedAs (a .b) (metAt stm ps (a .top) (a .l) (a .b)) = meet .ensures ∙ rw (pattern-at .ensures, triple-at .ensures) in
+    let more : a .top + 1 ≡ length ps → ⊥ = λ z. if2 .left (z ∙ sym (patterns .ensures)) in let n = pre .1 in (pre .0, omega arith, pre .3 .held (meet .result .bound .values) (met (meet .result) (a .b) (metAt stm ps (a .top) (a .l) (a .b)) d (not-false (meet .result .hit) (if1 .left))) more)
 
 returns-3 : tie.Need-returns-3
 returns-3 c =
-    let a = c .before .before .before .before .before .before .before .before .before .before .before .before
-    .before .before .before .args in let r = a .c .resources in let t = a .c .statements in
-    let res = a .resources .now in let stm = a .statements .now in let ws = a .words .now in let q = a .t5 in
-    let k = c .before .before .before .before .before .before .before .before .before .before .before .before
-    .before .before .before .pre .0 in
-    let s = c .before .before .before .before .before .before .before .before .before .before .before
-    .before .before .before .before .pre .1 in
-    let v = c .before .before .before .before .before .before .before .before .before .before
-    .before .before .before .before .before .pre .2 in
-    let o = meeting-is r t res stm ws k q s
-    (c .before .before .before .before .before .before .before .before .before .pattern-at .result)
-    (c .before .before .before .before .before .before .before .before .triple-at .result)
-    (c .before .before .before .before .before .before .before .before .before .pattern-at .ensures)
-    (c .before .before .before .before .before .before .before .before .triple-at .ensures) in
-    let f = sym o ∙ met (c .before .before .before .before .before .before .before .meet .result) (q .bound)
-    (match (c .before .before .before .before .before .before .before .before .before .pattern-at .result)
-    (c .before .before .before .before .before .before .before .before .triple-at .result) (q .bound .values))
-    (c .before .before .before .before .before .before .before .meet .ensures)
-    (not-false (c .before .before .before .before .before .before .before .meet .result .hit)
-    (c .before .before .before .before .before .if1 .left)) in
-    let m : q .top + 1 ≡ length (patternsOf ws) → ⊥ = λ z. c .before .before .if2 .left
-    (z ∙ sym (c .before .before .before .patterns .ensures)) in
-    rw (c .enter .ensures) (turned-enter r t res stm ws k q s
-    (c .before .before .before .before .before .before .before .meet .result .bound) f m v)
+    let a = c .before .before .before .before .before .before .before .before .before .before .before .before .args in
+    let pattern-at = c .before .before .before .before .before .before .before .before .pattern-at in
+    let triple-at = c .before .before .before .before .before .before .before .triple-at in
+    let meet = c .before .before .before .before .before .before .meet in
+    let if1 = c .before .before .before .if1 in
+    let patterns = c .before .before .patterns in
+    let if2 = c .before .if2 in
+    let enter = c .enter in
+    let t = a .t in let res = a .resources .now in let stm = a .statements .now in let ps = patternsOf (a .words .now) in
+    let d : meet .result ≡ matchedAs (a .b) (metAt stm ps (a .top) (a .l) (a .b)) = meet .ensures ∙ rw (pattern-at .ensures, triple-at .ensures) in
+    tried-more t res stm ps (a .top) (a .l) (a .x) (a .b) (a .next) (meet .result) d (not-false (meet .result .hit) (if1 .left)) (λ z. if2 .left (z ∙ sym (patterns .ensures))) (enter .result) (enter .ensures)
 
 pub tried-spec : {M : Type 1} → statement M
 tried-spec =
     tie.close
     (tie.spec
-    cast-l
-    mul-l
-    element-copy-out-l
     pattern-at-requires
     triple-at-requires
     meet-requires
-    cast-after
-    mul-after
-    element-set-from-after
+    moved-requires
     returns
     add-if2
     patterns-requires
+    moved-requires-2
     returns-2
     add-enter
     enter-requires
