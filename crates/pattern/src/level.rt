@@ -35,7 +35,7 @@ ghost use lib.Dec.{leb};
 ghost use Rattle.store.specs.Triple.{prev};
 ghost use Rattle.store.specs.Tables.{statementWords, flagAt};
 ghost use Rattle.table.specs.Held.{StatementHeld};
-ghost use Rattle.graph.specs.Query.{patternsOf, unbound, noLevel, inside, past, struck, intact, remains, binds};
+ghost use Rattle.graph.specs.Query.{maxPatterns, patternsOf, unbound, noLevel, inside, past, struck, intact, remains, binds};
 ghost use Rattle.graph.specs.Query.{enteredOk, placeOk, levelsOf, insideOf, placeOf, written, cursorAt, cursorWith};
 ghost use Rattle.pattern.specs.Matching.{PatternOk};
 ghost use Rattle.pattern.specs.Levels.{QueryOk, LevelsHeld, LevelTested, LevelsTested, FirstStruck};
@@ -259,7 +259,7 @@ pub fn first_struck(statements: &[u32], levels: [Level; MAX_PATTERNS], d: u32) -
 
 // Whether a record remains on a chain: of the deepest level, which is level `top` from 0, or of one entered before it.
 pub fn remains(statements: &[u32], levels: [Level; MAX_PATTERNS], top: u32) -> bool
-    requires { ⌜ (top < 8) × LevelsHeld (now statements) levels top ⌝ }
+    requires { ⌜ (top < maxPatterns) × LevelsHeld (now statements) levels top ⌝ }
     ensures { λ b. ⌜ b ≡ remains (now (statements .entry)) (getD levels top noLevel) (levelsOf levels top) ⌝ }
 {
     let l = levels[top as usize];
@@ -280,7 +280,7 @@ pub fn remains(statements: &[u32], levels: [Level; MAX_PATTERNS], top: u32) -> b
 
 // The first d levels, zeros past them.
 pub fn written(levels: [Level; MAX_PATTERNS], d: u32) -> [Level; MAX_PATTERNS]
-    requires { ⌜ d ≤ 8 ⌝ }
+    requires { ⌜ d ≤ maxPatterns ⌝ }
     ensures { λ r. ⌜ r ≡ written (levelsOf levels d) ⌝ }
 {
     let none = Level {
@@ -299,7 +299,7 @@ pub fn written(levels: [Level; MAX_PATTERNS], d: u32) -> [Level; MAX_PATTERNS]
 
 // The cursor of d levels.
 pub fn cursor_of(progress: Progress, levels: [Level; MAX_PATTERNS], d: u32) -> QueryCursor
-    requires { ⌜ d ≤ 8 ⌝ }
+    requires { ⌜ d ≤ maxPatterns ⌝ }
     ensures { λ q. ⌜ q ≡ cursorWith progress (levelsOf levels d) ⌝ }
 {
     let w = written(levels, d);

@@ -15,7 +15,7 @@ use Rattle.store.specs.Walk.{pickChain, pickable, startOf, visitable}
 use Rattle.graph.specs.declared.QueryPattern.{QueryPattern}
 use Rattle.graph.specs.declared.Solution.{Solution}
 use Rattle.graph.specs.declared.Level.{Level}
-use Rattle.graph.specs.Query.{Bindings, pattern, under}
+use Rattle.graph.specs.Query.{maxPatterns, Bindings, pattern, under}
 use Rattle.graph.specs.Query.{patternsOf, wordsOk, level, noLevel, recordAt, past, binds, asked, levelsOf, inside}
 use Rattle.graph.specs.Query.{nextPattern, match, remains, Turn, bad, go, whole, tried, Answer, spent, ended}
 use Rattle.query.specs.declared.walk.Stack.{Stack}
@@ -49,7 +49,7 @@ pub record LevelSure (r t : ℕ) (stm : List ℕ) (e : Level) : Type 0 where
 
 pub record Stands (r t : ℕ) (stm ws : List ℕ) (q : Stack) : Type 0 where
   pub few : q .top < length (patternsOf ws)
-  pub slots : length (q .levels) ≡ 8
+  pub slots : length (q .levels) ≡ maxPatterns
   pub next-within : (deepest q) .statement .0 ≤ t
   pub sure : (i : ℕ) → i < q .top → LevelSure r t stm (getD (q .levels) i noLevel)
   pub bound-is : q .bound .values ≡ binds stm (patternsOf ws) (entered q)
@@ -132,7 +132,7 @@ turnAs Whole q = whole (q .bound .values) (deepest q) (entered q)
 pub record TurnIs (r t : ℕ) (stm ws : List ℕ) (turn : Turn) (ls : List Level) (m : Turned) : Type 0 where
   pub told : turnAs (m .outcome) (onto ls m) ≡ turn
   pub stands : m .outcome ≡ Onward → Stands r t stm ws (onto ls m)
-  pub slot : m .top < 8
+  pub slot : m .top < maxPatterns
 
 -- the deepest record, live and on its chain, put to the pattern
 abbrev pub triedAt : (r t : ℕ) → List ℕ → List ℕ → List QueryPattern → Stack → Turn

@@ -26,7 +26,7 @@ ghost use mathlib.Core.Path.{_≡_};
 ghost use mathlib.Core.Bool.{true};
 ghost use Prim.Native.Nat.{ℕ, _<_, _≤_};
 ghost use lib.ListN.{length, getD};
-ghost use Rattle.graph.specs.Query.{patternsOf, noLevel, start, inside, placeOk, placeOf, levelsOf, packed, resume};
+ghost use Rattle.graph.specs.Query.{maxPatterns, patternsOf, noLevel, start, inside, placeOk, placeOf, levelsOf, packed, resume};
 ghost use Rattle.pattern.specs.Levels.{QueryOk, LevelsHeld};
 ghost use Rattle.query.specs.Stack.{Ready};
 ghost use Rattle.query.specs.Resume.{Pruned, onwardAs};
@@ -75,7 +75,7 @@ pub fn begin(
 
 // The level to go on from: the deepest, level `top`, or level i after its record, which was struck out since.
 pub fn onward(statements: &[u32], levels: [Level; MAX_PATTERNS], top: u32, i: u32) -> Level
-    requires { ⌜ (top < 8) × (i ≤ top) × LevelsHeld (now statements) levels top ⌝ }
+    requires { ⌜ (top < maxPatterns) × (i ≤ top) × LevelsHeld (now statements) levels top ⌝ }
     ensures { λ l. ⌜ l ≡ onwardAs (now (statements .entry)) levels top i ⌝ }
 {
     let l = levels[i as usize];

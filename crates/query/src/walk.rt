@@ -39,7 +39,7 @@ ghost use Rattle.store.specs.Walk.{linkOf};
 ghost use Rattle.table.specs.Held.{StatementHeld};
 ghost use Rattle.statement.specs.declared.inner.Sought.the-variants.{LiveMatch};
 ghost use Rattle.statement.specs.Chains.{PatternHeld, visitOf};
-ghost use Rattle.graph.specs.Query.{patternsOf, pattern, under, noLevel, levelsOf, inside, level, refused, ended};
+ghost use Rattle.graph.specs.Query.{maxPatterns, patternsOf, pattern, under, noLevel, levelsOf, inside, level, refused, ended};
 ghost use Rattle.graph.specs.Query.{found, answered, packed, cursorWith, walk};
 ghost use Rattle.pattern.specs.Levels.{QueryOk, LevelsHeld};
 ghost use Rattle.query.specs.Stack.{Ready, Stands, deepest, entered, standAs, poppedAs, enteredAs, metAt};
@@ -124,7 +124,7 @@ pub fn standing(
     levels: [Level; MAX_PATTERNS],
     top: u32,
 ) -> QueryAnswer
-    requires { ⌜ top < 8 ⌝ }
+    requires { ⌜ top < maxPatterns ⌝ }
     ensures { λ a. ⌜ a ≡ answered step visits (solution .values)
         (inside (getD levels top noLevel) (levelsOf levels top)) ⌝ }
 {
@@ -249,7 +249,7 @@ pub fn tried(
 
 // The budget is spent: ended where no chain has a record left. Chains that have run out stay in the place.
 pub fn out_of_budget(statements: &[u32], q: Stack, visits: u32) -> QueryAnswer
-    requires { ⌜ (q .top < 8) × LevelsHeld (now statements) (q .levels) (q .top) ⌝ }
+    requires { ⌜ (q .top < maxPatterns) × LevelsHeld (now statements) (q .levels) (q .top) ⌝ }
     ensures { λ a. ⌜ a ≡ packed (overAs (now (statements .entry)) q visits) ⌝ }
 {
     let levels = q.levels;
@@ -261,7 +261,7 @@ pub fn out_of_budget(statements: &[u32], q: Stack, visits: u32) -> QueryAnswer
 
 // A whole solution is found: the stack has bound it.
 pub fn whole(s: Stack, visits: u32) -> QueryAnswer
-    requires { ⌜ s .top < 8 ⌝ }
+    requires { ⌜ s .top < maxPatterns ⌝ }
     ensures { λ a. ⌜ a ≡ packed (found (s .bound .values) visits (inside (deepest s) (entered s))) ⌝ }
 {
     let solution = s.bound;
