@@ -22,15 +22,17 @@ use Rattle.table.specs.Held.{StatementHeld}
 use Rattle.graph.specs.declared.QueryPattern.{QueryPattern}
 use Rattle.graph.specs.declared.Solution.{Solution}
 use Rattle.graph.specs.declared.Level.{Level}
+use Rattle.graph.specs.declared.QueryCursor.{QueryCursor}
+use Rattle.graph.specs.declared.Progress.the-variants.{Start, Within, End}
 use Rattle.graph.specs.Query.{patternsOf, pattern, maxPatterns, Bindings, under, match, orElse, isSome, level}
 use Rattle.graph.specs.Query.{noLevel, inside, recordAt, past, struck, intact, anyStruck, remains, nextPattern, binds}
-use Rattle.graph.specs.Query.{asked, enteredOk, placeOk, levelsOf, insideOf, written}
+use Rattle.graph.specs.Query.{asked, enteredOk, placeOk, placeAs, levelsOf, insideOf, written}
 use Rattle.store.proofs.Tests.{decide, and-l, and-r}
 use Rattle.graph.proofs.Laws.{prev-minus, levels-length}
 use Rattle.pattern.specs.declared.binding.Matched.{Matched}
 use Rattle.pattern.specs.Matching.{PatternOk, matchedAs}
 use Rattle.pattern.specs.Levels.{QueryOk, LevelsHeld, levelOk, LevelTested, LevelsTested, levelIntact}
-use Rattle.pattern.specs.Levels.{FirstStruck, deepestOk}
+use Rattle.pattern.specs.Levels.{FirstStruck, deepestOk, InsideTested, Handed, PlaceTested}
 use Rattle.pattern.proofs.Matches.{match-none}
 
 -- ---- tests
@@ -389,3 +391,28 @@ pub written-step : (ls : List Level) (i : ℕ) → written (levelsOf ls (i + 1))
     ≡ set (written (levelsOf ls i)) i (getD ls i noLevel)
 unfolding written levelsOf
 written-step ls i = let q : i + 1 ≡ suc i = omega arith in rw (q, written, levelsOf, levels-length ls i)
+
+-- ---- the place of a cursor
+
+within-start : {A : Type 0} → Start ≡ Within → A
+within-start e = let z : _≡_ {A = ℕ} 0 1 = cc in absurd (omega arith)
+
+within-end : {A : Type 0} → End ≡ Within → A
+within-end e = let z : _≡_ {A = ℕ} 0 1 = cc in absurd (omega arith)
+
+module _ (r t : ℕ) (stm : List ℕ) (ps : List QueryPattern) (q : QueryCursor) (m : Matched) where
+  pub tested-start : q .progress ≡ Start → m .hit ≡ true → PlaceTested r t stm ps q m
+  unfolding placeAs placeOk
+  tested-start e h =
+      record { told = h ∙ rw e; handed = λ z. record { binds-here = λ f g. within-start (sym e ∙ f) } }
+
+  pub tested-end : q .progress ≡ End → m .hit ≡ true → PlaceTested r t stm ps q m
+  unfolding placeAs placeOk
+  tested-end e h =
+      record { told = h ∙ rw e; handed = λ z. record { binds-here = λ f g. within-end (sym e ∙ f) } }
+
+  pub tested-within : q .progress ≡ Within → InsideTested r t stm ps (q .levels) (q .depth) m
+      → PlaceTested r t stm ps q m
+  unfolding placeAs
+  tested-within e k =
+      record { told = rw e (k .told); handed = λ z. record { binds-here = λ f g. k .binds-inside z g } }

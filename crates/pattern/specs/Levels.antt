@@ -2,7 +2,7 @@
 use mathlib.Core.Path.{_≡_}
 use mathlib.Core.Bool.{Bool, true, false, _&&_}
 use mathlib.Core.List.{List}
-use Prim.Native.Nat.{ℕ, _*_, _≤_, _<_}
+use Prim.Native.Nat.{ℕ, _*_, _-_, _≤_, _<_}
 use lib.ListN.{length, getD}
 use lib.Dec.{leb, ltb}
 use Rattle.store.specs.declared.Triple.{Triple}
@@ -13,8 +13,11 @@ use Rattle.table.specs.Held.{StatementHeld}
 use Rattle.graph.specs.declared.QueryPattern.{QueryPattern}
 use Rattle.graph.specs.declared.Solution.{Solution}
 use Rattle.graph.specs.declared.Level.{Level}
+use Rattle.graph.specs.declared.QueryCursor.{QueryCursor}
+use Rattle.graph.specs.declared.Progress.the-variants.{Within}
 use Rattle.graph.specs.Query.{maxPatterns, patternsOf, pattern, Bindings, under, match, orElse, isSome, noLevel}
 use Rattle.graph.specs.Query.{recordAt, past, struck, anyStruck, levelsOf, binds, enteredOk}
+use Rattle.graph.specs.Query.{placeOk, insideOf, placeOf}
 use Rattle.pattern.specs.declared.binding.Matched.{Matched}
 use Rattle.pattern.specs.Matching.{PatternOk}
 
@@ -44,6 +47,23 @@ pub record LevelTested (r t : ℕ) (stm : List ℕ) (x : QueryPattern) (b : Solu
 pub record LevelsTested (r t : ℕ) (stm : List ℕ) (ps : List QueryPattern) (up : List Level) (m : Matched) : Type 0 where
   pub told : m .hit ≡ enteredOk stm ps r t up
   pub binds-all : m .hit ≡ true → m .bound .values ≡ binds stm ps up
+
+-- 6 for a place of d levels, and what those before the deepest bind
+pub record InsideTested (r t : ℕ) (stm : List ℕ) (ps : List QueryPattern) (ls : List Level) (d : ℕ)
+    (m : Matched) : Type 0 where
+  pub told : m .hit ≡ placeOk stm ps r t (insideOf ls d)
+  pub binds-inside : m .hit ≡ true → (d ≡ 0 → ⊥) → m .bound .values ≡ binds stm ps (levelsOf ls (d - 1))
+
+-- b is what a cursor's levels before the deepest bind
+pub record Handed (stm : List ℕ) (ps : List QueryPattern) (q : QueryCursor) (b : Solution) : Type 0 where
+  pub binds-here : q .progress ≡ Within → (q .depth ≡ 0 → ⊥)
+      → b .values ≡ binds stm ps (levelsOf (q .levels) (q .depth - 1))
+
+-- 6 for a cursor
+pub record PlaceTested (r t : ℕ) (stm : List ℕ) (ps : List QueryPattern) (q : QueryCursor)
+    (m : Matched) : Type 0 where
+  pub told : m .hit ≡ placeOk stm ps r t (placeOf q)
+  pub handed : m .hit ≡ true → Handed stm ps q (m .bound)
 
 -- 9 before any visit, for one entered level
 unfoldable pub levelIntact : List ℕ → Level → Bool

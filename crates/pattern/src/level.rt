@@ -36,10 +36,10 @@ ghost use Rattle.store.specs.Triple.{prev};
 ghost use Rattle.store.specs.Tables.{statementWords, flagAt};
 ghost use Rattle.table.specs.Held.{StatementHeld};
 ghost use Rattle.graph.specs.Query.{maxPatterns, patternsOf, unbound, noLevel, inside, past, struck, intact, remains, binds};
-ghost use Rattle.graph.specs.Query.{enteredOk, placeOk, levelsOf, insideOf, placeOf, written, cursorAt, cursorWith};
+ghost use Rattle.graph.specs.Query.{enteredOk, levelsOf, written, cursorAt, cursorWith};
 ghost use Rattle.pattern.specs.Matching.{PatternOk};
 ghost use Rattle.pattern.specs.Levels.{QueryOk, LevelsHeld, LevelTested, LevelsTested, FirstStruck};
-ghost use Rattle.pattern.specs.Levels.{levelIntact, deepestOk};
+ghost use Rattle.pattern.specs.Levels.{InsideTested, PlaceTested, levelIntact, deepestOk};
 
 // Nothing is bound.
 pub fn none_bound() -> Solution
@@ -194,33 +194,42 @@ pub fn deepest_ok(c: Counters, statements: &[u32], x: Triple, l: Level) -> bool
     record_ok(statements, chain, x, n)
 }
 
-// Whether d levels can be where a reading stands; where not, next refuses 6.
+// Whether d levels can be where a reading stands, and what those before the deepest bind; where not, next refuses 6.
 pub fn inside_ok(
     c: Counters,
     statements: &[u32],
     words: &[u32],
     levels: [Level; MAX_PATTERNS],
     d: u32,
-) -> bool
+) -> Matched
     requires { ⌜ QueryOk (now words) × (statementWords * c .statements ≤ length (now statements)) ⌝ }
-    ensures { λ b. ⌜ b ≡ placeOk (now (statements .entry)) (patternsOf (now (words .entry))) (c .resources)
-        (c .statements) (insideOf levels d) ⌝ }
+    ensures { λ m. ⌜ InsideTested (c .resources) (c .statements) (now (statements .entry))
+        (patternsOf (now (words .entry))) levels d m ⌝ }
 {
     if d == 0 {
-        return true;
+        return Matched {
+            hit: true,
+            bound: none_bound(),
+        };
     }
     if d > patterns(words) {
-        return false;
+        return Matched {
+            hit: false,
+            bound: none_bound(),
+        };
     }
     let top = d - 1;
     let m = levels_ok(c, statements, words, levels, top);
     if !m.hit {
-        return false;
+        return m;
     }
     let b = m.bound;
     let x = under(b, pattern_at(words, top));
     let l = levels[top as usize];
-    deepest_ok(c, statements, x, l)
+    Matched {
+        hit: deepest_ok(c, statements, x, l),
+        bound: b,
+    }
 }
 
 // Whether the records of the first d levels have flags of at most 1 and nexts below their own numbers; where not,
@@ -310,17 +319,27 @@ pub fn cursor_of(progress: Progress, levels: [Level; MAX_PATTERNS], d: u32) -> Q
     }
 }
 
-// Whether a cursor's place is one; where not, next refuses 6.
-pub fn place_ok(c: Counters, statements: &[u32], words: &[u32], q: QueryCursor) -> bool
+// Nothing is entered yet, and nothing is bound.
+pub fn unentered() -> Matched
+    ensures { λ m. ⌜ m .hit ≡ true ⌝ }
+{
+    Matched {
+        hit: true,
+        bound: none_bound(),
+    }
+}
+
+// Whether a cursor's place is one, and what its levels before the deepest bind; where not, next refuses 6.
+pub fn place_ok(c: Counters, statements: &[u32], words: &[u32], q: QueryCursor) -> Matched
     requires { ⌜ QueryOk (now words) × (statementWords * c .statements ≤ length (now statements)) ⌝ }
-    ensures { λ b. ⌜ b ≡ placeOk (now (statements .entry)) (patternsOf (now (words .entry))) (c .resources)
-        (c .statements) (placeOf q) ⌝ }
+    ensures { λ m. ⌜ PlaceTested (c .resources) (c .statements) (now (statements .entry))
+        (patternsOf (now (words .entry))) q m ⌝ }
 {
     let progress = q.progress;
     let levels = q.levels;
     match progress {
-        Progress::Start => true,
+        Progress::Start => unentered(),
         Progress::Within => inside_ok(c, statements, words, levels, q.depth),
-        Progress::End => true,
+        Progress::End => unentered(),
     }
 }

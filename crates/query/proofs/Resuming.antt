@@ -13,6 +13,7 @@ use lib.Dec.{eqb, leb, ltb}
 use borrow.Author.Tests.{eqb-true, eqb-false, eq-eqb, ne-eqb, ltb-true, leb-true, lt-ltb, le-ltb}
 use Rattle.store.specs.declared.Refusal.the-variants.{Damaged as Nine}
 use Rattle.store.specs.declared.Counters.{Counters}
+use Rattle.store.specs.declared.Triple.{Triple}
 use Rattle.store.specs.Tables.{Tables, fits, statementWords, flagAt}
 use Rattle.table.proofs.Capacity.{fits-room}
 use Rattle.store.specs.Scan.{chainOk, recordOk}
@@ -27,7 +28,7 @@ use Rattle.graph.specs.Query.{levelsOf, insideOf, written, Turn, bad, go, whole
 use Rattle.graph.specs.Query.{enter, begun, walk, resume}
 use Rattle.pattern.specs.Levels.{LevelsHeld, levelIntact, FirstStruck}
 use Rattle.pattern.proofs.LevelLaws.{or-true, entered-each, ok-number, ok-resources, intact-each, intact-at}
-use Rattle.pattern.proofs.LevelLaws.{written-step, binds-none}
+use Rattle.pattern.proofs.LevelLaws.{written-step, binds-none, asked-is}
 use Rattle.query.specs.declared.walk.Stack.{Stack}
 use Rattle.query.specs.declared.walk.Outcome.{Outcome}
 use Rattle.query.specs.declared.walk.Outcome.the-variants.{Damaged, Onward, Whole}
@@ -36,7 +37,7 @@ use Rattle.query.specs.Stack.{deepest, entered, Ready, LevelSure, Stands
 use Rattle.query.specs.Stack.{TurnIs}
 use Rattle.query.specs.Resume.{onwardAs, Pruned}
 use Rattle.query.proofs.Stacks.{levels-none, levels-step, ready-query, Sure, sure-none, sure-less, top-is}
-use Rattle.query.proofs.Stacks.{stands-new}
+use Rattle.query.proofs.Stacks.{stands-new, stack-is}
 use Rattle.query.proofs.Turns.{entering}
 
 -- ---- what 1 and 8 have tested
@@ -206,6 +207,26 @@ pub pruned-made : (stm : List ℕ) (ps : List QueryPattern) (ls : List Level) (t
     → FirstStruck stm ls top i
     → s ≡ standAs stm ps (set (written (levelsOf ls i)) i (onwardAs stm ls top i)) i → Pruned stm ps ls top s
 pruned-made stm ps ls top i s f e = rw e (record { first = f; made = refl })
+
+-- no record is struck out: what refusal 6 has found bound is handed on
+pub written-levels : (ls : List Level) (i : ℕ) (l : Level) → i ≤ 8
+    → levelsOf (set (written (levelsOf ls i)) i l) i ≡ levelsOf ls i
+written-levels ls i l h =
+    levels-set (written (levelsOf ls i)) i i l (omega arith)
+    ∙ levels-ext (written (levelsOf ls i)) ls i (λ j g. written-get ls i j h g)
+
+pub pruned-kept : (stm : List ℕ) (ps : List QueryPattern) (ls : List Level) (top i : ℕ) (b : Solution) (x : Triple)
+    (p : QueryPattern)
+    → i ≤ 8 → i ≡ top → FirstStruck stm ls top i → b .values ≡ binds stm ps (levelsOf ls top) → x ≡ under (b .values) p
+    → p ≡ getD ps i (pattern 0 0 0)
+    → Pruned stm ps ls top
+    (record { top = i; levels = set (written (levelsOf ls i)) i (onwardAs stm ls top i); bound = b; asked = x })
+pruned-kept stm ps ls top i b x p h e k f g d =
+    let own = set (written (levelsOf ls i)) i (onwardAs stm ls top i) in
+    let y : b .values ≡ binds stm ps (levelsOf own i) = f ∙ ap (λ (n : ℕ). binds stm ps (levelsOf ls n)) (sym e)
+    ∙ ap (binds stm ps) (sym (written-levels ls i (onwardAs stm ls top i) h)) in
+    pruned-made stm ps ls top i (record { top = i; levels = own; bound = b; asked = x }) k
+    (stack-is stm ps own i b x y (asked-is 0 0 stm ps own i x p (b .values) g d y))
 
 -- ---- the stack gone on from
 

@@ -76,11 +76,13 @@ pub fn query_next(
     if !words_ok(c.resources, words) {
         return refused(Refusal::BadQuery);
     }
-    if !place_ok(c, statements, words, q) {
+    let m = place_ok(c, statements, words, q);
+    if !m.hit {
         return refused(Refusal::BadCursor);
     }
     if budget == 0 {
         return refused(Refusal::NoBudget);
     }
-    resume(c, resources, statements, words, q, budget)
+    let b = m.bound;
+    resume(c, resources, statements, words, q, b, budget)
 }

@@ -14,11 +14,14 @@ use graph::Progress;
 use graph::QueryAnswer;
 use graph::QueryCursor;
 use graph::QueryStep;
+use graph::Solution;
+use pattern::binding::under;
 use pattern::level::first_struck;
 use pattern::level::intact;
 use pattern::level::none_bound;
 use pattern::level::past;
 use pattern::level::written;
+use pattern::words::pattern_at;
 use pattern::words::patterns;
 use store::Counters;
 use store::Refusal;
@@ -27,7 +30,8 @@ ghost use mathlib.Core.Bool.{true};
 ghost use Prim.Native.Nat.{ℕ, _<_, _≤_};
 ghost use lib.ListN.{length, getD};
 ghost use Rattle.graph.specs.Query.{maxPatterns, patternsOf, noLevel, start, inside, placeOk, placeOf, levelsOf, packed, resume};
-ghost use Rattle.pattern.specs.Levels.{QueryOk, LevelsHeld};
+ghost use Rattle.graph.specs.Query.{binds};
+ghost use Rattle.pattern.specs.Levels.{QueryOk, LevelsHeld, Handed};
 ghost use Rattle.query.specs.Stack.{Ready};
 ghost use Rattle.query.specs.Resume.{Pruned, onwardAs};
 
@@ -85,16 +89,30 @@ pub fn onward(statements: &[u32], levels: [Level; MAX_PATTERNS], top: u32, i: u3
     l
 }
 
-// Below a record struck out since, the levels are left without a visit.
-pub fn pruned(statements: &[u32], words: &[u32], levels: [Level; MAX_PATTERNS], top: u32) -> Stack
-    requires { ⌜ QueryOk (now words) × (top < length (patternsOf (now words)))
-        × LevelsHeld (now statements) levels top ⌝ }
+// Below a record struck out since, the levels are left without a visit. What the levels before the deepest bind is b.
+pub fn pruned(
+    statements: &[u32],
+    words: &[u32],
+    levels: [Level; MAX_PATTERNS],
+    top: u32,
+    b: Solution,
+) -> Stack
+    requires { ⌜ QueryOk (now words) × (top < length (patternsOf (now words))) × LevelsHeld (now statements) levels top
+        × (b .values ≡ binds (now statements) (patternsOf (now words)) (levelsOf levels top)) ⌝ }
     ensures { λ s. ⌜ Pruned (now (statements .entry)) (patternsOf (now (words .entry))) levels top s ⌝ }
 {
     let i = first_struck(statements, levels, top);
     let l = onward(statements, levels, top, i);
     let mut own = written(levels, i);
     own[i as usize] = l;
+    if i == top {
+        return Stack {
+            top: i,
+            levels: own,
+            bound: b,
+            asked: under(b, pattern_at(words, i)),
+        };
+    }
     stand(statements, words, own, i)
 }
 
@@ -106,11 +124,13 @@ pub fn go_on(
     words: &[u32],
     levels: [Level; MAX_PATTERNS],
     top: u32,
+    b: Solution,
     budget: u32,
 ) -> QueryAnswer
     requires { ⌜ Ready (c .resources) (c .statements) (now resources) (now statements) (now words)
         × (placeOk (now statements) (patternsOf (now words)) (c .resources) (c .statements)
-        (inside (getD levels top noLevel) (levelsOf levels top)) ≡ true) ⌝ }
+        (inside (getD levels top noLevel) (levelsOf levels top)) ≡ true)
+        × (b .values ≡ binds (now statements) (patternsOf (now words)) (levelsOf levels top)) ⌝ }
     ensures { λ a. ⌜ a ≡ packed (resume (c .resources) (c .statements) (now (resources .entry))
         (now (statements .entry)) (patternsOf (now (words .entry)))
         (inside (getD levels top noLevel) (levelsOf levels top)) budget) ⌝ }
@@ -118,21 +138,23 @@ pub fn go_on(
     if !intact(statements, levels, top) {
         return refused(Refusal::Damaged);
     }
-    let s = pruned(statements, words, levels, top);
+    let s = pruned(statements, words, levels, top, b);
     walk(c, resources, statements, words, s, budget)
 }
 
-// On from a place that 6 accepts, with a budget.
+// On from a place that 6 accepts, with a budget. What its levels before the deepest bind is b.
 pub fn resume(
     c: Counters,
     resources: &[u32],
     statements: &[u32],
     words: &[u32],
     q: QueryCursor,
+    b: Solution,
     budget: u32,
 ) -> QueryAnswer
     requires { ⌜ Ready (c .resources) (c .statements) (now resources) (now statements) (now words)
-        × (placeOk (now statements) (patternsOf (now words)) (c .resources) (c .statements) (placeOf q) ≡ true) ⌝ }
+        × (placeOk (now statements) (patternsOf (now words)) (c .resources) (c .statements) (placeOf q) ≡ true)
+        × Handed (now statements) (patternsOf (now words)) q b ⌝ }
     ensures { λ a. ⌜ a ≡ packed (resume (c .resources) (c .statements) (now (resources .entry))
         (now (statements .entry)) (patternsOf (now (words .entry))) (placeOf q) budget) ⌝ }
 {
@@ -144,7 +166,16 @@ pub fn resume(
             if q.depth == 0 {
                 return begin(c, resources, statements, words, budget);
             }
-            go_on(c, resources, statements, words, levels, q.depth - 1, budget)
+            go_on(
+                c,
+                resources,
+                statements,
+                words,
+                levels,
+                q.depth - 1,
+                b,
+                budget,
+            )
         }
         Progress::End => ended(0),
     }

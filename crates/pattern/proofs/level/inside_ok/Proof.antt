@@ -1,7 +1,7 @@
 use mathlib.Core.Path.{_≡_, refl, sym, ap, _∙_}
 use Prim.Native.Nat.{ℕ, suc, _+_, _-_, _*_, _≤_, _<_}
 use native.Mathlib.Omega.{arith}
-use mathlib.Core.Bool.{Bool, true, false}
+use mathlib.Core.Bool.{Bool, true, false, false≢true}
 use borrow.Author.Tests.{eq-eqb, ne-eqb, lt-ltb, le-ltb, le-leb, lt-leb, eqb-true, eqb-false, ltb-true, ltb-false}
 use borrow.Author.Tests.{leb-true, leb-false, not-true, not-false}
 use lib.ListN.{length, getD, set, drop, replicate}
@@ -13,19 +13,33 @@ use borrow.Author.Needs.{needs}
 use Rattle.pattern.proofs.level.inside_ok.Statement.{statement}
 use Rattle.pattern.proofs.level.inside_ok.Tie as tie
 
+none-bound-requires : tie.Need-none-bound-requires
+none-bound-requires c κs = search needs
+
 returns : tie.Need-returns
-returns c = let a = c .before .before .before .args in
-    sym (place-none (a .c .resources) (a .c .statements) (a .statements .now) (patternsOf (a .words .now)) (a .t4)
-    (a .d) (c .if1 .taken))
+returns c = let a = c .before .before .before .before .args in
+    record {
+      told =
+          sym (place-none (a .c .resources) (a .c .statements) (a .statements .now) (patternsOf (a .words .now)) (a .t4)
+          (a .d) (c .before .if1 .taken));
+      binds-inside = λ h z. absurd (z (c .before .if1 .taken));
+    }
 
 patterns-requires : tie.Need-patterns-requires
 patterns-requires c κs = c .before .before .before .pre .0 .few
 
+none-bound-requires-2 : tie.Need-none-bound-requires-2
+none-bound-requires-2 c κs = search needs
+
 returns-2 : tie.Need-returns-2
 returns-2 c =
-    let a = c .before .before .before .before .before .args in
-    sym (place-above (a .c .resources) (a .c .statements) (a .statements .now) (patternsOf (a .words .now)) (a .t4)
-    (a .d) (rw (c .before .patterns .ensures) at (c .if2 .taken)))
+    let a = c .before .before .before .before .before .before .args in
+    record {
+      told =
+          sym (place-above (a .c .resources) (a .c .statements) (a .statements .now) (patternsOf (a .words .now)) (a .t4)
+          (a .d) (rw (c .before .before .patterns .ensures) at (c .before .if2 .taken)));
+      binds-inside = λ h z. absurd (false≢true h);
+    }
 
 sub-top : tie.Need-sub-top
 sub-top c = search needs
@@ -37,10 +51,14 @@ returns-3 : tie.Need-returns-3
 returns-3 c =
     let a = c .before .before .before .before .before .before .before .before .args in
     let n = rw (c .before .before .before .before .patterns .ensures) at (c .before .before .before .if2 .left) in
-    let e = sym (c .before .before .levels-ok .ensures .told)
-    ∙ not-true (c .before .before .levels-ok .result .hit) (c .if3 .taken) in
-    sym (place-entered (a .c .resources) (a .c .statements) (a .statements .now) (patternsOf (a .words .now))
-    (a .t4) (a .d) (c .before .before .before .before .before .if1 .left) n e)
+    let f = not-true (c .before .before .levels-ok .result .hit) (c .if3 .taken) in
+    let e = sym (c .before .before .levels-ok .ensures .told) ∙ f in
+    record {
+      told =
+          f ∙ sym (place-entered (a .c .resources) (a .c .statements) (a .statements .now) (patternsOf (a .words .now))
+          (a .t4) (a .d) (c .before .before .before .before .before .if1 .left) n e);
+      binds-inside = λ h z. absurd (false≢true (sym f ∙ h));
+    }
 
 pattern-at-requires : tie.Need-pattern-at-requires
 pattern-at-requires c κs = search needs
@@ -77,18 +95,24 @@ returns-4 c =
     (c .before .before .before .before .before .before .before .levels-ok .result .bound .values)
     (c .before .before .under .ensures) (c .before .before .before .pattern-at .ensures)
     (c .before .before .before .before .before .before .before .levels-ok .ensures .binds-all h) in
-    c .deepest-ok .ensures
-    ∙ ap (λ (z : Triple). deepestOk (a .c .statements) (a .statements .now) z (getD (a .t4) (a .d - 1) noLevel))
-    x ∙ sym (place-deepest (a .c .resources) (a .c .statements) (a .statements .now)
-    (patternsOf (a .words .now)) (a .t4) (a .d)
-    (c .before .before .before .before .before .before .before .before .before .before .if1 .left) n e)
+    record {
+      told =
+          c .deepest-ok .ensures
+          ∙ ap (λ (z : Triple). deepestOk (a .c .statements) (a .statements .now) z (getD (a .t4) (a .d - 1) noLevel))
+          x ∙ sym (place-deepest (a .c .resources) (a .c .statements) (a .statements .now)
+          (patternsOf (a .words .now)) (a .t4) (a .d)
+          (c .before .before .before .before .before .before .before .before .before .before .if1 .left) n e);
+      binds-inside = λ y z. c .before .before .before .before .before .before .before .levels-ok .ensures .binds-all h;
+    }
 
 pub inside-ok-spec : {M : Type 1} → statement M
 inside-ok-spec =
     tie.close
     (tie.spec
+    none-bound-requires
     returns
     patterns-requires
+    none-bound-requires-2
     returns-2
     sub-top
     levels-ok-requires

@@ -44,7 +44,7 @@ pruned-requires c κs =
     let ls = a .levels in let ok = c .before .before .before .before .before .pre .1 in
     let n = top-few r t stm ps ls (a .top) ok in let e = (ready-query r t res stm ws k) .few in
     let h = levels-held r t stm ps ls (a .top) ok (omega arith) (k .in-statements) in
-    (ready-query r t res stm ws k, n, h)
+    (ready-query r t res stm ws k, n, h, c .before .before .before .before .before .pre .2)
 
 walk-requires : tie.Need-walk-requires
 walk-requires c κs =

@@ -36,6 +36,8 @@ go-on-requires c κs =
       c .before .before .before .before .before .before .before .before .before .pre .0,
       rw (c .before .before .before .enum-told2 .given .1, inside-at (q .levels) (q .depth) (c .before .if1 .left)) at
           (c .before .before .before .before .before .before .before .before .before .pre .1),
+      c .before .before .before .before .before .before .before .before .before .pre .2 .binds-here
+          (c .before .before .before .enum-told2 .given .1) (c .before .if1 .left),
     )
 
 enum-told-3 : tie.Need-enum-told-3
