@@ -62,10 +62,10 @@ def picture(least, workloads, peers, titles):
     """The whole picture as SVG text."""
     sizes = [int(w.rsplit('-', 1)[1]) for w in workloads]
     rows = -(-len(PANELS) // ACROSS)
-    width, height = LEFT + ACROSS * (WIDE + GAP_X) - GAP_X + 24, TOP + rows * (HIGH + GAP_Y)
+    width, height = LEFT + ACROSS * (WIDE + GAP_X) - GAP_X + 24, TOP + rows * (HIGH + GAP_Y) - 30
     out = ['<svg xmlns="http://www.w3.org/2000/svg" viewBox="0 0 %d %d" width="%d" height="%d" font-family="sans-serif">' % (width, height, width, height),
            '<rect width="100%" height="100%" fill="#ffffff"/>',
-           text(LEFT, 24, 'Time an operation against statements in the store, relay workload, both axes logarithmic', 'start', 15, '#111827', 'bold')]
+           text(LEFT, 24, 'Time per operation against statements in the store (relay workload, both axes logarithmic)', 'start', 15, '#111827', 'bold')]
     x = LEFT
     for peer in peers:
         dash = ' stroke-dasharray="%s"' % DASHES[peer] if peer in DASHES else ''

@@ -1,4 +1,4 @@
-/* Document 01's own structure in plain C. */
+/* Paper 01's own structure in plain C (../reference). */
 #include "bench.h"
 #include "nt.h"
 #include "store.h"
@@ -9,23 +9,36 @@
 #define NAME "reference"
 #endif
 const char *peer_name = NAME;
+
+enum { RESOURCES = 65535, STATEMENTS = 65535, TEXT = 1048576 };
+
 #define U(n) ((uint32_t)(uintptr_t)(n))
+
+typedef struct {
+    store s;
+    uint32_t p1, p2, p3;
+    int into;
+} db;
 
 void *peer_open(void)
 {
-    store *s = calloc(1, sizeof *s);
-    *s = (store){.cap_R = 65535, .cap_T = 65535, .cap_B = 1048576};
-    s->res = calloc(65536, sizeof *s->res);
-    s->st = calloc(65536, sizeof *s->st);
-    s->index = calloc(65535, sizeof *s->index);
-    s->text = calloc(1048576, 1);
-    return s;
+    db *d = calloc(1, sizeof *d);
+    d->s = (store){.cap_R = RESOURCES, .cap_T = STATEMENTS, .cap_B = TEXT};
+    d->s.res = malloc((RESOURCES + 1) * sizeof *d->s.res);
+    d->s.st = malloc((STATEMENTS + 1) * sizeof *d->s.st);
+    d->s.index = malloc(RESOURCES * sizeof *d->s.index);
+    d->s.text = malloc(TEXT);
+    return d;
 }
 
 void peer_close(void *st)
 {
-    store *s = st;
-    free(s->res); free(s->st); free(s->index); free(s->text); free(s);
+    db *d = st;
+    free(d->s.res);
+    free(d->s.st);
+    free(d->s.index);
+    free(d->s.text);
+    free(d);
 }
 
 size_t peer_parse(const char *text, size_t len)
@@ -40,72 +53,75 @@ size_t peer_parse(const char *text, size_t len)
 
 size_t peer_load(void *st, const char *text, size_t len)
 {
-    store *s = st;
+    store *s = &((db *)st)->s;
     size_t pos = 0;
     for (;;) {
         nt_line l = nt_read(text, len, &pos);
         if (l.what == NT_END) return s->T;
         if (l.what != NT_TRIPLE) continue;
         uint32_t t[3];
-        for (int p = 0; p < 3; p++) t[p] = store_enter(s, l.t[p].at, (uint32_t)l.t[p].len);
+        for (int i = 0; i < 3; i++) t[i] = store_enter(s, l.t[i].at, (uint32_t)l.t[i].len);
         if (!store_assert(s, t)) abort();
     }
 }
 
-node peer_node(void *st, const char *term, size_t len) { return (node)(uintptr_t)store_find(st, term, (uint32_t)len); }
-void peer_node_free(void *st, node n) { (void)st; (void)n; }
+static uint32_t find(const db *d, const char *name, size_t len) { return store_find(&d->s, name, (uint32_t)len); }
 
-static size_t list(const store *s, uint32_t a, uint32_t b, uint32_t c)
-{
-    listing l = store_open(s, a, b, c);
-    uint32_t n, v;
-    size_t k = 0;
-    while (store_next(s, &l, UINT32_MAX, &n, &v) == FOUND) k += s->st[n].part[0] != 0;
-    return k;
-}
+node peer_node(void *st, const char *name, size_t len) { return (node)(uintptr_t)find(st, name, len); }
+
+void peer_node_free(void *st, node n) { (void)st, (void)n; }
 
 int peer_contains(void *st, node a, node b, node c)
 {
-    const store *s = st;
+    const store *s = &((db *)st)->s;
     listing l = store_open(s, U(a), U(b), U(c));
-    uint32_t n, v;
-    return store_next(s, &l, UINT32_MAX, &n, &v) == FOUND;
+    uint32_t n, visits;
+    return store_next(s, &l, UINT32_MAX, &n, &visits) == FOUND;
 }
 
-size_t peer_list(void *st, node a, node b, node c) { return list(st, U(a), U(b), U(c)); }
+size_t peer_list(void *st, node a, node b, node c)
+{
+    const store *s = &((db *)st)->s;
+    listing l = store_open(s, U(a), U(b), U(c));
+    uint32_t n, visits;
+    size_t found = 0;
+    while (store_next(s, &l, UINT32_MAX, &n, &visits) == FOUND) found += s->st[n].part[0] != 0;
+    return found;
+}
 
-static uint32_t p1, p2, p3;
-static int into;
 void peer_join_open(void *st, const join_shape *j)
 {
-    p1 = store_find(st, j->p1, (uint32_t)strlen(j->p1));
-    p2 = store_find(st, j->p2, (uint32_t)strlen(j->p2));
-    p3 = store_find(st, j->p3, (uint32_t)strlen(j->p3));
-    into = j->into;
+    db *d = st;
+    d->p1 = find(d, j->p1, strlen(j->p1));
+    d->p2 = find(d, j->p2, strlen(j->p2));
+    d->p3 = find(d, j->p3, strlen(j->p3));
+    d->into = j->into;
 }
 
+/* Three nested listings: it cannot be left and taken up again, as the library's can after every solution. */
 size_t peer_join(void *st, const char *k, size_t len)
 {
-    const store *s = st;
-    uint32_t kn = store_find(s, k, (uint32_t)len), x, y, z, v;
-    size_t sum = 0;
-    listing a = store_open(s, 0, p1, kn);
-    while (store_next(s, &a, UINT32_MAX, &x, &v) == FOUND) {
-        listing b = store_open(s, s->st[x].part[0], p2, 0);
-        while (store_next(s, &b, UINT32_MAX, &y, &v) == FOUND) {
+    const db *d = st;
+    const store *s = &d->s;
+    uint32_t x, y, z, visits;
+    size_t found = 0;
+    listing a = store_open(s, 0, d->p1, find(d, k, len));
+    while (store_next(s, &a, UINT32_MAX, &x, &visits) == FOUND) {
+        listing b = store_open(s, s->st[x].part[0], d->p2, 0);
+        while (store_next(s, &b, UINT32_MAX, &y, &visits) == FOUND) {
             uint32_t m = s->st[y].part[2];
-            listing c = into ? store_open(s, 0, p3, m) : store_open(s, m, p3, 0);
-            while (store_next(s, &c, UINT32_MAX, &z, &v) == FOUND) sum++;
+            listing c = d->into ? store_open(s, 0, d->p3, m) : store_open(s, m, d->p3, 0);
+            while (store_next(s, &c, UINT32_MAX, &z, &visits) == FOUND) found++;
         }
     }
-    return sum;
+    return found;
 }
 
 void peer_retract_begin(void *st) { (void)st; }
 
 void peer_retract_end(void *st) { (void)st; }
 
-int peer_retract(void *st, node a, node b, node c) { return store_retract(st, (uint32_t[3]){U(a), U(b), U(c)}) != 0; }
+int peer_retract(void *st, node a, node b, node c) { return store_retract(&((db *)st)->s, (uint32_t[3]){U(a), U(b), U(c)}) != 0; }
 
 int peer_check(void *st)
 {
@@ -116,6 +132,6 @@ int peer_check(void *st)
 /* What a caller must lend for exactly this content. */
 size_t peer_bytes(void *st)
 {
-    const store *s = st;
+    const store *s = &((db *)st)->s;
     return s->T * sizeof *s->st + s->R * (sizeof *s->res + sizeof *s->index) + s->B;
 }
