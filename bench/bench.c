@@ -38,10 +38,11 @@ static const char *workload;
 static int counting;
 static join_shape shape;
 
+/* Processor time, not the clock's: what the machine gives to others is left out. */
 static double now(void)
 {
     struct timespec t;
-    clock_gettime(CLOCK_MONOTONIC, &t);
+    clock_gettime(CLOCK_PROCESS_CPUTIME_ID, &t);
     return (double)t.tv_sec + 1e-9 * (double)t.tv_nsec;
 }
 
