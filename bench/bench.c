@@ -1,0 +1,268 @@
+/* One round of measurements of one peer on one workload.
+ *
+ *     bench-PEER FOLDER WORKLOAD           times: lines "peer,workload,metric,value"
+ *     bench-PEER FOLDER WORKLOAD --count   each operation once, for callgrind: a dump named after the metric around each, and the units done
+ *
+ * Metrics are nanoseconds for each unit named in `report.py`; a metric `sum-X` is what operation X counted, which must be the same for every
+ * peer. FOLDER has WORKLOAD.nt and WORKLOAD.q as gen.py wrote them.
+ */
+#define _GNU_SOURCE
+#include "bench.h"
+#include <malloc.h>
+#include <stdint.h>
+#include <stdio.h>
+#include <stdlib.h>
+#include <string.h>
+#include <time.h>
+#include <valgrind/callgrind.h>
+
+enum { LOOKUP, JOIN, LIST_S, LIST_P, LIST_O, LIST_SP, LIST_PO, LIST_SO, KINDS };
+static const char *const tag[KINDS] = {"L", "J", "S", "P", "O", "SP", "PO", "SO"};
+static const char *const metric[KINDS] = {"lookup", "join", "list-s", "list-p", "list-o", "list-sp", "list-po", "list-so"};
+
+/* A question of the query file: its names, and their handles in the store being measured. */
+typedef struct {
+    char *name[3];
+    size_t len[3];
+    node n[3];
+    int hit;
+} question;
+
+static struct {
+    question *q;
+    size_t n;
+} group[KINDS];
+
+const char *bench_folder;
+static const char *workload;
+static int counting;
+static join_shape shape;
+
+/* Processor time, not the clock's: what the machine gives to others is left out. */
+static double now(void)
+{
+    struct timespec t;
+    clock_gettime(CLOCK_PROCESS_CPUTIME_ID, &t);
+    return (double)t.tv_sec + 1e-9 * (double)t.tv_nsec;
+}
+
+static void out(const char *what, double value)
+{
+    printf("%s,%s,%s,%.6g\n", peer_name, workload, what, value);
+    fflush(stdout);
+}
+
+static void out_sum(const char *what, size_t sum)
+{
+    char m[40];
+    snprintf(m, sizeof m, "sum-%s", what);
+    out(m, (double)sum);
+}
+
+static char *slurp(const char *ext, size_t *len)
+{
+    char path[4096];
+    snprintf(path, sizeof path, "%s/%s.%s", bench_folder, workload, ext);
+    FILE *f = fopen(path, "rb");
+    if (!f) { perror(path); exit(1); }
+    fseek(f, 0, SEEK_END);
+    *len = (size_t)ftell(f);
+    rewind(f);
+    char *b = malloc(*len + 1);
+    if (fread(b, 1, *len, f) != *len) { perror(path); exit(1); }
+    b[*len] = 0;
+    fclose(f);
+    return b;
+}
+
+/* Cuts the query file into the groups; the names stay where they are. */
+static void read_questions(char *text, size_t len)
+{
+    size_t lines = 0;
+    for (size_t i = 0; i < len; i++) lines += text[i] == '\n';
+    for (int k = 0; k < KINDS; k++) group[k].q = calloc(lines, sizeof *group[k].q);
+    char *rest, *rest2;
+    for (char *l = strtok_r(text, "\n", &rest); l; l = strtok_r(NULL, "\n", &rest)) {
+        char *f[5] = {0};
+        int k = 0;
+        for (char *x = strtok_r(l, "\t", &rest2); x && k < 5; x = strtok_r(NULL, "\t", &rest2)) f[k++] = x;
+        if (!strcmp(f[0], "JOIN")) {
+            shape = (join_shape){f[1], f[2], f[3], atoi(f[4])};
+            continue;
+        }
+        for (int g = 0; g < KINDS; g++) {
+            if (strcmp(f[0], tag[g])) continue;
+            question *q = &group[g].q[group[g].n++];
+            for (int i = 0; i < 3 && f[i + 1]; i++) {
+                q->name[i] = f[i + 1];
+                q->len[i] = strlen(f[i + 1]);
+            }
+            if (g == LOOKUP) q->hit = atoi(f[4]);
+        }
+    }
+}
+
+static void handles(void *st, int kind)
+{
+    for (size_t i = 0; i < group[kind].n; i++) {
+        question *q = &group[kind].q[i];
+        for (int j = 0; j < 3; j++) q->n[j] = q->name[j] ? peer_node(st, q->name[j], q->len[j]) : NULL;
+    }
+}
+
+static void free_handles(void *st, int kind)
+{
+    for (size_t i = 0; i < group[kind].n; i++)
+        for (int j = 0; j < 3; j++)
+            if (group[kind].q[i].n[j]) peer_node_free(st, group[kind].q[i].n[j]);
+}
+
+/* What is measured: each gives the units done. */
+static void *st;
+static char *nt;
+static size_t nt_len;
+
+static size_t do_parse(void) { return peer_parse(nt, nt_len); }
+static size_t do_load(void) { return peer_load(st, nt, nt_len); }
+static size_t do_check(void) { return (size_t)peer_check(st); }
+
+static size_t do_find(void)
+{
+    size_t n = 0;
+    for (question *q = group[LOOKUP].q, *e = q + group[LOOKUP].n; q < e; q++)
+        for (int j = 0; j < 3; j++) {
+            node x = peer_node(st, q->name[j], q->len[j]);
+            if (!x) exit(1);
+            peer_node_free(st, x);
+            n++;
+        }
+    return n;
+}
+
+static size_t do_retract(void)
+{
+    size_t n = 0;
+    peer_retract_begin(st);
+    for (question *q = group[LOOKUP].q, *e = q + group[LOOKUP].n; q < e; q++)
+        if (q->hit) n += (size_t)peer_retract(st, q->n[0], q->n[1], q->n[2]);
+    peer_retract_end(st);
+    return n;
+}
+
+static int kind;
+static size_t do_questions(void)
+{
+    size_t n = 0;
+    for (question *q = group[kind].q, *e = q + group[kind].n; q < e; q++)
+        switch (kind) {
+        case LOOKUP: n += (size_t)peer_contains(st, q->n[0], q->n[1], q->n[2]); break;
+        case JOIN: n += peer_join(st, q->name[0], q->len[0]); break;
+        case LIST_S: n += peer_list(st, q->n[0], NULL, NULL); break;
+        case LIST_P: n += peer_list(st, NULL, q->n[0], NULL); break;
+        case LIST_O: n += peer_list(st, NULL, NULL, q->n[0]); break;
+        case LIST_SP: n += peer_list(st, q->n[0], q->n[1], NULL); break;
+        case LIST_PO: n += peer_list(st, NULL, q->n[0], q->n[1]); break;
+        case LIST_SO: n += peer_list(st, q->n[0], NULL, q->n[1]); break;
+        }
+    return n;
+}
+
+/* Runs once: its seconds, or, where instructions are counted, 0 and a dump of what it took. */
+static double once(const char *what, size_t (*f)(void), size_t *units)
+{
+    if (counting) {
+        CALLGRIND_ZERO_STATS;
+        *units = f();
+        CALLGRIND_DUMP_STATS_AT(what);
+        return 0;
+    }
+    double t = now();
+    *units = f();
+    return now() - t;
+}
+
+/* The least of several runs: twice at least, then until 40 ms are spent; a long run stands alone. */
+static double least(const char *what, size_t (*f)(void), size_t *units)
+{
+    double best = once(what, f, units), spent = best;
+    for (int k = 1; !counting && k < 20 && (k < 2 || spent < 0.04) && spent < 0.2; k++) {
+        double t = once(what, f, units);
+        spent += t;
+        if (t < best) best = t;
+    }
+    return best;
+}
+
+static void report(const char *what, double seconds, size_t units) { out(what, counting ? (double)units : seconds * 1e9 / (double)units); }
+
+static size_t in_use(void)
+{
+    struct mallinfo2 m = mallinfo2();
+    return m.uordblks + m.hblkhd;
+}
+
+int main(int argc, char **argv)
+{
+    if (argc < 3) { fprintf(stderr, "usage: %s FOLDER WORKLOAD [--count]\n", argv[0]); return 2; }
+    bench_folder = argv[1];
+    workload = argv[2];
+    counting = argc > 3 && !strcmp(argv[3], "--count");
+    size_t len, units = 0, statements = 0;
+    nt = slurp("nt", &nt_len);
+    char *questions = slurp("q", &len);
+    read_questions(questions, len);
+
+    double t = least("parse", do_parse, &units);
+    if (units) {
+        report("parse", t, units);
+        out_sum("parse", units);
+    }
+
+    /* Load, and retract from the store that is then given up; the last one loaded is kept for the rest. */
+    double load = 1e9, retract = 1e9, spent = 0;
+    size_t bytes = 0, retracted = 0, hits = 0;
+    for (size_t i = 0; i < group[LOOKUP].n; i++) hits += (size_t)group[LOOKUP].q[i].hit;
+    for (int k = 0;; k++) {
+        malloc_trim(0);
+        size_t before = in_use();
+        st = peer_open();
+        t = once("load", do_load, &statements);
+        if (t < load) load = t;
+        bytes = peer_bytes(st);
+        if (!bytes) bytes = in_use() - before;
+        if (k == 8 || (k && (counting || spent > 0.04))) break;
+        spent += t;
+        handles(st, LOOKUP);
+        t = once("retract", do_retract, &retracted);
+        if (t < retract) retract = t;
+        free_handles(st, LOOKUP);
+        peer_close(st);
+    }
+    report("load", load, statements);
+    out_sum("load", statements);
+    out("bytes", (double)bytes / (double)statements);
+    report("retract", retract, hits);
+    out_sum("retract", retracted);
+
+    t = least("find", do_find, &units);
+    report("find", t, units);
+    for (kind = 0; kind < KINDS; kind++) {
+        if (kind == JOIN) peer_join_open(st, &shape);
+        else handles(st, kind);
+        t = least(metric[kind], do_questions, &units);
+        out_sum(metric[kind], units);
+        report(metric[kind], t, kind == LOOKUP || kind == JOIN ? group[kind].n : units);
+    }
+    if (group[LOOKUP].n) {
+        kind = LOOKUP;
+        size_t found = do_questions();
+        if (found != hits) { fprintf(stderr, "%s %s: %zu lookups hit, %zu expected\n", peer_name, workload, found, hits); return 1; }
+    }
+    if (peer_check(st) >= 0) {
+        t = least("check", do_check, &units);
+        if (units != 1) { fprintf(stderr, "%s %s: not sound\n", peer_name, workload); return 1; }
+        report("check", t, statements);
+    }
+    peer_close(st);
+    return 0;
+}

@@ -1,0 +1,182 @@
+/* Paper 01's tables in plain C.
+ *
+ * By itself it tests only what an answer depends on: refusals 2, 3, 4 and 5. With -DREFUSALS it makes the tests of refusals 1, 6, 7 and 9
+ * as well, by abort, so that what they cost can be told from what the language costs.
+ */
+#include "store.h"
+#include "nt.h"
+#include <stdlib.h>
+#include <string.h>
+
+#ifdef REFUSALS
+#define REFUSE(x) do { if (__builtin_expect(!!(x), 0)) abort(); } while (0)
+#else
+#define REFUSE(x) do { } while (0)
+#endif
+
+/* Refusal 1. */
+static inline int over(const store *s)
+{
+    return s->R > 65535 || s->R > s->cap_R || s->T > 65535 || s->T > s->cap_T || s->B > 1048576 || s->B > s->cap_B;
+}
+
+/* <0, 0, >0 as the stored name is below, equal to or above the given one; neither has a zero byte inside. */
+static int compare(const char *stored, const char *name, uint32_t len)
+{
+    for (uint32_t i = 0; i < len; i++) {
+        int d = (unsigned char)stored[i] - (unsigned char)name[i];
+        if (d) return d;
+    }
+    return stored[len] != 0;
+}
+
+/* Where the name stands in the index, or would. */
+static uint32_t position(const store *s, const char *name, uint32_t len, int *hit)
+{
+    uint32_t lo = 0, hi = s->R;
+    *hit = 0;
+    while (lo < hi) {
+        uint32_t mid = lo + (hi - lo) / 2, r = s->index[mid];
+        REFUSE(r == 0 || r > s->R || s->res[r].offset >= s->B);
+        int d = compare(s->text + s->res[r].offset, name, len);
+        if (d == 0) { *hit = 1; return mid; }
+        if (d < 0) lo = mid + 1; else hi = mid;
+    }
+    return lo;
+}
+
+uint32_t store_find(const store *s, const char *name, uint32_t len)
+{
+    int hit;
+    REFUSE(over(s));
+    if (!nt_kind(name, len)) return 0;
+    uint32_t at = position(s, name, len, &hit);
+    return hit ? s->index[at] : 0;
+}
+
+uint32_t store_enter(store *s, const char *name, uint32_t len)
+{
+    int hit;
+    REFUSE(over(s));
+    int kind = nt_kind(name, len);
+    if (!kind) return 0;
+    uint32_t at = position(s, name, len, &hit);
+    if (hit) return s->index[at];
+    if (s->R == s->cap_R || s->B + len + 1 > s->cap_B) return 0;
+    uint32_t r = ++s->R;
+    memmove(s->index + at + 1, s->index + at, (r - 1 - at) * sizeof *s->index);
+    s->index[at] = r;
+    s->res[r] = (resource){.offset = s->B, .kind = (uint32_t)kind};
+    memcpy(s->text + s->B, name, len);
+    s->text[s->B + len] = 0;
+    s->B += len + 1;
+    return r;
+}
+
+/* The chain of the bound place with least count. */
+static inline listing pick(const store *s, uint32_t a, uint32_t b, uint32_t c)
+{
+    listing l = {{a, b, c}, 3, s->T};
+    uint32_t least = UINT32_MAX;
+    for (uint32_t p = 0; p < 3; p++) {
+        if (!l.part[p]) continue;
+        const resource *r = &s->res[l.part[p]];
+        REFUSE(r->count[p] > s->T || r->first[p] > s->T);
+        if (r->count[p] < least) { least = r->count[p]; l.place = p; l.next = r->first[p]; }
+    }
+    return l;
+}
+
+listing store_open(const store *s, uint32_t a, uint32_t b, uint32_t c)
+{
+    REFUSE(over(s) || a > s->R || b > s->R || c > s->R);
+    return pick(s, a, b, c);
+}
+
+/* The next record of the walk after record n of the listing's chain. */
+static inline uint32_t follow(const store *s, const listing *l, uint32_t n)
+{
+    const statement *t = &s->st[n];
+    REFUSE(t->part[0] - 1 >= s->R || t->part[1] - 1 >= s->R || t->part[2] - 1 >= s->R || t->retracted > 1);
+    if (l->place == 3) return n - 1;
+    REFUSE(t->part[l->place] != l->part[l->place] || t->next[l->place] >= n);
+    return t->next[l->place];
+}
+
+/* Refusal 6. */
+static inline int bad_place(const store *s, const listing *l)
+{
+    if (l->part[0] > s->R || l->part[1] > s->R || l->part[2] > s->R || l->place > 3 || l->next > s->T) return 1;
+    if (l->place == 3) return l->part[0] || l->part[1] || l->part[2];
+    return !l->part[l->place] || (l->next && s->st[l->next].part[l->place] != l->part[l->place]);
+}
+
+int store_next(const store *s, listing *l, uint32_t budget, uint32_t *found, uint32_t *visits)
+{
+    REFUSE(over(s) || bad_place(s, l) || budget == 0);
+    uint32_t n = l->next, v = 0;
+    int answer = ENDED;
+    while (n) {
+        if (v == budget) { answer = SPENT; break; }
+        const statement *t = &s->st[n];
+        uint32_t at = n;
+        n = follow(s, l, n);
+        v++;
+        if (!t->retracted && (!l->part[0] || t->part[0] == l->part[0]) && (!l->part[1] || t->part[1] == l->part[1])
+            && (!l->part[2] || t->part[2] == l->part[2])) {
+            *found = at;
+            answer = FOUND;
+            break;
+        }
+    }
+    l->next = n;
+    *visits = v;
+    return answer;
+}
+
+/* The first record with the triple, live or not, on the chain a listing would take. */
+static uint32_t walk(const store *s, const uint32_t t[3])
+{
+    listing l = pick(s, t[0], t[1], t[2]);
+    for (uint32_t n = l.next; n; n = follow(s, &l, n)) {
+        const uint32_t *q = s->st[n].part;
+        if (q[0] == t[0] && q[1] == t[1] && q[2] == t[2]) return n;
+    }
+    return 0;
+}
+
+/* Refusal 4. */
+static inline int unknown(const store *s, const uint32_t t[3])
+{
+    REFUSE(over(s));
+    return t[0] - 1 >= s->R || t[1] - 1 >= s->R || t[2] - 1 >= s->R;
+}
+
+uint32_t store_assert(store *s, const uint32_t t[3])
+{
+    if (unknown(s, t)) return 0;
+    REFUSE(s->res[t[0]].kind - 1 > 2 || s->res[t[1]].kind - 1 > 2 || s->res[t[2]].kind - 1 > 2);
+    if (s->res[t[0]].kind == 3 || s->res[t[1]].kind != 1) return 0;
+    uint32_t n = walk(s, t);
+    if (n) { s->st[n].retracted = 0; return n; }
+    if (s->T == s->cap_T) return 0;
+    n = ++s->T;
+    for (int p = 0; p < 3; p++) {
+        resource *r = &s->res[t[p]];
+        s->st[n].part[p] = t[p];
+        s->st[n].next[p] = r->first[p];
+        r->first[p] = n;
+        r->count[p]++;
+    }
+    s->st[n].retracted = 0;
+    return n;
+}
+
+uint32_t store_retract(store *s, const uint32_t t[3])
+{
+    if (unknown(s, t)) return 0;
+    uint32_t n = walk(s, t);
+    if (!n || s->st[n].retracted) return 0;
+    s->st[n].retracted = 1;
+    return n;
+}

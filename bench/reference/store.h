@@ -1,0 +1,29 @@
+/* Paper 01's chained store in plain C: what this structure can do at best. Nothing of it is proved. */
+#ifndef STORE_H
+#define STORE_H
+
+#include <stddef.h>
+#include <stdint.h>
+
+typedef struct { uint32_t first[3], count[3], offset, kind; } resource; /* 8 words */
+typedef struct { uint32_t part[3], next[3], retracted; } statement;     /* 7 words */
+
+typedef struct {
+    resource *res; /* lent; records from 1, record 0 is not used */
+    statement *st;
+    uint32_t *index;
+    char *text;
+    uint32_t R, T, B, cap_R, cap_T, cap_B;
+} store;
+
+typedef struct { uint32_t part[3], place, next; } listing; /* place 3: none bound */
+enum { FOUND, ENDED, SPENT };
+
+uint32_t store_find(const store *s, const char *name, uint32_t len); /* 0 if absent or malformed */
+uint32_t store_enter(store *s, const char *name, uint32_t len);      /* 0 if refused */
+uint32_t store_assert(store *s, const uint32_t t[3]);                /* 0 if refused */
+uint32_t store_retract(store *s, const uint32_t t[3]);               /* 0 if not live */
+listing store_open(const store *s, uint32_t a, uint32_t b, uint32_t c);
+int store_next(const store *s, listing *l, uint32_t budget, uint32_t *found, uint32_t *visits);
+
+#endif

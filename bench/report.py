@@ -1,0 +1,162 @@
+#!/usr/bin/python3
+"""Write RESULTS.md and growth.svg from what bench/run measured.
+
+    report.py ROUNDS.csv COUNTS.csv FOLDER
+
+ROUNDS.csv   round,peer,workload,metric,value           nanoseconds for each unit; bytes; sums
+COUNTS.csv   workload,instructions,peer,metric,number   and workload,units,peer,metric,number
+"""
+import collections
+import csv
+import os
+import re
+import statistics
+import subprocess
+import sys
+import time
+
+import growth
+
+PEERS = ['library', 'reference', 'serd+sord', 'sqlite', 'lmdb']
+TITLES = {'library': 'library', 'reference': 'C reference', 'serd+sord': 'serd+sord', 'sqlite': 'SQLite', 'lmdb': 'LMDB'}
+OPERATIONS = [
+    ('parse', 'parse', 'a line'),
+    ('load', 'load', 'a statement'),
+    ('find', 'find a name', 'a name'),
+    ('lookup', 'bound lookup', 'a lookup'),
+    ('list-s', 'list, subject bound', 'a record'),
+    ('list-p', 'list, predicate bound', 'a record'),
+    ('list-o', 'list, object bound', 'a record'),
+    ('list-sp', 'list, subject and predicate', 'a record'),
+    ('list-po', 'list, predicate and object', 'a record'),
+    ('list-so', 'list, subject and object', 'a record'),
+    ('join', 'three-pattern join', 'a join'),
+    ('retract', 'retract', 'a statement'),
+    ('check', 'soundness check', 'a statement'),
+]
+
+
+def read_rounds(path):
+    """{(peer, workload, metric): [values]}, workloads in the order measured, number of rounds."""
+    values, workloads, rounds = collections.defaultdict(list), [], set()
+    for round_, peer, workload, metric, value in csv.reader(open(path)):
+        values[peer, workload, metric].append(float(value))
+        rounds.add(round_)
+        if workload not in workloads:
+            workloads.append(workload)
+    return values, workloads, len(rounds)
+
+
+def disagreements(values):
+    """Operations that did not count the same for every peer in every round."""
+    sums = collections.defaultdict(set)
+    for (peer, workload, metric), seen in values.items():
+        if metric.startswith('sum-'):
+            sums[workload, metric].update(seen)
+    return ['%s %s: %s' % (w, m, sorted(s)) for (w, m), s in sums.items() if len(s) > 1]
+
+
+def span(ns):
+    for limit, unit, by in ((1e3, 'ns', 1), (1e6, 'µs', 1e3), (1e9, 'ms', 1e6)):
+        if ns < limit:
+            return '%.3g %s' % (ns / by, unit)
+    return '%.3g s' % (ns / 1e9)
+
+
+def ratio(x):
+    return '%.2f' % x if x < 9.95 else '%.0f' % x
+
+
+def table(head, rows):
+    lines = ['| ' + ' | '.join(head) + ' |', '|---' * len(head) + '|']
+    return lines + ['| ' + ' | '.join(r) + ' |' for r in rows] + ['']
+
+
+def first_line(*command):
+    try:
+        return subprocess.run(command, capture_output=True, text=True).stdout.splitlines()[0]
+    except (OSError, IndexError):
+        return 'unknown'
+
+
+def machine():
+    cpu = re.search(r'model name\s*: (.*)', open('/proc/cpuinfo').read())
+    here = os.path.dirname(os.path.abspath(__file__))
+    commit = first_line('git', '-C', here, 'rev-parse', '--short', 'HEAD')
+    return '%s, %d cores, Linux %s; %s; commit %s, %s' % (
+        cpu.group(1) if cpu else 'unknown processor', os.cpu_count(), os.uname().release, first_line('gcc', '--version'), commit,
+        time.strftime('%Y-%m-%d', time.gmtime()))
+
+
+def main():
+    values, workloads, rounds = read_rounds(sys.argv[1])
+    counts = list(csv.reader(open(sys.argv[2])))
+    folder = sys.argv[3]
+    wrong = disagreements(values)
+    if wrong:
+        sys.exit('bench: the peers disagree\n' + '\n'.join(wrong))
+    least = {k: min(v) for k, v in values.items()}
+    timed = [(p, w, m) for (p, w, m) in values if m in {o[0] for o in OPERATIONS}]
+
+    spread = sorted(statistics.median(values[k]) / least[k] for k in timed)
+    twice = sorted(least['again', w, m] / least['reference', w, m] for (p, w, m) in timed if p == 'again')
+    out = ['# Results', '', 'Written by `bench/run`; README.md beside this file says what is measured.', '', 'Machine: %s.' % machine(), '']
+    out += ['Every figure is the least of %d rounds; a round measures every peer once on every workload. All peers gave the same counts of statements, matches and '
+            'solutions.' % rounds, '']
+    out += ['**Noise.** A figure\'s median round was %.2f times its least in the middle, %.2f times for the worst twentieth. The same reference program '
+            'measured a second time in every round: its least was %.2f to %.2f times the first one\'s, %.2f in the middle. A ratio as near to 1 as that says nothing.'
+            % (statistics.median(spread), spread[int(0.95 * len(spread))], twice[0], twice[-1], statistics.median(twice)), '']
+
+    out += ['## The library against the C reference', '', 'Ratio of times. The reference has no soundness check.', '']
+    rows = []
+    for metric, title, unit in OPERATIONS:
+        if metric == 'check':
+            continue
+        cells = [ratio(least['library', w, metric] / least['reference', w, metric]) for w in workloads]
+        own = [least['again', w, metric] / least['reference', w, metric] for w in workloads]
+        rows.append([title] + cells + ['%.2f to %.2f' % (min(own), max(own))])
+    rows.append(['bytes a statement'] + [ratio(least['library', w, 'bytes'] / least['reference', w, 'bytes']) for w in workloads] + [''])
+    out += table([''] + workloads + ['reference against itself'], rows)
+
+    if counts:
+        out += instructions(counts)
+
+    for w in workloads:
+        out += ['## %s' % w, '', 'Time, and in parentheses the ratio to the C reference.', '']
+        rows = []
+        for metric, title, unit in OPERATIONS:
+            base = least.get(('reference', w, metric))
+            row = ['%s, %s' % (title, unit)]
+            for p in PEERS:
+                v = least.get((p, w, metric))
+                row.append('' if v is None else span(v) if base is None or p == 'reference' else '%s (%s)' % (span(v), ratio(v / base)))
+            rows.append(row)
+        base = least['reference', w, 'bytes']
+        rows.append(['bytes a statement'] + ['%.0f' % least[p, w, 'bytes'] + ('' if p == 'reference' else ' (%s)' % ratio(least[p, w, 'bytes'] / base)) for p in PEERS])
+        out += table([''] + [TITLES[p] for p in PEERS], rows)
+
+    with open(os.path.join(folder, 'RESULTS.md'), 'w') as f:
+        f.write('\n'.join(out).rstrip() + '\n')
+    with open(os.path.join(folder, 'growth.svg'), 'w') as f:
+        f.write(growth.picture(least, [w for w in workloads if w.startswith('relay-')], PEERS, TITLES))
+
+
+def instructions(counts):
+    """The table of instruction counts."""
+    number, units = {}, {}
+    for workload, what, peer, metric, value in counts:
+        (number if what == 'instructions' else units)[peer, metric] = float(value)
+    out = ['## Instructions, %s' % counts[0][0], '',
+           'Counted by callgrind: no other work on the machine changes them. "With refusals" is the reference compiled with the tests of refusals 1, 6, 7 and 9 and '
+           'with classes of bytes by ranges in place of a table, as the library has them.', '']
+    rows = []
+    for metric, title, unit in OPERATIONS:
+        each = {p: number[p, metric] / units[p, metric] for p in ('library', 'reference', 'refusing') if (p, metric) in number}
+        row = ['%s, %s' % (title, unit), '%.0f' % each['library']]
+        for p in ('reference', 'refusing'):
+            row += ['%.0f' % each[p], ratio(each['library'] / each[p])] if p in each else ['', '']
+        rows.append(row)
+    return out + table(['', 'library', 'C reference', 'ratio', 'with refusals', 'ratio'], rows)
+
+
+main()
