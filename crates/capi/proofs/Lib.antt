@@ -6,4 +6,5 @@ pub mod Runs
 pub mod QueryRuns
 pub mod QueryLaws
 pub mod QueryBack
+pub mod QuerySlots
 pub mod QueryWrites

@@ -50,7 +50,7 @@ chain-low (By Object) = refl
 
 -- ---- how many words are written, and that they stand in front
 
-levels-size : (ls : List Level) (i n : ℕ) → length (levelWords ls i n) ≡ 2 * n
+pub levels-size : (ls : List Level) (i n : ℕ) → length (levelWords ls i n) ≡ 2 * n
 unfolding levelWords
 levels-size ls i zero = refl
 levels-size ls i (suc n) = let e = levels-size ls (suc i) n in omega arith

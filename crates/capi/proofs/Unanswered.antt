@@ -31,10 +31,18 @@ use Rattle.store.specs.Scan.{openOf}
 use Rattle.store.specs.Reading.{nameSpanOf, statementOf}
 use Rattle.store.specs.Values.{refusalNumber}
 use Rattle.store.proofs.Tests.{decide}
+use Rattle.graph.specs.declared.QueryOpened.{QueryOpened}
+use Rattle.graph.specs.declared.QueryAnswer.{QueryAnswer}
+use Rattle.graph.specs.Query.{Answer, refused, found, ended, spent, packed, answerOf, placeOf, openQueryOf, nextQueryOf}
+use Rattle.graph.specs.Values.{queryOpenedValues}
+use borrow.Author.Tests.{ne-eqb}
 use Rattle.store.proofs.Cases.{assert-refused, retract-refused}
 use Rattle.capi.specs.Words.{tooShort, counterWords, cursorWords, countersOf, lent, roomy, done, wrote, one, two, four, lookupAnswer, nameAnswer, statementAnswer, retractAs, openedAs, scannedAs, assertAs, enteredAs, nextFrom}
 use Rattle.capi.specs.Calls.{findAs, nameCall, statementCall, retractCall, openCall, nextCall, assertCall, enterAs}
 use Rattle.capi.specs.Claims.{bare, bareBeside, bareStore, UnansweredFind, UnansweredName, UnansweredStatement, UnansweredRetract, UnansweredAssert, UnansweredEnter, UnansweredOpen, UnansweredNext}
+use Rattle.capi.specs.Claims.{UnansweredQueryOpen, UnansweredQueryNext}
+use Rattle.capi.specs.QueryWords.{queryCursorWords, queryReplyWords, queryCursorOf, spelt, misspelt, nextQueryFrom, numbersFrom}
+use Rattle.capi.specs.QueryCalls.{queryOpenedAs, queryOpenCall, queryAnsweredAs, queryNextCall}
 use Rattle.term.proofs.Names.{never}
 use Rattle.capi.proofs.Writes.{refuses}
 
@@ -180,3 +188,42 @@ unanswered-next cw m q b w =
     both P (ltb (length cw) counterWords) (λ _. refl)
     (both P (ltb (length q) cursorWords) (λ _. refl)
     (both P (ltb (length w) 3) (λ _. refl) (scanned-bare q w (nextFrom (countersOf cw) m q b))))
+
+-- ---- queries
+
+query-opened-bare : (q : List ℕ) (a : QueryOpened) → (queryOpenedAs q a) .0 ≢ 0 → queryOpenedAs q a ≡ done ((queryOpenedAs q a) .0) q
+query-opened-bare q a h = rw (ne-eqb ((queryOpenedValues a) .refusal) 0 h)
+
+pub unanswered-query-open : UnansweredQueryOpen
+unfolding queryOpenCall
+unanswered-query-open cw m ws q =
+    either (λ (z : ℕ × List ℕ). z .0 ≢ 0 → z ≡ done (z .0) q) cw queryCursorWords q (λ _. refl)
+    (query-opened-bare q (openQueryOf (countersOf cw) m ws))
+
+-- a refusal has no status, no visits and nothing bound
+query-bare : (q w : List ℕ) (a : Answer) → (queryAnsweredAs q w (packed a)) .0 ≢ 0
+    → queryAnsweredAs q w (packed a) ≡ bareBeside queryReplyWords q w ((queryAnsweredAs q w (packed a)) .0)
+unfolding packed numbersFrom
+query-bare q w (refused e) h = rw (not-short e, refuses e)
+query-bare q w (found b v p) h = absurd (h refl)
+query-bare q w (ended v) h = absurd (h refl)
+query-bare q w (spent v p) h = absurd (h refl)
+
+query-answered-bare : (cw : List ℕ) (m : Tables) (ws q : List ℕ) (b : ℕ) (w : List ℕ)
+    → (queryAnsweredAs q w (nextQueryFrom (countersOf cw) m ws q b)) .0 ≢ 0
+    → queryAnsweredAs q w (nextQueryFrom (countersOf cw) m ws q b)
+    ≡ bareBeside queryReplyWords q w ((queryAnsweredAs q w (nextQueryFrom (countersOf cw) m ws q b)) .0)
+unfolding nextQueryFrom nextQueryOf
+query-answered-bare cw m ws q b w =
+    both (λ (a : QueryAnswer). (queryAnsweredAs q w a) .0 ≢ 0 → queryAnsweredAs q w a ≡ bareBeside queryReplyWords q w ((queryAnsweredAs q w a) .0))
+    (spelt q)
+    (query-bare q w (answerOf (countersOf cw) m ws (placeOf (queryCursorOf q)) b))
+    (query-bare q w (refused (misspelt ((openQueryOf (countersOf cw) m ws) .opening))))
+
+pub unanswered-query-next : UnansweredQueryNext
+unfolding queryNextCall
+unanswered-query-next cw m ws q b w =
+    let P : ℕ × (List ℕ × List ℕ) → Type 0 = λ z. z .0 ≢ 0 → z ≡ bareBeside queryReplyWords q w (z .0) in
+    both P (ltb (length cw) counterWords) (λ _. refl)
+    (both P (ltb (length q) queryCursorWords) (λ _. refl)
+    (both P (ltb (length w) queryReplyWords) (λ _. refl) (query-answered-bare cw m ws q b w)))

@@ -1,6 +1,6 @@
 -- What a caller relies on, as statements. Reading back what was written gives it back, and the words past those named are kept. A call
 -- that is not answered leaves counters, cursor and tables as they were, and its reply's words are 0; one that is lent too little leaves
--- the reply too. The definitions of `Words` and `Calls` stand on both sides of the contracts, so these say of them what they come to.
+-- the reply too. The definitions of `Words`, `Calls` and `QueryCalls` stand on both sides of the contracts, so these say of them what they come to.
 -- Declared in `proofs/ReadBack.antt` and `proofs/Unanswered.antt`. Assumes nothing.
 use mathlib.Core.Path.{_≡_}
 use mathlib.Core.Logic.{_≢_}
@@ -16,6 +16,8 @@ use Rattle.store.specs.declared.Triple.{Triple}
 use Rattle.store.specs.Tables.{Tables, word}
 use Rattle.capi.specs.Words.{counterWords, cursorWords, tooShort, countersOf, withCounters, cursorOf, withCursor, chainOf, chainWord, done, wrote}
 use Rattle.capi.specs.Calls.{FindCall, nameCall, statementCall, retractCall, openCall, nextCall, assertCall, EnterCall}
+use Rattle.capi.specs.QueryWords.{queryReplyWords}
+use Rattle.capi.specs.QueryCalls.{queryOpenCall, queryNextCall}
 
 -- ---- counters
 
@@ -85,3 +87,11 @@ UnansweredOpen = (cw : List ℕ) (m : Tables) (x : Triple) (q : List ℕ) → (o
 abbrev pub UnansweredNext : Type 0
 UnansweredNext = (cw : List ℕ) (m : Tables) (q : List ℕ) (b : ℕ) (w : List ℕ) → (nextCall cw m q b w) .0 ≢ 0
     → nextCall cw m q b w ≡ bareBeside 3 q w ((nextCall cw m q b w) .0)
+
+abbrev pub UnansweredQueryOpen : Type 0
+UnansweredQueryOpen = (cw : List ℕ) (m : Tables) (ws q : List ℕ) → (queryOpenCall cw m ws q) .0 ≢ 0
+    → queryOpenCall cw m ws q ≡ done ((queryOpenCall cw m ws q) .0) q
+
+abbrev pub UnansweredQueryNext : Type 0
+UnansweredQueryNext = (cw : List ℕ) (m : Tables) (ws q : List ℕ) (b : ℕ) (w : List ℕ) → (queryNextCall cw m ws q b w) .0 ≢ 0
+    → queryNextCall cw m ws q b w ≡ bareBeside queryReplyWords q w ((queryNextCall cw m ws q b w) .0)

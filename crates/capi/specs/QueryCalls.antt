@@ -1,14 +1,15 @@
 -- What the two functions for C over queries give back and write: the result and the lent slices after the call. Too short a slice gives
 -- 100 and all slices as they were; beside a refusal the cursor stays as it was. Then what a caller may rely on: a cursor that is written
--- is one that can be handed back. Assumes nothing.
+-- is one that can be handed back, with zeros past its levels. Assumes nothing.
 use mathlib.Core.Path.{_≡_}
+use mathlib.Core.Logic.{_≢_}
 use mathlib.Core.Bool.{true, cond}
 use mathlib.Core.List.{List}
-use Prim.Native.Nat.{ℕ, _≤_}
+use Prim.Native.Nat.{ℕ, _+_, _*_, _≤_, _<_}
 use lib.ListN.{length, drop}
 use lib.Dec.{eqb, ltb}
 use Rattle.store.specs.declared.Counters.{Counters}
-use Rattle.store.specs.Tables.{Tables}
+use Rattle.store.specs.Tables.{Tables, word}
 use Rattle.graph.specs.declared.QueryCursor.{QueryCursor}
 use Rattle.graph.specs.declared.QueryOpened.{QueryOpened}
 use Rattle.graph.specs.declared.QueryAnswer.{QueryAnswer}
@@ -61,3 +62,19 @@ QueryCursorsFull = (c : Counters) (m : Tables) (ws w : List ℕ) (b : ℕ)
 abbrev pub QueryRepliesKept : Type 0
 QueryRepliesKept = (w : List ℕ) (a : QueryAnswer) → queryReplyWords ≤ length w
     → drop queryReplyWords (withQueryAnswer w a) ≡ drop queryReplyWords w
+
+-- ---- what an answered call writes past the levels
+
+-- In a cursor's words the slots from the levels entered on are 0. At the start and at the end no levels are entered, so all slots are 0.
+pub record SlotsBlank (q : List ℕ) : Type 0 where
+  pub chain-blank : (i : ℕ) → word q 1 ≤ i → i < maxPatterns → word q (2 + 2 * i) ≡ 0
+  pub record-blank : (i : ℕ) → word q 1 ≤ i → i < maxPatterns → word q (3 + 2 * i) ≡ 0
+  pub outside-blank : word q 0 ≢ 1 → word q 1 ≡ 0
+
+abbrev pub OpenedSlotsBlank : Type 0
+OpenedSlotsBlank = (cw : List ℕ) (m : Tables) (ws w : List ℕ) → (queryOpenCall cw m ws w) .0 ≡ 0
+    → SlotsBlank ((queryOpenCall cw m ws w) .1)
+
+abbrev pub AnsweredSlotsBlank : Type 0
+AnsweredSlotsBlank = (cw : List ℕ) (m : Tables) (ws q : List ℕ) (b : ℕ) (w : List ℕ) → (queryNextCall cw m ws q b w) .0 ≡ 0
+    → SlotsBlank ((queryNextCall cw m ws q b w) .1 .0)
