@@ -63,9 +63,6 @@ module _ (stm : List ℕ) where
 -- the stack popped: what holds of it, and nothing is lost
 module _ (r t : ℕ) (stm ws : List ℕ) (q : Stack) (s : Stands r t stm ws q) (h : 1 ≤ q .top) (small : q .top < 8)
     (m : Turned) (made : m ≡ poppedAs stm (patternsOf ws) q) where
-  pub popped-top : m .top ≡ q .top - 1
-  popped-top = ap (λ (z : Turned). z .top) made
-
   pub popped-stands : Stands r t stm ws (onto (q .levels) m)
   popped-stands =
       let e = s .sure (q .top - 1) (omega arith) in
@@ -510,7 +507,9 @@ module _ (r t : ℕ) (res stm ws : List ℕ) (k : Ready r t res stm ws) (budget 
       after = onto (q .levels) m
 
       T : TurnIs r t stm ws (triedAt r t res stm (patternsOf ws) q) (q .levels) m
-      T = let h = visit-hit r t res stm ws k q s n d some-record in turned-is r t res stm ws k q s n m (h .1) (h .2) made
+      T =
+          let h = visit-hit r t res stm ws k q s n d some-record in
+          turned-is r t res stm ws k q s n m (h .1) (h .2) made
 
       turn-is : visit r t res stm (patternsOf ws) (deepest q) (entered q) ≡ turnAs (m .outcome) after
       turn-is = (visit-hit r t res stm ws k q s n d some-record) .0 ∙ sym (T .told)

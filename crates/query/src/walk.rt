@@ -35,7 +35,6 @@ ghost use mathlib.Core.Path.{_≡_};
 ghost use mathlib.Core.List.{[]};
 ghost use Prim.Native.Nat.{ℕ, _*_, _+_, _-_, _<_, _≤_};
 ghost use lib.ListN.{length, getD};
-ghost use Rattle.store.specs.Walk.{linkOf};
 ghost use Rattle.table.specs.Held.{StatementHeld};
 ghost use Rattle.statement.specs.declared.inner.Sought.the-variants.{LiveMatch};
 ghost use Rattle.statement.specs.Chains.{PatternHeld, visitOf};

@@ -61,9 +61,11 @@ returns-3 : tie.Need-returns-3
 unfolding nextQueryOf answerOf
 returns-3 c = rw (
   ← c .before .before .before .before .before .before .before .fits2 .ensures,
-  not-false (c .before .before .before .before .before .before .before .fits2 .result) (c .before .before .before .before .before .before .if1 .left),
+  not-false (c .before .before .before .before .before .before .before .fits2 .result)
+      (c .before .before .before .before .before .before .if1 .left),
   ← c .before .before .before .before .before .words-ok .ensures,
-  not-false (c .before .before .before .before .before .words-ok .result) (c .before .before .before .before .if2 .left),
+  not-false (c .before .before .before .before .before .words-ok .result)
+      (c .before .before .before .before .if2 .left),
   ← c .before .before .before .place-ok .ensures .told,
   not-true (c .before .before .before .place-ok .result .hit) (c .before .if3 .taken),
 ) (c .refused3 .ensures)
@@ -75,9 +77,11 @@ returns-4 : tie.Need-returns-4
 unfolding nextQueryOf answerOf
 returns-4 c = rw (
   ← c .before .before .before .before .before .before .before .before .fits2 .ensures,
-  not-false (c .before .before .before .before .before .before .before .before .fits2 .result) (c .before .before .before .before .before .before .before .if1 .left),
+  not-false (c .before .before .before .before .before .before .before .before .fits2 .result)
+      (c .before .before .before .before .before .before .before .if1 .left),
   ← c .before .before .before .before .before .before .words-ok .ensures,
-  not-false (c .before .before .before .before .before .before .words-ok .result) (c .before .before .before .before .before .if2 .left),
+  not-false (c .before .before .before .before .before .before .words-ok .result)
+      (c .before .before .before .before .before .if2 .left),
   ← c .before .before .before .before .place-ok .ensures .told,
   not-false (c .before .before .before .before .place-ok .result .hit) (c .before .before .if3 .left),
   eq-eqb _ _ (c .before .if4 .taken),
@@ -85,21 +89,31 @@ returns-4 c = rw (
 
 resume-requires : tie.Need-resume-requires
 resume-requires c κs =
-    let a = c .before .before .before .before .before .before .before .before .before .before .before .before .before .before .args in
+    let a = c .before .before .before .before .before .before .before .before .before .before .before .before
+    .before .before .args in
     let m = tables (a .resources .now) (a .statements .now) (a .index .now) (a .text .now) in
     let k = ready-of (a .c) m (a .words .now)
-    (sym (c .before .before .before .before .before .before .before .before .fits2 .ensures) ∙ not-false (c .before .before .before .before .before .before .before .before .fits2 .result) (c .before .before .before .before .before .before .before .if1 .left))
-    (sym (c .before .before .before .before .before .before .words-ok .ensures) ∙ not-false (c .before .before .before .before .before .before .words-ok .result) (c .before .before .before .before .before .if2 .left)) in
-    let h = not-false (c .before .before .before .before .place-ok .result .hit) (c .before .before .if3 .left) in
-    (k, sym (c .before .before .before .before .place-ok .ensures .told) ∙ h, c .before .before .before .before .place-ok .ensures .handed h)
+    (sym (c .before .before .before .before .before .before .before .before .fits2 .ensures) ∙ not-false
+    (c .before .before .before .before .before .before .before .before .fits2 .result)
+    (c .before .before .before .before .before .before .before .if1 .left))
+    (sym (c .before .before .before .before .before .before .words-ok .ensures) ∙ not-false
+    (c .before .before .before .before .before .before .words-ok .result)
+    (c .before .before .before .before .before .if2 .left)) in
+    let h = not-false (c .before .before .before .before .place-ok .result .hit) (c .before .before .if3 .left) in (
+      k,
+      sym (c .before .before .before .before .place-ok .ensures .told) ∙ h,
+      c .before .before .before .before .place-ok .ensures .handed h,
+    )
 
 returns-5 : tie.Need-returns-5
 unfolding nextQueryOf answerOf
 returns-5 c = rw (
   ← c .before .before .before .before .before .before .before .before .before .fits2 .ensures,
-  not-false (c .before .before .before .before .before .before .before .before .before .fits2 .result) (c .before .before .before .before .before .before .before .before .if1 .left),
+  not-false (c .before .before .before .before .before .before .before .before .before .fits2 .result)
+      (c .before .before .before .before .before .before .before .before .if1 .left),
   ← c .before .before .before .before .before .before .before .words-ok .ensures,
-  not-false (c .before .before .before .before .before .before .before .words-ok .result) (c .before .before .before .before .before .before .if2 .left),
+  not-false (c .before .before .before .before .before .before .before .words-ok .result)
+      (c .before .before .before .before .before .before .if2 .left),
   ← c .before .before .before .before .before .place-ok .ensures .told,
   not-false (c .before .before .before .before .before .place-ok .result .hit) (c .before .before .before .if3 .left),
   ne-eqb _ _ (c .before .before .if4 .left),

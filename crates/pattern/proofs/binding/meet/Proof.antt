@@ -1,4 +1,5 @@
-use Rattle.pattern.proofs.Matches.{matchFrom, from-start, from-end, number-unmet, number-met, open-met, bound-unmet, bound-met}
+use Rattle.pattern.proofs.Matches.{matchFrom, from-start, from-end, number-unmet, number-met, open-met}
+use Rattle.pattern.proofs.Matches.{bound-unmet, bound-met}
 use Rattle.pattern.specs.Matching.{matchedAs}
 use Rattle.graph.specs.Query.{match}
 use native.Mathlib.Omega.{arith}
@@ -41,7 +42,9 @@ returns c =
     let if1 = c .before .before .if1 in
     let if2 = c .before .if2 in
     let unmet = c .unmet in
-    unmet .ensures ∙ ap (matchedAs (a .bound)) (sym (loop .inv ∙ number-unmet (a .x) (a .t) (loop .k) (word-at .result) (number-at .result) (loop .b .values) (loop-test .taken) (word-at .ensures .0) (number-at .ensures) (word-at .ensures .1) (if1 .taken) (if2 .taken)))
+    unmet .ensures ∙ ap (matchedAs (a .bound)) (sym (loop .inv ∙ number-unmet (a .x) (a .t) (loop .k)
+    (word-at .result) (number-at .result) (loop .b .values) (loop-test .taken) (word-at .ensures .0)
+    (number-at .ensures) (word-at .ensures .1) (if1 .taken) (if2 .taken)))
 
 loop-less : tie.Need-loop-less Inv-loop μ-loop
 loop-less c = search needs
@@ -55,7 +58,8 @@ loop-again c =
     let number-at = c .before .before .number-at in
     let if1 = c .before .if1 in
     let if2 = c .if2 in
-    loop .inv ∙ number-met (a .x) (a .t) (loop .k) (word-at .result) (number-at .result) (loop .b .values) (loop-test .taken) (word-at .ensures .0) (number-at .ensures) (word-at .ensures .1) (if1 .taken) (if2 .left)
+    loop .inv ∙ number-met (a .x) (a .t) (loop .k) (word-at .result) (number-at .result) (loop .b .values)
+    (loop-test .taken) (word-at .ensures .0) (number-at .ensures) (word-at .ensures .1) (if1 .taken) (if2 .left)
 
 cast-v : tie.Need-cast-v Inv-loop μ-loop
 cast-v c = search needs
@@ -84,7 +88,8 @@ loop-again-2 c =
     let number-at = c .before .before .before .before .number-at in
     let if1 = c .before .before .before .if1 in
     let if3 = c .if3 in
-    loop .inv ∙ open-met (a .x) (a .t) (loop .k) (word-at .result) (number-at .result) (loop .b .values) (loop-test .taken) (word-at .ensures .0) (number-at .ensures) (word-at .ensures .1) (if1 .left) (if3 .taken)
+    loop .inv ∙ open-met (a .x) (a .t) (loop .k) (word-at .result) (number-at .result) (loop .b .values)
+    (loop-test .taken) (word-at .ensures .0) (number-at .ensures) (word-at .ensures .1) (if1 .left) (if3 .taken)
 
 unmet-requires-2 : tie.Need-unmet-requires-2 Inv-loop μ-loop
 unmet-requires-2 c κs = search needs
@@ -100,7 +105,9 @@ returns-2 c =
     let if3 = c .before .before .before .if3 in
     let if4 = c .before .if4 in
     let unmet2 = c .unmet2 in
-    unmet2 .ensures ∙ ap (matchedAs (a .bound)) (sym (loop .inv ∙ bound-unmet (a .x) (a .t) (loop .k) (word-at .result) (number-at .result) (loop .b .values) (loop-test .taken) (word-at .ensures .0) (number-at .ensures) (word-at .ensures .1) (if1 .left) (if3 .left) (if4 .taken)))
+    unmet2 .ensures ∙ ap (matchedAs (a .bound)) (sym (loop .inv ∙ bound-unmet (a .x) (a .t) (loop .k)
+    (word-at .result) (number-at .result) (loop .b .values) (loop-test .taken) (word-at .ensures .0)
+    (number-at .ensures) (word-at .ensures .1) (if1 .left) (if3 .left) (if4 .taken)))
 
 loop-less-3 : tie.Need-loop-less-3 Inv-loop μ-loop
 loop-less-3 c = search needs
@@ -115,14 +122,17 @@ loop-again-3 c =
     let if1 = c .before .before .before .before .before .if1 in
     let if3 = c .before .before .if3 in
     let if4 = c .if4 in
-    loop .inv ∙ bound-met (a .x) (a .t) (loop .k) (word-at .result) (number-at .result) (loop .b .values) (loop-test .taken) (word-at .ensures .0) (number-at .ensures) (word-at .ensures .1) (if1 .left) (if3 .left) (if4 .left)
+    loop .inv ∙ bound-met (a .x) (a .t) (loop .k) (word-at .result) (number-at .result) (loop .b .values)
+    (loop-test .taken) (word-at .ensures .0) (number-at .ensures) (word-at .ensures .1) (if1 .left) (if3 .left)
+    (if4 .left)
 
 returns-3 : tie.Need-returns-3 Inv-loop μ-loop
 returns-3 c =
     let a = c .before .before .args in
     let loop = c .before .loop in
     let loop-test = c .loop-test in
-    ap (matchedAs (a .bound)) (sym (loop .inv ∙ from-end (a .x) (a .t) (loop .k) (loop .b .values) (let h = loop-test .left in omega arith)))
+    ap (matchedAs (a .bound)) (sym (loop .inv ∙ from-end (a .x) (a .t) (loop .k) (loop .b .values)
+    (let h = loop-test .left in omega arith)))
 
 pub meet-spec : {M : Type 1} → statement M
 meet-spec =

@@ -36,7 +36,8 @@ returns-2 c =
     let a = c .before .before .before .before .before .before .args in
     record {
       told =
-          sym (place-above (a .c .resources) (a .c .statements) (a .statements .now) (patternsOf (a .words .now)) (a .t4)
+          sym (place-above (a .c .resources) (a .c .statements) (a .statements .now) (patternsOf (a .words .now))
+          (a .t4)
           (a .d) (rw (c .before .before .patterns .ensures) at (c .before .if2 .taken)));
       binds-inside = λ h z. absurd (false≢true h);
     }

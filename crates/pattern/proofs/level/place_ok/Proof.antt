@@ -25,17 +25,20 @@ unentered-requires-2 c κs = search needs
 
 returns : tie.Need-returns
 returns c = let a = c .before .before .before .before .before .before .args in
-    tested-start (a .c .resources) (a .c .statements) (a .statements .now) (patternsOf (a .words .now)) (a .q) (c .unentered .result)
+    tested-start (a .c .resources) (a .c .statements) (a .statements .now) (patternsOf (a .words .now)) (a .q)
+    (c .unentered .result)
     (c .before .enum-told .given .1) (c .unentered .ensures)
 
 returns-2 : tie.Need-returns-2
 returns-2 c = let a = c .before .before .before .before .before .before .args in
-    tested-within (a .c .resources) (a .c .statements) (a .statements .now) (patternsOf (a .words .now)) (a .q) (c .inside-ok .result)
+    tested-within (a .c .resources) (a .c .statements) (a .statements .now) (patternsOf (a .words .now)) (a .q)
+    (c .inside-ok .result)
     (c .before .enum-told2 .given .1) (c .inside-ok .ensures)
 
 returns-3 : tie.Need-returns-3
 returns-3 c = let a = c .before .before .before .before .before .before .args in
-    tested-end (a .c .resources) (a .c .statements) (a .statements .now) (patternsOf (a .words .now)) (a .q) (c .unentered2 .result)
+    tested-end (a .c .resources) (a .c .statements) (a .statements .now) (patternsOf (a .words .now)) (a .q)
+    (c .unentered2 .result)
     (c .before .enum-told3 .given .1) (c .unentered2 .ensures)
 
 pub place-ok-spec : {M : Type 1} → statement M

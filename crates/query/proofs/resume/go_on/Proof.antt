@@ -55,7 +55,8 @@ walk-requires c κs =
     let ok = c .before .before .before .before .before .before .pre .1 in (
       k,
       pruned-stands r t res stm ws k ls (a .top) ok (sym (c .before .before .intact .ensures)
-          ∙ not-false (c .before .before .intact .result) (c .before .if1 .left)) (c .pruned .result) (c .pruned .ensures),
+          ∙ not-false (c .before .before .intact .result) (c .before .if1 .left)) (c .pruned .result)
+          (c .pruned .ensures),
     )
 
 returns-2 : tie.Need-returns-2

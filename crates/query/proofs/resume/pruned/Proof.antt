@@ -35,25 +35,36 @@ array-set-from-own c =
     let f = c .before .before .first-struck .ensures .among in omega arith
 
 pattern-at-requires : tie.Need-pattern-at-requires
-pattern-at-requires c κs = let h = c .before .before .before .before .before .before .pre .1 in let f = c .before .before .before .first-struck .ensures .among in omega arith
+pattern-at-requires c κs = let h = c .before .before .before .before .before .before .pre .1 in
+    let f = c .before .before .before .first-struck .ensures .among in omega arith
 
 under-requires : tie.Need-under-requires
 under-requires c κs =
-    let h = c .before .before .before .before .before .before .before .pre .1 in let f = c .before .before .before .before .first-struck .ensures .among in
-    rw (c .pattern-at .ensures) (c .before .before .before .before .before .before .before .pre .0 .each (c .before .before .before .before .first-struck .result) (omega arith))
+    let h = c .before .before .before .before .before .before .before .pre .1 in
+    let f = c .before .before .before .before .first-struck .ensures .among in
+    rw (c .pattern-at .ensures) (c .before .before .before .before .before .before .before .pre .0 .each
+    (c .before .before .before .before .first-struck .result) (omega arith))
 
 returns : tie.Need-returns
 returns c =
-    let a = c .before .before .before .before .before .before .before .before .args in let e = c .before .before .before .before .before .before .before .before .pre .0 .few in let h = c .before .before .before .before .before .before .before .before .pre .1 in
+    let a = c .before .before .before .before .before .before .before .before .args in
+    let e = c .before .before .before .before .before .before .before .before .pre .0 .few in
+    let h = c .before .before .before .before .before .before .before .before .pre .1 in
     let f = c .before .before .before .before .before .first-struck .ensures .among in
     rw (c .before .before .before .written .ensures, c .before .before .before .before .onward .ensures)
-    (pruned-kept (a .statements .now) (patternsOf (a .words .now)) (a .levels) (a .top) (c .before .before .before .before .before .first-struck .result) (a .b)
-    (c .under .result) (c .before .pattern-at .result) (omega arith) (c .before .before .if1 .taken) (c .before .before .before .before .before .first-struck .ensures) (c .before .before .before .before .before .before .before .before .pre .3)
+    (pruned-kept (a .statements .now) (patternsOf (a .words .now)) (a .levels) (a .top)
+    (c .before .before .before .before .before .first-struck .result) (a .b)
+    (c .under .result) (c .before .pattern-at .result) (omega arith) (c .before .before .if1 .taken)
+    (c .before .before .before .before .before .first-struck .ensures)
+    (c .before .before .before .before .before .before .before .before .pre .3)
     (c .under .ensures) (c .before .pattern-at .ensures))
 
 stand-requires : tie.Need-stand-requires
 stand-requires c κs =
-    let e = c .before .before .before .before .before .before .pre .0 .few in let h = c .before .before .before .before .before .before .pre .1 in let f = c .before .before .before .first-struck .ensures .among in let a = c .before .before .before .before .before .before .args in (
+    let e = c .before .before .before .before .before .before .pre .0 .few in
+    let h = c .before .before .before .before .before .before .pre .1 in
+    let f = c .before .before .before .first-struck .ensures .among in
+    let a = c .before .before .before .before .before .before .args in (
       c .before .before .before .before .before .before .pre .0,
       omega arith,
       rw (c .before .written .ensures)
@@ -65,7 +76,8 @@ returns-2 : tie.Need-returns-2
 returns-2 c =
     let a = c .before .before .before .before .before .before .before .args in
     pruned-made (a .statements .now) (patternsOf (a .words .now)) (a .levels) (a .top)
-    (c .before .before .before .before .first-struck .result) (c .stand .result) (c .before .before .before .before .first-struck .ensures)
+    (c .before .before .before .before .first-struck .result) (c .stand .result)
+    (c .before .before .before .before .first-struck .ensures)
     (rw (← c .before .before .written .ensures, ← c .before .before .before .onward .ensures) (c .stand .ensures))
 
 pub pruned-spec : {M : Type 1} → statement M

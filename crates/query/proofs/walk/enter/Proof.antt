@@ -36,7 +36,13 @@ returns c =
     let pickable = c .before .before .pickable in
     let if1 = c .before .if1 in
     let level = c .level in
-    rw (← pattern-at .ensures, ← under .ensures, ← pickable .ensures, not-true (pickable .result) (if1 .taken), level .ensures)
+    rw (
+      ← pattern-at .ensures,
+      ← under .ensures,
+      ← pickable .ensures,
+      not-true (pickable .result) (if1 .taken),
+      level .ensures,
+    )
 
 pick-chain-requires : tie.Need-pick-chain-requires
 pick-chain-requires c κs =
@@ -51,8 +57,11 @@ start-of-requires c κs =
     let pre = c .before .before .before .before .before .before .before .pre in
     let pattern-at = c .before .before .before .before .pattern-at in
     let under = c .before .before .before .under in
-    let pick-chain = c .pick-chain in
-    (rw (under .ensures, pattern-at .ensures) (pre .2), rw (pick-chain .ensures) (pick-bound (a .resources .now) (under .result)))
+    let pick-chain = c .pick-chain in (
+      rw (under .ensures, pattern-at .ensures) (pre .2),
+      rw (pick-chain .ensures)
+          (pick-bound (a .resources .now) (under .result)),
+    )
 
 level-requires-2 : tie.Need-level-requires-2
 level-requires-2 c κs = search needs
@@ -67,7 +76,16 @@ returns-2 c =
     let pick-chain = c .before .before .pick-chain in
     let start-of = c .before .start-of in
     let level2 = c .level2 in
-    rw (← pattern-at .ensures, ← under .ensures, ← pickable .ensures, not-false (pickable .result) (if1 .left), ← pick-chain .ensures, ← start-of .ensures, level2 .ensures)
+    rw (
+      ← pattern-at .ensures,
+      ← under .ensures,
+      ← pickable .ensures,
+      not-false (pickable .result) (if1 .left),
+      ←
+          pick-chain .ensures,
+      ← start-of .ensures,
+      level2 .ensures,
+    )
 
 pub enter-spec : {M : Type 1} → statement M
 enter-spec =

@@ -25,7 +25,15 @@ array-copy-out-l c = search needs
 bindings-requires : tie.Need-bindings-requires
 bindings-requires c κs =
     let pre = c .before .before .before .before .before .pre in
-    let h = pre .1 in let o = pre .2 in (pre .0, omega arith, record { few = let q = pre .3 .few in omega arith; each = λ i g. pre .3 .each i (omega arith) })
+    let h = pre .1 in let o = pre .2 in (
+      pre .0,
+      omega arith,
+      record {
+        few = let q = pre .3 .few in
+            omega arith;
+        each = λ i g. pre .3 .each i (omega arith);
+      },
+    )
 
 pattern-at-requires : tie.Need-pattern-at-requires
 pattern-at-requires c κs = search needs
@@ -52,7 +60,8 @@ returns c =
     let past = c .past in
     let s = a .statements .now in let ps = patternsOf (a .words .now) in let q = a .q in
     popped-is s ps q (bindings .result) (under .result) (past .result) (bindings .ensures)
-    (asked-is 0 0 s ps (q .levels) (q .top - 1) (under .result) (pattern-at .result) (bindings .result .values) (under .ensures) (pattern-at .ensures) (bindings .ensures)) (past .ensures)
+    (asked-is 0 0 s ps (q .levels) (q .top - 1) (under .result) (pattern-at .result) (bindings .result .values)
+    (under .ensures) (pattern-at .ensures) (bindings .ensures)) (past .ensures)
 
 pub popped-spec : {M : Type 1} → statement M
 popped-spec =

@@ -36,9 +36,12 @@ returns c =
     let meet = c .before .before .before .before .meet in
     let if1 = c .before .if1 in
     let moved = c .moved in
-    let t = a .t in let res = a .resources .now in let stm = a .statements .now in let ps = patternsOf (a .words .now) in
-    let d : meet .result ≡ matchedAs (a .b) (metAt stm ps (a .top) (a .l) (a .b)) = meet .ensures ∙ rw (pattern-at .ensures, triple-at .ensures) in
-    tried-unmet t res stm ps (a .top) (a .l) (a .x) (a .b) (a .next) (meet .result) d (not-true (meet .result .hit) (if1 .taken)) (moved .result) (moved .ensures)
+    let t = a .t in let res = a .resources .now in let stm = a .statements .now in
+    let ps = patternsOf (a .words .now) in
+    let d : meet .result ≡ matchedAs (a .b) (metAt stm ps (a .top) (a .l) (a .b)) = meet .ensures ∙ rw
+    (pattern-at .ensures, triple-at .ensures) in
+    tried-unmet t res stm ps (a .top) (a .l) (a .x) (a .b) (a .next) (meet .result) d
+    (not-true (meet .result .hit) (if1 .taken)) (moved .result) (moved .ensures)
 
 add-if2 : tie.Need-add-if2
 add-if2 c = search needs
@@ -59,9 +62,12 @@ returns-2 c =
     let patterns = c .before .before .patterns in
     let if2 = c .before .if2 in
     let moved2 = c .moved2 in
-    let t = a .t in let res = a .resources .now in let stm = a .statements .now in let ps = patternsOf (a .words .now) in
-    let d : meet .result ≡ matchedAs (a .b) (metAt stm ps (a .top) (a .l) (a .b)) = meet .ensures ∙ rw (pattern-at .ensures, triple-at .ensures) in
-    tried-last t res stm ps (a .top) (a .l) (a .x) (a .b) (a .next) (meet .result) d (not-false (meet .result .hit) (if1 .left)) (moved2 .result) (moved2 .ensures) (if2 .taken ∙ patterns .ensures)
+    let t = a .t in let res = a .resources .now in let stm = a .statements .now in
+    let ps = patternsOf (a .words .now) in
+    let d : meet .result ≡ matchedAs (a .b) (metAt stm ps (a .top) (a .l) (a .b)) = meet .ensures ∙ rw
+    (pattern-at .ensures, triple-at .ensures) in
+    tried-last t res stm ps (a .top) (a .l) (a .x) (a .b) (a .next) (meet .result) d
+    (not-false (meet .result .hit) (if1 .left)) (moved2 .result) (moved2 .ensures) (if2 .taken ∙ patterns .ensures)
 
 add-enter : tie.Need-add-enter
 add-enter c = search needs
@@ -76,9 +82,17 @@ enter-requires c κs =
     let if1 = c .before .before .if1 in
     let patterns = c .before .patterns in
     let if2 = c .if2 in
-    let t = a .t in let res = a .resources .now in let stm = a .statements .now in let ps = patternsOf (a .words .now) in
-    let d : meet .result ≡ matchedAs (a .b) (metAt stm ps (a .top) (a .l) (a .b)) = meet .ensures ∙ rw (pattern-at .ensures, triple-at .ensures) in
-    let more : a .top + 1 ≡ length ps → ⊥ = λ z. if2 .left (z ∙ sym (patterns .ensures)) in let n = pre .1 in (pre .0, omega arith, pre .3 .held (meet .result .bound .values) (met (meet .result) (a .b) (metAt stm ps (a .top) (a .l) (a .b)) d (not-false (meet .result .hit) (if1 .left))) more)
+    let t = a .t in let res = a .resources .now in let stm = a .statements .now in
+    let ps = patternsOf (a .words .now) in
+    let d : meet .result ≡ matchedAs (a .b) (metAt stm ps (a .top) (a .l) (a .b)) = meet .ensures ∙ rw
+    (pattern-at .ensures, triple-at .ensures) in
+    let more : a .top + 1 ≡ length ps → ⊥ = λ z. if2 .left (z ∙ sym (patterns .ensures)) in let n = pre .1 in (
+      pre .0,
+      omega arith,
+      pre .3 .held (meet .result .bound .values)
+          (met (meet .result) (a .b) (metAt stm ps (a .top) (a .l) (a .b)) d (not-false (meet .result .hit) (if1 .left)))
+          more,
+    )
 
 returns-3 : tie.Need-returns-3
 returns-3 c =
@@ -90,9 +104,13 @@ returns-3 c =
     let patterns = c .before .before .patterns in
     let if2 = c .before .if2 in
     let enter = c .enter in
-    let t = a .t in let res = a .resources .now in let stm = a .statements .now in let ps = patternsOf (a .words .now) in
-    let d : meet .result ≡ matchedAs (a .b) (metAt stm ps (a .top) (a .l) (a .b)) = meet .ensures ∙ rw (pattern-at .ensures, triple-at .ensures) in
-    tried-more t res stm ps (a .top) (a .l) (a .x) (a .b) (a .next) (meet .result) d (not-false (meet .result .hit) (if1 .left)) (λ z. if2 .left (z ∙ sym (patterns .ensures))) (enter .result) (enter .ensures)
+    let t = a .t in let res = a .resources .now in let stm = a .statements .now in
+    let ps = patternsOf (a .words .now) in
+    let d : meet .result ≡ matchedAs (a .b) (metAt stm ps (a .top) (a .l) (a .b)) = meet .ensures ∙ rw
+    (pattern-at .ensures, triple-at .ensures) in
+    tried-more t res stm ps (a .top) (a .l) (a .x) (a .b) (a .next) (meet .result) d
+    (not-false (meet .result .hit) (if1 .left)) (λ z. if2 .left (z ∙ sym (patterns .ensures))) (enter .result)
+    (enter .ensures)
 
 pub tried-spec : {M : Type 1} → statement M
 tried-spec =
