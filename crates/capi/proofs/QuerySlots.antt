@@ -17,6 +17,7 @@ use Rattle.graph.specs.declared.Level.{Level}
 use Rattle.graph.specs.declared.QueryCursor.{QueryCursor}
 use Rattle.graph.specs.Query.{maxPatterns, noLevel, written, Place, start, inside, finish, cursorAt, Answer, refused, found, ended, spent}
 use Rattle.graph.specs.Query.{packed, answerOf, placeOf, openQueryOf, nextQueryOf}
+use Rattle.graph.proofs.Laws.{written-past}
 use Rattle.capi.specs.Words.{counterWords, tooShort, countersOf, chainWord, done, lent}
 use Rattle.capi.specs.QueryWords.{queryCursorWords, queryReplyWords, progressWord, queryCursorOf, spelt, misspelt, nextQueryFrom}
 use Rattle.capi.specs.QueryWords.{levelWords, withQueryCursor}
@@ -25,28 +26,15 @@ use Rattle.capi.proofs.QueryBack.{levels-size}
 
 -- ---- the cursor as a value
 
--- what stands in the array past the levels written
-past : (up : List Level) (i : ℕ) → length up ≤ i → getD (written up) i noLevel ≡ noLevel
-unfolding written
-past [] i h = blank maxPatterns i
-  where
-    blank : (n i : ℕ) → getD (replicate n noLevel) i noLevel ≡ noLevel
-    blank zero i = refl
-    blank (suc n) zero = refl
-    blank (suc n) (suc i) = blank n i
-past (e ∷ up) i h =
-    let q : i ≢ length up = omega arith in
-    getD-set-other (written up) (length up) i e noLevel q ∙ past up i (omega arith)
-
 record Clear (q : QueryCursor) : Type 0 where
   unused : (i : ℕ) → q .depth ≤ i → getD (q .levels) i noLevel ≡ noLevel
   entered : progressWord (q .progress) ≢ 1 → q .depth ≡ 0
 
 place-clear : (p : Place) → Clear (cursorAt p)
 unfolding cursorAt
-place-clear start = record { unused = past []; entered = λ _. refl }
-place-clear (inside l up) = record { unused = past (l ∷ up); entered = λ h. absurd (h refl) }
-place-clear finish = record { unused = past []; entered = λ _. refl }
+place-clear start = record { unused = written-past []; entered = λ _. refl }
+place-clear (inside l up) = record { unused = written-past (l ∷ up); entered = λ h. absurd (h refl) }
+place-clear finish = record { unused = written-past []; entered = λ _. refl }
 
 answer-clear : (a : Answer) → Clear ((packed a) .cursor)
 unfolding packed

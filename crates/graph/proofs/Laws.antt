@@ -161,7 +161,7 @@ place-cursor (inside l up) h =
 place-cursor finish h = refl
 
 -- what stands in the array past the levels read
-written-past : (up : List Level) (i : ℕ) → length up ≤ i → getD (written up) i noLevel ≡ noLevel
+pub written-past : (up : List Level) (i : ℕ) → length up ≤ i → getD (written up) i noLevel ≡ noLevel
 unfolding written
 written-past [] i h = blank maxPatterns i
   where
