@@ -308,7 +308,8 @@ impl Run {
             self.compare(&Call::Assert { triple }, &mut lent)?;
             for statements in [65_534, 65_535, 65_536] {
                 lent.counters[1] = statements;
-                self.compare(&Call::Assert { triple: [3, 2, 1] }, &mut lent)?;
+                // Another triple each time: new at one below the limit, refused 3 at the limit, 1 above it.
+                self.compare(&Call::Assert { triple: [3, 2, statements - 65_533] }, &mut lent)?;
                 self.compare(&Call::ScanOpen { pattern: [0, 0, 3] }, &mut lent)?;
                 self.compare(&Call::QueryOpen { words: vec![1, 2, 3] }, &mut lent)?;
             }
