@@ -1,5 +1,5 @@
 //! The differential test: random calls through the C interface against the plain implementation in `plain.rs` and `names.rs`, which is
-//! written from paper 01 alone.
+//! written from paper 01 and `docs/DECISIONS.md` alone.
 //!
 //!     diff SEED CALLS SECONDS
 //!
@@ -18,11 +18,14 @@ mod random;
 mod tally;
 
 use damage::damage;
-use plain::{Call, Expected, Lent};
+use plain::{Call, Expected, Lent, COUNTER_WORDS, LONGEST_REPLY, QUERY_CURSOR_WORDS};
 use random::Random;
 use std::process::ExitCode;
 use std::time::{Duration, Instant};
 use tally::Tally;
+
+/// What a cursor and a reply hold before a call that is to write them.
+const UNWRITTEN: u32 = 0x77;
 
 /// Calls after which every result must have been met.
 const ENOUGH: u64 = 300_000;
@@ -88,7 +91,7 @@ impl Run {
         let partial = |random: &mut Random, words: usize| if random.one_in(4) { random.below(words) } else { 0 };
         let named = records(random);
         let mut lent = Lent {
-            counters: vec![0; 3],
+            counters: vec![0; COUNTER_WORDS],
             resources: vec![0; 8 * named + partial(random, 8)],
             statements: vec![0; 7 * records(random) + partial(random, 7)],
             index: vec![0; (named + random.of(&[0, 0, 0, 0, 1, 2])).saturating_sub(random.below(5) / 4)],
@@ -136,7 +139,7 @@ impl Run {
                 let (line_text, at) = random.line_text();
                 alone(Call::ReadLine { line_text, at })
             }
-            56..=63 => (Call::ScanOpen { pattern: random.pattern(lent) }, vec![0x77; 5], None),
+            56..=63 => (Call::ScanOpen { pattern: random.pattern(lent) }, vec![], None),
             64..=75 => {
                 let call = Call::ScanNext { budget: random.budget(0) };
                 if open.scans.is_empty() || random.one_in(5) {
@@ -150,7 +153,7 @@ impl Run {
                 }
                 (call, cursor, Some(which))
             }
-            76..=80 => (Call::QueryOpen { words: random.words(lent) }, vec![0x77; 18], None),
+            76..=80 => (Call::QueryOpen { words: random.words(lent) }, vec![], None),
             _ => {
                 if open.queries.is_empty() || random.one_in(4) {
                     let words = random.words(lent);
@@ -187,17 +190,17 @@ impl Run {
     fn step(&mut self, lent: &mut Lent, open: &mut Open, phase: Phase) -> Result<(), Difference> {
         let (call, mut cursor, which) = self.choose(lent, open, phase);
         if call.cursor_words() > 0 {
-            cursor.resize(self.length(call.cursor_words()), 0x77);
+            cursor.resize(self.length(call.cursor_words()), UNWRITTEN);
         }
         if phase == Phase::Damaged && matches!(call, Call::QueryNext { .. }) && self.random.one_in(2) {
             damage::entered_records(&mut self.random, lent, &cursor);
         }
         lent.cursor = cursor;
-        lent.reply = vec![0x55; if call.reply_words() > 0 { self.length(call.reply_words()) } else { 0 }];
-        lent.line_reply = vec![0x55; if call.line_words() > 0 { self.length(call.line_words()) } else { 0 }];
+        lent.reply = vec![UNWRITTEN; if call.reply_words() > 0 { self.length(call.reply_words()) } else { 0 }];
+        lent.line_reply = vec![UNWRITTEN.into(); if call.line_words() > 0 { self.length(call.line_words()) } else { 0 }];
         if call.takes_tables() && self.random.one_in(100) {
             let whole = lent.counters.clone();
-            lent.counters.truncate(self.random.below(3));
+            lent.counters.truncate(self.random.below(COUNTER_WORDS));
             self.compare(&call, lent)?;
             lent.counters = whole;
             return Ok(());
@@ -216,11 +219,11 @@ impl Run {
             (Call::ScanNext { .. }, Some(which)) => open.scans[which] = cursor,
             (Call::QueryNext { .. }, Some(which)) => open.queries[which].1 = cursor,
             // A refused opening leaves the cursor as it was, which is no cursor.
-            (Call::ScanOpen { .. }, _) if cursor != [0x77; 5] => {
+            (Call::ScanOpen { .. }, _) if cursor.iter().any(|&word| word != UNWRITTEN) => {
                 open.scans.insert(0, cursor);
                 open.scans.truncate(KEPT);
             }
-            (Call::QueryOpen { words }, _) if cursor != [0x77; 18] => {
+            (Call::QueryOpen { words }, _) if cursor.iter().any(|&word| word != UNWRITTEN) => {
                 open.queries.insert(0, (words, cursor));
                 open.queries.truncate(KEPT);
             }
@@ -250,7 +253,7 @@ impl Run {
             }
             let sound = lent.clone();
             damage(&mut self.random, &mut lent);
-            lent.reply = vec![0x55];
+            lent.reply = vec![UNWRITTEN];
             self.compare(&Call::Check, &mut lent)?;
             for _ in 0..self.random.from_to(1, 12) {
                 self.step(&mut lent, &mut open, Phase::Damaged)?;
@@ -273,8 +276,8 @@ impl Run {
                 statements: vec![0; 65_537 * 7 + 3],
                 index: vec![0; 65_538],
                 text: vec![0; 1_048_576 + 300],
-                reply: vec![0; 18],
-                cursor: vec![0; 18],
+                reply: vec![0; LONGEST_REPLY],
+                cursor: vec![0; QUERY_CURSOR_WORDS],
                 ..Lent::default()
             };
             let mut names: Vec<(Vec<u8>, u32)> = (1..=count).map(|n| (named(n, length), n)).collect();

@@ -1,13 +1,11 @@
 //! Random numbers from a seed (splitmix64), and the random values that calls are made of.
 
 use crate::names::MAX_NAME;
-use crate::plain::Lent;
+use crate::plain::{Lent, FIRST_VARIABLE, MAX_PATTERNS, VARIABLES};
 
 pub struct Random {
     state: u64,
 }
-
-const FIRST_VARIABLE: u32 = 1 << 31;
 
 impl Random {
     pub fn new(seed: u64) -> Random {
@@ -46,7 +44,7 @@ impl Random {
             0 | 1 => 1,
             2..=4 if !counters.is_empty() => self.of(counters),
             5 => FIRST_VARIABLE,
-            6 => FIRST_VARIABLE + 16,
+            6 => FIRST_VARIABLE + VARIABLES as u32,
             7 if self.one_in(4) => self.any() as u32,
             _ => 0,
         };
@@ -104,8 +102,8 @@ impl Random {
 
     /// The words of a question, mostly right.
     pub fn words(&mut self, lent: &Lent) -> Vec<u32> {
-        let patterns = if self.one_in(5) { self.from_to(0, 8) } else { self.from_to(1, 3) };
-        let variables = self.of(&[1, 2, 3, 4, 16]);
+        let patterns = if self.one_in(5) { self.from_to(0, MAX_PATTERNS) } else { self.from_to(1, 3) };
+        let variables = self.of(&[1, 2, 3, 4, VARIABLES]);
         let sparse = self.of(&[2, 3, 4]);
         // A variable stands for one resource throughout at times, so that statements that are there make a solution.
         let consistent = self.one_in(2);
@@ -120,7 +118,7 @@ impl Random {
         match self.below(40) {
             0 => words.push(FIRST_VARIABLE),
             1 => words.truncate(words.len().saturating_sub(1)),
-            2 => words.resize(self.from_to(23, 30), FIRST_VARIABLE),
+            2 => words.resize(self.from_to(3 * MAX_PATTERNS - 1, 3 * MAX_PATTERNS + 6), FIRST_VARIABLE),
             3 | 4 if !words.is_empty() => {
                 let at = self.below(words.len());
                 words[at] = self.wild(&lent.counters);
@@ -138,7 +136,7 @@ impl Random {
     pub fn query_cursor(&mut self, lent: &Lent, patterns: usize) -> Vec<u32> {
         let levels = self.below(patterns + 2);
         let mut cursor = vec![self.of(&[0, 1, 1, 1, 1, 1, 1, 1, 2, 3]), levels as u32];
-        for level in 0..8 {
+        for level in 0..MAX_PATTERNS {
             // Mostly the chains that a question of variables takes: all records first, then any place.
             let chain = if level == 0 && self.one_in(2) { 0 } else { self.below(4) as u32 };
             let chain = if self.one_in(40) { self.wild(&lent.counters) } else { chain };
