@@ -12,13 +12,14 @@ mod damage;
 #[cfg(test)]
 mod examples;
 mod library;
+mod limits;
 mod names;
 mod plain;
 mod random;
 mod tally;
 
 use damage::damage;
-use plain::{Call, Expected, Lent, COUNTER_WORDS, LONGEST_REPLY, QUERY_CURSOR_WORDS};
+use plain::{Call, Expected, Lent, COUNTER_WORDS};
 use random::Random;
 use std::process::ExitCode;
 use std::time::{Duration, Instant};
@@ -259,71 +260,6 @@ impl Run {
                 self.step(&mut lent, &mut open, Phase::Damaged)?;
             }
             lent = sound;
-        }
-        Ok(())
-    }
-
-    /// The limits of 65,535 records and 1,048,576 bytes of text, on tables that have more.
-    fn limits(&mut self) -> Result<(), Difference> {
-        let named = |k: u32, length: usize| {
-            let mixed = (k.wrapping_mul(40_503)) & 0xFFFF; // a permutation, so that the names are in no order
-            format!("<{mixed:04x}{}>", "a".repeat(length - 6)).into_bytes()
-        };
-        for (count, length) in [(65_535u32, 6), (65_534, 6), (4_096, 255), (4_095, 255)] {
-            let mut lent = Lent {
-                counters: vec![count, 0, count * (length as u32 + 1)],
-                resources: vec![0; 65_537 * 8 + 3],
-                statements: vec![0; 65_537 * 7 + 3],
-                index: vec![0; 65_538],
-                text: vec![0; 1_048_576 + 300],
-                reply: vec![0; LONGEST_REPLY],
-                cursor: vec![0; QUERY_CURSOR_WORDS],
-                ..Lent::default()
-            };
-            let mut names: Vec<(Vec<u8>, u32)> = (1..=count).map(|n| (named(n, length), n)).collect();
-            for (k, (name, _)) in names.iter().enumerate() {
-                lent.text[k * (length + 1)..][..length].copy_from_slice(name);
-                lent.resources[k * 8 + 6..][..2].copy_from_slice(&[(k * (length + 1)) as u32, 1]);
-            }
-            names.sort();
-            names.iter().enumerate().for_each(|(k, (_, n))| lent.index[k] = *n);
-
-            // The window of a name: its zero is the 256th byte from the offset, then the 257th.
-            let damaged = &mut lent.clone();
-            if length == 255 {
-                damaged.text[255] = b'a';
-                for offset in [256, 255] {
-                    damaged.resources[8 + 6] = offset;
-                    self.compare(&Call::Name { number: 2 }, damaged)?;
-                }
-            }
-
-            let new = [named(0, length), b"<a>".to_vec()];
-            self.compare(&Call::Check, &mut lent)?;
-            self.compare(&Call::Find { name: named(count, length) }, &mut lent)?;
-            self.compare(&Call::Enter { name: named(count, length) }, &mut lent)?;
-            self.compare(&Call::Name { number: count }, &mut lent)?;
-            self.compare(&Call::Name { number: count + 1 }, &mut lent)?;
-            for name in new {
-                self.compare(&Call::Enter { name }, &mut lent)?;
-            }
-            let triple = [1, 2, lent.counters[0]];
-            self.compare(&Call::Assert { triple }, &mut lent)?;
-            for statements in [65_534, 65_535, 65_536] {
-                lent.counters[1] = statements;
-                // Another triple each time: new at one below the limit, refused 3 at the limit, 1 above it.
-                self.compare(&Call::Assert { triple: [3, 2, statements - 65_533] }, &mut lent)?;
-                self.compare(&Call::ScanOpen { pattern: [0, 0, 3] }, &mut lent)?;
-                self.compare(&Call::QueryOpen { words: vec![1, 2, 3] }, &mut lent)?;
-            }
-            for (counter, over) in [(0, 65_536), (2, 1_048_576), (2, 1_048_577)] {
-                let kept = lent.counters.clone();
-                lent.counters[1] = 0;
-                lent.counters[counter] = over;
-                self.compare(&Call::Find { name: b"<a>".to_vec() }, &mut lent)?;
-                self.compare(&Call::Check, &mut lent)?;
-                lent.counters = kept;
-            }
         }
         Ok(())
     }
