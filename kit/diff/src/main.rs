@@ -6,7 +6,8 @@
 //! makes calls from a seed until there are so many or so much time has passed. After each call the result, the reply, the cursor, the
 //! counters and every byte of the tables must be what the paper says; where find and enter meet a dictionary that is not sound, what
 //! the paper leaves open is bounded. The first difference is told with the seed, the call's number and both answers, and ends the run
-//! with status 1. At the end stands how many calls of each kind had each result; a run of 300,000 calls or more must have met them all.
+//! with status 1. A run that made fewer calls than it was to make, and fewer than a million, has failed too. At the end stands how many
+//! calls of each kind had each result; a run of 300,000 calls or more must have met them all.
 
 mod damage;
 #[cfg(test)]
@@ -27,6 +28,12 @@ use tally::Tally;
 
 /// What a cursor and a reply hold before a call that is to write them.
 const UNWRITTEN: u32 = 0x77;
+
+/// One store in so many is of middle size.
+const MIDDLE: usize = 500;
+
+/// A run that is to make so many calls or more has failed with fewer, also where its time is over.
+const LEAST: u64 = 1_000_000;
 
 /// Calls after which every result must have been met.
 const ENOUGH: u64 = 300_000;
@@ -85,9 +92,20 @@ impl Run {
         Ok(())
     }
 
-    /// Tables of up to a few records, some words short or over, holding anything. The counters are 0, with words past them at times.
-    fn tables(&mut self) -> Lent {
+    /// Tables of up to a few records, or of some hundreds, some words short or over, holding anything. The counters are 0, with words past
+    /// them at times.
+    fn tables(&mut self, middle: bool) -> Lent {
         let random = &mut self.random;
+        if middle {
+            return Lent {
+                counters: vec![0; COUNTER_WORDS],
+                resources: vec![0; 8 * random.from_to(20, 60) + 5],
+                statements: vec![0; 7 * random.from_to(60, 300) + 5],
+                index: vec![0; 60],
+                text: vec![0; 800],
+                ..Lent::default()
+            };
+        }
         let records = |random: &mut Random| if random.one_in(5) { random.below(3) } else { random.from_to(3, 6) };
         let partial = |random: &mut Random, words: usize| if random.one_in(4) { random.below(words) } else { 0 };
         let named = records(random);
@@ -128,8 +146,8 @@ impl Run {
         };
         let alone = |call| (call, vec![], None);
         match choice {
-            0..=11 => alone(Call::Enter { name: random.short_name() }),
-            12..=16 => alone(Call::Find { name: random.short_name() }),
+            0..=11 => alone(Call::Enter { name: random.short_name(lent) }),
+            12..=16 => alone(Call::Find { name: random.short_name(lent) }),
             17..=30 => alone(Call::Assert { triple: random.triple(lent) }),
             31..=37 => alone(Call::Retract { triple: random.triple(lent) }),
             38..=40 => alone(Call::Name { number: random.resource(lent) }),
@@ -142,7 +160,7 @@ impl Run {
             }
             56..=63 => (Call::ScanOpen { pattern: random.pattern(lent) }, vec![], None),
             64..=75 => {
-                let call = Call::ScanNext { budget: random.budget(0) };
+                let call = Call::ScanNext { budget: random.budget(lent, 0) };
                 if open.scans.is_empty() || random.one_in(5) {
                     return (call, random.scan_cursor(lent), None);
                 }
@@ -159,11 +177,11 @@ impl Run {
                 if open.queries.is_empty() || random.one_in(4) {
                     let words = random.words(lent);
                     let cursor = random.query_cursor(lent, words.len() / 3);
-                    return (Call::QueryNext { budget: random.budget(words.len() / 3), words }, cursor, None);
+                    return (Call::QueryNext { budget: random.budget(lent, words.len() / 3), words }, cursor, None);
                 }
                 let which = random.below(open.queries.len());
                 let (mut words, mut cursor) = open.queries[which].clone();
-                let budget = random.budget(words.len() / 3);
+                let budget = random.budget(lent, words.len() / 3);
                 let mut kept = Some(which);
                 if random.one_in(6) {
                     random.damage(&mut cursor, &lent.counters, 1);
@@ -240,15 +258,17 @@ impl Run {
 
     /// A store from its first call on: names and statements, then calls of all kinds, between them some on damaged copies of it.
     fn episode(&mut self) -> Result<(), Difference> {
-        let mut lent = self.tables();
+        let middle = self.random.one_in(MIDDLE);
+        let mut lent = self.tables(middle);
         let mut open = Open::default();
-        if self.random.one_in(20) {
+        if !middle && self.random.one_in(20) {
             damage(&mut self.random, &mut lent);
         }
-        for _ in 0..self.random.of(&[0, 5, 20, 30, 40]) {
+        let (building, rounds) = if middle { ([300, 600, 1000, 2000, 2000], 30) } else { ([0, 5, 20, 30, 40], 6) };
+        for _ in 0..self.random.of(&building) {
             self.step(&mut lent, &mut open, Phase::Building)?;
         }
-        for _ in 0..self.random.from_to(1, 6) {
+        for _ in 0..self.random.from_to(1, rounds) {
             for _ in 0..self.random.from_to(1, 15) {
                 self.step(&mut lent, &mut open, Phase::Sound)?;
             }
@@ -284,6 +304,10 @@ fn main() -> ExitCode {
     print!("{}", run.tally);
     if let Err(difference) = end {
         println!("seed {seed}, {difference}");
+        return ExitCode::FAILURE;
+    }
+    if run.made < calls.min(LEAST) {
+        println!("seed {seed}: only {} calls in {seconds} seconds, at least {} are due", run.made, calls.min(LEAST));
         return ExitCode::FAILURE;
     }
     let missing = run.tally.missing();

@@ -88,14 +88,15 @@ impl Random {
         self.triple(lent).map(|number| if self.one_in(open) { 0 } else { number })
     }
 
-    pub fn budget(&mut self, patterns: usize) -> u32 {
+    /// A budget for a listing, or for a question of some patterns.
+    pub fn budget(&mut self, lent: &Lent, patterns: usize) -> u32 {
         match self.below(10) {
             0 => 0,
             1..=3 => 1,
             4..=6 => self.from_to(2, 4) as u32,
             7 | 8 => self.from_to(5, 60) as u32,
-            // A question of many patterns may take all records to the power of its patterns.
-            _ if patterns > 4 => 500,
+            // A question may take all records to the power of its patterns.
+            _ if (u64::from(lent.t()) + 1).saturating_pow(patterns as u32) > 100_000 => 500,
             _ => u32::MAX,
         }
     }
@@ -165,12 +166,16 @@ impl Random {
 
     // ---- names and lines
 
-    /// A short name for a store, from few, so that many are met again.
-    pub fn short_name(&mut self) -> Vec<u8> {
+    /// A short name for a store, from few, so that many are met again; from more where the store has room for them.
+    pub fn short_name(&mut self, lent: &Lent) -> Vec<u8> {
         const NAMES: [&str; 14] =
             ["<a>", "<b>", "<c>", "<d>", "<ab>", "<a/b>", "_:a", "_:b", "_:a.b", "\"\"", "\"a\"", "\"a\"@en", "\"b\"^^<a>", "<B>"];
         if self.one_in(60) {
             return self.name();
+        }
+        if lent.resources.len() / 8 > NAMES.len() && !self.one_in(4) {
+            let k = self.below(20);
+            return self.of(&["<n#>", "<n#>", "<p#>", "<p#>", "_:n#", "\"#\""]).replace('#', &k.to_string()).into_bytes();
         }
         let kinds = if self.one_in(3) { NAMES.len() } else { 6 };
         NAMES[self.below(kinds)].as_bytes().to_vec()
