@@ -284,8 +284,10 @@ impl Run {
         Ok(())
     }
 
-    fn run(&mut self, calls: u64, until: Instant) -> Result<(), Difference> {
+    /// The limits first, which take some seconds; the time counts from then on.
+    fn run(&mut self, calls: u64, time: Duration) -> Result<(), Difference> {
         self.limits()?;
+        let until = Instant::now() + time;
         while self.made < calls && Instant::now() < until {
             self.episode()?;
         }
@@ -300,7 +302,7 @@ fn main() -> ExitCode {
         return ExitCode::from(2);
     };
     let mut run = Run { random: Random::new(seed), made: 0, tally: Tally::default() };
-    let end = run.run(calls, Instant::now() + Duration::from_secs(seconds));
+    let end = run.run(calls, Duration::from_secs(seconds));
     print!("{}", run.tally);
     if let Err(difference) = end {
         println!("seed {seed}, {difference}");
