@@ -30,7 +30,7 @@ use tally::Tally;
 const UNWRITTEN: u32 = 0x77;
 
 /// One store in so many is of middle size.
-const MIDDLE: usize = 500;
+const MIDDLE: usize = 300;
 
 /// A run that is to make so many calls or more has failed with fewer, also where its time is over.
 const LEAST: u64 = 1_000_000;
