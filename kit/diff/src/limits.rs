@@ -64,6 +64,7 @@ fn store(lengths: &[usize], statements: u32) -> Lent {
 }
 
 impl Run {
+    /// Every function on stores about each limit.
     pub fn limits(&mut self) -> Result<(), Difference> {
         const RECORDS: u32 = MAX_RECORDS as u32;
         const LONG: usize = 255;
@@ -72,7 +73,7 @@ impl Run {
         let long = |count: usize| vec![LONG; count];
         let all_text = MAX_TEXT / (LONG + 1);
 
-        // Below a limit by one, at it and above it: records of both kinds, then each kind, then the text.
+        // One below the limit, at it and one above: resources, then statements; both at it; then the text.
         for over in 0..3 {
             self.every_function(store(&short(RECORDS - 1 + over), 300), SHORT)?;
             self.every_function(store(&few, RECORDS - 1 + over), SHORT)?;
