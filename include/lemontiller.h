@@ -1,8 +1,9 @@
 /* Lemontiller: a store of statements inside a test set, for C and C++.
  *
- * Every slice is a pointer and a length in elements. A pointer may not be null, also where the length is 0; slices of one call must
- * not overlap where one of them is written. All memory is the caller's: it is lent for the duration of one call, nothing of it is kept
- * or freed, and no memory is asked for. Two calls on the same tables must not run at once.
+ * Every slice is a pointer and a length in elements: the pointer is aligned, and that many elements stand there. It may not be null,
+ * also where the length is 0; slices of one call must not overlap where one of them is written. All memory is the caller's: it is lent
+ * for the duration of one call, nothing of it is kept or freed, and no memory is asked for. Two calls on the same tables must not run
+ * at once where one of them writes tables (lt_enter, lt_assert, lt_retract); reading calls may, each with its own cursor and reply.
  *
  * Every store function begins with the same five slices:
  *   counters    LT_COUNTER_WORDS words: resources R, statements T, text bytes B; all 0 for a fresh store, whose tables may hold anything
@@ -13,8 +14,9 @@
  * Resources and statements are numbered from 1; 0 is none. How much a store holds follows from the lengths lent: whole records (and for
  * resources index words too), up to the limits below.
  *
- * What a function gives back is an `lt_result`. Beside a refusal the reply's words are 0, and counters, cursor and tables stay as they
- * were. With LT_TOO_SHORT nothing at all is written. Words past those that a reply or a cursor names keep their values.
+ * What a function gives back is an `lt_result`. Beside a refusal the reply's words are 0 (except LT_BAD_LINE, see lt_read_line), and
+ * counters, cursor and tables stay as they were. LT_TOO_SHORT comes before every refusal, and nothing at all is written with it. Words
+ * past those that counters, a reply or a cursor name keep their values.
  * The refusals of a function are tested in the order in which its sentence names them.
  */
 #ifndef LEMONTILLER_H
@@ -34,7 +36,8 @@ enum lt_result {
     LT_FULL = 3,               /* no room for one more */
     LT_UNKNOWN_NUMBER = 4,     /* a number that names nothing */
     LT_KIND_NOT_PERMITTED = 5, /* a literal as subject, or a predicate that is no IRI */
-    LT_BAD_CURSOR = 6,         /* a cursor with a number out of range or a chain that is no bound position */
+    LT_BAD_CURSOR = 6,         /* a cursor with a number out of range, a chain that is no bound position, more levels than patterns,
+                                  or a record that lacks the bound resource or does not match its pattern */
     LT_NO_BUDGET = 7,          /* a budget of 0 */
     LT_BAD_QUERY = 8,          /* words that are no query */
     LT_DAMAGED = 9,            /* a word that a step needs is out of range */
@@ -59,7 +62,9 @@ enum { LT_COUNTER_WORDS = 3, LT_RESOURCE_WORDS = 8, LT_STATEMENT_WORDS = 7 };
 enum { LT_CURSOR_WORDS = 5, LT_SCAN_REPLY_WORDS = 3 };
 
 /* Words of a query's cursor: an `lt_place`, levels entered, then chain and record for each level, zeros past those entered; and of a
- * query's reply: an `lt_step`, visits, the resource of each variable, 0 for one that the query does not use. */
+ * query's reply: an `lt_step`, visits, the resource of each variable, 0 for one that the query does not use, all 0 unless found.
+ * A cursor whose first word is no `lt_place` is LT_BAD_CURSOR. LT_WITHIN with 0 levels is the start. At the start and at the end the
+ * words after the first are ignored, and within those past the levels entered. */
 enum { LT_QUERY_CURSOR_WORDS = 2 + 2 * LT_MAX_PATTERNS, LT_QUERY_REPLY_WORDS = 2 + LT_VARIABLES };
 
 /* Words, of 64 bits, of a line's reply. */
@@ -71,6 +76,9 @@ enum lt_chain { LT_BY_NONE = 0, LT_BY_SUBJECT = 1, LT_BY_PREDICATE = 2, LT_BY_OB
 enum lt_place { LT_START = 0, LT_WITHIN = 1, LT_END = 2 };
 enum lt_line { LT_LINE_END = 0, LT_LINE_NOTHING = 1, LT_LINE_TRIPLE = 2 };
 enum lt_asserted { LT_NEW = 1, LT_ALREADY = 2, LT_REVIVED = 3 };
+
+/* What a next call did. Found: the reply holds one. Ended: no record remains, nor for further calls. Spent: `budget` records were
+ * visited without one, and a record remains. After found and spent, call again with the same cursor for what follows. */
 enum lt_step { LT_FOUND = 1, LT_ENDED = 2, LT_SPENT = 3 };
 
 /* A query is three words a pattern: subject, predicate, object, each a resource's number or LT_VARIABLE(v), v below LT_VARIABLES. */
@@ -106,17 +114,20 @@ static inline const char *lt_strerror(uint32_t result)
 uint32_t lt_name_kind(const uint8_t *name, size_t name_len, uint32_t *reply, size_t reply_len);
 
 /* Reads the line at a position of a text. reply LT_LINE_WORDS: an `lt_line`, position after, start and length in the text of subject,
- * predicate, object. With LT_BAD_LINE: 0, position after, the offset in the line of the first byte that fits no line, zeros. */
+ * predicate, object, which are 0 if there is no triple. At the text's end, or past it, the position stays. With LT_BAD_LINE: 0, position
+ * after, the offset in the line of the first byte that fits no line (the line's length if it stops short), zeros. */
 uint32_t lt_read_line(const uint8_t *text, size_t text_len, size_t at, uint64_t *reply, size_t reply_len);
 
 /* Whether the store is sound: every word of it is as entering, asserting and retracting leave it. reply 1: 1 or 0. It refuses nothing. */
 uint32_t lt_check(LT_STORE, uint32_t *reply, size_t reply_len);
 
-/* Finds a name. LT_CAPACITY, LT_MALFORMED, LT_DAMAGED. reply 1: its number, or 0. */
+/* Finds a name. LT_CAPACITY, LT_MALFORMED, LT_DAMAGED. reply 1: its number, or 0. Where names or index are not sound, LT_DAMAGED is not
+ * certain: the answer may also be 0 or any number up to R. */
 uint32_t lt_find(LT_STORE, const uint8_t *name, size_t name_len, uint32_t *reply, size_t reply_len);
 
 /* Enters a name: finds it, or gives it the next number. LT_CAPACITY, LT_MALFORMED, LT_DAMAGED, LT_FULL. reply 1: its number. Writes
- * counters, resources, index, text. */
+ * counters, resources, index, text. Where names or index are not sound, LT_DAMAGED is not certain: the answer may also be any number up
+ * to R, or R + 1; then the index, record R + 1 and text from B on are all of the tables that is written. */
 uint32_t lt_enter(uint32_t *counters, size_t counters_len, uint32_t *resources, size_t resources_len, const uint32_t *statements,
                   size_t statements_len, uint32_t *index, size_t index_len, uint8_t *text, size_t text_len, const uint8_t *name,
                   size_t name_len, uint32_t *reply, size_t reply_len);
@@ -128,8 +139,9 @@ uint32_t lt_name(LT_STORE, uint32_t number, uint32_t *reply, size_t reply_len);
 /* Reads a statement. LT_CAPACITY, LT_UNKNOWN_NUMBER, LT_DAMAGED. reply 4: subject, predicate, object, 1 if it is retracted. */
 uint32_t lt_statement(LT_STORE, uint32_t number, uint32_t *reply, size_t reply_len);
 
-/* Asserts a triple. LT_CAPACITY, LT_UNKNOWN_NUMBER, LT_DAMAGED for a kind, LT_KIND_NOT_PERMITTED, LT_DAMAGED, LT_FULL. reply 2: an
- * `lt_asserted`, the statement's number. Writes counters, resources, statements. */
+/* Asserts a triple; a retracted one is revived and keeps its old number. LT_CAPACITY, LT_UNKNOWN_NUMBER, LT_DAMAGED for a kind,
+ * LT_KIND_NOT_PERMITTED, LT_DAMAGED, LT_FULL. reply 2: an `lt_asserted`, the statement's number. Writes counters, resources,
+ * statements. */
 uint32_t lt_assert(uint32_t *counters, size_t counters_len, uint32_t *resources, size_t resources_len, uint32_t *statements,
                    size_t statements_len, const uint32_t *index, size_t index_len, const uint8_t *text, size_t text_len,
                    uint32_t subject, uint32_t predicate, uint32_t object, uint32_t *reply, size_t reply_len);
@@ -144,8 +156,8 @@ uint32_t lt_retract(const uint32_t *counters, size_t counters_len, const uint32_
  * LT_CURSOR_WORDS. */
 uint32_t lt_scan_open(LT_STORE, uint32_t subject, uint32_t predicate, uint32_t object, uint32_t *cursor, size_t cursor_len);
 
-/* Next of a scan, visiting at most `budget` records, the newest statement first. LT_CAPACITY, LT_BAD_CURSOR, LT_NO_BUDGET, LT_DAMAGED.
- * reply LT_SCAN_REPLY_WORDS: an `lt_step`, the statement or 0, visits made. Writes the cursor. */
+/* Next of a scan, visiting at most `budget` records, the newest statement (that of the highest number) first. LT_CAPACITY,
+ * LT_BAD_CURSOR, LT_NO_BUDGET, LT_DAMAGED. reply LT_SCAN_REPLY_WORDS: an `lt_step`, the statement or 0, visits made. Writes the cursor. */
 uint32_t lt_scan_next(LT_STORE, uint32_t *cursor, size_t cursor_len, uint32_t budget, uint32_t *reply, size_t reply_len);
 
 /* Opens a query of up to LT_MAX_PATTERNS patterns. LT_CAPACITY, LT_BAD_QUERY. Writes the cursor, LT_QUERY_CURSOR_WORDS: the start. It

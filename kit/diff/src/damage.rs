@@ -1,6 +1,6 @@
 //! Damages to a store: words that are wrong by themselves, and statements and names that are wrong although every link to them is right.
 
-use crate::plain::Lent;
+use crate::plain::{Lent, COUNTER_WORDS};
 use crate::random::Random;
 
 /// Damages a store in one to three places, mostly in the words of its records.
@@ -25,7 +25,7 @@ fn used(words: &mut [u32], counter: u32, record: usize) -> &mut [u32] {
 }
 
 fn word(random: &mut Random, lent: &mut Lent) {
-    let counters = lent.counters[..3].to_vec();
+    let counters = lent.counters[..COUNTER_WORDS].to_vec();
     let words = match random.below(2) {
         0 => used(&mut lent.resources, counters[0], 8),
         _ => used(&mut lent.statements, counters[1], 7),
@@ -34,7 +34,7 @@ fn word(random: &mut Random, lent: &mut Lent) {
 }
 
 fn index(random: &mut Random, lent: &mut Lent) {
-    let counters = lent.counters[..3].to_vec();
+    let counters = lent.counters[..COUNTER_WORDS].to_vec();
     random.damage(used(&mut lent.index, counters[0], 1), &counters, 1);
 }
 
@@ -46,10 +46,10 @@ fn text(random: &mut Random, lent: &mut Lent) {
 }
 
 fn counter(random: &mut Random, lent: &mut Lent) {
-    let counters = lent.counters[..3].to_vec();
-    let which = random.below(3);
+    let counters = lent.counters[..COUNTER_WORDS].to_vec();
+    let which = random.below(COUNTER_WORDS);
     match random.below(3) {
-        0 => random.damage(&mut lent.counters[..3], &counters, 1),
+        0 => random.damage(&mut lent.counters[..COUNTER_WORDS], &counters, 1),
         _ => lent.counters[which] = lent.counters[which].wrapping_add(random.of(&[1, 1, u32::MAX])),
     }
 }

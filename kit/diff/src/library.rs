@@ -1,4 +1,5 @@
-//! A call through the C interface. Everything lent stands between guard words, so that a write outside of it shows.
+//! A call through the C interface. Everything lent stands between guard words, so that a write outside of it shows; names, lines and
+//! questions are lent as copies, and must be as they were afterwards.
 
 use crate::plain::{Call, Lent};
 use lemontiller::ffi;
@@ -48,6 +49,9 @@ pub fn make(call: &Call, lent: &Lent) -> Result<(u32, Lent), String> {
     let mut reply = Guarded::new(&lent.reply, WORD);
     let mut line_reply = Guarded::new(&lent.line_reply, 0xA5A5_5A5A_A5A5_5A5A);
 
+    let mut bytes = Guarded::new(call.bytes(), 0xA5);
+    let mut question = Guarded::new(call.words(), WORD);
+
     let (c, c_len) = counters.lend();
     let (r, r_len) = resources.lend();
     let (s, s_len) = statements.lend();
@@ -56,6 +60,8 @@ pub fn make(call: &Call, lent: &Lent) -> Result<(u32, Lent), String> {
     let (at, at_len) = cursor.lend();
     let (out, out_len) = reply.lend();
     let (line, line_len) = line_reply.lend();
+    let (name, name_len) = bytes.lend();
+    let (words, words_len) = question.lend();
     macro_rules! store {
         ($function:ident $(, $arg:expr)*) => {
             ffi::$function(c, c_len, r, r_len, s, s_len, i, i_len, t, t_len $(, $arg)*)
@@ -64,23 +70,24 @@ pub fn make(call: &Call, lent: &Lent) -> Result<(u32, Lent), String> {
     // SAFETY: every pointer and length is that of a live slice, and those that are written are apart from each other.
     let result = unsafe {
         match call {
-            Call::NameKind { name } => ffi::lt_name_kind(name.as_ptr(), name.len(), out, out_len),
-            Call::ReadLine { line_text, at } => ffi::lt_read_line(line_text.as_ptr(), line_text.len(), *at, line, line_len),
+            Call::NameKind { .. } => ffi::lt_name_kind(name, name_len, out, out_len),
+            Call::ReadLine { at, .. } => ffi::lt_read_line(name, name_len, *at, line, line_len),
             Call::Check => store!(lt_check, out, out_len),
-            Call::Find { name } => store!(lt_find, name.as_ptr(), name.len(), out, out_len),
-            Call::Enter { name } => store!(lt_enter, name.as_ptr(), name.len(), out, out_len),
+            Call::Find { .. } => store!(lt_find, name, name_len, out, out_len),
+            Call::Enter { .. } => store!(lt_enter, name, name_len, out, out_len),
             Call::Name { number } => store!(lt_name, *number, out, out_len),
             Call::Statement { number } => store!(lt_statement, *number, out, out_len),
             Call::Assert { triple: [a, b, o] } => store!(lt_assert, *a, *b, *o, out, out_len),
             Call::Retract { triple: [a, b, o] } => store!(lt_retract, *a, *b, *o, out, out_len),
             Call::ScanOpen { pattern: [a, b, o] } => store!(lt_scan_open, *a, *b, *o, at, at_len),
             Call::ScanNext { budget } => store!(lt_scan_next, at, at_len, *budget, out, out_len),
-            Call::QueryOpen { words } => store!(lt_query_open, words.as_ptr(), words.len(), at, at_len),
-            Call::QueryNext { words, budget } => {
-                store!(lt_query_next, words.as_ptr(), words.len(), at, at_len, *budget, out, out_len)
-            }
+            Call::QueryOpen { .. } => store!(lt_query_open, words, words_len, at, at_len),
+            Call::QueryNext { budget, .. } => store!(lt_query_next, words, words_len, at, at_len, *budget, out, out_len),
         }
     };
+    if bytes.unguarded("the name or line")? != call.bytes() || question.unguarded("the question")? != call.words() {
+        return Err("the library wrote into a name, a line or a question".to_string());
+    }
     let after = Lent {
         counters: counters.unguarded("counters")?,
         resources: resources.unguarded("resources")?,

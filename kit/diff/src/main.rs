@@ -1,28 +1,39 @@
 //! The differential test: random calls through the C interface against the plain implementation in `plain.rs` and `names.rs`, which is
-//! written from paper 01 alone.
+//! written from paper 01 and `docs/DECISIONS.md` alone.
 //!
 //!     diff SEED CALLS SECONDS
 //!
 //! makes calls from a seed until there are so many or so much time has passed. After each call the result, the reply, the cursor, the
 //! counters and every byte of the tables must be what the paper says; where find and enter meet a dictionary that is not sound, what
 //! the paper leaves open is bounded. The first difference is told with the seed, the call's number and both answers, and ends the run
-//! with status 1. At the end stands how many calls of each kind had each result; a run of 300,000 calls or more must have met them all.
+//! with status 1. A run that made fewer calls than it was to make, and fewer than a million, has failed too. At the end stands how many
+//! calls of each kind had each result; a run of 300,000 calls or more must have met them all.
 
 mod damage;
 #[cfg(test)]
 mod examples;
 mod library;
+mod limits;
 mod names;
 mod plain;
 mod random;
 mod tally;
 
 use damage::damage;
-use plain::{Call, Expected, Lent};
+use plain::{Call, Expected, Lent, COUNTER_WORDS};
 use random::Random;
 use std::process::ExitCode;
 use std::time::{Duration, Instant};
 use tally::Tally;
+
+/// What a cursor and a reply hold before a call that is to write them.
+const UNWRITTEN: u32 = 0x77;
+
+/// One store in so many is of middle size.
+const MIDDLE: usize = 300;
+
+/// A run that is to make so many calls or more has failed with fewer, also where its time is over.
+const LEAST: u64 = 1_000_000;
 
 /// Calls after which every result must have been met.
 const ENOUGH: u64 = 300_000;
@@ -81,14 +92,25 @@ impl Run {
         Ok(())
     }
 
-    /// Tables of up to a few records, some words short or over, holding anything. The counters are 0, with words past them at times.
-    fn tables(&mut self) -> Lent {
+    /// Tables of up to a few records, or of some hundreds, some words short or over, holding anything. The counters are 0, with words past
+    /// them at times.
+    fn tables(&mut self, middle: bool) -> Lent {
         let random = &mut self.random;
+        if middle {
+            return Lent {
+                counters: vec![0; COUNTER_WORDS],
+                resources: vec![0; 8 * random.from_to(20, 60) + 5],
+                statements: vec![0; 7 * random.from_to(60, 300) + 5],
+                index: vec![0; 60],
+                text: vec![0; 800],
+                ..Lent::default()
+            };
+        }
         let records = |random: &mut Random| if random.one_in(5) { random.below(3) } else { random.from_to(3, 6) };
         let partial = |random: &mut Random, words: usize| if random.one_in(4) { random.below(words) } else { 0 };
         let named = records(random);
         let mut lent = Lent {
-            counters: vec![0; 3],
+            counters: vec![0; COUNTER_WORDS],
             resources: vec![0; 8 * named + partial(random, 8)],
             statements: vec![0; 7 * records(random) + partial(random, 7)],
             index: vec![0; (named + random.of(&[0, 0, 0, 0, 1, 2])).saturating_sub(random.below(5) / 4)],
@@ -124,8 +146,8 @@ impl Run {
         };
         let alone = |call| (call, vec![], None);
         match choice {
-            0..=11 => alone(Call::Enter { name: random.short_name() }),
-            12..=16 => alone(Call::Find { name: random.short_name() }),
+            0..=11 => alone(Call::Enter { name: random.short_name(lent) }),
+            12..=16 => alone(Call::Find { name: random.short_name(lent) }),
             17..=30 => alone(Call::Assert { triple: random.triple(lent) }),
             31..=37 => alone(Call::Retract { triple: random.triple(lent) }),
             38..=40 => alone(Call::Name { number: random.resource(lent) }),
@@ -136,9 +158,9 @@ impl Run {
                 let (line_text, at) = random.line_text();
                 alone(Call::ReadLine { line_text, at })
             }
-            56..=63 => (Call::ScanOpen { pattern: random.pattern(lent) }, vec![0x77; 5], None),
+            56..=63 => (Call::ScanOpen { pattern: random.pattern(lent) }, vec![], None),
             64..=75 => {
-                let call = Call::ScanNext { budget: random.budget(0) };
+                let call = Call::ScanNext { budget: random.budget(lent, 0) };
                 if open.scans.is_empty() || random.one_in(5) {
                     return (call, random.scan_cursor(lent), None);
                 }
@@ -150,16 +172,16 @@ impl Run {
                 }
                 (call, cursor, Some(which))
             }
-            76..=80 => (Call::QueryOpen { words: random.words(lent) }, vec![0x77; 18], None),
+            76..=80 => (Call::QueryOpen { words: random.words(lent) }, vec![], None),
             _ => {
                 if open.queries.is_empty() || random.one_in(4) {
                     let words = random.words(lent);
                     let cursor = random.query_cursor(lent, words.len() / 3);
-                    return (Call::QueryNext { budget: random.budget(words.len() / 3), words }, cursor, None);
+                    return (Call::QueryNext { budget: random.budget(lent, words.len() / 3), words }, cursor, None);
                 }
                 let which = random.below(open.queries.len());
                 let (mut words, mut cursor) = open.queries[which].clone();
-                let budget = random.budget(words.len() / 3);
+                let budget = random.budget(lent, words.len() / 3);
                 let mut kept = Some(which);
                 if random.one_in(6) {
                     random.damage(&mut cursor, &lent.counters, 1);
@@ -187,17 +209,17 @@ impl Run {
     fn step(&mut self, lent: &mut Lent, open: &mut Open, phase: Phase) -> Result<(), Difference> {
         let (call, mut cursor, which) = self.choose(lent, open, phase);
         if call.cursor_words() > 0 {
-            cursor.resize(self.length(call.cursor_words()), 0x77);
+            cursor.resize(self.length(call.cursor_words()), UNWRITTEN);
         }
         if phase == Phase::Damaged && matches!(call, Call::QueryNext { .. }) && self.random.one_in(2) {
             damage::entered_records(&mut self.random, lent, &cursor);
         }
         lent.cursor = cursor;
-        lent.reply = vec![0x55; if call.reply_words() > 0 { self.length(call.reply_words()) } else { 0 }];
-        lent.line_reply = vec![0x55; if call.line_words() > 0 { self.length(call.line_words()) } else { 0 }];
+        lent.reply = vec![UNWRITTEN; if call.reply_words() > 0 { self.length(call.reply_words()) } else { 0 }];
+        lent.line_reply = vec![UNWRITTEN.into(); if call.line_words() > 0 { self.length(call.line_words()) } else { 0 }];
         if call.takes_tables() && self.random.one_in(100) {
             let whole = lent.counters.clone();
-            lent.counters.truncate(self.random.below(3));
+            lent.counters.truncate(self.random.below(COUNTER_WORDS));
             self.compare(&call, lent)?;
             lent.counters = whole;
             return Ok(());
@@ -216,11 +238,11 @@ impl Run {
             (Call::ScanNext { .. }, Some(which)) => open.scans[which] = cursor,
             (Call::QueryNext { .. }, Some(which)) => open.queries[which].1 = cursor,
             // A refused opening leaves the cursor as it was, which is no cursor.
-            (Call::ScanOpen { .. }, _) if cursor != [0x77; 5] => {
+            (Call::ScanOpen { .. }, _) if cursor.iter().any(|&word| word != UNWRITTEN) => {
                 open.scans.insert(0, cursor);
                 open.scans.truncate(KEPT);
             }
-            (Call::QueryOpen { words }, _) if cursor != [0x77; 18] => {
+            (Call::QueryOpen { words }, _) if cursor.iter().any(|&word| word != UNWRITTEN) => {
                 open.queries.insert(0, (words, cursor));
                 open.queries.truncate(KEPT);
             }
@@ -236,21 +258,23 @@ impl Run {
 
     /// A store from its first call on: names and statements, then calls of all kinds, between them some on damaged copies of it.
     fn episode(&mut self) -> Result<(), Difference> {
-        let mut lent = self.tables();
+        let middle = self.random.one_in(MIDDLE);
+        let mut lent = self.tables(middle);
         let mut open = Open::default();
-        if self.random.one_in(20) {
+        if !middle && self.random.one_in(20) {
             damage(&mut self.random, &mut lent);
         }
-        for _ in 0..self.random.of(&[0, 5, 20, 30, 40]) {
+        let (building, rounds) = if middle { ([300, 600, 1000, 2000, 2000], 30) } else { ([0, 5, 20, 30, 40], 6) };
+        for _ in 0..self.random.of(&building) {
             self.step(&mut lent, &mut open, Phase::Building)?;
         }
-        for _ in 0..self.random.from_to(1, 6) {
+        for _ in 0..self.random.from_to(1, rounds) {
             for _ in 0..self.random.from_to(1, 15) {
                 self.step(&mut lent, &mut open, Phase::Sound)?;
             }
             let sound = lent.clone();
             damage(&mut self.random, &mut lent);
-            lent.reply = vec![0x55];
+            lent.reply = vec![UNWRITTEN];
             self.compare(&Call::Check, &mut lent)?;
             for _ in 0..self.random.from_to(1, 12) {
                 self.step(&mut lent, &mut open, Phase::Damaged)?;
@@ -260,72 +284,10 @@ impl Run {
         Ok(())
     }
 
-    /// The limits of 65,535 records and 1,048,576 bytes of text, on tables that have more.
-    fn limits(&mut self) -> Result<(), Difference> {
-        let named = |k: u32, length: usize| {
-            let mixed = (k.wrapping_mul(40_503)) & 0xFFFF; // a permutation, so that the names are in no order
-            format!("<{mixed:04x}{}>", "a".repeat(length - 6)).into_bytes()
-        };
-        for (count, length) in [(65_535u32, 6), (65_534, 6), (4_096, 255), (4_095, 255)] {
-            let mut lent = Lent {
-                counters: vec![count, 0, count * (length as u32 + 1)],
-                resources: vec![0; 65_537 * 8 + 3],
-                statements: vec![0; 65_537 * 7 + 3],
-                index: vec![0; 65_538],
-                text: vec![0; 1_048_576 + 300],
-                reply: vec![0; 18],
-                cursor: vec![0; 18],
-                ..Lent::default()
-            };
-            let mut names: Vec<(Vec<u8>, u32)> = (1..=count).map(|n| (named(n, length), n)).collect();
-            for (k, (name, _)) in names.iter().enumerate() {
-                lent.text[k * (length + 1)..][..length].copy_from_slice(name);
-                lent.resources[k * 8 + 6..][..2].copy_from_slice(&[(k * (length + 1)) as u32, 1]);
-            }
-            names.sort();
-            names.iter().enumerate().for_each(|(k, (_, n))| lent.index[k] = *n);
-
-            // The window of a name: its zero is the 256th byte from the offset, then the 257th.
-            let damaged = &mut lent.clone();
-            if length == 255 {
-                damaged.text[255] = b'a';
-                for offset in [256, 255] {
-                    damaged.resources[8 + 6] = offset;
-                    self.compare(&Call::Name { number: 2 }, damaged)?;
-                }
-            }
-
-            let new = [named(0, length), b"<a>".to_vec()];
-            self.compare(&Call::Check, &mut lent)?;
-            self.compare(&Call::Find { name: named(count, length) }, &mut lent)?;
-            self.compare(&Call::Enter { name: named(count, length) }, &mut lent)?;
-            self.compare(&Call::Name { number: count }, &mut lent)?;
-            self.compare(&Call::Name { number: count + 1 }, &mut lent)?;
-            for name in new {
-                self.compare(&Call::Enter { name }, &mut lent)?;
-            }
-            let triple = [1, 2, lent.counters[0]];
-            self.compare(&Call::Assert { triple }, &mut lent)?;
-            for statements in [65_534, 65_535, 65_536] {
-                lent.counters[1] = statements;
-                self.compare(&Call::Assert { triple: [3, 2, 1] }, &mut lent)?;
-                self.compare(&Call::ScanOpen { pattern: [0, 0, 3] }, &mut lent)?;
-                self.compare(&Call::QueryOpen { words: vec![1, 2, 3] }, &mut lent)?;
-            }
-            for (counter, over) in [(0, 65_536), (2, 1_048_576), (2, 1_048_577)] {
-                let kept = lent.counters.clone();
-                lent.counters[1] = 0;
-                lent.counters[counter] = over;
-                self.compare(&Call::Find { name: b"<a>".to_vec() }, &mut lent)?;
-                self.compare(&Call::Check, &mut lent)?;
-                lent.counters = kept;
-            }
-        }
-        Ok(())
-    }
-
-    fn run(&mut self, calls: u64, until: Instant) -> Result<(), Difference> {
+    /// The limits first, which take some seconds; the time counts from then on.
+    fn run(&mut self, calls: u64, time: Duration) -> Result<(), Difference> {
         self.limits()?;
+        let until = Instant::now() + time;
         while self.made < calls && Instant::now() < until {
             self.episode()?;
         }
@@ -340,10 +302,14 @@ fn main() -> ExitCode {
         return ExitCode::from(2);
     };
     let mut run = Run { random: Random::new(seed), made: 0, tally: Tally::default() };
-    let end = run.run(calls, Instant::now() + Duration::from_secs(seconds));
+    let end = run.run(calls, Duration::from_secs(seconds));
     print!("{}", run.tally);
     if let Err(difference) = end {
         println!("seed {seed}, {difference}");
+        return ExitCode::FAILURE;
+    }
+    if run.made < calls.min(LEAST) {
+        println!("seed {seed}: only {} calls in {seconds} seconds, at least {} are due", run.made, calls.min(LEAST));
         return ExitCode::FAILURE;
     }
     let missing = run.tally.missing();

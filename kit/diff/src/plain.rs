@@ -4,11 +4,23 @@
 
 use crate::names::{kind_of, read_line, Line};
 
-const MAX_RECORDS: usize = 65_535;
-const MAX_TEXT: usize = 1_048_576;
-const PATTERNS: usize = 8;
-const VARIABLES: usize = 16;
-const FIRST_VARIABLE: u32 = 1 << 31;
+pub const MAX_RECORDS: usize = 65_535;
+pub const MAX_TEXT: usize = 1_048_576;
+pub const MAX_PATTERNS: usize = 8;
+pub const VARIABLES: usize = 16;
+pub const FIRST_VARIABLE: u32 = 1 << 31;
+
+pub const COUNTER_WORDS: usize = 3;
+pub const SCAN_CURSOR_WORDS: usize = 5;
+/// Start, within or end; the levels; a chain and a record for each.
+pub const QUERY_CURSOR_WORDS: usize = 2 + 2 * MAX_PATTERNS;
+/// Status, visits, a resource for each variable.
+const QUERY_REPLY_WORDS: usize = 2 + VARIABLES;
+const LINE_WORDS: usize = 8;
+/// The most words that a call needs for its reply, a line's apart.
+pub const LONGEST_REPLY: usize = QUERY_REPLY_WORDS;
+
+type QueryCursor = [u32; QUERY_CURSOR_WORDS];
 
 /// Statuses of a next call and of assert.
 const FOUND: u32 = 1;
@@ -158,22 +170,27 @@ impl Lent {
                 && self.kind(self.member(n, 1)) == 1
                 && matches!(self.kind(self.member(n, 2)), 1..=3)
                 && self.flag(n) <= 1
-                && (1..n).all(|m| self.triple(m) != self.triple(n))
-        })
+        }) && self.no_triple_twice()
     }
 
-    /// The records before `end` that hold a resource in a place, falling.
-    fn holding(&self, resource: u32, place: usize, end: u32) -> Vec<u32> {
-        (1..end).rev().filter(|&n| self.member(n, place) == resource).collect()
+    fn no_triple_twice(&self) -> bool {
+        let mut triples: Vec<[u32; 3]> = (1..=self.t()).map(|n| self.triple(n)).collect();
+        triples.sort();
+        triples.windows(2).all(|two| two[0] != two[1])
     }
 
+    /// Whether every next, first and count is what asserting the statements in their order gives. Their resources must be known.
     fn chains_sound(&self) -> bool {
-        let head = |records: &[u32]| records.first().copied().unwrap_or(0);
         (0..3).all(|place| {
-            (1..=self.r()).all(|resource| {
-                let records = self.holding(resource, place, self.t() + 1);
-                self.first(resource, place) == head(&records) && self.count(resource, place) as usize == records.len()
-            }) && (1..=self.t()).all(|n| self.next(n, place) == head(&self.holding(self.member(n, place), place, n)))
+            // The first statement and the count of each resource, under the statements so far.
+            let mut chains = vec![(0, 0); self.r() as usize + 1];
+            let nexts = (1..=self.t()).all(|n| {
+                let (first, count) = &mut chains[self.member(n, place) as usize];
+                let right = self.next(n, place) == *first;
+                (*first, *count) = (n, *count + 1);
+                right
+            });
+            nexts && (1..=self.r()).all(|number| chains[number as usize] == (self.first(number, place), self.count(number, place)))
         })
     }
 
@@ -357,7 +374,7 @@ impl Lent {
         Ok(n)
     }
 
-    fn scan_open(&self, pattern: [u32; 3]) -> Result<[u32; 5], u32> {
+    fn scan_open(&self, pattern: [u32; 3]) -> Result<[u32; SCAN_CURSOR_WORDS], u32> {
         self.capacity()?;
         if pattern.iter().any(|&number| number > self.r()) {
             return Err(4);
@@ -397,7 +414,7 @@ impl Lent {
 
     fn words_refused(&self, words: &[u32]) -> bool {
         let word_fits = |&w: &u32| self.is_resource(w) || (w >= FIRST_VARIABLE && w - FIRST_VARIABLE < VARIABLES as u32);
-        words.len() % 3 != 0 || words.len() > 3 * PATTERNS || !words.iter().all(word_fits)
+        words.len() % 3 != 0 || words.len() > 3 * MAX_PATTERNS || !words.iter().all(word_fits)
     }
 
     fn query_open(&self, words: &[u32]) -> Result<(), u32> {
@@ -429,8 +446,7 @@ impl Lent {
     }
 
     /// Status, visits and solution; and the cursor.
-    fn query_next(&self, words: &[u32], budget: u32) -> Result<(u32, u32, [u32; VARIABLES], [u32; 18]), u32> {
-        const END: [u32; 18] = [2, 0, 0, 0, 0, 0, 0, 0, 0, 0, 0, 0, 0, 0, 0, 0, 0, 0];
+    fn query_next(&self, words: &[u32], budget: u32) -> Result<(u32, u32, [u32; VARIABLES], QueryCursor), u32> {
         self.capacity()?;
         if self.words_refused(words) {
             return Err(8);
@@ -462,12 +478,14 @@ impl Lent {
         if budget == 0 {
             return Err(7);
         }
-        let ended = |visits| Ok((ENDED, visits, [0; VARIABLES], END));
+        let mut end = [0; QUERY_CURSOR_WORDS];
+        end[0] = 2;
+        let ended = |visits| Ok((ENDED, visits, [0; VARIABLES], end));
         if self.cursor[0] == 2 {
             return ended(0);
         }
         if patterns.is_empty() {
-            return Ok((FOUND, 0, [0; VARIABLES], END));
+            return Ok((FOUND, 0, [0; VARIABLES], end));
         }
         if levels.is_empty() {
             levels.push(self.pick(bound_places(patterns[0], &solutions[0]))?);
@@ -530,8 +548,8 @@ fn bound_places(pattern: &[u32], solution: &[u32; VARIABLES]) -> [u32; 3] {
     })
 }
 
-fn within(levels: &[(u32, u32)]) -> [u32; 18] {
-    let mut cursor = [0; 18];
+fn within(levels: &[(u32, u32)]) -> QueryCursor {
+    let mut cursor = [0; QUERY_CURSOR_WORDS];
     cursor[0] = 1;
     cursor[1] = levels.len() as u32;
     for (k, &(chain, record)) in levels.iter().enumerate() {
@@ -557,10 +575,27 @@ impl Call {
         !matches!(self, Call::NameKind { .. } | Call::ReadLine { .. })
     }
 
+    /// The name or the text of lines that the call is given; empty if it takes none.
+    pub fn bytes(&self) -> &[u8] {
+        match self {
+            Call::NameKind { name } | Call::Find { name } | Call::Enter { name } => name,
+            Call::ReadLine { line_text, .. } => line_text,
+            _ => &[],
+        }
+    }
+
+    /// The words of the question that the call is given; empty if it takes none.
+    pub fn words(&self) -> &[u32] {
+        match self {
+            Call::QueryOpen { words } | Call::QueryNext { words, .. } => words,
+            _ => &[],
+        }
+    }
+
     pub fn cursor_words(&self) -> usize {
         match self {
-            Call::ScanOpen { .. } | Call::ScanNext { .. } => 5,
-            Call::QueryOpen { .. } | Call::QueryNext { .. } => 18,
+            Call::ScanOpen { .. } | Call::ScanNext { .. } => SCAN_CURSOR_WORDS,
+            Call::QueryOpen { .. } | Call::QueryNext { .. } => QUERY_CURSOR_WORDS,
             _ => 0,
         }
     }
@@ -572,21 +607,21 @@ impl Call {
             Call::Name { .. } | Call::Assert { .. } => 2,
             Call::ScanNext { .. } => 3,
             Call::Statement { .. } => 4,
-            Call::QueryNext { .. } => 18,
+            Call::QueryNext { .. } => QUERY_REPLY_WORDS,
             Call::ReadLine { .. } | Call::ScanOpen { .. } | Call::QueryOpen { .. } => 0,
         }
     }
 
     pub fn line_words(&self) -> usize {
         match self {
-            Call::ReadLine { .. } => 8,
+            Call::ReadLine { .. } => LINE_WORDS,
             _ => 0,
         }
     }
 
     /// Makes the call on what is lent, as the paper says.
     pub fn make(&self, lent: &mut Lent) -> Expected {
-        if self.takes_tables() && lent.counters.len() < 3
+        if self.takes_tables() && lent.counters.len() < COUNTER_WORDS
             || lent.cursor.len() < self.cursor_words()
             || lent.reply.len() < self.reply_words()
             || lent.line_reply.len() < self.line_words()
@@ -609,7 +644,7 @@ impl Call {
             Call::Assert { triple } => lent.assert(*triple).map(|(status, n)| vec![status, n]),
             Call::Retract { triple } => lent.retract(*triple).map(|n| vec![n]),
             Call::ScanOpen { pattern } => lent.scan_open(*pattern).map(|cursor| {
-                lent.cursor[..5].copy_from_slice(&cursor);
+                lent.cursor[..SCAN_CURSOR_WORDS].copy_from_slice(&cursor);
                 vec![]
             }),
             Call::ScanNext { budget } => lent.scan_next(*budget).map(|(words, next)| {
@@ -617,11 +652,11 @@ impl Call {
                 words.to_vec()
             }),
             Call::QueryOpen { words } => lent.query_open(words).map(|()| {
-                lent.cursor[..18].fill(0);
+                lent.cursor[..QUERY_CURSOR_WORDS].fill(0);
                 vec![]
             }),
             Call::QueryNext { words, budget } => lent.query_next(words, *budget).map(|(status, visits, solution, cursor)| {
-                lent.cursor[..18].copy_from_slice(&cursor);
+                lent.cursor[..QUERY_CURSOR_WORDS].copy_from_slice(&cursor);
                 [&[status, visits], &solution[..]].concat()
             }),
         };
@@ -662,7 +697,7 @@ impl Call {
 
 fn put_line(lent: &mut Lent, text: &[u8], at: usize) -> u32 {
     let (line, after) = read_line(text, at);
-    let mut words = [0; 8];
+    let mut words = [0; LINE_WORDS];
     words[1] = after as u64;
     let result = match line {
         Line::End => 0,
@@ -683,7 +718,7 @@ fn put_line(lent: &mut Lent, text: &[u8], at: usize) -> u32 {
             10
         }
     };
-    lent.line_reply[..8].copy_from_slice(&words);
+    lent.line_reply[..LINE_WORDS].copy_from_slice(&words);
     result
 }
 

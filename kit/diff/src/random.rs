@@ -1,13 +1,11 @@
 //! Random numbers from a seed (splitmix64), and the random values that calls are made of.
 
 use crate::names::MAX_NAME;
-use crate::plain::Lent;
+use crate::plain::{Lent, FIRST_VARIABLE, MAX_PATTERNS, VARIABLES};
 
 pub struct Random {
     state: u64,
 }
-
-const FIRST_VARIABLE: u32 = 1 << 31;
 
 impl Random {
     pub fn new(seed: u64) -> Random {
@@ -46,7 +44,7 @@ impl Random {
             0 | 1 => 1,
             2..=4 if !counters.is_empty() => self.of(counters),
             5 => FIRST_VARIABLE,
-            6 => FIRST_VARIABLE + 16,
+            6 => FIRST_VARIABLE + VARIABLES as u32,
             7 if self.one_in(4) => self.any() as u32,
             _ => 0,
         };
@@ -90,22 +88,23 @@ impl Random {
         self.triple(lent).map(|number| if self.one_in(open) { 0 } else { number })
     }
 
-    pub fn budget(&mut self, patterns: usize) -> u32 {
+    /// A budget for a listing, or for a question of some patterns.
+    pub fn budget(&mut self, lent: &Lent, patterns: usize) -> u32 {
         match self.below(10) {
             0 => 0,
             1..=3 => 1,
             4..=6 => self.from_to(2, 4) as u32,
             7 | 8 => self.from_to(5, 60) as u32,
-            // A question of many patterns may take all records to the power of its patterns.
-            _ if patterns > 4 => 500,
+            // A question may take all records to the power of its patterns.
+            _ if (u64::from(lent.t()) + 1).saturating_pow(patterns as u32) > 100_000 => 500,
             _ => u32::MAX,
         }
     }
 
     /// The words of a question, mostly right.
     pub fn words(&mut self, lent: &Lent) -> Vec<u32> {
-        let patterns = if self.one_in(5) { self.from_to(0, 8) } else { self.from_to(1, 3) };
-        let variables = self.of(&[1, 2, 3, 4, 16]);
+        let patterns = if self.one_in(5) { self.from_to(0, MAX_PATTERNS) } else { self.from_to(1, 3) };
+        let variables = self.of(&[1, 2, 3, 4, VARIABLES]);
         let sparse = self.of(&[2, 3, 4]);
         // A variable stands for one resource throughout at times, so that statements that are there make a solution.
         let consistent = self.one_in(2);
@@ -120,7 +119,7 @@ impl Random {
         match self.below(40) {
             0 => words.push(FIRST_VARIABLE),
             1 => words.truncate(words.len().saturating_sub(1)),
-            2 => words.resize(self.from_to(23, 30), FIRST_VARIABLE),
+            2 => words.resize(self.from_to(3 * MAX_PATTERNS - 1, 3 * MAX_PATTERNS + 6), FIRST_VARIABLE),
             3 | 4 if !words.is_empty() => {
                 let at = self.below(words.len());
                 words[at] = self.wild(&lent.counters);
@@ -138,7 +137,7 @@ impl Random {
     pub fn query_cursor(&mut self, lent: &Lent, patterns: usize) -> Vec<u32> {
         let levels = self.below(patterns + 2);
         let mut cursor = vec![self.of(&[0, 1, 1, 1, 1, 1, 1, 1, 2, 3]), levels as u32];
-        for level in 0..8 {
+        for level in 0..MAX_PATTERNS {
             // Mostly the chains that a question of variables takes: all records first, then any place.
             let chain = if level == 0 && self.one_in(2) { 0 } else { self.below(4) as u32 };
             let chain = if self.one_in(40) { self.wild(&lent.counters) } else { chain };
@@ -167,12 +166,16 @@ impl Random {
 
     // ---- names and lines
 
-    /// A short name for a store, from few, so that many are met again.
-    pub fn short_name(&mut self) -> Vec<u8> {
+    /// A short name for a store, from few, so that many are met again; from more where the store has room for them.
+    pub fn short_name(&mut self, lent: &Lent) -> Vec<u8> {
         const NAMES: [&str; 14] =
             ["<a>", "<b>", "<c>", "<d>", "<ab>", "<a/b>", "_:a", "_:b", "_:a.b", "\"\"", "\"a\"", "\"a\"@en", "\"b\"^^<a>", "<B>"];
         if self.one_in(60) {
             return self.name();
+        }
+        if lent.resources.len() / 8 > NAMES.len() && !self.one_in(4) {
+            let k = self.below(20);
+            return self.of(&["<n#>", "<n#>", "<p#>", "<p#>", "_:n#", "\"#\""]).replace('#', &k.to_string()).into_bytes();
         }
         let kinds = if self.one_in(3) { NAMES.len() } else { 6 };
         NAMES[self.below(kinds)].as_bytes().to_vec()

@@ -188,6 +188,8 @@ pub struct Question {
 impl Question {
     pub fn new(patterns: &[[Term; 3]]) -> Question {
         let word = |term: &Term| match *term {
+            // A number among the variables' words names nothing; 0 is refused, as any number that names nothing is.
+            Term::Resource(ResourceId(FIRST_VARIABLE..)) => 0,
             Term::Resource(ResourceId(number)) => number,
             Term::Variable(v) => FIRST_VARIABLE + u32::from(v),
         };
@@ -217,8 +219,14 @@ fn resource(number: u32) -> Option<ResourceId> {
     (number != 0).then_some(ResourceId(number))
 }
 
+/// The word for a place of a scan's pattern, 0 for any. A resource's number of 0 names nothing and is not to mean any: it goes over as a
+/// number that no store has.
 fn number_or_any(place: Option<ResourceId>) -> u32 {
-    place.map_or(0, |id| id.0)
+    match place {
+        None => 0,
+        Some(ResourceId(0)) => u32::MAX,
+        Some(ResourceId(number)) => number,
+    }
 }
 
 /// The kind of a name, or [`Error::Malformed`].
@@ -406,7 +414,7 @@ impl<'a> Store<'a> {
         Ok((reply[0] != 0).then_some(StatementId(reply[0])))
     }
 
-    /// Opens a scan of the live statements with the resources given, `None` for any.
+    /// Opens a scan of the live statements with the resources given, `None` for any; a number of 0 is [`Error::UnknownNumber`].
     pub fn scan_open(&self, pattern: [Option<ResourceId>; 3]) -> Result<ScanCursor, Error> {
         let [subject, predicate, object] = pattern.map(number_or_any);
         let mut cursor = [0; SCAN_CURSOR_WORDS];

@@ -102,6 +102,36 @@ fn refusals_are_values() {
 }
 
 #[test]
+fn a_number_of_0_is_not_any() {
+    with_bay(|store, [relay, trips, _, _]| {
+        for place in 0..3 {
+            let mut pattern = [None; 3];
+            pattern[place] = Some(ResourceId(0));
+            assert_eq!(store.scan_open(pattern), Err(Error::UnknownNumber));
+            assert_eq!(store.scan(pattern).err(), Some(Error::UnknownNumber));
+        }
+        assert_eq!(store.scan_open([Some(relay), Some(trips), Some(ResourceId(0))]), Err(Error::UnknownNumber));
+        assert_eq!(store.scan([Some(relay), Some(trips), None]).unwrap().count(), 2);
+    });
+    let mut over = [1, 0, 0];
+    let store = Store::new(&mut over, &mut [], &mut [], &mut [], &mut []).unwrap();
+    assert_eq!(store.scan_open([Some(ResourceId(0)), None, None]), Err(Error::Capacity));
+}
+
+#[test]
+fn a_resource_is_not_a_variable() {
+    with_bay(|store, [relay, trips, b4, _]| {
+        let asked =
+            |number: u32| Question::new(&[[Term::Resource(relay), Term::Resource(trips), Term::Resource(ResourceId(number))]]);
+        for number in [0, 5, FIRST_VARIABLE - 1, FIRST_VARIABLE, FIRST_VARIABLE + 15, FIRST_VARIABLE + 16, u32::MAX] {
+            assert_eq!(store.query_open(&asked(number)), Err(Error::BadQuery));
+            assert_eq!(store.query_next(&asked(number), &mut [0; QUERY_CURSOR_WORDS], 1), Err(Error::BadQuery));
+        }
+        assert_eq!(store.ask(&asked(b4.0)).unwrap().count(), 1);
+    })
+}
+
+#[test]
 fn damage_is_a_value_and_ends_an_iterator() {
     let (mut counters, mut resources, mut statements) = ([1, 1, 4], [1, 1, 1, 1, 1, 1, 0, 1], [1, 1, 1, 0, 0, 0, 2]);
     let (mut index, mut text) = ([1], *b"<a>\0");

@@ -1,0 +1,170 @@
+//! The limits of 65,535 records and 1,048,576 bytes of text: every function at them and one beyond, on tables that have room for more
+//! and hold what would be sound there, so that a limit that is not kept shows in the answer.
+
+use crate::plain::{
+    Call, Lent, COUNTER_WORDS, FIRST_VARIABLE, LONGEST_REPLY, MAX_RECORDS, MAX_TEXT, QUERY_CURSOR_WORDS, SCAN_CURSOR_WORDS,
+};
+use crate::{Difference, Run};
+
+/// The predicate of every statement.
+const PREDICATE: u32 = 2;
+
+/// Subjects, and objects of each.
+const SIDE: u32 = 256;
+
+/// The least name of these tests.
+const SHORT: usize = 6;
+
+/// Name k of a length: an IRI, another one for each k up to 65,536 and in no order.
+fn named(k: u32, length: usize) -> Vec<u8> {
+    let mixed = k.wrapping_mul(40_503) & 0xFFFF; // a permutation
+    format!("<{mixed:04x}{}>", "a".repeat(length - SHORT)).into_bytes()
+}
+
+/// The triple of statement n in a store of so many resources, another one for each n up to 65,536; its subject is among the last.
+fn triple(n: u32, resources: u32) -> [u32; 3] {
+    [resources - (n - 1) / SIDE, PREDICATE, 1 + (n - 1) % SIDE]
+}
+
+/// A store with a name of each length and so many statements, every fifth of them retracted, which is sound apart from the limits.
+/// Of each table there is room for two more than it holds, and some words over.
+fn store(lengths: &[usize], statements: u32) -> Lent {
+    let resources = lengths.len() as u32;
+    let mut lent = Lent {
+        counters: vec![0; COUNTER_WORDS],
+        resources: vec![0; (lengths.len() + 2) * 8 + 3],
+        statements: vec![0; (statements as usize + 2) * 7 + 3],
+        index: vec![0; lengths.len() + 3],
+        reply: vec![0; LONGEST_REPLY],
+        cursor: vec![0; QUERY_CURSOR_WORDS],
+        ..Lent::default()
+    };
+    let mut names: Vec<(Vec<u8>, u32)> = (1..).zip(lengths).map(|(n, &length)| (named(n, length), n)).collect();
+    for (k, (name, _)) in names.iter().enumerate() {
+        lent.resources[8 * k + 6..][..2].copy_from_slice(&[lent.text.len() as u32, 1]);
+        lent.text.extend_from_slice(name);
+        lent.text.push(0);
+    }
+    lent.counters.copy_from_slice(&[resources, statements, lent.text.len() as u32]);
+    lent.text.resize(lent.text.len() + 300, 0);
+    names.sort();
+    names.iter().enumerate().for_each(|(k, (_, n))| lent.index[k] = *n);
+    for n in 1..=statements {
+        let at = 7 * (n as usize - 1);
+        for (place, number) in triple(n, resources).into_iter().enumerate() {
+            let record = 8 * (number as usize - 1);
+            lent.statements[at + place] = number;
+            lent.statements[at + 3 + place] = lent.resources[record + place];
+            lent.resources[record + place] = n;
+            lent.resources[record + 3 + place] += 1;
+        }
+        lent.statements[at + 6] = (n % 5 == 1) as u32;
+    }
+    lent
+}
+
+impl Run {
+    /// Every function on stores about each limit.
+    pub fn limits(&mut self) -> Result<(), Difference> {
+        const RECORDS: u32 = MAX_RECORDS as u32;
+        const LONG: usize = 255;
+        let few = vec![SHORT; 300];
+        let short = |count: u32| vec![SHORT; count as usize];
+        let long = |count: usize| vec![LONG; count];
+        let all_text = MAX_TEXT / (LONG + 1);
+
+        // One below the limit, at it and one above: resources, then statements; both at it; then the text.
+        for over in 0..3 {
+            self.every_function(store(&short(RECORDS - 1 + over), 300), SHORT)?;
+            self.every_function(store(&few, RECORDS - 1 + over), SHORT)?;
+        }
+        self.every_function(store(&short(RECORDS), RECORDS), SHORT)?;
+        self.every_function(store(&long(all_text - 1), 300), LONG)?;
+        self.every_function(store(&long(all_text), 300), LONG)?;
+        // One byte more: a long name is replaced by two that take 257 bytes with their zeros.
+        let mut beyond = long(all_text - 1);
+        beyond.extend([127, 128]);
+        self.every_function(store(&beyond, 300), LONG)?;
+        self.window()
+    }
+
+    /// The window of a name: its zero is the 256th byte from the offset, then the 257th.
+    fn window(&mut self) -> Result<(), Difference> {
+        let mut lent = store(&[255; 300], 300);
+        lent.text[255] = b'a';
+        for offset in [256, 255] {
+            lent.resources[8 + 6] = offset;
+            self.compare(&Call::Name { number: 2 }, &mut lent)?;
+        }
+        Ok(())
+    }
+
+    /// Every function that takes tables, on numbers from the first to beyond the last; then those that fill the store up.
+    fn every_function(&mut self, mut lent: Lent, length: usize) -> Result<(), Difference> {
+        let lent = &mut lent;
+        let [r, t] = [lent.r(), lent.t()];
+        self.compare(&Call::Check, lent)?;
+        for name in [named(1, length), named(r, SHORT), named(0, length)] {
+            self.compare(&Call::Find { name }, lent)?;
+        }
+        self.compare(&Call::Enter { name: named(1, length) }, lent)?;
+        for number in [1, 13, r - 1, r, r + 1] {
+            self.compare(&Call::Name { number }, lent)?;
+        }
+        for number in [1, 13, t / 2, t - 1, t, t + 1] {
+            self.compare(&Call::Statement { number }, lent)?;
+        }
+
+        // A listing of everything, of the last statement's resources, and of the predicate's long chain; the cursor is made up first, so
+        // that there is one also where opening is refused.
+        let [subject, predicate, object] = triple(t, r);
+        let first = |place: usize, number: u32| lent.resources[8 * (number as usize - 1) + place];
+        let [by_subject, by_predicate, by_object] = [first(0, subject), first(1, predicate), first(2, object)];
+        let cursors = [
+            [0, 0, 0, 0, t],
+            [subject, 0, 0, 1, by_subject],
+            [0, predicate, 0, 2, by_predicate],
+            [0, 0, object, 3, by_object],
+            [subject, predicate, 7, 1, by_subject],
+        ];
+        for cursor in cursors {
+            lent.cursor[..SCAN_CURSOR_WORDS].copy_from_slice(&cursor);
+            self.compare(&Call::ScanOpen { pattern: [cursor[0], cursor[1], cursor[2]] }, lent)?;
+            for budget in [1, 2, u32::MAX] {
+                self.compare(&Call::ScanNext { budget }, lent)?;
+            }
+        }
+        // An object that no statement has: the whole of the long chain is visited.
+        lent.cursor[..SCAN_CURSOR_WORDS].copy_from_slice(&[0, predicate, r - 1, 2, by_predicate]);
+        self.compare(&Call::ScanNext { budget: u32::MAX }, lent)?;
+
+        // Two objects of one subject; the cursor is the start, then goes on within.
+        let variable = |v: u32| FIRST_VARIABLE + v;
+        let words = vec![variable(0), predicate, object, variable(0), variable(1), variable(2)];
+        lent.cursor.fill(0);
+        self.compare(&Call::QueryOpen { words: words.clone() }, lent)?;
+        for budget in [1, 1, 3, 700, u32::MAX] {
+            self.compare(&Call::QueryNext { words: words.clone(), budget }, lent)?;
+        }
+        lent.cursor[..6].copy_from_slice(&[1, 2, 3, t, 1, by_subject]);
+        self.compare(&Call::QueryNext { words, budget: 2 }, lent)?;
+
+        // Retracted, retracted again, revived, live already: the first, a middle and the last statement.
+        for n in [1, t / 2 + 1, t] {
+            let triple = triple(n, r);
+            let (retract, assert) = (Call::Retract { triple }, Call::Assert { triple });
+            for call in [&retract, &retract, &assert, &assert, &retract] {
+                self.compare(call, lent)?;
+            }
+        }
+
+        // As many as fit: new ones up to the limit, then refused.
+        for object in [r - 1, r, r - 2] {
+            self.compare(&Call::Assert { triple: [1, PREDICATE, object] }, lent)?;
+        }
+        for name in [named(0, length), b"<a>".to_vec(), b"<b>".to_vec()] {
+            self.compare(&Call::Enter { name }, lent)?;
+        }
+        self.compare(&Call::Check, lent)
+    }
+}
