@@ -59,10 +59,6 @@ module _ (b : Bindings) (w n : ℕ) where
 -- ---- the code's reply
 
 module _ (m : Matched) (b : Solution) where
-  pub missed : (o : Option Bindings) → m ≡ matchedAs b o → m .hit ≡ false → o ≡ none
-  missed none e h = refl
-  missed (some b′) e h = absurd (false≢true (sym h ∙ ap (λ (z : Matched). z .hit) e))
-
   pub met : (o : Option Bindings) → m ≡ matchedAs b o → m .hit ≡ true → o ≡ some (m .bound .values)
   met none e h = absurd (false≢true (sym (ap (λ (z : Matched). z .hit) e) ∙ h))
   met (some b′) e h = ap (λ (z : Matched). some (z .bound .values)) (sym e)
