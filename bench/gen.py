@@ -18,6 +18,7 @@ import random
 import sys
 
 SEED = 20090926
+MAX_RESOURCES, MAX_TEXT, MAX_NAME = 65535, 1048576, 255
 INT = '^^<http://www.w3.org/2001/XMLSchema#integer>'
 
 
@@ -157,8 +158,8 @@ def main():
         triples, join, ks = MAKERS[name](T, rng)
         names = {x for t in triples for x in t}
         text = sum(len(x) + 1 for x in names)
-        assert len(triples) == len(set(triples)) == T and len(names) <= 65535
-        assert text <= 1048576 and max(map(len, names)) <= 255
+        assert len(triples) == len(set(triples)) == T and len(names) <= MAX_RESOURCES
+        assert text <= MAX_TEXT and max(map(len, names)) <= MAX_NAME
         with open('%s/%s.nt' % (folder, workload), 'w') as f:
             f.writelines('%s %s %s .\n' % t for t in triples)
         with open('%s/%s.q' % (folder, workload), 'w') as f:

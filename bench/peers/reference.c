@@ -10,8 +10,6 @@
 #endif
 const char *peer_name = NAME;
 
-enum { RESOURCES = 65535, STATEMENTS = 65535, TEXT = 1048576 };
-
 #define U(n) ((uint32_t)(uintptr_t)(n))
 
 typedef struct {
@@ -23,11 +21,11 @@ typedef struct {
 void *peer_open(void)
 {
     db *d = calloc(1, sizeof *d);
-    d->s = (store){.cap_R = RESOURCES, .cap_T = STATEMENTS, .cap_B = TEXT};
-    d->s.res = malloc((RESOURCES + 1) * sizeof *d->s.res);
-    d->s.st = malloc((STATEMENTS + 1) * sizeof *d->s.st);
-    d->s.index = malloc(RESOURCES * sizeof *d->s.index);
-    d->s.text = malloc(TEXT);
+    d->s = (store){.cap_R = MAX_RESOURCES, .cap_T = MAX_STATEMENTS, .cap_B = MAX_TEXT};
+    d->s.res = malloc((MAX_RESOURCES + 1) * sizeof *d->s.res);
+    d->s.st = malloc((MAX_STATEMENTS + 1) * sizeof *d->s.st);
+    d->s.index = malloc(MAX_RESOURCES * sizeof *d->s.index);
+    d->s.text = malloc(MAX_TEXT);
     return d;
 }
 

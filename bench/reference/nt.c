@@ -2,8 +2,6 @@
 #include "nt.h"
 #include <string.h>
 
-enum { LIMIT = 255 };
-
 static int letter(char b) { return (b >= 'a' && b <= 'z') || (b >= 'A' && b <= 'Z'); }
 
 static int digit(char b) { return b >= '0' && b <= '9'; }
@@ -126,7 +124,7 @@ static nt_line line(const char *s, size_t n)
         else return refuse(i);
         size_t run = e.end - from;
         if (!label) {
-            if (run > LIMIT) return refuse(from + LIMIT);
+            if (run > MAX_NAME) return refuse(from + MAX_NAME);
             if (e.bad) return refuse(e.end);
             i = e.end;
         } else {
@@ -134,11 +132,11 @@ static nt_line line(const char *s, size_t n)
             size_t stop = e.end;
             while (s[stop - 1] == '.') stop--;
             size_t dots = e.end - stop;
-            if (place == 2 && dots == 1 && stop - from <= LIMIT) {
+            if (place == 2 && dots == 1 && stop - from <= MAX_NAME) {
                 i = stop;                               /* the line's own dot follows */
-            } else if (run > LIMIT) {
-                int ends = place == 2 && s[from + LIMIT] == '.' && s[from + LIMIT - 1] != '.';
-                return refuse(from + LIMIT + (size_t)ends);
+            } else if (run > MAX_NAME) {
+                int ends = place == 2 && s[from + MAX_NAME] == '.' && s[from + MAX_NAME - 1] != '.';
+                return refuse(from + MAX_NAME + (size_t)ends);
             } else if (dots) {
                 return refuse(e.end);                   /* only a label byte could follow */
             } else {
@@ -166,7 +164,7 @@ nt_line nt_read(const char *text, size_t len, size_t *pos)
 
 int nt_kind(const char *s, size_t n)
 {
-    if (n == 0 || n > LIMIT) return 0;
+    if (n == 0 || n > MAX_NAME) return 0;
     scan e = s[0] == '<' ? scan_iri(s, 0, n) : s[0] == '_' ? scan_label(s, 0, n)
            : s[0] == '"' ? scan_literal(s, 0, n) : broken(0);
     if (e.bad || e.end != n || (s[0] == '_' && s[n - 1] == '.')) return 0;

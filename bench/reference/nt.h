@@ -4,6 +4,7 @@
 #include <stddef.h>
 #include <stdint.h>
 
+enum { MAX_NAME = 255 }; /* bytes of a term */
 enum { NT_TRIPLE, NT_NOTHING, NT_END, NT_REFUSED };
 
 typedef struct { const char *at; size_t len; } nt_term;
@@ -17,6 +18,6 @@ typedef struct {
 /* Read the line at *pos and move *pos past it. */
 nt_line nt_read(const char *text, size_t len, size_t *pos);
 
-/* The kind of a well-formed name of at most 255 bytes (1 IRI, 2 blank, 3 literal), else 0. */
+/* The kind of a well-formed name of at most MAX_NAME bytes (1 IRI, 2 blank, 3 literal), else 0. */
 int nt_kind(const char *name, size_t len);
 #endif

@@ -17,7 +17,7 @@
 /* Refusal 1. */
 static inline int over(const store *s)
 {
-    return s->R > 65535 || s->R > s->cap_R || s->T > 65535 || s->T > s->cap_T || s->B > 1048576 || s->B > s->cap_B;
+    return s->R > MAX_RESOURCES || s->R > s->cap_R || s->T > MAX_STATEMENTS || s->T > s->cap_T || s->B > MAX_TEXT || s->B > s->cap_B;
 }
 
 /* <0, 0, >0 as the stored name is below, equal to or above the given one; neither has a zero byte inside. */

@@ -5,8 +5,11 @@
 #include <stddef.h>
 #include <stdint.h>
 
-typedef struct { uint32_t first[3], count[3], offset, kind; } resource; /* 8 words */
-typedef struct { uint32_t part[3], next[3], retracted; } statement;     /* 7 words */
+enum { MAX_RESOURCES = 65535, MAX_STATEMENTS = 65535, MAX_TEXT = 1048576 };
+
+/* The records' widths are these structs' sizes, so a word more is a member more. */
+typedef struct { uint32_t first[3], count[3], offset, kind; } resource;
+typedef struct { uint32_t part[3], next[3], retracted; } statement;
 
 typedef struct {
     resource *res; /* lent; records from 1, record 0 is not used */

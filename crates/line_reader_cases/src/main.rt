@@ -3,6 +3,8 @@
 //
 // A line that is refused stands before others, so the output shows that a reader moves past it. The expected output is
 // worked out by hand from the scope paper.
+use store::Refusal;
+use store::refusal_number;
 
 // Room for the text.
 const ROOM: usize = 256;
@@ -29,7 +31,9 @@ fn print_answer(line: ntriples::Line) {
             print_span(o);
         }
         ntriples::Line::Refused(k) => {
-            io::write_all(1, b" refused 10 ");
+            io::write_all(1, b" refused ");
+            io::print_decimal(1, refusal_number(Refusal::BadLine) as u64);
+            io::write_all(1, b" ");
             io::print_decimal(1, k as u64);
         }
     }

@@ -22,12 +22,12 @@ pub mod output;
 pub const LINE_LIMIT: usize = 1024;
 
 // A line and the CR before its LF.
-pub const LINE_BUFFER: usize = 1025;
+pub const LINE_BUFFER: usize = LINE_LIMIT + 1;
 
 // The loading program's tables: 512 resources, 1,024 statements, 16 KiB of text.
-pub const RESOURCE_TABLE: usize = 4096;
+pub const RESOURCE_TABLE: usize = 512 * table::RESOURCE_WORDS;
 
-pub const STATEMENT_TABLE: usize = 7168;
+pub const STATEMENT_TABLE: usize = 1024 * table::STATEMENT_WORDS;
 
 pub const INDEX_TABLE: usize = 512;
 

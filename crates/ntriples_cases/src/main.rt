@@ -4,6 +4,8 @@
 //
 // The input and the expected output are those of `reference.py`, which follows the scope paper and knows nothing of this
 // library; the answers that READINGS.md gives as examples are written out there by hand.
+use store::Refusal;
+use store::refusal_number;
 ghost use Prim.Native.Nat.{_≤_, _<_};
 ghost use mathlib.Core.Path.{_≡_};
 ghost use lib.ListN.{length};
@@ -58,7 +60,9 @@ fn print_answer(line: ntriples::Line) {
             print_span(o);
         }
         ntriples::Line::Refused(k) => {
-            io::write_all(1, b"refused 10 ");
+            io::write_all(1, b"refused ");
+            io::print_decimal(1, refusal_number(Refusal::BadLine) as u64);
+            io::write_all(1, b" ");
             print_number(k);
         }
     }

@@ -6,6 +6,8 @@ ghost use lib.ListN.{length};
 ghost use Rattle.io.specs.Counts.{Counts};
 use libc::STDIN_FILENO;
 use libc::STDOUT_FILENO;
+use store::Refusal;
+use store::refusal_number;
 use term::NameKind;
 use term::class::byte_at;
 
@@ -55,12 +57,17 @@ fn run_case(number: u64, line: &[u8]) {
     }
 }
 
+fn refused() -> bool {
+    io::write_all(STDOUT_FILENO, b" refused ");
+    io::print_decimal(STDOUT_FILENO, refusal_number(Refusal::Malformed) as u64)
+}
+
 fn answer(name: &[u8]) {
     match term::kind_of_name(name) {
         NameKind::Iri => io::write_all(STDOUT_FILENO, b" kind 1"),
         NameKind::Blank => io::write_all(STDOUT_FILENO, b" kind 2"),
         NameKind::Literal => io::write_all(STDOUT_FILENO, b" kind 3"),
-        NameKind::Malformed => io::write_all(STDOUT_FILENO, b" refused 2"),
+        NameKind::Malformed => refused(),
     }
     ;
     let halt = term::scan_term(name, 0, name.len());

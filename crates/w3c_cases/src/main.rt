@@ -9,6 +9,8 @@
 // follows the scope paper and knows nothing of this library. `docs/W3C.md` compares it with the W3C's verdicts.
 use libc::STDERR_FILENO;
 use libc::STDOUT_FILENO;
+use store::Refusal;
+use store::refusal_number;
 
 // Room for a file. The longest of the tests has 4,080 bytes.
 const ROOM: usize = 8192;
@@ -41,7 +43,9 @@ fn print_answer(text: &[u8], line: ntriples::Line) {
             print_part(text, o);
         }
         ntriples::Line::Refused(k) => {
-            io::write_all(STDOUT_FILENO, b" refused 10 ");
+            io::write_all(STDOUT_FILENO, b" refused ");
+            io::print_decimal(STDOUT_FILENO, refusal_number(Refusal::BadLine) as u64);
+            io::write_all(STDOUT_FILENO, b" ");
             io::print_decimal(STDOUT_FILENO, k as u64);
         }
     }

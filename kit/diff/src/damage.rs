@@ -1,6 +1,8 @@
 //! Damages to a store: words that are wrong by themselves, and statements and names that are wrong although every link to them is right.
 
-use crate::plain::{Lent, COUNTER_WORDS};
+use crate::plain::{
+    resource_at, statement_at, Lent, COUNT, COUNTER_WORDS, FIRST, FLAG, NEXT, OFFSET, PLACES, RESOURCE_WORDS, STATEMENT_WORDS,
+};
 use crate::random::Random;
 
 /// Damages a store in one to three places, mostly in the words of its records.
@@ -27,8 +29,8 @@ fn used(words: &mut [u32], counter: u32, record: usize) -> &mut [u32] {
 fn word(random: &mut Random, lent: &mut Lent) {
     let counters = lent.counters[..COUNTER_WORDS].to_vec();
     let words = match random.below(2) {
-        0 => used(&mut lent.resources, counters[0], 8),
-        _ => used(&mut lent.statements, counters[1], 7),
+        0 => used(&mut lent.resources, counters[0], RESOURCE_WORDS),
+        _ => used(&mut lent.statements, counters[1], STATEMENT_WORDS),
     };
     random.damage(words, &counters, 1);
 }
@@ -58,8 +60,8 @@ fn counter(random: &mut Random, lent: &mut Lent) {
 fn length(random: &mut Random, lent: &mut Lent) {
     let [r, t, b] = [0, 1, 2].map(|k| lent.counters[k] as usize);
     match random.below(4) {
-        0 => lent.resources.truncate((8 * r).saturating_sub(1)),
-        1 => lent.statements.truncate((7 * t).saturating_sub(1)),
+        0 => lent.resources.truncate((RESOURCE_WORDS * r).saturating_sub(1)),
+        1 => lent.statements.truncate((STATEMENT_WORDS * t).saturating_sub(1)),
         2 => lent.index.truncate(r.saturating_sub(1)),
         _ => lent.text.truncate(b.saturating_sub(1)),
     }
@@ -67,24 +69,27 @@ fn length(random: &mut Random, lent: &mut Lent) {
 
 /// Another triple in a statement's place, perhaps one that is there already or of kinds that are not permitted, with every chain right.
 fn statement(random: &mut Random, lent: &mut Lent) {
-    let (r, t) = (lent.counters[0] as usize, lent.counters[1] as usize);
+    let (r, t) = (lent.r(), lent.t());
     if t == 0 || !lent.within_capacity() {
         return;
     }
     let triple = random.triple(lent);
-    let at = 7 * random.below(t);
-    lent.statements[at..at + 3].copy_from_slice(&triple);
-    for k in 0..r {
-        lent.resources[8 * k..8 * k + 6].fill(0);
+    let at = STATEMENT_WORDS * random.below(t as usize);
+    lent.statements[at..at + PLACES].copy_from_slice(&triple);
+    for y in 1..=r {
+        let record = resource_at(y);
+        lent.resources[record + FIRST..][..PLACES].fill(0);
+        lent.resources[record + COUNT..][..PLACES].fill(0);
     }
     for n in 1..=t {
-        for place in 0..3 {
-            let member = lent.statements[7 * (n - 1) + place] as usize;
+        let at = statement_at(n);
+        for place in 0..PLACES {
+            let member = lent.statements[at + place];
             if 1 <= member && member <= r {
-                let record = 8 * (member - 1);
-                lent.statements[7 * (n - 1) + 3 + place] = lent.resources[record + place];
-                lent.resources[record + place] = n as u32;
-                lent.resources[record + 3 + place] += 1;
+                let record = resource_at(member);
+                lent.statements[at + NEXT + place] = lent.resources[record + FIRST + place];
+                lent.resources[record + FIRST + place] = n;
+                lent.resources[record + COUNT + place] += 1;
             }
         }
     }
@@ -117,7 +122,7 @@ fn name(random: &mut Random, lent: &mut Lent) {
             Some(b'_') => 2,
             _ => 3,
         };
-        lent.resources[8 * k + 6..8 * k + 8].copy_from_slice(&[offset, kind]);
+        lent.resources[RESOURCE_WORDS * k + OFFSET..][..2].copy_from_slice(&[offset, kind]);
         offset += name.len() as u32 + 1;
     }
     let mut sorted: Vec<u32> = (1..=r as u32).collect();
@@ -131,14 +136,14 @@ pub fn entered_records(random: &mut Random, lent: &mut Lent, cursor: &[u32]) {
         cursor.get(2..).unwrap_or(&[]).chunks_exact(2).take(cursor.get(1).map_or(0, |levels| levels.saturating_sub(1)) as usize)
     {
         let (chain, n) = (level[0] as usize, level[1] as usize);
-        if n == 0 || n > lent.statements.len() / 7 || random.one_in(2) {
+        if n == 0 || n > lent.statements.len() / STATEMENT_WORDS || random.one_in(2) {
             continue;
         }
-        let record = &mut lent.statements[7 * (n - 1)..7 * n];
+        let record = &mut lent.statements[STATEMENT_WORDS * (n - 1)..STATEMENT_WORDS * n];
         match random.below(4) {
-            0 | 1 => record[6] = 1,
-            2 => record[6] = 2,
-            _ if (1..=3).contains(&chain) => record[2 + chain] = n as u32 + random.below(2) as u32,
+            0 | 1 => record[FLAG] = 1,
+            2 => record[FLAG] = 2,
+            _ if (1..=PLACES).contains(&chain) => record[NEXT + chain - 1] = n as u32 + random.below(2) as u32,
             _ => {}
         }
     }

@@ -2,7 +2,9 @@
 //! with the library.
 
 use crate::names::{kind_of, read_line, Line};
-use crate::plain::{Call, Expected, Lent};
+use crate::plain::{
+    statement_at, Call, Expected, Lent, COUNTER_WORDS, FLAG, MAX_PATTERNS, NEXT, PLACES, RESOURCE_WORDS, STATEMENT_WORDS, VARIABLES,
+};
 use crate::random::Random;
 
 const V: u32 = 1 << 31;
@@ -18,9 +20,9 @@ fn call(lent: &mut Lent, call: Call) -> (u32, Vec<u32>) {
 
 fn store(names: &[&str], triples: &[[u32; 3]]) -> Lent {
     let mut lent = Lent {
-        counters: vec![0; 3],
-        resources: vec![9; 8 * 6],
-        statements: vec![9; 7 * 6],
+        counters: vec![0; COUNTER_WORDS],
+        resources: vec![9; RESOURCE_WORDS * 6],
+        statements: vec![9; STATEMENT_WORDS * 6],
         index: vec![9; 6],
         text: vec![9; 64],
         ..Lent::default()
@@ -61,7 +63,7 @@ fn bench_examples() {
     assert_eq!(listed(&mut lent, [1, 0, 0]), (vec![2, 1], 2));
     assert_eq!(listed(&mut lent, [1, 2, 3]), (vec![1], 1));
     assert_eq!(listed(&mut lent, [0, 0, 0]), (vec![2, 1], 2));
-    assert_eq!(lent.statements[7 + 3..7 + 6], [1, 1, 0]);
+    assert_eq!(lent.statements[statement_at(2) + NEXT..][..PLACES], [1, 1, 0]);
 
     let words = vec![V, 2, 3, V, 2, V + 1];
     assert_eq!(call(&mut lent, Call::QueryOpen { words: words.clone() }).0, 0);
@@ -108,7 +110,7 @@ fn struck_out_since() {
     let words = vec![V, 2, V + 1, V + 1, 2, V + 2];
     let mut lent = store(&["<a>", "<b>", "<c>", "<d>"], &[[1, 2, 3], [2, 2, 1], [3, 2, 4]]);
     assert_eq!(call(&mut lent, Call::Retract { triple: [1, 2, 3] }), (0, vec![1]));
-    lent.cursor = [&[1, 2, 2, 1, 1, 3][..], &[0; 12]].concat();
+    lent.cursor = [&[1, 2, 2, 1, 1, 3][..], &[0; 2 * (MAX_PATTERNS - 2)]].concat();
     assert_eq!(call(&mut lent, Call::QueryNext { words, budget: 5 }).1[..2], [2, 0]);
 }
 
@@ -118,8 +120,8 @@ fn no_patterns() {
     assert_eq!(call(&mut lent, Call::QueryOpen { words: vec![] }).0, 0);
     let next = |budget| Call::QueryNext { words: vec![], budget };
     assert_eq!(call(&mut lent, next(0)).0, 7);
-    assert_eq!(call(&mut lent, next(1)), (0, [&[1, 0][..], &[0; 16]].concat()));
-    assert_eq!(call(&mut lent, next(1)), (0, [&[2, 0][..], &[0; 16]].concat()));
+    assert_eq!(call(&mut lent, next(1)), (0, [&[1, 0][..], &[0; VARIABLES]].concat()));
+    assert_eq!(call(&mut lent, next(1)), (0, [&[2, 0][..], &[0; VARIABLES]].concat()));
     lent.cursor[..2].copy_from_slice(&[1, 1]);
     assert_eq!(call(&mut lent, next(1)).0, 6);
 }
@@ -194,19 +196,19 @@ fn lines() {
 
 /// Every choice of one live statement a pattern, the first pattern's deciding first, higher numbers first, that gives each variable one
 /// resource.
-fn solutions(lent: &Lent, patterns: &[&[u32]], bound: [u32; 16], found: &mut Vec<Vec<u32>>) {
+fn solutions(lent: &Lent, patterns: &[&[u32]], bound: [u32; VARIABLES], found: &mut Vec<Vec<u32>>) {
     let Some(pattern) = patterns.first() else { return found.push(bound.to_vec()) };
-    for n in (0..lent.counters[1] as usize).rev() {
-        let record = &lent.statements[7 * n..7 * n + 7];
+    for n in (1..=lent.t()).rev() {
+        let record = &lent.statements[statement_at(n)..][..STATEMENT_WORDS];
         let mut solution = bound;
-        let fits = (0..3).all(|place| {
+        let fits = (0..PLACES).all(|place| {
             let word = pattern[place];
             if word >= V && solution[(word - V) as usize] == 0 {
                 solution[(word - V) as usize] = record[place];
             }
             record[place] == if word >= V { solution[(word - V) as usize] } else { word }
         });
-        if fits && record[6] == 0 {
+        if fits && record[FLAG] == 0 {
             solutions(lent, &patterns[1..], solution, found);
         }
     }
@@ -224,10 +226,10 @@ fn questions_by_brute_force() {
             let change = if turn % 3 == 2 { Call::Retract { triple } } else { Call::Assert { triple } };
             call(&mut lent, change);
         }
-        let length = 3 * random.from_to(0, 4);
+        let length = PLACES * random.from_to(0, 4);
         let words: Vec<u32> = (0..length).map(|_| random.of(&[1, V, V + 1, V + 2, V + 3, V + 4])).collect();
         let mut expected = vec![];
-        solutions(&lent, &words.chunks(3).collect::<Vec<_>>(), [0; 16], &mut expected);
+        solutions(&lent, &words.chunks(PLACES).collect::<Vec<_>>(), [0; VARIABLES], &mut expected);
         many += expected.len();
         assert_eq!(call(&mut lent, Call::QueryOpen { words: words.clone() }).0, 0);
         let mut found = vec![];

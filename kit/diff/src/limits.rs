@@ -1,8 +1,10 @@
 //! The limits of 65,535 records and 1,048,576 bytes of text: every function at them and one beyond, on tables that have room for more
 //! and hold what would be sound there, so that a limit that is not kept shows in the answer.
 
+use crate::names::MAX_NAME;
 use crate::plain::{
-    Call, Lent, COUNTER_WORDS, FIRST_VARIABLE, LONGEST_REPLY, MAX_RECORDS, MAX_TEXT, QUERY_CURSOR_WORDS, SCAN_CURSOR_WORDS,
+    resource_at, statement_at, Call, Lent, COUNT, COUNTER_WORDS, FIRST, FIRST_VARIABLE, FLAG, LONGEST_REPLY, MAX_RECORDS, MAX_TEXT,
+    NEXT, OFFSET, QUERY_CURSOR_WORDS, RESOURCE_WORDS, SCAN_CURSOR_WORDS, STATEMENT_WORDS,
 };
 use crate::{Difference, Run};
 
@@ -32,8 +34,8 @@ fn store(lengths: &[usize], statements: u32) -> Lent {
     let resources = lengths.len() as u32;
     let mut lent = Lent {
         counters: vec![0; COUNTER_WORDS],
-        resources: vec![0; (lengths.len() + 2) * 8 + 3],
-        statements: vec![0; (statements as usize + 2) * 7 + 3],
+        resources: vec![0; (lengths.len() + 2) * RESOURCE_WORDS + 3],
+        statements: vec![0; (statements as usize + 2) * STATEMENT_WORDS + 3],
         index: vec![0; lengths.len() + 3],
         reply: vec![0; LONGEST_REPLY],
         cursor: vec![0; QUERY_CURSOR_WORDS],
@@ -41,7 +43,7 @@ fn store(lengths: &[usize], statements: u32) -> Lent {
     };
     let mut names: Vec<(Vec<u8>, u32)> = (1..).zip(lengths).map(|(n, &length)| (named(n, length), n)).collect();
     for (k, (name, _)) in names.iter().enumerate() {
-        lent.resources[8 * k + 6..][..2].copy_from_slice(&[lent.text.len() as u32, 1]);
+        lent.resources[RESOURCE_WORDS * k + OFFSET..][..2].copy_from_slice(&[lent.text.len() as u32, 1]);
         lent.text.extend_from_slice(name);
         lent.text.push(0);
     }
@@ -50,15 +52,15 @@ fn store(lengths: &[usize], statements: u32) -> Lent {
     names.sort();
     names.iter().enumerate().for_each(|(k, (_, n))| lent.index[k] = *n);
     for n in 1..=statements {
-        let at = 7 * (n as usize - 1);
+        let at = statement_at(n);
         for (place, number) in triple(n, resources).into_iter().enumerate() {
-            let record = 8 * (number as usize - 1);
+            let record = resource_at(number);
             lent.statements[at + place] = number;
-            lent.statements[at + 3 + place] = lent.resources[record + place];
-            lent.resources[record + place] = n;
-            lent.resources[record + 3 + place] += 1;
+            lent.statements[at + NEXT + place] = lent.resources[record + FIRST + place];
+            lent.resources[record + FIRST + place] = n;
+            lent.resources[record + COUNT + place] += 1;
         }
-        lent.statements[at + 6] = (n % 5 == 1) as u32;
+        lent.statements[at + FLAG] = (n % 5 == 1) as u32;
     }
     lent
 }
@@ -67,7 +69,7 @@ impl Run {
     /// Every function on stores about each limit.
     pub fn limits(&mut self) -> Result<(), Difference> {
         const RECORDS: u32 = MAX_RECORDS as u32;
-        const LONG: usize = 255;
+        const LONG: usize = MAX_NAME;
         let few = vec![SHORT; 300];
         let short = |count: u32| vec![SHORT; count as usize];
         let long = |count: usize| vec![LONG; count];
@@ -90,10 +92,10 @@ impl Run {
 
     /// The window of a name: its zero is the 256th byte from the offset, then the 257th.
     fn window(&mut self) -> Result<(), Difference> {
-        let mut lent = store(&[255; 300], 300);
-        lent.text[255] = b'a';
-        for offset in [256, 255] {
-            lent.resources[8 + 6] = offset;
+        let mut lent = store(&[MAX_NAME; 300], 300);
+        lent.text[MAX_NAME] = b'a';
+        for offset in [MAX_NAME + 1, MAX_NAME] {
+            lent.resources[resource_at(2) + OFFSET] = offset as u32;
             self.compare(&Call::Name { number: 2 }, &mut lent)?;
         }
         Ok(())
@@ -118,7 +120,7 @@ impl Run {
         // A listing of everything, of the last statement's resources, and of the predicate's long chain; the cursor is made up first, so
         // that there is one also where opening is refused.
         let [subject, predicate, object] = triple(t, r);
-        let first = |place: usize, number: u32| lent.resources[8 * (number as usize - 1) + place];
+        let first = |place: usize, number: u32| lent.resources[resource_at(number) + FIRST + place];
         let [by_subject, by_predicate, by_object] = [first(0, subject), first(1, predicate), first(2, object)];
         let cursors = [
             [0, 0, 0, 0, t],

@@ -20,7 +20,7 @@ mod random;
 mod tally;
 
 use damage::damage;
-use plain::{Call, Expected, Lent, COUNTER_WORDS};
+use plain::{Call, Expected, Lent, COUNTER_WORDS, PLACES, RESOURCE_WORDS, STATEMENT_WORDS};
 use random::Random;
 use std::process::ExitCode;
 use std::time::{Duration, Instant};
@@ -99,8 +99,8 @@ impl Run {
         if middle {
             return Lent {
                 counters: vec![0; COUNTER_WORDS],
-                resources: vec![0; 8 * random.from_to(20, 60) + 5],
-                statements: vec![0; 7 * random.from_to(60, 300) + 5],
+                resources: vec![0; RESOURCE_WORDS * random.from_to(20, 60) + 5],
+                statements: vec![0; STATEMENT_WORDS * random.from_to(60, 300) + 5],
                 index: vec![0; 60],
                 text: vec![0; 800],
                 ..Lent::default()
@@ -111,14 +111,14 @@ impl Run {
         let named = records(random);
         let mut lent = Lent {
             counters: vec![0; COUNTER_WORDS],
-            resources: vec![0; 8 * named + partial(random, 8)],
-            statements: vec![0; 7 * records(random) + partial(random, 7)],
+            resources: vec![0; RESOURCE_WORDS * named + partial(random, RESOURCE_WORDS)],
+            statements: vec![0; STATEMENT_WORDS * records(random) + partial(random, STATEMENT_WORDS)],
             index: vec![0; (named + random.of(&[0, 0, 0, 0, 1, 2])).saturating_sub(random.below(5) / 4)],
             text: vec![0; if random.one_in(5) { random.below(24) } else { random.from_to(24, 60) }],
             ..Lent::default()
         };
         if random.one_in(4) {
-            lent.statements.resize(7 * random.from_to(7, 12), 0);
+            lent.statements.resize(STATEMENT_WORDS * random.from_to(7, 12), 0);
         }
         if random.one_in(40) {
             lent.text.resize(600, 0);
@@ -176,12 +176,12 @@ impl Run {
             _ => {
                 if open.queries.is_empty() || random.one_in(4) {
                     let words = random.words(lent);
-                    let cursor = random.query_cursor(lent, words.len() / 3);
-                    return (Call::QueryNext { budget: random.budget(lent, words.len() / 3), words }, cursor, None);
+                    let cursor = random.query_cursor(lent, words.len() / PLACES);
+                    return (Call::QueryNext { budget: random.budget(lent, words.len() / PLACES), words }, cursor, None);
                 }
                 let which = random.below(open.queries.len());
                 let (mut words, mut cursor) = open.queries[which].clone();
-                let budget = random.budget(lent, words.len() / 3);
+                let budget = random.budget(lent, words.len() / PLACES);
                 let mut kept = Some(which);
                 if random.one_in(6) {
                     random.damage(&mut cursor, &lent.counters, 1);

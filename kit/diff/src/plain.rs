@@ -2,7 +2,7 @@
 //! meant to be fast. Every operation works on what is lent, as the library's does, so that the two can be compared byte by byte.
 //! Refusals are the `Err` of a `Result`, by their number.
 
-use crate::names::{kind_of, read_line, Line};
+use crate::names::{kind_of, read_line, Line, MAX_NAME};
 
 pub const MAX_RECORDS: usize = 65_535;
 pub const MAX_TEXT: usize = 1_048_576;
@@ -11,6 +11,18 @@ pub const VARIABLES: usize = 16;
 pub const FIRST_VARIABLE: u32 = 1 << 31;
 
 pub const COUNTER_WORDS: usize = 3;
+/// A resource's record: first as subject, predicate and object, count as each, offset, kind.
+pub const RESOURCE_WORDS: usize = 8;
+pub const FIRST: usize = 0;
+pub const COUNT: usize = 3;
+pub const OFFSET: usize = 6;
+pub const KIND: usize = 7;
+/// A statement's record: subject, predicate, object, next on the chain of each, flag.
+pub const STATEMENT_WORDS: usize = 7;
+pub const NEXT: usize = 3;
+pub const FLAG: usize = 6;
+/// Words of a pattern, and the places of a triple.
+pub const PLACES: usize = 3;
 pub const SCAN_CURSOR_WORDS: usize = 5;
 /// Start, within or end; the levels; a chain and a record for each.
 pub const QUERY_CURSOR_WORDS: usize = 2 + 2 * MAX_PATTERNS;
@@ -68,6 +80,14 @@ pub enum Expected {
     Bounded,
 }
 
+/// Where record n begins in its table.
+pub fn resource_at(n: u32) -> usize {
+    RESOURCE_WORDS * (n as usize - 1)
+}
+pub fn statement_at(n: u32) -> usize {
+    STATEMENT_WORDS * (n as usize - 1)
+}
+
 impl Lent {
     pub fn r(&self) -> u32 {
         self.counters[0]
@@ -80,10 +100,10 @@ impl Lent {
     }
 
     fn resource_capacity(&self) -> usize {
-        (self.resources.len() / 8).min(self.index.len()).min(MAX_RECORDS)
+        (self.resources.len() / RESOURCE_WORDS).min(self.index.len()).min(MAX_RECORDS)
     }
     fn statement_capacity(&self) -> usize {
-        (self.statements.len() / 7).min(MAX_RECORDS)
+        (self.statements.len() / STATEMENT_WORDS).min(MAX_RECORDS)
     }
     fn text_capacity(&self) -> usize {
         self.text.len().min(MAX_TEXT)
@@ -96,22 +116,22 @@ impl Lent {
 
     // Words of record n, for a place 0 subject, 1 predicate, 2 object.
     fn resource_word(&self, n: u32, word: usize) -> u32 {
-        self.resources[(n as usize - 1) * 8 + word]
+        self.resources[resource_at(n) + word]
     }
     fn first(&self, n: u32, place: usize) -> u32 {
-        self.resource_word(n, place)
+        self.resource_word(n, FIRST + place)
     }
     fn count(&self, n: u32, place: usize) -> u32 {
-        self.resource_word(n, 3 + place)
+        self.resource_word(n, COUNT + place)
     }
     fn offset(&self, n: u32) -> u32 {
-        self.resource_word(n, 6)
+        self.resource_word(n, OFFSET)
     }
     fn kind(&self, n: u32) -> u32 {
-        self.resource_word(n, 7)
+        self.resource_word(n, KIND)
     }
     fn statement_word(&self, n: u32, word: usize) -> u32 {
-        self.statements[(n as usize - 1) * 7 + word]
+        self.statements[statement_at(n) + word]
     }
     fn member(&self, n: u32, place: usize) -> u32 {
         self.statement_word(n, place)
@@ -120,13 +140,13 @@ impl Lent {
         [0, 1, 2].map(|place| self.member(n, place))
     }
     fn next(&self, n: u32, place: usize) -> u32 {
-        self.statement_word(n, 3 + place)
+        self.statement_word(n, NEXT + place)
     }
     fn flag(&self, n: u32) -> u32 {
-        self.statement_word(n, 6)
+        self.statement_word(n, FLAG)
     }
     fn set_flag(&mut self, n: u32, flag: u32) {
-        self.statements[(n as usize - 1) * 7 + 6] = flag;
+        self.statements[statement_at(n) + FLAG] = flag;
     }
 
     fn is_resource(&self, number: u32) -> bool {
@@ -181,7 +201,7 @@ impl Lent {
 
     /// Whether every next, first and count is what asserting the statements in their order gives. Their resources must be known.
     fn chains_sound(&self) -> bool {
-        (0..3).all(|place| {
+        (0..PLACES).all(|place| {
             // The first statement and the count of each resource, under the statements so far.
             let mut chains = vec![(0, 0); self.r() as usize + 1];
             let nexts = (1..=self.t()).all(|n| {
@@ -199,7 +219,7 @@ impl Lent {
     /// The chain a listing takes, 0 for all records, 1 to 3 for a place, and its first record. `bound` has 0 for any.
     fn pick(&self, bound: [u32; 3]) -> Result<(u32, u32), u32> {
         let mut picked = None;
-        for place in 0..3 {
+        for place in 0..PLACES {
             if bound[place] != 0 {
                 let (count, first) = (self.count(bound[place], place), self.first(bound[place], place));
                 if count > self.t() || first > self.t() {
@@ -280,8 +300,10 @@ impl Lent {
         let (r, b) = (self.r() as usize, self.b() as usize);
         self.index[..=r].copy_within(below..r, below + 1);
         self.index[below] = r as u32 + 1;
-        let record = [0, 0, 0, 0, 0, 0, b as u32, kind_of(name).unwrap()];
-        self.resources[r * 8..][..8].copy_from_slice(&record);
+        let mut record = [0; RESOURCE_WORDS];
+        record[OFFSET] = b as u32;
+        record[KIND] = kind_of(name).unwrap();
+        self.resources[r * RESOURCE_WORDS..][..RESOURCE_WORDS].copy_from_slice(&record);
         self.text[b..][..name.len()].copy_from_slice(name);
         self.text[b + name.len()] = 0;
         self.counters[0] += 1;
@@ -298,7 +320,7 @@ impl Lent {
         if offset >= end {
             return Err(9);
         }
-        let length = self.text[offset..end.min(offset + 256)].iter().position(|&b| b == 0).ok_or(9u32)?;
+        let length = self.text[offset..end.min(offset + MAX_NAME + 1)].iter().position(|&b| b == 0).ok_or(9u32)?;
         Ok((offset as u32, length as u32))
     }
 
@@ -350,12 +372,12 @@ impl Lent {
         }
         let n = self.t() + 1;
         let firsts = [0, 1, 2].map(|place| self.first(triple[place], place));
-        let record = [triple[0], triple[1], triple[2], firsts[0], firsts[1], firsts[2], 0];
-        self.statements[(n as usize - 1) * 7..][..7].copy_from_slice(&record);
-        for place in 0..3 {
-            let at = (triple[place] as usize - 1) * 8;
-            self.resources[at + place] = n;
-            self.resources[at + 3 + place] += 1;
+        let record: [u32; STATEMENT_WORDS] = [triple[0], triple[1], triple[2], firsts[0], firsts[1], firsts[2], 0];
+        self.statements[statement_at(n)..][..STATEMENT_WORDS].copy_from_slice(&record);
+        for place in 0..PLACES {
+            let at = resource_at(triple[place]);
+            self.resources[at + FIRST + place] = n;
+            self.resources[at + COUNT + place] += 1;
         }
         self.counters[1] = n;
         Ok((NEW, n))
@@ -406,7 +428,7 @@ impl Lent {
             visits += 1;
             let (at, triple) = (n, self.triple(n));
             n = self.after(chain, n);
-            if self.flag(at) == 0 && (0..3).all(|place| bound[place] == 0 || bound[place] == triple[place]) {
+            if self.flag(at) == 0 && (0..PLACES).all(|place| bound[place] == 0 || bound[place] == triple[place]) {
                 return Ok(([FOUND, at, visits], n));
             }
         }
@@ -414,7 +436,7 @@ impl Lent {
 
     fn words_refused(&self, words: &[u32]) -> bool {
         let word_fits = |&w: &u32| self.is_resource(w) || (w >= FIRST_VARIABLE && w - FIRST_VARIABLE < VARIABLES as u32);
-        words.len() % 3 != 0 || words.len() > 3 * MAX_PATTERNS || !words.iter().all(word_fits)
+        words.len() % PLACES != 0 || words.len() > PLACES * MAX_PATTERNS || !words.iter().all(word_fits)
     }
 
     fn query_open(&self, words: &[u32]) -> Result<(), u32> {
@@ -428,7 +450,7 @@ impl Lent {
     /// The solution with which a record matches a pattern under the variables bound so far, if it does. Its resources are known.
     fn matched(&self, pattern: &[u32], bound: [u32; VARIABLES], n: u32) -> Option<[u32; VARIABLES]> {
         let mut solution = bound;
-        for place in 0..3 {
+        for place in 0..PLACES {
             let (word, member) = (pattern[place], self.member(n, place));
             if word >= FIRST_VARIABLE {
                 let variable = &mut solution[(word - FIRST_VARIABLE) as usize];
@@ -451,7 +473,7 @@ impl Lent {
         if self.words_refused(words) {
             return Err(8);
         }
-        let patterns: Vec<&[u32]> = words.chunks(3).collect();
+        let patterns: Vec<&[u32]> = words.chunks(PLACES).collect();
         if self.cursor[0] > 2 || self.cursor[0] == 1 && self.cursor[1] as usize > patterns.len() {
             return Err(6);
         }
@@ -682,7 +704,8 @@ impl Call {
                 expected.counters[0] += 1;
                 expected.counters[2] += name.len() as u32 + 1;
                 expected.index = after.index.clone();
-                expected.resources[r * 8..][..8].copy_from_slice(&after.resources[r * 8..][..8]);
+                let record = r * RESOURCE_WORDS..(r + 1) * RESOURCE_WORDS;
+                expected.resources[record.clone()].copy_from_slice(&after.resources[record]);
                 expected.text[b..].copy_from_slice(&after.text[b..]);
             }
             _ => return Err(format!("{result} with {answer} is out of bounds")),

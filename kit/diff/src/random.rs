@@ -1,7 +1,7 @@
 //! Random numbers from a seed (splitmix64), and the random values that calls are made of.
 
 use crate::names::MAX_NAME;
-use crate::plain::{Lent, FIRST_VARIABLE, MAX_PATTERNS, VARIABLES};
+use crate::plain::{Lent, FIRST_VARIABLE, MAX_PATTERNS, PLACES, RESOURCE_WORDS, STATEMENT_WORDS, VARIABLES};
 
 pub struct Random {
     state: u64,
@@ -75,8 +75,8 @@ impl Random {
 
     /// A triple, often that of a statement, so that it is met again.
     pub fn triple(&mut self, lent: &Lent) -> [u32; 3] {
-        let at = 7 * (self.statement(lent) as usize).saturating_sub(1);
-        match lent.statements.get(at..at + 3) {
+        let at = STATEMENT_WORDS * (self.statement(lent) as usize).saturating_sub(1);
+        match lent.statements.get(at..at + PLACES) {
             Some(words) if self.one_in(2) => [words[0], words[1], words[2]],
             _ => [0; 3].map(|_| self.resource(lent)),
         }
@@ -119,7 +119,7 @@ impl Random {
         match self.below(40) {
             0 => words.push(FIRST_VARIABLE),
             1 => words.truncate(words.len().saturating_sub(1)),
-            2 => words.resize(self.from_to(3 * MAX_PATTERNS - 1, 3 * MAX_PATTERNS + 6), FIRST_VARIABLE),
+            2 => words.resize(self.from_to(PLACES * MAX_PATTERNS - 1, PLACES * MAX_PATTERNS + 6), FIRST_VARIABLE),
             3 | 4 if !words.is_empty() => {
                 let at = self.below(words.len());
                 words[at] = self.wild(&lent.counters);
@@ -173,7 +173,7 @@ impl Random {
         if self.one_in(60) {
             return self.name();
         }
-        if lent.resources.len() / 8 > NAMES.len() && !self.one_in(4) {
+        if lent.resources.len() / RESOURCE_WORDS > NAMES.len() && !self.one_in(4) {
             let k = self.below(20);
             return self.of(&["<n#>", "<n#>", "<p#>", "<p#>", "_:n#", "\"#\""]).replace('#', &k.to_string()).into_bytes();
         }

@@ -327,7 +327,7 @@ macro_rules! writing {
 /// One table cannot be lent twice:
 ///
 /// ```compile_fail,E0499
-/// let (mut counters, mut words, mut text) = ([0; 3], [0; 64], [0; 64]);
+/// let (mut counters, mut words, mut text) = ([0; lemontiller::COUNTER_WORDS], [0; 64], [0; 64]);
 /// lemontiller::Store::new(&mut counters, &mut words, &mut words, &mut [0; 8], &mut text);
 /// ```
 pub struct Store<'a> {

@@ -2,9 +2,11 @@
 //! library answers on any tables is the differential test's matter.
 use super::*;
 
+const LAST: u8 = VARIABLES as u8 - 1;
+
 /// Tables of six resources and four statements, and a store over them, which the test body is given.
 fn with_store(body: impl FnOnce(&mut Store)) {
-    let (mut counters, mut resources, mut statements) = ([0; 3], [7; 6 * RESOURCE_WORDS], [7; 4 * STATEMENT_WORDS]);
+    let (mut counters, mut resources, mut statements) = ([0; COUNTER_WORDS], [7; 6 * RESOURCE_WORDS], [7; 4 * STATEMENT_WORDS]);
     let (mut index, mut text) = ([7; 6], [7; 64]);
     let mut store = Store::new(&mut counters, &mut resources, &mut statements, &mut index, &mut text).unwrap();
     body(&mut store)
@@ -67,11 +69,11 @@ fn a_question_is_answered() {
     with_bay(|store, [_, trips, b4, b7]| {
         let trips = Term::Resource(trips);
         let question =
-            Question::new(&[[Term::Variable(0), trips, Term::Resource(b4)], [Term::Variable(0), trips, Term::Variable(15)]]);
+            Question::new(&[[Term::Variable(0), trips, Term::Resource(b4)], [Term::Variable(0), trips, Term::Variable(LAST)]]);
         let solutions: Vec<_> = store.ask(&question).unwrap().map(|s| s.unwrap()).collect();
-        assert_eq!(solutions.iter().map(|s| s.get(15)).collect::<Vec<_>>(), [Some(b7), Some(b4)]);
+        assert_eq!(solutions.iter().map(|s| s.get(LAST)).collect::<Vec<_>>(), [Some(b7), Some(b4)]);
         assert_eq!(solutions[0].get(0), Some(ResourceId(1)));
-        assert_eq!((solutions[0].get(1), solutions[0].get(16)), (None, None));
+        assert_eq!((solutions[0].get(1), solutions[0].get(LAST + 1)), (None, None));
         let empty = Question::new(&[]);
         assert_eq!(store.ask(&empty).unwrap().count(), 1);
     })
@@ -94,7 +96,7 @@ fn refusals_are_values() {
         assert_eq!(store.scan_next(&mut cursor, 1), Err(Error::BadCursor));
         let nine = Question::new(&[[Term::Variable(0); 3]; MAX_PATTERNS + 1]);
         assert_eq!(store.ask(&nine).err(), Some(Error::BadQuery));
-        let beyond = Question::new(&[[Term::Variable(16); 3]]);
+        let beyond = Question::new(&[[Term::Variable(LAST + 1); 3]]);
         assert_eq!(store.query_open(&beyond), Err(Error::BadQuery));
         assert_eq!(store.query_open(&Question::from_words(&[1, 2])), Err(Error::BadQuery));
         assert!(store.is_sound());
@@ -123,7 +125,15 @@ fn a_resource_is_not_a_variable() {
     with_bay(|store, [relay, trips, b4, _]| {
         let asked =
             |number: u32| Question::new(&[[Term::Resource(relay), Term::Resource(trips), Term::Resource(ResourceId(number))]]);
-        for number in [0, 5, FIRST_VARIABLE - 1, FIRST_VARIABLE, FIRST_VARIABLE + 15, FIRST_VARIABLE + 16, u32::MAX] {
+        for number in [
+            0,
+            5,
+            FIRST_VARIABLE - 1,
+            FIRST_VARIABLE,
+            FIRST_VARIABLE + u32::from(LAST),
+            FIRST_VARIABLE + u32::from(LAST) + 1,
+            u32::MAX,
+        ] {
             assert_eq!(store.query_open(&asked(number)), Err(Error::BadQuery));
             assert_eq!(store.query_next(&asked(number), &mut [0; QUERY_CURSOR_WORDS], 1), Err(Error::BadQuery));
         }
@@ -160,7 +170,7 @@ fn short_slices_are_values() {
 
 #[test]
 fn empty_tables_have_pointers() {
-    let (mut counters, mut words, mut bytes) = ([0; 3], Vec::<u32>::new(), Vec::<u8>::new());
+    let (mut counters, mut words, mut bytes) = ([0; COUNTER_WORDS], Vec::<u32>::new(), Vec::<u8>::new());
     assert!(words.as_ptr() as usize != 0 && bytes.as_ptr() as usize != 0);
     let (statements, index): (&mut [u32], &mut [u32]) = (&mut [], &mut []);
     assert!(statements.as_ptr() as usize != 0 && index.as_ptr() as usize != 0);

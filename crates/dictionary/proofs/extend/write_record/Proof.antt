@@ -87,7 +87,7 @@ same-length c = search needs
 returns : tie.Need-returns
 returns c =
     let a = c .args in
-    record-stores (now (a .resources)) (8 * a .r) (a .offset) (a .kind)
+    record-stores (now (a .resources)) (resourceWords * a .r) (a .offset) (a .kind)
 
 pub write-record-spec : {M : Type 1} → statement M
 write-record-spec =
