@@ -3,6 +3,7 @@ use denote.Ref.{now}
 use native.Mathlib.Omega.{arith}
 use lib.ListN.{length-set}
 use Prim.Native.Nat.{_*_}
+use Rattle.store.specs.Tables.{resourceWords}
 use borrow.Author.Needs.{needs}
 use Rattle.dictionary.proofs.extend.write_record.Statement.{statement}
 use Rattle.dictionary.proofs.extend.write_record.Tie as tie
