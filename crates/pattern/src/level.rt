@@ -4,6 +4,9 @@
 // Levels stand in an array, the first pattern first; a function is told how many of them count. What each entered
 // record must be for
 // its words to be read is asked of the caller, who has tested it (refusal 6) or visited the record.
+use chain::pick::chain_ok;
+use chain_walk::walk::link_of;
+use chain_walk::walk::record_ok;
 use crate::binding::Matched;
 use crate::binding::meet;
 use crate::binding::under;
@@ -16,9 +19,6 @@ use graph::QueryCursor;
 use graph::QueryPattern;
 use graph::Solution;
 use graph::VARIABLES;
-use statement::inner::chain_ok;
-use statement::inner::link_of;
-use statement::inner::record_ok;
 use store::Chain;
 use store::Counters;
 use store::ResourceId;
