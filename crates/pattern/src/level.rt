@@ -4,14 +4,14 @@
 // Levels stand in an array, the first pattern first; a function is told how many of them count. What each entered
 // record must be for
 // its words to be read is asked of the caller, who has tested it (refusal 6) or visited the record.
-use chain::pick::chain_ok;
-use chain_walk::walk::link_of;
-use chain_walk::walk::record_ok;
 use crate::binding::Matched;
 use crate::binding::meet;
 use crate::binding::under;
 use crate::words::pattern_at;
 use crate::words::patterns;
+use chain::pick::chain_ok;
+use chain_walk::walk::link_of;
+use chain_walk::walk::record_ok;
 use graph::Level;
 use graph::MAX_PATTERNS;
 use graph::Progress;

@@ -47,7 +47,6 @@ module _ (c : Counters) (m : Tables) (e : fits c m ≡ true) where
 
 -- ---- assert and retract, by what was found
 
-
 module _ (c : Counters) (m : Tables) (x : Triple) where
   abbrev assertBy : Located → Tables × Asserted
   assertBy (Refused e) = (m, NotAsserted e)
