@@ -1,7 +1,8 @@
 use Rattle.table.proofs.Branches.{failed, passed}
 use denote.Ref.{now}
 use Rattle.statement_record.proofs.Records.{full, new, room-in}
-use Prim.Native.Nat.{_+_}
+use Prim.Native.Nat.{suc, _+_}
+use mathlib.Core.Path.{_≡_}
 use lib.ListN.{length}
 use native.Mathlib.Omega.{arith}
 use borrow.Author.Needs.{needs}
@@ -40,7 +41,8 @@ same-length-3 c = search needs
 returns-2 : tie.Need-returns-2
 returns-2 c =
     let a = c .before .before .before .before .before .before .before .before .before .before .before .before .before .before .before .args in
-    record { leaves = λ i t. rw (c .before .before .before .link-record .ensures, c .before .before .before .before .before .before .before .write-record .ensures) (new (now (a .resources)) (now (a .statements)) i t (a .c) (a .x) (a .c .statements + 1) (passed (c .before .before .before .before .before .before .before .before .before .before .before .has-room .ensures) (c .before .before .before .before .before .before .before .before .before .before .if1 .left)) (omega arith)) }
+    let e : a .c .statements + 1 ≡ suc (a .c .statements) = omega arith in
+    record { leaves = λ i t. rw (c .before .before .before .link-record .ensures, c .before .before .before .before .before .before .before .write-record .ensures, e) (new (now (a .resources)) (now (a .statements)) i t (a .c) (a .x) (passed (c .before .before .before .before .before .before .before .before .before .before .before .has-room .ensures) (c .before .before .before .before .before .before .before .before .before .before .if1 .left))) }
 
 pub append-spec : {M : Type 1} → statement M
 append-spec =
