@@ -150,7 +150,7 @@ fn next_from(
         return Scanned::Refused(Refusal::Capacity);
     }
     let q = cursor_of(words);
-    statement::scan_next(c, resources, statements, index, text, q, budget)
+    scan::scan_next(c, resources, statements, index, text, q, budget)
 }
 
 // The kind of a name: 1 an IRI, 2 a blank node, 3 a literal; refusal 2 where it is malformed.
@@ -344,7 +344,7 @@ pub extern "C" fn lt_scan_open(
     }
     let c = counters_of(counters);
     let x = triple_of(subject, predicate, object);
-    match statement::scan_open(c, resources, statements, index, text, x) {
+    match scan::scan_open(c, resources, statements, index, text, x) {
         ScanOpened::Refused(e) => refusal_number(e),
         ScanOpened::Cursor(q) => {
             put_cursor(cursor, q);

@@ -16,9 +16,9 @@ use Rattle.store.specs.Triple.{known, prev}
 use Rattle.store.specs.Tables.{statementWords, resourceWords, maxResources}
 use Rattle.store.specs.Walk.{linkOf}
 use Rattle.table.specs.Held.{StatementHeld}
-use Rattle.statement.specs.Chains.{PatternHeld}
-use Rattle.store.proofs.Tests.{decide}
-use Rattle.statement.proofs.Chains.{known-most, held}
+use Rattle.chain.specs.Chains.{PatternHeld}
+use Rattle.store.proofs.Tests.{decide, known-high}
+use Rattle.chain.proofs.Chains.{held}
 use Rattle.graph.specs.declared.QueryPattern.{QueryPattern}
 use Rattle.graph.specs.declared.QueryStep.{QueryStep}
 use Rattle.graph.specs.declared.QueryCursor.{QueryCursor}
@@ -152,7 +152,7 @@ module _ (r t : ℕ) (stm : List ℕ) (ls : List Level) where
           → Low r (binds stm ps (levelsOf ls d)) → LevelSure r t stm (getD ls d noLevel)
           → Low r (orElse o (binds stm ps (levelsOf ls d)))
       pick none e w l = w
-      pick (some b) e w l = match-low r _ _ _ b w (known-most r _ (l .resources)) e
+      pick (some b) e w l = match-low r _ _ _ b w (known-high r _ (l .resources)) e
 
 -- ---- a stack whose deepest level is stored last
 

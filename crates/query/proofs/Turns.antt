@@ -19,12 +19,13 @@ use Rattle.store.specs.Triple.{known, agrees, prev}
 use Rattle.store.specs.Tables.{tripleAt, flagAt}
 use Rattle.store.specs.Model.{matches}
 use Rattle.store.specs.Walk.{entryAt, pickChain, pickable, startOf, linkOf, sits, visitable}
-use Rattle.statement.specs.declared.inner.Sought.the-variants.{LiveMatch}
-use Rattle.statement.specs.declared.inner.Visited.{Visited}
-use Rattle.statement.specs.declared.inner.Visited.the-variants.{Damaged as Torn, Hit, Miss}
-use Rattle.statement.specs.Chains.{hits, visitOf}
+use Rattle.chain_walk.specs.declared.walk.Sought.the-variants.{LiveMatch}
+use Rattle.chain_walk.specs.declared.walk.Visited.{Visited}
+use Rattle.chain_walk.specs.declared.walk.Visited.the-variants.{Damaged as Torn, Hit, Miss}
+use Rattle.chain_walk.specs.Walks.{hits, visitOf}
 use Rattle.store.proofs.Tests.{decide, and-l}
-use Rattle.statement.proofs.Chains.{pick-bound, start-within, falling}
+use Rattle.chain.proofs.Chains.{pick-bound, start-within}
+use Rattle.chain_walk.proofs.Walks.{falling}
 use Rattle.graph.specs.declared.QueryPattern.{QueryPattern}
 use Rattle.graph.specs.declared.Solution.{Solution}
 use Rattle.graph.specs.declared.Level.{Level}

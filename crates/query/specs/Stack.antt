@@ -10,7 +10,7 @@ use Rattle.store.specs.declared.Triple.{Triple}
 use Rattle.store.specs.Triple.{known, prev}
 use Rattle.store.specs.declared.Chain.the-variants.{All}
 use Rattle.store.specs.Tables.{tripleAt, resourceWords, statementWords, maxResources}
-use Rattle.statement.specs.Chains.{PatternHeld}
+use Rattle.chain.specs.Chains.{PatternHeld}
 use Rattle.store.specs.Walk.{pickChain, pickable, startOf, visitable}
 use Rattle.graph.specs.declared.QueryPattern.{QueryPattern}
 use Rattle.graph.specs.declared.Solution.{Solution}

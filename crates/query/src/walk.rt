@@ -3,6 +3,12 @@
 //
 // A `Stack` is the place with what it binds kept beside it, so that a visit that misses changes one number and copies
 // nothing.
+use chain::pick::pick_chain;
+use chain::pick::pickable;
+use chain::pick::start_of;
+use chain_walk::walk::Sought;
+use chain_walk::walk::Visited;
+use chain_walk::walk::visit;
 use graph::Level;
 use graph::MAX_PATTERNS;
 use graph::Progress;
@@ -19,12 +25,6 @@ use pattern::level::past;
 use pattern::level::remains;
 use pattern::words::pattern_at;
 use pattern::words::patterns;
-use statement::inner::Sought;
-use statement::inner::Visited;
-use statement::inner::pick_chain;
-use statement::inner::pickable;
-use statement::inner::start_of;
-use statement::inner::visit;
 use store::Chain;
 use store::Counters;
 use store::Refusal;
@@ -36,8 +36,9 @@ ghost use mathlib.Core.List.{[]};
 ghost use Prim.Native.Nat.{ℕ, _*_, _+_, _-_, _<_, _≤_};
 ghost use lib.ListN.{length, getD};
 ghost use Rattle.table.specs.Held.{StatementHeld};
-ghost use Rattle.statement.specs.declared.inner.Sought.the-variants.{LiveMatch};
-ghost use Rattle.statement.specs.Chains.{PatternHeld, visitOf};
+ghost use Rattle.chain_walk.specs.declared.walk.Sought.the-variants.{LiveMatch};
+ghost use Rattle.chain.specs.Chains.{PatternHeld};
+ghost use Rattle.chain_walk.specs.Walks.{visitOf};
 ghost use Rattle.graph.specs.Query.{maxPatterns, patternsOf, pattern, under, noLevel, levelsOf, inside, level, refused, ended};
 ghost use Rattle.graph.specs.Query.{found, answered, packed, cursorWith, walk};
 ghost use Rattle.pattern.specs.Levels.{QueryOk, LevelsHeld};

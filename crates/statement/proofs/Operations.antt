@@ -1,18 +1,13 @@
--- Laws of the operations: what counters within capacity give, and each operation by what was found before anything is written.
+-- Laws of assert and retract: what a record located gives, and each operation by what was found before anything is written.
 -- Assumes nothing.
 use mathlib.Core.Path.{_≡_, refl, sym, ap, _∙_}
-use mathlib.Core.Bool.{Bool, true, false, cond, _&&_}
-use mathlib.Core.List.{List, []}
+use mathlib.Core.Bool.{Bool, true, false, cond}
 use mathlib.Core.Option.{Option, none, some}
-use Prim.Native.Nat.{ℕ, zero, suc, _+_, _-_, _*_, _≤_, _<_}
+use Prim.Native.Nat.{ℕ, _*_, _≤_}
 use native.Mathlib.Omega.{arith}
 use lib.ListN.{length}
-use lib.Dec.{eqb, leb}
-use borrow.Author.Tests.{leb-true, ne-eqb}
 use Rattle.store.specs.declared.Counters.{Counters}
-use Rattle.store.specs.declared.Position.{Position}
 use Rattle.store.specs.declared.Triple.{Triple}
-use Rattle.store.specs.declared.ScanCursor.{ScanCursor}
 use Rattle.store.specs.declared.StatementId.{StatementId}
 use Rattle.store.specs.declared.Refusal.{Refusal}
 use Rattle.store.specs.declared.Refusal.the-variants.{Capacity, UnknownNumber, KindNotPermitted, Damaged}
@@ -20,50 +15,31 @@ use Rattle.store.specs.declared.Asserted.{Asserted}
 use Rattle.store.specs.declared.Asserted.the-variants.{Refused as NotAsserted}
 use Rattle.store.specs.declared.Retracted.{Retracted}
 use Rattle.store.specs.declared.Retracted.the-variants.{Refused as NotRetracted}
-use Rattle.store.specs.Triple.{at, known, within, permitted}
-use Rattle.store.specs.Tables.{Tables, fits, resourceWords, statementWords, kindAt, maxStatements}
-use Rattle.store.specs.Walk.{linkOf, visitable, walk}
+use Rattle.store.specs.Triple.{known, permitted}
+use Rattle.store.specs.Tables.{Tables, fits, statementWords, kindAt}
 use Rattle.store.specs.Statement.{locate, kinded, asserting, assertOf, retracting, retractOf}
-use Rattle.store.specs.Scan.{chainOk, recordOk, cursorOk, walkFrom, scannedAs, nextOf}
-use Rattle.table.specs.Held.{StatementHeld, ResourceHeld}
-use Rattle.table.proofs.Capacity.{Room, fits-room}
-use Rattle.statement.specs.declared.inner.Sought.the-variants.{LiveMatch}
-use Rattle.statement.specs.declared.inner.Walked.{Walked}
-use Rattle.statement.specs.declared.target.Located.{Located}
-use Rattle.statement.specs.declared.target.Located.the-variants.{Refused, At}
-use Rattle.statement.specs.Chains.{PatternHeld, hits, stepOf}
-use Rattle.statement.specs.Operations.{TripleHeld, locatedAs, Linkable, Appendable, assertTarget, retractTarget}
-use Rattle.store.proofs.Tests.{and-l, and-r}
-use Rattle.statement.proofs.Chains.{known-one, known-most, within-most, held, count-within}
-use Rattle.statement.proofs.Locate.{locate-pickable, locate-within}
+use Rattle.table.proofs.Capacity.{fits-room}
+use Rattle.statement_record.specs.Records.{Appendable}
+use Rattle.statement_target.specs.declared.target.Located.{Located}
+use Rattle.statement_target.specs.declared.target.Located.the-variants.{Refused, At}
+use Rattle.statement_target.specs.Targets.{locatedAs, assertTarget, retractTarget}
+use Rattle.statement_target.proofs.Locate.{known-held, locate-count, locate-within}
 
 -- ---- counters within capacity
 
 module _ (c : Counters) (m : Tables) (e : fits c m ≡ true) where
-  pub statements-in : statementWords * c .statements ≤ length (m .statements)
-  statements-in = fits-room c m e .in-statements
-
-  pub within-held : (x : Triple) → within (c .resources) x ≡ true → PatternHeld (m .resources) x
-  within-held x d = held (m .resources) (c .resources) x (fits-room c m e .in-resources) (within-most (c .resources) x d)
-
-  pub known-pattern : (x : Triple) → known (c .resources) x ≡ true → PatternHeld (m .resources) x
-  known-pattern x d = held (m .resources) (c .resources) x (fits-room c m e .in-resources) (known-most (c .resources) x d)
-
-  pub known-held : (x : Triple) → known (c .resources) x ≡ true → TripleHeld (m .resources) x
-  known-held x d = record { each = λ p. record { from-one = known-one (c .resources) x d p; whole = known-pattern x d .each p } }
-
   -- the record located lies in its table
   pub located-in : (x : Triple) (n : ℕ) → locate c m x ≡ some n → statementWords * n ≤ length (m .statements)
-  located-in x n d = let h = locate-within c m x n d in let r = statements-in in omega arith
+  located-in x n d = let h = locate-within c m x n d in let r = fits-room c m e .in-statements in omega arith
 
   -- where a triple is located, a new record can be linked
   pub appendable : (x : Triple) (n : ℕ) → known (c .resources) x ≡ true → locate c m x ≡ some n → Appendable c (m .resources) x
   appendable x n d l = record {
     few = fits-room c m e .few-statements;
     each = λ p. record {
-      resource-in = known-held x d .each p;
+      resource-in = known-held c m e x d .each p;
       grows =
-          let h = count-within (c .statements) (m .resources) x (locate-pickable c m x n l) p (known-one (c .resources) x d p) in
+          let h = locate-count c m x n l p (known-held c m e x d .each p .from-one) in
           let f = fits-room c m e .few-statements in
           omega arith;
     };
@@ -140,21 +116,3 @@ module _ (c : Counters) (m : Tables) (x : Triple) where
       shape true false o e = let z : _≡_ {A = ℕ} 0 1 = cc in absurd (omega arith)
       shape true true none e = let z : _≡_ {A = ℕ} 0 1 = cc in absurd (omega arith)
       shape true true (some k) e = (refl, cc)
-
--- ---- next of a scan
-
-module _ (c : Counters) (m : Tables) (q : ScanCursor) where
-  -- a cursor that is taken stands within T
-  pub cursor-within : cursorOk c m q ≡ true → q .next .0 ≤ c .statements
-  unfolding cursorOk
-  cursor-within e =
-      let l = leb (q .next .0) (c .statements) in
-      let r = recordOk (m .statements) (q .chain) (q .pattern) (q .next .0) in
-      let k = chainOk (q .chain) (q .pattern) in
-      leb-true (q .next .0) (c .statements) (and-l l r (and-r k (l && r) (and-r (within (c .resources) (q .pattern)) (k && (l && r)) e)))
-
-  pub next-walk : (a : Walked) (b : ℕ) → fits c m ≡ true → cursorOk c m q ≡ true → (b ≡ 0 → ⊥)
-      → stepOf a ≡ walk (linkOf (m .statements) (q .chain)) (visitable (c .resources) (m .statements) (q .chain) (q .pattern)) (hits LiveMatch (m .statements) (q .pattern)) b (q .next .0)
-      → nextOf c m q b ≡ scannedAs q (stepOf a)
-  unfolding nextOf walkFrom hits
-  next-walk a b f k h w = rw (f, k, ne-eqb b 0 h) (ap (scannedAs q) (sym w))

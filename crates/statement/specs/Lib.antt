@@ -1,3 +1,1 @@
-pub mod Chains
-pub mod Operations
 pub mod Lent

@@ -1,47 +1,23 @@
-// Statements and pattern scans (paper 01, "Assert", "Retract", "Open a listing", "Next of a listing").
+// Statements (paper 01, "Assert", "Retract").
 //
 // Each operation takes the counters and all four tables and answers on any words in them: what it answers and what it
-// writes is its definition in `store`. Refusals are tested in the paper's order, and beside a refusal nothing is
-// written. Assert, retract and the scan share one pick, one visit and one walk of a chain (`inner`), so each touches the
-// records of the shortest chain only. Assert and retract come by value and on counters that the caller keeps and lends.
-use crate::inner::Sought;
-use crate::inner::Walked;
-use crate::inner::chain_ok;
-use crate::inner::pick_chain;
-use crate::inner::pickable;
-use crate::inner::record_ok;
-use crate::inner::start_of;
-use crate::inner::walk;
-use crate::record::append;
-use crate::record::revive;
-use crate::record::strike;
-use crate::target::Located;
-use crate::target::assert_target;
-use crate::target::retract_target;
-use crate::triple::within;
+// writes is its definition in `store`. `statement_target` tests the refusals in the paper's order and finds the record,
+// `statement_record` writes; beside a refusal nothing is written. Assert and retract come by value and on counters that
+// the caller keeps and lends.
+use statement_record::record::append;
+use statement_record::record::revive;
+use statement_record::record::strike;
+use statement_target::target::Located;
+use statement_target::target::assert_target;
+use statement_target::target::retract_target;
 use store::Asserted;
 use store::Counters;
-use store::Refusal;
 use store::Retracted;
-use store::ScanCursor;
-use store::ScanOpened;
-use store::Scanned;
-use store::StatementId;
 use store::Triple;
-use table::fits;
 ghost use mathlib.Core.Path.{_≡_};
-ghost use Prim.Native.Nat.{ℕ, _-_, _*_, _≤_};
-ghost use lib.ListN.{length};
-ghost use Rattle.store.specs.Tables.{after, tables, statementWords};
+ghost use Rattle.store.specs.Tables.{after, tables};
 ghost use Rattle.store.specs.Statement.{assertOf, retractOf, countersAfter};
-ghost use Rattle.store.specs.Scan.{cursorAt, openOf, nextOf};
-ghost use Rattle.statement.specs.Operations.{CursorTested};
 ghost use Rattle.statement.specs.Lent.{AssertedLent, RetractedLent};
-
-pub mod inner;
-mod record;
-mod target;
-pub mod triple;
 
 // Assert: new, already or revived, with the statement's number and the counters from now on.
 pub fn assert(
@@ -81,104 +57,6 @@ pub fn retract(
     match retract_target(c, resources, statements, index, text, x) {
         Located::Refused(e) => Retracted::Refused(e),
         Located::At(n) => strike(statements, n),
-    }
-}
-
-// Open a pattern scan: the cursor before the first record of the bound position of least count.
-pub fn scan_open(
-    c: Counters,
-    resources: &[u32],
-    statements: &[u32],
-    index: &[u32],
-    text: &[u8],
-    x: Triple,
-) -> ScanOpened
-    ensures { λ r. ⌜ r
-        ≡ openOf c (tables (now (resources .entry)) (now (statements .entry)) (now (index .entry)) (now (text .entry))) x ⌝ }
-{
-    if !fits(c, resources, statements, index, text) {
-        return ScanOpened::Refused(Refusal::Capacity);
-    }
-    if !within(c.resources, x) {
-        return ScanOpened::Refused(Refusal::UnknownNumber);
-    }
-    if !pickable(c.statements, resources, x) {
-        return ScanOpened::Refused(Refusal::Damaged);
-    }
-    let chain = pick_chain(resources, x);
-    let first = start_of(c.statements, resources, chain, x);
-    ScanOpened::Cursor(ScanCursor {
-        pattern: x,
-        chain: chain,
-        next: StatementId(first),
-    })
-}
-
-// Whether a next call takes the cursor; where not, it refuses 6.
-fn cursor_ok(c: Counters, statements: &[u32], q: ScanCursor) -> bool
-    requires { ⌜ statementWords * c .statements ≤ length (now statements) ⌝ }
-    ensures { λ b. ⌜ CursorTested c (now (statements .entry)) q b ⌝ }
-{
-    let x = q.pattern;
-    if !within(c.resources, x) {
-        return false;
-    }
-    let chain = q.chain;
-    if !chain_ok(chain, x) {
-        return false;
-    }
-    if q.next.0 > c.statements {
-        return false;
-    }
-    record_ok(statements, chain, x, q.next.0)
-}
-
-// The cursor with another next record.
-fn moved(q: ScanCursor, next: StatementId) -> ScanCursor
-    ensures { λ r. ⌜ r ≡ cursorAt (q .pattern) (q .chain) (next .0) ⌝ }
-{
-    let mut m = q;
-    m.next = next;
-    m
-}
-
-// Next of a pattern scan: the first live match within the budget, or that the chain or the budget has ended.
-pub fn scan_next(
-    c: Counters,
-    resources: &[u32],
-    statements: &[u32],
-    index: &[u32],
-    text: &[u8],
-    q: ScanCursor,
-    budget: u32,
-) -> Scanned
-    ensures { λ r. ⌜ r
-        ≡ nextOf c (tables (now (resources .entry)) (now (statements .entry)) (now (index .entry)) (now (text .entry))) q budget ⌝ }
-{
-    if !fits(c, resources, statements, index, text) {
-        return Scanned::Refused(Refusal::Capacity);
-    }
-    if !cursor_ok(c, statements, q) {
-        return Scanned::Refused(Refusal::BadCursor);
-    }
-    if budget == 0 {
-        return Scanned::Refused(Refusal::NoBudget);
-    }
-    let chain = q.chain;
-    let x = q.pattern;
-    match walk(
-        statements,
-        c.resources,
-        chain,
-        x,
-        Sought::LiveMatch,
-        q.next,
-        budget,
-    ) {
-        Walked::Found(n, visits, next) => Scanned::Found(n, visits, moved(q, next)),
-        Walked::Ended(visits) => Scanned::Ended(visits, moved(q, StatementId(0))),
-        Walked::Spent(visits, next) => Scanned::Spent(visits, moved(q, next)),
-        Walked::Damaged => Scanned::Refused(Refusal::Damaged),
     }
 }
 

@@ -379,7 +379,7 @@ fn open(
 ) -> State {
     print::begin(s.case, line);
     let c = s.counters;
-    match statement::scan_open(c, resources, statements, index, text, triple(line)) {
+    match scan::scan_open(c, resources, statements, index, text, triple(line)) {
         ScanOpened::Cursor(q) => {
             print::cursor(q);
             done(placed(s, q))
@@ -402,7 +402,7 @@ fn next(
     print::begin(s.case, line);
     let c = s.counters;
     let at = s.cursor;
-    match statement::scan_next(
+    match scan::scan_next(
         c,
         resources,
         statements,

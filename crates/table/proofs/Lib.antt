@@ -1,3 +1,4 @@
+pub mod Branches
 pub mod Capacity
 pub mod Held
 pub mod Zero

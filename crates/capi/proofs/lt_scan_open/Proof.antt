@@ -15,7 +15,7 @@ use Rattle.capi.proofs.counters_of.Reads as counters-of-reads
 use Rattle.capi.proofs.put_cursor.Reads as put-cursor-reads
 use Rattle.store.proofs.refusal_number.Reads as refusal-number-reads
 use Rattle.capi.proofs.triple_of.Reads as triple-of-reads
-use Rattle.statement.proofs.scan_open.Reads as scan-open-reads
+use Rattle.scan.proofs.scan_open.Reads as scan-open-reads
 
 returns : tie.Need-returns
 unfolding openCall lent

@@ -8,7 +8,7 @@ use Rattle.capi.proofs.next_from.Tie as tie
 use Rattle.capi.proofs.next_from.Reads as reads
 use Rattle.capi.proofs.next_from.Lts as lts
 use Rattle.capi.proofs.cursor_of.Reads as cursor-of-reads
-use Rattle.statement.proofs.scan_next.Reads as scan-next-reads
+use Rattle.scan.proofs.scan_next.Reads as scan-next-reads
 use Rattle.table.proofs.fits.Reads as fits-reads
 
 shared-slice-read-if1 : tie.Need-shared-slice-read-if1

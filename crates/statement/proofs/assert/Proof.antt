@@ -10,9 +10,9 @@ use Rattle.statement.proofs.assert.Statement.{statement}
 use Rattle.statement.proofs.assert.Tie as tie
 use Rattle.statement.proofs.assert.Reads as reads
 use Rattle.statement.proofs.assert.Lts as lts
-use Rattle.statement.proofs.target.assert_target.Reads as assert-target-reads
-use Rattle.statement.proofs.record.append.Reads as append-reads
-use Rattle.statement.proofs.record.revive.Reads as revive-reads
+use Rattle.statement_target.proofs.target.assert_target.Reads as assert-target-reads
+use Rattle.statement_record.proofs.record.append.Reads as append-reads
+use Rattle.statement_record.proofs.record.revive.Reads as revive-reads
 
 assert-target-requires : tie.Need-assert-target-requires
 assert-target-requires c κs = search needs

@@ -7,8 +7,8 @@ use Rattle.statement.proofs.retract.Statement.{statement}
 use Rattle.statement.proofs.retract.Tie as tie
 use Rattle.statement.proofs.retract.Reads as reads
 use Rattle.statement.proofs.retract.Lts as lts
-use Rattle.statement.proofs.record.strike.Reads as strike-reads
-use Rattle.statement.proofs.target.retract_target.Reads as retract-target-reads
+use Rattle.statement_record.proofs.record.strike.Reads as strike-reads
+use Rattle.statement_target.proofs.target.retract_target.Reads as retract-target-reads
 
 retract-target-requires : tie.Need-retract-target-requires
 retract-target-requires c κs = search needs

@@ -1,5 +1,5 @@
 use Rattle.query.specs.Stack.{enteredAs}
-use Rattle.statement.proofs.Chains.{pick-bound}
+use Rattle.chain.proofs.Chains.{pick-bound}
 use borrow.Author.Tests.{eq-eqb, ne-eqb, not-true, not-false}
 use native.Mathlib.Omega.{arith}
 use Prim.Native.Nat.{ℕ, suc, _+_, _-_, _*_, _≤_, _<_}

@@ -1,0 +1,24 @@
+use Rattle.store.specs.Model.{pick}
+use Rattle.store.specs.Walk.{pickChain}
+use Rattle.chain.proofs.Chains.{bound-all, better-bound}
+use Rattle.chain.proofs.pick.pick_chain.Statement.{statement}
+use Rattle.chain.proofs.pick.pick_chain.Tie as tie
+use Rattle.chain.proofs.pick.pick_chain.Reads as reads
+use Rattle.chain.proofs.pick.pick_chain.Lts as lts
+use Rattle.chain.proofs.pick.better.Reads as better-reads
+
+better-requires : tie.Need-better-requires
+better-requires c κs = (c .before .pre, bound-all (c .before .args .x))
+
+better-requires-2 : tie.Need-better-requires-2
+better-requires-2 c κs = (c .before .before .pre, rw (c .better .ensures) (better-bound (c .before .before .args .x) _ _ _ (bound-all (c .before .before .args .x))))
+
+better-requires-3 : tie.Need-better-requires-3
+better-requires-3 c κs = (c .before .before .before .pre, rw (c .better2 .ensures, c .before .better .ensures) (better-bound (c .before .before .before .args .x) _ _ _ (better-bound (c .before .before .before .args .x) _ _ _ (bound-all (c .before .before .before .args .x)))))
+
+returns : tie.Need-returns
+unfolding pickChain pick
+returns c = cc
+
+pub pick-chain-spec : {M : Type 1} → statement M
+pick-chain-spec = tie.close (tie.spec better-requires better-requires-2 better-requires-3 returns)

@@ -1,0 +1,33 @@
+use mathlib.Core.Path.{sym, _∙_}
+use denote.Ref.{now}
+use Rattle.statement_record.proofs.Records.{revived, already}
+use borrow.Author.Needs.{needs}
+use Rattle.statement_record.proofs.record.revive.Statement.{statement}
+use Rattle.statement_record.proofs.record.revive.Tie as tie
+use Rattle.statement_record.proofs.record.revive.Reads as reads
+use Rattle.statement_record.proofs.record.revive.Lts as lts
+use Rattle.statement_record.proofs.record.set_flag.Reads as set-flag-reads
+use Rattle.table.proofs.inner.flag_at.Reads as flag-at-reads
+
+flag-at-requires : tie.Need-flag-at-requires
+flag-at-requires c κs = search needs
+
+set-flag-requires : tie.Need-set-flag-requires
+set-flag-requires c κs = search needs
+
+same-length : tie.Need-same-length
+same-length c = search needs
+
+returns : tie.Need-returns
+returns c = record { leaves = λ x r i t. rw (c .before .before .set-flag .ensures) (revived r (now (c .before .before .before .before .before .before .before .before .args .statements)) i t (c .before .before .before .before .before .before .before .before .args .c) x (c .before .before .before .before .before .before .before .before .args .n .0) (c .before .before .before .before .before .before .before .before .pre .from-one) (sym (c .before .before .before .before .before .flag-at .ensures) ∙ c .before .before .before .before .if1 .taken)) }
+
+same-length-2 : tie.Need-same-length-2
+same-length-2 c = search needs
+
+returns-2 : tie.Need-returns-2
+returns-2 c = record { leaves = λ x r i t. already r (now (c .before .before .before .before .args .statements)) i t (c .before .before .before .before .args .c) x (c .before .before .before .before .args .n .0) (c .before .before .before .before .pre .from-one) (λ e. c .if1 .left (c .before .flag-at .ensures ∙ e)) }
+
+pub revive-spec : {M : Type 1} → statement M
+revive-spec =
+    tie.close
+    (tie.spec flag-at-requires set-flag-requires same-length returns same-length-2 returns-2)

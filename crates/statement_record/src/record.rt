@@ -1,0 +1,131 @@
+// Stores: a new record at the head of its three chains, and a record's flag (paper 01, "Tables and counters").
+//
+// Everything that a store needs is read before it. A new record's nexts are the old firsts; each position is linked by
+// the same function.
+use store::Asserted;
+use store::Counters;
+use store::Position;
+use store::Refusal;
+use store::Retracted;
+use store::StatementId;
+use store::Triple;
+use table::COUNT;
+use table::FLAG;
+use table::NEXT;
+use table::RESOURCE_WORDS;
+use table::STATEMENT_WORDS;
+use table::inner::count_at;
+use table::inner::first_at;
+use table::inner::flag_at;
+use table::inner::offset;
+ghost use mathlib.Core.Path.{_≡_};
+ghost use Prim.Native.Nat.{ℕ, suc, _-_, _*_, _/_, _≤_, min};
+ghost use lib.ListN.{length};
+ghost use lib.Dec.{ltb};
+ghost use Rattle.store.specs.Tables.{statementWords, maxStatements};
+ghost use Rattle.store.specs.Statement.{appendRecord, linkFirst, linkRecord};
+ghost use Rattle.table.specs.Held.{StatementHeld, TripleHeld};
+ghost use Rattle.statement_record.specs.Records.{flagged, Linkable, Appendable, Appended, Revived, Struck};
+
+// The flag of record n.
+pub fn set_flag(statements: &mut [u32], n: u32, flag: u32)
+    requires { ⌜ StatementHeld (now statements) n ⌝ }
+    ensures { λ _. ⌜ now (statements .exit) ≡ flagged (now (statements .entry)) (n - 1) flag ⌝ }
+{
+    let i = STATEMENT_WORDS * (n as usize - 1) + FLAG;
+    statements[i] = flag;
+}
+
+// The seven words of record t + 1.
+pub fn write_record(resources: &[u32], statements: &mut [u32], t: u32, x: Triple)
+    requires { ⌜ TripleHeld (now resources) x × (statementWords * suc t ≤ length (now statements)) ⌝ }
+    ensures { λ _. ⌜ now (statements .exit) ≡ appendRecord t x (now (resources .entry)) (now (statements .entry)) ⌝ }
+{
+    let subject = first_at(resources, x.subject.0, Position::Subject);
+    let predicate = first_at(resources, x.predicate.0, Position::Predicate);
+    let object = first_at(resources, x.object.0, Position::Object);
+    let i = STATEMENT_WORDS * (t as usize);
+    statements[i] = x.subject.0;
+    statements[i + 1] = x.predicate.0;
+    statements[i + 2] = x.object.0;
+    statements[i + NEXT] = subject;
+    statements[i + NEXT + 1] = predicate;
+    statements[i + NEXT + 2] = object;
+    statements[i + FLAG] = 0;
+}
+
+// Record t + 1 as the first with resource y at a position, which one more holds.
+pub fn link_first(resources: &mut [u32], p: Position, t: u32, y: u32)
+    requires { ⌜ Linkable (now resources) p y × (t ≤ maxStatements) ⌝ }
+    ensures { λ _. ⌜ now (resources .exit) ≡ linkFirst p t y (now (resources .entry)) ⌝ }
+{
+    let count = count_at(resources, y, p);
+    let i = RESOURCE_WORDS * (y as usize - 1) + offset(p);
+    resources[i] = t + 1;
+    resources[i + COUNT] = count + 1;
+}
+
+// Record t + 1 at the head of its three chains.
+pub fn link_record(resources: &mut [u32], c: Counters, x: Triple)
+    requires { ⌜ Appendable c (now resources) x ⌝ }
+    ensures { λ _. ⌜ now (resources .exit) ≡ linkRecord (c .statements) x (now (resources .entry)) ⌝ }
+{
+    let t = c.statements;
+    link_first(resources, Position::Subject, t, x.subject.0);
+    link_first(resources, Position::Predicate, t, x.predicate.0);
+    link_first(resources, Position::Object, t, x.object.0);
+}
+
+// Whether one record more than t is within capacity.
+pub fn has_room(statements: &[u32], t: u32) -> bool
+    ensures { λ b. ⌜ b ≡ ltb t (min (length (now (statements .entry)) / statementWords) maxStatements) ⌝ }
+{
+    if t >= Counters::MAX_STATEMENTS {
+        return false;
+    }
+    (t as usize) < statements.len() / STATEMENT_WORDS
+}
+
+// A new record, or 3 where there is no room.
+pub fn append(c: Counters, resources: &mut [u32], statements: &mut [u32], x: Triple) -> Asserted
+    requires { ⌜ Appendable c (now resources) x ⌝ }
+    ensures { λ r. ⌜ Appended c x (now (resources .entry)) (now (resources .exit))
+        (now (statements .entry)) (now (statements .exit)) r ⌝ }
+{
+    if !has_room(statements, c.statements) {
+        return Asserted::Refused(Refusal::Full);
+    }
+    write_record(resources, statements, c.statements, x);
+    link_record(resources, c, x);
+    let n = c.statements + 1;
+    let mut d = c;
+    d.statements = n;
+    Asserted::New(StatementId(n), d)
+}
+
+// The triple's own record n: live already, or made live.
+pub fn revive(c: Counters, statements: &mut [u32], n: StatementId) -> Asserted
+    requires { ⌜ StatementHeld (now statements) (n .0) ⌝ }
+    ensures { λ r. ⌜ Revived c (n .0) (now (statements .entry)) (now (statements .exit)) r ⌝ }
+{
+    if flag_at(statements, n.0) == 1 {
+        set_flag(statements, n.0, 0);
+        return Asserted::Revived(n, c);
+    }
+    Asserted::Already(n, c)
+}
+
+// The record n is retracted if it is live; 0 stands for no record.
+pub fn strike(statements: &mut [u32], n: StatementId) -> Retracted
+    requires { ⌜ statementWords * n .0 ≤ length (now statements) ⌝ }
+    ensures { λ r. ⌜ Struck (n .0) (now (statements .entry)) (now (statements .exit)) r ⌝ }
+{
+    if n.0 == 0 {
+        return Retracted::Absent;
+    }
+    if flag_at(statements, n.0) == 1 {
+        return Retracted::Absent;
+    }
+    set_flag(statements, n.0, 1);
+    Retracted::Number(n)
+}

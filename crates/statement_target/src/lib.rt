@@ -1,0 +1,4 @@
+// The search that assert and retract begin with.
+//
+// `target` tests the refusals in the paper's order and finds the record with a triple. Nothing here is written.
+pub mod target;

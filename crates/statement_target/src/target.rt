@@ -1,0 +1,141 @@
+// What assert and retract find before anything is written: the record with the triple, or a refusal (paper 01,
+// "Assert", "Retract").
+use chain::pick::pick_chain;
+use chain::pick::pickable;
+use chain::pick::start_of;
+use chain_walk::walk::Sought;
+use chain_walk::walk::Walked;
+use chain_walk::walk::walk;
+use store::Counters;
+use store::Refusal;
+use store::StatementId;
+use store::Triple;
+use table::fits;
+use table::in_range;
+use table::inner::kind_at;
+use table::known;
+ghost use mathlib.Core.Path.{_≡_};
+ghost use mathlib.Core.List.{[]};
+ghost use Prim.Native.Nat.{ℕ, _*_, _≤_};
+ghost use lib.ListN.{length};
+ghost use Rattle.store.specs.Triple.{permitted};
+ghost use Rattle.store.specs.Tables.{tables, statementWords, kindAt};
+ghost use Rattle.store.specs.Statement.{locate, kinded};
+ghost use Rattle.table.specs.Held.{TripleHeld};
+ghost use Rattle.chain.specs.Chains.{PatternHeld};
+ghost use Rattle.statement_target.specs.Targets.{locatedAs, assertTarget, retractTarget};
+
+// Kinds of names: an IRI is 1, a literal 3, a blank node between them.
+const IRI: u32 = 1;
+
+const LITERAL: u32 = 3;
+
+// Where the record with a triple is: its number, 0 for none; or why the operation refuses.
+pub enum Located {
+    Refused(Refusal),
+    At(StatementId),
+}
+
+// The record with a triple, by the chain that a scan would take, retracted or not. T visits reach every record.
+pub fn locate(c: Counters, resources: &[u32], statements: &[u32], x: Triple) -> Located
+    requires { ⌜ PatternHeld (now resources) x × (statementWords * c .statements ≤ length (now statements)) ⌝ }
+    ensures { λ r. ⌜ r ≡ locatedAs (locate c (tables (now (resources .entry)) (now (statements .entry)) [] []) x) ⌝ }
+{
+    if !pickable(c.statements, resources, x) {
+        return Located::Refused(Refusal::Damaged);
+    }
+    let chain = pick_chain(resources, x);
+    let first = start_of(c.statements, resources, chain, x);
+    match walk(
+        statements,
+        c.resources,
+        chain,
+        x,
+        Sought::Same,
+        StatementId(first),
+        c.statements,
+    ) {
+        Walked::Found(n, _, _) => Located::At(n),
+        Walked::Ended(_) => Located::At(StatementId(0)),
+        Walked::Spent(_, _) => Located::At(StatementId(0)),
+        Walked::Damaged => Located::Refused(Refusal::Damaged),
+    }
+}
+
+// Whether the kinds of all three resources are in 1..=3.
+pub fn kinded(resources: &[u32], x: Triple) -> bool
+    requires { ⌜ TripleHeld (now resources) x ⌝ }
+    ensures { λ b. ⌜ b ≡ kinded (now (resources .entry)) x ⌝ }
+{
+    let s = kind_at(resources, x.subject.0);
+    if !in_range(LITERAL, s) {
+        return false;
+    }
+    let p = kind_at(resources, x.predicate.0);
+    if !in_range(LITERAL, p) {
+        return false;
+    }
+    let o = kind_at(resources, x.object.0);
+    in_range(LITERAL, o)
+}
+
+// Whether the subject is no literal and the predicate is an IRI.
+pub fn permitted(resources: &[u32], x: Triple) -> bool
+    requires { ⌜ TripleHeld (now resources) x ⌝ }
+    ensures { λ b. ⌜ b ≡ permitted (kindAt (now (resources .entry))) x ⌝ }
+{
+    let s = kind_at(resources, x.subject.0);
+    if s == LITERAL {
+        return false;
+    }
+    let p = kind_at(resources, x.predicate.0);
+    p == IRI
+}
+
+// What assert finds before it writes: the record with the triple, or a refusal.
+pub fn assert_target(
+    c: Counters,
+    resources: &[u32],
+    statements: &[u32],
+    index: &[u32],
+    text: &[u8],
+    x: Triple,
+) -> Located
+    ensures { λ r. ⌜ r
+        ≡ assertTarget c (tables (now (resources .entry)) (now (statements .entry)) (now (index .entry)) (now (text .entry))) x ⌝ }
+{
+    if !fits(c, resources, statements, index, text) {
+        return Located::Refused(Refusal::Capacity);
+    }
+    if !known(c.resources, x) {
+        return Located::Refused(Refusal::UnknownNumber);
+    }
+    if !kinded(resources, x) {
+        return Located::Refused(Refusal::Damaged);
+    }
+    if !permitted(resources, x) {
+        return Located::Refused(Refusal::KindNotPermitted);
+    }
+    locate(c, resources, statements, x)
+}
+
+// What retract finds before it writes: the record with the triple, or a refusal.
+pub fn retract_target(
+    c: Counters,
+    resources: &[u32],
+    statements: &[u32],
+    index: &[u32],
+    text: &[u8],
+    x: Triple,
+) -> Located
+    ensures { λ r. ⌜ r
+        ≡ retractTarget c (tables (now (resources .entry)) (now (statements .entry)) (now (index .entry)) (now (text .entry))) x ⌝ }
+{
+    if !fits(c, resources, statements, index, text) {
+        return Located::Refused(Refusal::Capacity);
+    }
+    if !known(c.resources, x) {
+        return Located::Refused(Refusal::UnknownNumber);
+    }
+    locate(c, resources, statements, x)
+}
