@@ -1,3 +1,2 @@
 pub mod WordLaws
 pub mod Matches
-pub mod LevelLaws

@@ -1,2 +1,1 @@
 pub mod Matching
-pub mod Levels

@@ -1,7 +1,5 @@
--- What the code's `Matched` says of a match, and the words that a pattern may hold.
--- Assumes nothing.
-use mathlib.Core.Path.{_≡_}
-use mathlib.Core.Bool.{Bool, true, false, cond}
+-- What the code's `Matched` says of a match, and the words that a pattern may hold. Assumes nothing.
+use mathlib.Core.Bool.{true, false, cond}
 use mathlib.Core.Option.{Option, none, some}
 use Prim.Native.Nat.{ℕ, _+_, _<_}
 use lib.Dec.{eqb}
@@ -11,7 +9,11 @@ use Rattle.graph.specs.declared.Solution.{Solution}
 use Rattle.graph.specs.Query.{Bindings, firstVariable, variables}
 use Rattle.pattern.specs.declared.binding.Matched.{Matched}
 
--- a number other than 0, or one of the sixteen variables
+-- how many words a pattern has: subject, predicate, object
+abbrev pub patternWords : ℕ
+patternWords = 3
+
+-- a number other than 0, or one of the variables
 pub record WordFits (w : ℕ) : Type 0 where
   pub some-word : 0 < w
   pub fits : w < firstVariable + variables

@@ -1,4 +1,5 @@
 // What a query's variables are bound to, and a triple against a pattern (paper 01, "Next of a question").
+use crate::words::PATTERN_WORDS;
 use graph::FIRST_VARIABLE;
 use graph::QueryPattern;
 use graph::Solution;
@@ -6,9 +7,8 @@ use graph::VARIABLES;
 use store::ResourceId;
 use store::Triple;
 ghost use mathlib.Core.Path.{_≡_};
-ghost use Prim.Native.Nat.{ℕ, _<_};
 ghost use mathlib.Core.Option.{none};
-ghost use Rattle.graph.specs.Query.{valueOf, under, match};
+ghost use Rattle.graph.specs.Query.{unbound, valueOf, under, match};
 ghost use Rattle.pattern.specs.Matching.{PatternOk, WordFits, wordAt, numberAt, matchedAs};
 
 // Whether a triple meets a pattern, and what is bound from now on; where it does not, what was bound before.
@@ -16,6 +16,16 @@ ghost use Rattle.pattern.specs.Matching.{PatternOk, WordFits, wordAt, nu
 pub struct Matched {
     pub bound: Solution,
     pub hit: bool,
+}
+
+// Nothing is bound.
+pub fn none_bound() -> Solution
+    ensures { λ b. ⌜ b .values ≡ unbound ⌝ }
+{
+    let zero = ResourceId(0);
+    Solution {
+        values: [zero; VARIABLES],
+    }
 }
 
 // The number that a word stands for, or 0 where it is an open variable.
@@ -81,15 +91,14 @@ pub fn unmet(bound: Solution) -> Matched
 }
 
 // A triple meets a pattern, subject, predicate, object in turn: an open variable takes the resource, anything else
-// must be it. One
-// copy of what is bound is written in place.
+// must be it. One copy of what is bound is written in place.
 pub fn meet(x: QueryPattern, t: Triple, bound: Solution) -> Matched
     requires { ⌜ PatternOk x ⌝ }
     ensures { λ m. ⌜ m ≡ matchedAs bound (match x t (bound .values)) ⌝ }
 {
     let mut b = bound;
     let mut k: u32 = 0;
-    while k < 3 {
+    while k < PATTERN_WORDS as u32 {
         let w = word_at(x, k);
         let n = number_at(t, k);
         k += 1;

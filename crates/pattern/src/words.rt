@@ -4,10 +4,11 @@ use graph::MAX_PATTERNS;
 use graph::QueryPattern;
 use graph::VARIABLES;
 ghost use mathlib.Core.Path.{_≡_};
-ghost use Prim.Native.Nat.{ℕ, _<_, _≤_};
+ghost use Prim.Native.Nat.{_<_, _≤_};
 ghost use lib.ListN.{length, getD};
 ghost use Rattle.graph.specs.Query.{wordOk, wordsOk, patternsOf, pattern, maxPatterns};
 
+// How many words a pattern has: subject, predicate, object.
 pub const PATTERN_WORDS: usize = 3;
 
 // Whether a word is a resource's number or a variable.

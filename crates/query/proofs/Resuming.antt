@@ -1,44 +1,45 @@
--- Laws of a place that is gone on from: what refusal 6 and 9 have tested, the levels below a struck-out record, the
--- first pattern.
--- Assumes nothing.
-use mathlib.Core.Path.{_≡_, refl, sym, ap, ap₂, _∙_}
+-- Laws of a place that is gone on from: what refusals 6 and 9 have tested, the levels below a struck-out record, the
+-- first pattern. Assumes nothing.
+use mathlib.Core.Path.{_≡_, refl, sym, ap, _∙_}
 use mathlib.Core.Logic.{_≢_}
-use mathlib.Core.Bool.{Bool, true, false, cond, _&&_, _||_, false≢true}
+use mathlib.Core.Bool.{Bool, true, false, _&&_, _||_, or-true, false≢true}
 use mathlib.Core.List.{List, [], _∷_}
 use Prim.Native.Nat.{ℕ, zero, suc, _+_, _*_, _-_, _≤_, _<_}
 use native.Mathlib.Omega.{arith}
-use lib.ListN.{length, getD, set, length-set, replicate}
+use lib.ListN.{length, getD, set}
 use lib.Seq.{getD-set-same, getD-set-other}
 use lib.Dec.{eqb, leb, ltb}
-use borrow.Author.Tests.{eqb-true, eqb-false, eq-eqb, ne-eqb, ltb-true, leb-true, lt-ltb, le-ltb}
+use borrow.Author.Tests.{eqb-true, eqb-false, eq-eqb, ne-eqb, ltb-true, leb-true, lt-ltb}
 use Rattle.store.specs.declared.Refusal.the-variants.{Damaged as Nine}
 use Rattle.store.specs.declared.Counters.{Counters}
 use Rattle.store.specs.declared.Triple.{Triple}
+use Rattle.store.specs.Triple.{known}
 use Rattle.store.specs.Tables.{Tables, fits, statementWords, flagAt}
-use Rattle.table.proofs.Capacity.{fits-room}
 use Rattle.store.specs.Scan.{chainOk, recordOk}
-use Rattle.store.proofs.Tests.{decide, and-l, and-r}
-use Rattle.graph.proofs.Laws.{levels-length, levels-set, written-length}
 use Rattle.graph.specs.declared.QueryPattern.{QueryPattern}
 use Rattle.graph.specs.declared.Solution.{Solution}
 use Rattle.graph.specs.declared.Level.{Level}
-use Rattle.graph.specs.Query.{patternsOf, pattern, wordsOk, Bindings, unbound, under, level, noLevel, Place, start}
-use Rattle.graph.specs.Query.{inside, past, struck, intact, anyStruck, pruned, binds, asked, enteredOk, placeOk}
-use Rattle.graph.specs.Query.{levelsOf, insideOf, written, Turn, bad, go, whole, Answer, refused, found, finish}
-use Rattle.graph.specs.Query.{enter, begun, walk, resume}
-use Rattle.pattern.specs.Levels.{LevelsHeld, levelIntact, FirstStruck}
-use Rattle.pattern.proofs.LevelLaws.{or-true, entered-each, ok-number, ok-resources, intact-each, intact-at}
-use Rattle.pattern.proofs.LevelLaws.{written-step, binds-none, asked-is}
-use Rattle.query.specs.declared.walk.Stack.{Stack}
-use Rattle.query.specs.declared.walk.Outcome.{Outcome}
-use Rattle.query.specs.declared.walk.Outcome.the-variants.{Damaged, Onward, Whole}
-use Rattle.query.specs.declared.walk.Turned.{Turned}
-use Rattle.query.specs.Stack.{deepest, entered, Ready, LevelSure, Stands, standAs, onto, enteredAs, turnAs}
-use Rattle.query.specs.Stack.{TurnIs}
+use Rattle.graph.specs.Query.{patternsOf, pattern, maxPatterns, wordsOk, Bindings, unbound, under, match, isSome}
+use Rattle.graph.specs.Query.{noLevel, start, inside, recordAt, past, struck, intact, anyStruck, pruned, binds, asked}
+use Rattle.graph.specs.Query.{enteredOk, placeOk, levelsOf, insideOf, written, refused, found, finish, enter, begun}
+use Rattle.graph.specs.Query.{walk, resume}
+use Rattle.pattern_level.specs.Levels.{LevelsHeld, levelIntact, FirstStruck}
+use Rattle.pattern_place.specs.Tested.{levelOk}
+use Rattle.query_stack.specs.declared.stack.Stack.{Stack}
+use Rattle.query_stack.specs.declared.stack.Outcome.{Outcome}
+use Rattle.query_stack.specs.declared.stack.Outcome.the-variants.{Damaged, Onward, Whole}
+use Rattle.query_stack.specs.declared.stack.Turned.{Turned}
+use Rattle.query_stack.specs.Stack.{deepest, entered, standAs, enteredAs}
+use Rattle.query_walk.specs.Turn.{Ready, Stands, onto, turnAs, TurnIs}
 use Rattle.query.specs.Resume.{onwardAs, Pruned}
-use Rattle.query.proofs.Stacks.{levels-none, levels-step, ready-query, Sure, sure-none, sure-less, top-is}
-use Rattle.query.proofs.Stacks.{stands-new, stack-is}
-use Rattle.query.proofs.Turns.{entering}
+use Rattle.store.proofs.Tests.{decide, and-l, and-r}
+use Rattle.table.proofs.Capacity.{fits-room}
+use Rattle.graph.proofs.Laws.{levels-length, levels-set, written-length}
+use Rattle.pattern_level.proofs.LevelLaws.{intact-step, intact-at, written-step, binds-none, asked-is}
+use Rattle.pattern_place.proofs.PlaceLaws.{entered-step}
+use Rattle.query_stack.proofs.Stacks.{stack-is}
+use Rattle.query_walk.proofs.Stands.{ready-query, Sure, sure-none, top-is, stands-new}
+use Rattle.query_walk.proofs.Turns.{levels-none, entering}
 
 -- ---- what 1 and 8 have tested
 
@@ -68,6 +69,49 @@ inside-none ls (suc d) h = absurd (omega arith)
 
 -- ---- what 6 has tested
 
+-- of one entered level
+module _ (r t : ℕ) (stm : List ℕ) (x : QueryPattern) (b : Bindings) (e : Level) where
+  pub ok-number : levelOk r t stm x b e ≡ true → (1 ≤ e .statement .0) × (e .statement .0 ≤ t)
+  unfolding levelOk
+  ok-number h =
+      let q = and-l (ltb 0 (e .statement .0) && leb (e .statement .0) t) _ h in (
+        ltb-true 0 (e .statement .0) (and-l _ (leb (e .statement .0) t) q),
+        leb-true (e .statement .0) t
+            (and-r (ltb 0 (e .statement .0)) _ q),
+      )
+
+  pub ok-resources : levelOk r t stm x b e ≡ true → known r (recordAt stm (e .statement .0)) ≡ true
+  unfolding levelOk
+  ok-resources h =
+      and-l _ (isSome (match x (recordAt stm (e .statement .0)) b))
+      (and-r (chainOk (e .chain) (under b x)) _ (and-r (ltb 0 (e .statement .0) && leb (e .statement .0) t) _ h))
+
+-- of each of the first d
+module _ (r t : ℕ) (stm : List ℕ) (ps : List QueryPattern) (ls : List Level) where
+  pub entered-each : (d : ℕ) → enteredOk stm ps r t (levelsOf ls d) ≡ true → (i : ℕ) → i < d
+      → levelOk r t stm (getD ps i (pattern 0 0 0)) (binds stm ps (levelsOf ls i)) (getD ls i noLevel) ≡ true
+  entered-each zero e i h = absurd (omega arith)
+  entered-each (suc d) e i h =
+      let q : suc d ≡ d + 1 = omega arith in
+      let f = sym (entered-step r t stm ps ls d) ∙ (rw q at e) in
+      decide (eqb i d) (λ k. rw (eqb-true i d k) (and-l _ (enteredOk stm ps r t (levelsOf ls d)) f))
+      (λ k.
+      let n = eqb-false i d k in
+      entered-each d (and-r (levelOk r t stm (getD ps d (pattern 0 0 0)) (binds stm ps (levelsOf ls d))
+      (getD ls d noLevel)) _ f) i (omega arith))
+
+-- and 9 before any visit
+module _ (stm : List ℕ) (ls : List Level) where
+  pub intact-each : (d : ℕ) → intact stm (levelsOf ls d) ≡ true → (i : ℕ) → i < d
+      → levelIntact stm (getD ls i noLevel) ≡ true
+  intact-each zero e i h = absurd (omega arith)
+  intact-each (suc d) e i h =
+      let q : suc d ≡ d + 1 = omega arith in
+      let f = sym (intact-step stm ls d) ∙ (rw q at e) in
+      decide (eqb i d) (λ k. rw (eqb-true i d k) (and-l _ (intact stm (levelsOf ls d)) f))
+      (λ k. let n = eqb-false i d k in intact-each d (and-r (levelIntact stm (getD ls d noLevel)) _ f) i (omega arith))
+
+-- of a place
 module _ (r t : ℕ) (stm : List ℕ) (ps : List QueryPattern) (ls : List Level) (top : ℕ)
     (ok : placeOk stm ps r t (inside (getD ls top noLevel) (levelsOf ls top)) ≡ true) where
   rest : enteredOk stm ps r t (levelsOf ls top)
@@ -95,7 +139,7 @@ module _ (r t : ℕ) (stm : List ℕ) (ps : List QueryPattern) (ls : List Level)
       leb-true ((getD ls top noLevel) .statement .0) t
       (and-l (leb ((getD ls top noLevel) .statement .0) t) _ (and-r (enteredOk stm ps r t (levelsOf ls top)) _ rest))
 
-  pub levels-held : top ≤ 8 → statementWords * t ≤ length stm → LevelsHeld stm ls top
+  pub levels-held : top ≤ maxPatterns → statementWords * t ≤ length stm → LevelsHeld stm ls top
   levels-held h g =
       record {
         few = h;
@@ -133,7 +177,9 @@ module _ (stm : List ℕ) (ls : List Level) where
   any-struck i (suc d) h e =
       decide (eqb i d)
       (λ z. let f : struck stm (getD ls d noLevel) ≡ true = rw (eqb-true i d z) at e in rw (anyStruck, levelsOf, f))
-      (λ z. let n = eqb-false i d z in or-true (struck stm (getD ls d noLevel)) _ (any-struck i d (omega arith) e))
+      (λ z. let n = eqb-false i d z in
+      ap (λ (b : Bool). struck stm (getD ls d noLevel) || b) (any-struck i d (omega arith) e)
+      ∙ or-true (struck stm (getD ls d noLevel)))
 
   pruned-none : (l : Level) (up : List Level) → anyStruck stm up ≡ false → pruned stm l up ≡ (l, up)
   unfolding pruned
@@ -170,7 +216,7 @@ module _ (stm : List ℕ) (ls : List Level) where
 
 -- ---- levels written out
 
-pub written-get : (ls : List Level) (d i : ℕ) → d ≤ 8 → i < d → getD (written (levelsOf ls d)) i noLevel
+pub written-get : (ls : List Level) (d i : ℕ) → d ≤ maxPatterns → i < d → getD (written (levelsOf ls d)) i noLevel
     ≡ getD ls i noLevel
 written-get ls zero i h g = absurd (omega arith)
 written-get ls (suc d) i h g =
@@ -209,7 +255,7 @@ pub pruned-made : (stm : List ℕ) (ps : List QueryPattern) (ls : List Level) (t
 pruned-made stm ps ls top i s f e = rw e (record { first = f; made = refl })
 
 -- no record is struck out: what refusal 6 has found bound is handed on
-pub written-levels : (ls : List Level) (i : ℕ) (l : Level) → i ≤ 8
+pub written-levels : (ls : List Level) (i : ℕ) (l : Level) → i ≤ maxPatterns
     → levelsOf (set (written (levelsOf ls i)) i l) i ≡ levelsOf ls i
 written-levels ls i l h =
     levels-set (written (levelsOf ls i)) i i l (omega arith)
@@ -217,7 +263,7 @@ written-levels ls i l h =
 
 pub pruned-kept : (stm : List ℕ) (ps : List QueryPattern) (ls : List Level) (top i : ℕ) (b : Solution) (x : Triple)
     (p : QueryPattern)
-    → i ≤ 8 → i ≡ top → FirstStruck stm ls top i → b .values ≡ binds stm ps (levelsOf ls top) → x ≡ under (b .values) p
+    → i ≤ maxPatterns → i ≡ top → FirstStruck stm ls top i → b .values ≡ binds stm ps (levelsOf ls top) → x ≡ under (b .values) p
     → p ≡ getD ps i (pattern 0 0 0)
     → Pruned stm ps ls top
     (record { top = i; levels = set (written (levelsOf ls i)) i (onwardAs stm ls top i); bound = b; asked = x })
@@ -242,7 +288,7 @@ module _ (r t : ℕ) (res stm ws : List ℕ) (k : Ready r t res stm ws) (ls : Li
   few : s .top < length (patternsOf ws)
   few = let a = p .first .among in let b = top-few r t stm (patternsOf ws) ls top ok in omega arith
 
-  small : s .top < 8
+  small : s .top < maxPatterns
   small = let a = few in let b = (ready-query r t res stm ws k) .few in omega arith
 
   own-levels : levelsOf own (s .top) ≡ levelsOf ls (s .top)
@@ -311,7 +357,7 @@ module _ (r t : ℕ) (res stm ws : List ℕ) (budget : ℕ) where
   begin-none e = rw (eq-eqb (length (patternsOf ws)) 0 e)
 
   module _ (k : Ready r t res stm ws) (some-pattern : length (patternsOf ws) ≡ 0 → ⊥) (ls : List Level)
-      (size : length ls ≡ 8) (b : Solution) (open-all : b .values ≡ unbound) (m : Turned)
+      (size : length ls ≡ maxPatterns) (b : Solution) (open-all : b .values ≡ unbound) (m : Turned)
       (e : m ≡ enteredAs t res (under (b .values) (getD (patternsOf ws) 0 (pattern 0 0 0))) 0 b) where
     first-turn : TurnIs r t stm ws (enter r t res stm (patternsOf ws) []) ls m
     first-turn =
@@ -343,5 +389,5 @@ module _ (r t : ℕ) (res stm ws : List ℕ) (budget : ℕ) where
     pub begin-stands : m .outcome ≡ Onward → Stands r t stm ws (onto ls m)
     begin-stands f = first-turn .stands f
 
-    pub begin-slot : m .top < 8
+    pub begin-slot : m .top < maxPatterns
     begin-slot = first-turn .slot

@@ -8,9 +8,9 @@ use lib.Dec.{ltb}
 use Rattle.graph.specs.declared.QueryPattern.{QueryPattern}
 use Rattle.graph.specs.declared.Level.{Level}
 use Rattle.graph.specs.Query.{noLevel, past, levelsOf, written}
-use Rattle.pattern.specs.Levels.{FirstStruck}
-use Rattle.query.specs.declared.walk.Stack.{Stack}
-use Rattle.query.specs.Stack.{standAs}
+use Rattle.pattern_level.specs.Levels.{FirstStruck}
+use Rattle.query_stack.specs.declared.stack.Stack.{Stack}
+use Rattle.query_stack.specs.Stack.{standAs}
 
 -- level i after its record, or the deepest as it is
 abbrev pub onwardAs : List ℕ → List Level → ℕ → ℕ → Level

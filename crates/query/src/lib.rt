@@ -2,18 +2,17 @@
 // Nothing is written.
 //
 // The words are passed at each call, and the cursor holds none of them: a cursor of another query, or of another
-// store, is judged by
-// refusal 6 alone. Refusals, in the order tested: open 1, 8; next 1, 8, 6, 7, 9.
+// store, is judged by refusal 6 alone. Refusals, in the order tested: open 1, 8; next 1, 8, 6, 7, 9.
 use crate::resume::resume;
-use crate::walk::no_levels;
-use crate::walk::refused;
 use graph::Opening;
 use graph::Progress;
 use graph::QueryAnswer;
 use graph::QueryCursor;
 use graph::QueryOpened;
-use pattern::level::place_ok;
 use pattern::words::words_ok;
+use pattern_place::place::place_ok;
+use query_stack::stack::no_levels;
+use query_stack::stack::refused;
 use store::Counters;
 use store::Refusal;
 use table::fits;
@@ -22,7 +21,6 @@ ghost use Rattle.store.specs.Tables.{tables};
 ghost use Rattle.graph.specs.Query.{openQueryOf, nextQueryOf};
 
 pub mod resume;
-pub mod walk;
 
 // Open a query: 1; 8 if the words are no query; else the cursor before the first solution.
 pub fn query_open(

@@ -1,13 +1,5 @@
 // Where a next call goes on: before the first pattern, within its levels, or at the end (paper 01, "Next of a
 // question").
-use crate::walk::Outcome;
-use crate::walk::Stack;
-use crate::walk::ended;
-use crate::walk::enter;
-use crate::walk::no_levels;
-use crate::walk::refused;
-use crate::walk::stand;
-use crate::walk::walk;
 use graph::Level;
 use graph::MAX_PATTERNS;
 use graph::Progress;
@@ -15,24 +7,33 @@ use graph::QueryAnswer;
 use graph::QueryCursor;
 use graph::QueryStep;
 use graph::Solution;
+use pattern::binding::none_bound;
 use pattern::binding::under;
-use pattern::level::first_struck;
-use pattern::level::intact;
-use pattern::level::none_bound;
-use pattern::level::past;
-use pattern::level::written;
 use pattern::words::pattern_at;
 use pattern::words::patterns;
+use pattern_level::level::first_struck;
+use pattern_level::level::intact;
+use pattern_level::level::past;
+use pattern_level::level::written;
+use query_stack::stack::Outcome;
+use query_stack::stack::Stack;
+use query_stack::stack::ended;
+use query_stack::stack::enter;
+use query_stack::stack::no_levels;
+use query_stack::stack::refused;
+use query_stack::stack::stand;
+use query_walk::walk::walk;
 use store::Counters;
 use store::Refusal;
 ghost use mathlib.Core.Path.{_≡_};
 ghost use mathlib.Core.Bool.{true};
-ghost use Prim.Native.Nat.{ℕ, _<_, _≤_};
+ghost use Prim.Native.Nat.{_<_, _≤_};
 ghost use lib.ListN.{length, getD};
-ghost use Rattle.graph.specs.Query.{maxPatterns, patternsOf, noLevel, start, inside, placeOk, placeOf, levelsOf, packed, resume};
-ghost use Rattle.graph.specs.Query.{binds};
-ghost use Rattle.pattern.specs.Levels.{QueryOk, LevelsHeld, Handed};
-ghost use Rattle.query.specs.Stack.{Ready};
+ghost use Rattle.graph.specs.Query.{maxPatterns, patternsOf, noLevel, start, inside, placeOk, placeOf, levelsOf};
+ghost use Rattle.graph.specs.Query.{packed, resume, binds};
+ghost use Rattle.pattern_level.specs.Levels.{QueryOk, LevelsHeld};
+ghost use Rattle.pattern_place.specs.Tested.{Handed};
+ghost use Rattle.query_walk.specs.Turn.{Ready};
 ghost use Rattle.query.specs.Resume.{Pruned, onwardAs};
 
 // Before the first solution: the first pattern is entered, at no visit. No patterns give one empty solution, with the

@@ -16,7 +16,7 @@
 // | N b               | next from the cursor with budget b                                                     | reply  |
 //
 // Each call writes its number, its name and the whole reply: `opened`, `found`, `ended`, `spent` or `refused` and the paper's number; the
-// visits; sixteen resources; the cursor with all its slots. A reply that is no refusal gives the next call's cursor.
+// visits; a resource for each variable; the cursor with all its slots. A reply that is no refusal gives the next call's cursor.
 use graph::Level;
 use graph::MAX_PATTERNS;
 use graph::Opening;

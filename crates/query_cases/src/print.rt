@@ -33,7 +33,7 @@ pub fn refused(e: Refusal) {
     number(paper_number(e));
 }
 
-// The sixteen numbers.
+// What each variable is bound to, 0 where it is not used.
 pub fn solution(b: Solution) {
     io::write_all(STDOUT_FILENO, b" solution");
     let mut v = 0;
@@ -44,7 +44,7 @@ pub fn solution(b: Solution) {
     }
 }
 
-// How far, how many levels, and all eight slots, the first pattern's first.
+// How far, how many levels, and all the slots, the first pattern's first.
 pub fn cursor(q: QueryCursor) {
     let progress = q.progress;
     match progress {

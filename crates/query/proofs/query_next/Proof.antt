@@ -1,11 +1,8 @@
-use mathlib.Core.Path.{_≡_, refl, sym, ap, _∙_}
-use Prim.Native.Nat.{ℕ, suc, _+_, _-_, _*_, _≤_, _<_}
-use native.Mathlib.Omega.{arith}
-use borrow.Author.Tests.{eq-eqb, ne-eqb, lt-ltb, le-ltb, le-leb, lt-leb, eqb-true, eqb-false, ltb-true, ltb-false}
-use borrow.Author.Tests.{leb-true, leb-false, not-true, not-false}
+use mathlib.Core.Path.{sym, _∙_}
+use borrow.Author.Tests.{eq-eqb, ne-eqb, not-true, not-false}
 use Rattle.graph.specs.Query.{nextQueryOf, answerOf}
 use Rattle.store.specs.Tables.{tables}
-use Rattle.query.proofs.Stacks.{ready-query}
+use Rattle.query_walk.proofs.Stands.{ready-query}
 use Rattle.query.proofs.Resuming.{ready-of}
 use borrow.Author.Needs.{needs}
 use Rattle.query.proofs.query_next.Statement.{statement}

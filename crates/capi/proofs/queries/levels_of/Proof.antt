@@ -14,7 +14,7 @@ use Rattle.capi.proofs.queries.levels_of.Tie as tie
 use Rattle.capi.proofs.queries.levels_of.Reads as reads
 use Rattle.capi.proofs.queries.levels_of.Lts as lts
 use Rattle.capi.proofs.replies.chain_of.Reads as chain-of-reads
-use Rattle.query.proofs.walk.level.Reads as level-reads
+use Rattle.query_stack.proofs.stack.level.Reads as level-reads
 
 abbrev Inv-loop : tie.InvT-loop
 Inv-loop words out₀ i₀ out i = (i ≤ maxPatterns) × (out ≡ filled words i)

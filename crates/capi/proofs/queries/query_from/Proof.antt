@@ -15,7 +15,7 @@ use Rattle.capi.proofs.queries.query_cursor_of.Reads as query-cursor-of
 use Rattle.capi.proofs.queries.spelt.Reads as spelt-reads
 use Rattle.query.proofs.query_next.Reads as query-next-reads
 use Rattle.query.proofs.query_open.Reads as query-open-reads
-use Rattle.query.proofs.walk.refused.Reads as refused-reads
+use Rattle.query_stack.proofs.stack.refused.Reads as refused-reads
 
 spelt-requires : tie.Need-spelt-requires
 spelt-requires c κs = search needs

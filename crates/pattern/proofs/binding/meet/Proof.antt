@@ -1,10 +1,10 @@
 use Rattle.pattern.proofs.Matches.{matchFrom, from-start, from-end, number-unmet, number-met, open-met}
 use Rattle.pattern.proofs.Matches.{bound-unmet, bound-met}
-use Rattle.pattern.specs.Matching.{matchedAs}
+use Rattle.pattern.specs.Matching.{patternWords, matchedAs}
 use Rattle.graph.specs.Query.{match}
 use native.Mathlib.Omega.{arith}
-use Prim.Native.Nat.{ℕ, suc, _+_, _-_, _*_, _≤_, _<_}
-use mathlib.Core.Path.{_≡_, refl, sym, ap, _∙_}
+use Prim.Native.Nat.{_-_}
+use mathlib.Core.Path.{_≡_, sym, ap, _∙_}
 use borrow.Author.Needs.{needs}
 use Rattle.pattern.proofs.binding.meet.Statement.{statement}
 use Rattle.pattern.proofs.binding.meet.Tie as tie
@@ -13,12 +13,15 @@ abbrev Inv-loop : tie.InvT-loop
 Inv-loop x t bound b₀ k₀ b k = match x t (bound .values) ≡ matchFrom x t k (b .values)
 
 abbrev μ-loop : tie.MeasureT-loop
-μ-loop x t bound b₀ k₀ b k = 3 - k
+μ-loop x t bound b₀ k₀ b k = patternWords - k
 
 loop-holds : tie.Need-loop-holds Inv-loop μ-loop
 loop-holds c =
     let a = c .args in
     from-start (a .x) (a .t) (a .bound .values)
+
+cast-loop : tie.Need-cast-loop Inv-loop μ-loop
+cast-loop c = search needs
 
 word-at-requires : tie.Need-word-at-requires Inv-loop μ-loop
 word-at-requires c κs = search needs
@@ -141,6 +144,7 @@ meet-spec =
     Inv-loop
     μ-loop
     loop-holds
+    cast-loop
     word-at-requires
     number-at-requires
     add-k

@@ -1,6 +1,4 @@
 use borrow.Author.Tests.{eq-eqb, ne-eqb}
-use mathlib.Core.Path.{_≡_, refl, sym, ap, _∙_}
-use borrow.Author.Needs.{needs}
 use Rattle.pattern.proofs.binding.number_at.Statement.{statement}
 use Rattle.pattern.proofs.binding.number_at.Tie as tie
 

@@ -1,6 +1,4 @@
-use mathlib.Core.Path.{_≡_, refl, sym, ap, _∙_}
-use Prim.Native.Nat.{ℕ, suc, _+_, _-_, _*_, _≤_, _<_}
-use native.Mathlib.Omega.{arith}
+use mathlib.Core.Path.{sym}
 use Rattle.pattern.proofs.Matches.{value-number, value-variable}
 use borrow.Author.Needs.{needs}
 use Rattle.pattern.proofs.binding.value_of.Statement.{statement}

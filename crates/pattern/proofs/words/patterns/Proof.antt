@@ -1,8 +1,5 @@
-use mathlib.Core.Path.{_≡_, refl, sym, ap, _∙_}
-use Prim.Native.Nat.{ℕ, suc, _+_, _-_, _*_, _≤_, _<_}
 use native.Mathlib.Omega.{arith}
 use Rattle.graph.proofs.Laws.{patterns-length}
-use borrow.Author.Needs.{needs}
 use Rattle.pattern.proofs.words.patterns.Statement.{statement}
 use Rattle.pattern.proofs.words.patterns.Tie as tie
 

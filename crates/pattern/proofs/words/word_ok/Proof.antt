@@ -1,4 +1,4 @@
-use mathlib.Core.Path.{_≡_, refl, sym, ap, _∙_}
+use mathlib.Core.Path.{sym}
 use Rattle.pattern.proofs.WordLaws.{word-zero, word-number, word-neither, word-variable}
 use borrow.Author.Needs.{needs}
 use Rattle.pattern.proofs.words.word_ok.Statement.{statement}

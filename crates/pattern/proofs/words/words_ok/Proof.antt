@@ -1,10 +1,8 @@
-use mathlib.Core.Path.{_≡_, refl, sym, ap, _∙_}
-use Prim.Native.Nat.{ℕ, suc, _+_, _-_, _*_, _≤_, _<_}
+use mathlib.Core.Path.{_≡_, sym, _∙_}
+use Prim.Native.Nat.{_-_, _≤_}
 use native.Mathlib.Omega.{arith}
-use lib.ListN.{length, getD, set, drop, replicate}
-use borrow.Author.Tests.{eq-eqb, ne-eqb, lt-ltb, le-ltb, le-leb, lt-leb, eqb-true, eqb-false, ltb-true, ltb-false}
-use borrow.Author.Tests.{leb-true, leb-false, not-true, not-false}
-use mathlib.Core.Bool.{_&&_}
+use lib.ListN.{drop}
+use borrow.Author.Tests.{not-true, not-false}
 use Rattle.graph.specs.Query.{allOk}
 use Rattle.pattern.proofs.WordLaws.{broken-off, too-many, by-words, all-none, all-step}
 use borrow.Author.Needs.{needs}

@@ -1,15 +1,15 @@
 use Rattle.query.proofs.Resuming.{begin-none, begin-slot, begin-damaged, begin-whole, begin-onward, begin-stands}
-use Rattle.query.proofs.Stacks.{ready-query, asked-held, answer-is}
+use Rattle.query_stack.proofs.Stacks.{answer-is}
+use Rattle.query_walk.proofs.Stands.{ready-query, asked-held}
 use Rattle.graph.proofs.Laws.{written-length}
 use Rattle.graph.proofs.Levels.{low-none}
-use Rattle.graph.specs.Query.{patternsOf, packed, cursorAt, found, unbound, finish}
+use Rattle.graph.specs.Query.{patternsOf, variables, packed, cursorAt}
 use Rattle.graph.specs.declared.QueryCursor.{QueryCursor}
 use mathlib.Core.List.{[]}
-use lib.ListN.{length, getD, set}
-use borrow.Author.Tests.{eq-eqb, ne-eqb, not-true, not-false}
+use lib.ListN.{length}
 use native.Mathlib.Omega.{arith}
-use Prim.Native.Nat.{ℕ, suc, _+_, _-_, _*_, _≤_, _<_}
-use mathlib.Core.Path.{_≡_, refl, sym, ap, _∙_}
+use Prim.Native.Nat.{_<_}
+use mathlib.Core.Path.{_≡_, sym, ap, _∙_}
 use borrow.Author.Needs.{needs}
 use Rattle.query.proofs.resume.begin.Statement.{statement}
 use Rattle.query.proofs.resume.begin.Tie as tie
@@ -62,7 +62,7 @@ enter-requires c κs =
       ready-query r t res stm ws k,
       h,
       asked-held r t res stm ws k (none-bound2 .result .values) 0
-          (rw (none-bound2 .ensures) (low-none r 16)) h,
+          (rw (none-bound2 .ensures) (low-none r variables)) h,
     )
 
 cast-levels : tie.Need-cast-levels

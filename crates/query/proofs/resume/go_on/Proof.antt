@@ -1,13 +1,11 @@
-use mathlib.Core.Path.{_≡_, refl, sym, ap, _∙_}
-use Prim.Native.Nat.{ℕ, suc, _+_, _-_, _*_, _≤_, _<_}
+use mathlib.Core.Path.{sym, ap, _∙_}
 use native.Mathlib.Omega.{arith}
-use borrow.Author.Tests.{eq-eqb, ne-eqb, lt-ltb, le-ltb, le-leb, lt-leb, eqb-true, eqb-false, ltb-true, ltb-false}
-use borrow.Author.Tests.{leb-true, leb-false, not-true, not-false}
-use lib.ListN.{length, getD, set, drop, replicate}
+use borrow.Author.Tests.{not-true, not-false}
+use lib.ListN.{getD}
 use Rattle.graph.specs.Query.{patternsOf, levelsOf, noLevel, packed}
-use Rattle.query.proofs.Stacks.{ready-query}
-use Rattle.query.proofs.Resuming.{top-few, levels-held, resume-damaged, resume-inside, pruned-stands}
-use Rattle.query.proofs.Resuming.{pruned-top, pruned-up}
+use Rattle.query_walk.proofs.Stands.{ready-query}
+use Rattle.query.proofs.Resuming.{top-few, levels-held, resume-damaged, resume-inside, pruned-stands, pruned-top}
+use Rattle.query.proofs.Resuming.{pruned-up}
 use borrow.Author.Needs.{needs}
 use Rattle.query.proofs.resume.go_on.Statement.{statement}
 use Rattle.query.proofs.resume.go_on.Tie as tie

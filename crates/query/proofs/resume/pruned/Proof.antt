@@ -1,8 +1,5 @@
-use mathlib.Core.Path.{_≡_, refl, sym, ap, _∙_}
-use Prim.Native.Nat.{ℕ, suc, _+_, _-_, _*_, _≤_, _<_}
 use native.Mathlib.Omega.{arith}
-use Rattle.graph.specs.Query.{patternsOf, written, levelsOf}
-use Rattle.query.specs.Resume.{onwardAs}
+use Rattle.graph.specs.Query.{patternsOf}
 use Rattle.query.proofs.Resuming.{written-held, pruned-made, pruned-kept}
 use borrow.Author.Needs.{needs}
 use Rattle.query.proofs.resume.pruned.Statement.{statement}

@@ -1,6 +1,3 @@
-use mathlib.Core.Path.{_≡_, refl, sym, ap, _∙_}
-use Prim.Native.Nat.{ℕ, suc, _+_, _-_, _*_, _≤_, _<_}
-use native.Mathlib.Omega.{arith}
 use Rattle.graph.specs.Query.{placeAs, resume}
 use Rattle.query.proofs.Resuming.{inside-at, inside-none}
 use borrow.Author.Needs.{needs}

@@ -1,13 +1,14 @@
 use Prim.Native.Nat.{_≤_, _-_}
+use Rattle.graph.specs.Query.{maxPatterns}
 use borrow.Author.Needs.{needs}
 use Rattle.query_cases.proofs.print.cursor.Statement.{statement}
 use Rattle.query_cases.proofs.print.cursor.Tie as tie
 
 abbrev Inv-loop : tie.InvT-loop
-Inv-loop q i₀ i = i ≤ 8
+Inv-loop q i₀ i = i ≤ maxPatterns
 
 abbrev μ-loop : tie.MeasureT-loop
-μ-loop q i₀ i = 8 - i
+μ-loop q i₀ i = maxPatterns - i
 
 enum-told : tie.Need-enum-told Inv-loop μ-loop
 enum-told c = search needs

@@ -1,13 +1,14 @@
 use Prim.Native.Nat.{_≤_, _-_}
+use Rattle.graph.specs.Query.{variables}
 use borrow.Author.Needs.{needs}
 use Rattle.query_cases.proofs.print.solution.Statement.{statement}
 use Rattle.query_cases.proofs.print.solution.Tie as tie
 
 abbrev Inv-loop : tie.InvT-loop
-Inv-loop b v₀ v = v ≤ 16
+Inv-loop b v₀ v = v ≤ variables
 
 abbrev μ-loop : tie.MeasureT-loop
-μ-loop b v₀ v = 16 - v
+μ-loop b v₀ v = variables - v
 
 slice-aggregate-write-all : tie.Need-slice-aggregate-write-all Inv-loop μ-loop
 slice-aggregate-write-all c = search needs

@@ -1,0 +1,3 @@
+pub mod Patterns
+pub mod Stands
+pub mod Turns
