@@ -56,7 +56,8 @@ module _ (x : QueryPattern) (t : Triple) where
   from-end (suc (suc zero)) b h = absurd (omega arith)
   from-end (suc (suc (suc k))) b h = refl
 
-  from-none : (k : ℕ) (b : Bindings) → k < patternWords → bind (wordAt x k) (numberAt t k) b ≡ none → matchFrom x t k b ≡ none
+  from-none : (k : ℕ) (b : Bindings) → k < patternWords → bind (wordAt x k) (numberAt t k) b ≡ none
+      → matchFrom x t k b ≡ none
   unfolding matchFrom match
   from-none zero b h e = rw e
   from-none (suc zero) b h e = rw e
@@ -72,7 +73,8 @@ module _ (x : QueryPattern) (t : Triple) where
   from-some (suc (suc (suc k))) b b′ h e = absurd (omega arith)
 
   -- the word w and the resource n at place k: a number, an open variable, a bound one
-  module _ (k w n : ℕ) (b : Bindings) (h : k < patternWords) (e : w ≡ wordAt x k) (f : n ≡ numberAt t k) (o : WordFits w) where
+  module _ (k w n : ℕ) (b : Bindings) (h : k < patternWords) (e : w ≡ wordAt x k) (f : n ≡ numberAt t k)
+      (o : WordFits w) where
     none-of : bind w n b ≡ none → matchFrom x t k b ≡ none
     none-of d = from-none k b h (rw (e, f) at d)
 

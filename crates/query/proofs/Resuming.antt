@@ -263,7 +263,8 @@ written-levels ls i l h =
 
 pub pruned-kept : (stm : List ℕ) (ps : List QueryPattern) (ls : List Level) (top i : ℕ) (b : Solution) (x : Triple)
     (p : QueryPattern)
-    → i ≤ maxPatterns → i ≡ top → FirstStruck stm ls top i → b .values ≡ binds stm ps (levelsOf ls top) → x ≡ under (b .values) p
+    → i ≤ maxPatterns → i ≡ top → FirstStruck stm ls top i → b .values ≡ binds stm ps (levelsOf ls top)
+    → x ≡ under (b .values) p
     → p ≡ getD ps i (pattern 0 0 0)
     → Pruned stm ps ls top
     (record { top = i; levels = set (written (levelsOf ls i)) i (onwardAs stm ls top i); bound = b; asked = x })

@@ -67,7 +67,8 @@ module _ (r : ℕ) (ws : List ℕ) where
   pub each-word : wordsOk r ws ≡ true → allOk r ws ≡ true
   unfolding wordsOk
   each-word e =
-      and-r (leb (length (patternsOf ws)) maxPatterns) _ (and-r (eqb (patternWords * length (patternsOf ws)) (length ws)) _ e)
+      and-r (leb (length (patternsOf ws)) maxPatterns) _
+      (and-r (eqb (patternWords * length (patternsOf ws)) (length ws)) _ e)
 
 -- each word of a pattern of a query
 pub record PatternIn (r : ℕ) (x : QueryPattern) : Type 0 where
@@ -82,8 +83,10 @@ pattern-in r ws d f e h =
     let n = patterns-length ws in
     let a = each-word r ws e in
     let x = word-fits r (getD ws (patternWords * d) 0) f (all-at r ws (patternWords * d) a (omega (arith, n .0))) in
-    let y = word-fits r (getD ws (patternWords * d + 1) 0) f (all-at r ws (patternWords * d + 1) a (omega (arith, n .0))) in
-    let z = word-fits r (getD ws (patternWords * d + 2) 0) f (all-at r ws (patternWords * d + 2) a (omega (arith, n .0))) in
+    let y = word-fits r (getD ws (patternWords * d + 1) 0) f
+    (all-at r ws (patternWords * d + 1) a (omega (arith, n .0))) in
+    let z = word-fits r (getD ws (patternWords * d + 2) 0) f
+    (all-at r ws (patternWords * d + 2) a (omega (arith, n .0))) in
     rw (pattern-words ws d h) (record {
       ok = record { s-fits = x .0; p-fits = y .0; o-fits = z .0 };
       s-number = x .1;

@@ -66,8 +66,8 @@ module _ (stm : List ℕ) where
       ∙ settle-none stm (deepest q) h
 
 -- the stack popped: what holds of it, and nothing is lost
-module _ (r t : ℕ) (stm ws : List ℕ) (q : Stack) (s : Stands r t stm ws q) (h : 1 ≤ q .top) (small : q .top < maxPatterns)
-    (m : Turned) (made : m ≡ poppedAs stm (patternsOf ws) q) where
+module _ (r t : ℕ) (stm ws : List ℕ) (q : Stack) (s : Stands r t stm ws q) (h : 1 ≤ q .top)
+    (small : q .top < maxPatterns) (m : Turned) (made : m ≡ poppedAs stm (patternsOf ws) q) where
   pub popped-stands : Stands r t stm ws (onto (q .levels) m)
   popped-stands =
       let e = s .sure (q .top - 1) (omega arith) in
