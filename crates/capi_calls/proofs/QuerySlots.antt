@@ -6,8 +6,8 @@ use mathlib.Core.Bool.{Bool, true, false, cond}
 use mathlib.Core.List.{List, [], _∷_, _++_}
 use Prim.Native.Nat.{ℕ, zero, suc, _+_, _*_, _≤_, _<_}
 use native.Mathlib.Omega.{arith}
-use lib.ListN.{length, getD, replicate, drop}
-use lib.Seq.{sets-eq, getD-set-other}
+use lib.ListN.{length, getD, drop}
+use lib.Seq.{sets-eq}
 use lib.Dec.{ltb}
 use borrow.Author.Tests.{ltb-false}
 use Rattle.store.specs.declared.Counters.{Counters}
@@ -15,7 +15,7 @@ use Rattle.store.specs.Tables.{Tables, word}
 use Rattle.store.proofs.Tests.{decide}
 use Rattle.graph.specs.declared.Level.{Level}
 use Rattle.graph.specs.declared.QueryCursor.{QueryCursor}
-use Rattle.graph.specs.Query.{maxPatterns, noLevel, written, Place, start, inside, finish, cursorAt, Answer, refused, found, ended, spent}
+use Rattle.graph.specs.Query.{maxPatterns, noLevel, Place, start, inside, finish, cursorAt, Answer, refused, found, ended, spent}
 use Rattle.graph.specs.Query.{packed, answerOf, placeOf, openQueryOf, nextQueryOf}
 use Rattle.graph.proofs.Laws.{written-past}
 use Rattle.capi_calls.specs.Words.{counterWords, tooShort, countersOf, chainWord, done, lent}

@@ -1,13 +1,12 @@
 -- The words that C lends and what they mean: how many each reply has, the result of a call, counters as words, a reply's words written
 -- from its first on. Assumes nothing.
 use mathlib.Core.Bool.{Bool, true, false, cond}
-use mathlib.Core.List.{List, [], _∷_}
+use mathlib.Core.List.{List}
 use Prim.Native.Nat.{ℕ, _-_}
 use lib.ListN.{length, set}
 use Rattle.ntriples.specs.declared.Span.{Span}
 use Rattle.ntriples.specs.declared.Line.{Line}
 use Rattle.ntriples.specs.declared.Line.the-variants.{End, Nothing, Triple, Refused}
-use Rattle.ntriples.specs.declared.LineRead.{LineRead}
 use lib.Dec.{eqb, leb, ltb}
 use Rattle.store.specs.declared.Counters.{Counters}
 use Rattle.store.specs.declared.Lookup.{Lookup}
