@@ -8,10 +8,8 @@ use native.Mathlib.Omega.{arith}
 use lib.ListN.{length, getD, take, drop}
 use lib.Seq.{sets, sets-eq, drop-at, drop-cons, take-all}
 use lib.Dec.{leb}
-use borrow.Author.Tests.{leb-true}
+use borrow.Author.Tests.{leb-true, le-leb}
 use Rattle.store.specs.declared.Chain.{Chain}
-use Rattle.store.specs.declared.Chain.the-variants.{All, By}
-use Rattle.store.specs.declared.Position.the-variants.{Subject, Predicate, Object}
 use Rattle.store.specs.Tables.{word}
 use Rattle.store.proofs.Tests.{decide}
 use Rattle.graph.specs.declared.Level.{Level}
@@ -28,25 +26,12 @@ use Rattle.capi_calls.specs.Words.{chainOf, chainWord}
 use Rattle.capi_calls.specs.QueryWords.{queryCursorWords, queryReplyWords, progressOf, progressWord, levelsFrom, queryCursorOf, chainSpelt}
 use Rattle.capi_calls.specs.QueryWords.{slotsOf, spelt, misspelt, nextQueryFrom, levelWords, numbersFrom, withQueryCursor}
 use Rattle.capi_calls.specs.QueryCalls.{QueryCursorsKept, QueryCursorsFull, QueryRepliesKept}
-
--- ---- a word and what it tells
+use Rattle.capi_calls.proofs.ReadBack.{chains-read-back}
 
 progress-back : (p : Progress) → progressOf (progressWord p) ≡ p
 progress-back Start = refl
 progress-back Within = refl
 progress-back End = refl
-
-chain-back : (ch : Chain) → chainOf (chainWord ch) ≡ ch
-chain-back All = refl
-chain-back (By Subject) = refl
-chain-back (By Predicate) = refl
-chain-back (By Object) = refl
-
-chain-low : (ch : Chain) → leb (chainWord ch) 3 ≡ true
-chain-low All = refl
-chain-low (By Subject) = refl
-chain-low (By Predicate) = refl
-chain-low (By Object) = refl
 
 -- ---- how many words are written, and that they stand in front
 
@@ -87,7 +72,7 @@ levels-back ls rest i (suc n) h =
     let f : levelsFrom (chainWord (l .chain) ∷ l .statement .0 ∷ xs) 2 n ≡ take n (drop (suc i) ls)
     = levels-on (chainWord (l .chain)) (l .statement .0 ∷ xs) 1 n ∙ levels-on (l .statement .0) xs 0 n
     ∙ levels-back ls rest (suc i) n (omega arith) in
-    ap₂ (λ (c : Chain) (z : List Level). level c (l .statement .0) ∷ z) (chain-back (l .chain)) f
+    ap₂ (λ (c : Chain) (z : List Level). level c (l .statement .0) ∷ z) ((chains-read-back (l .chain)) .1) f
     ∙ sym (ap (λ (z : List Level). take (suc n) z) (drop-cons ls i noLevel (omega arith)))
 
 -- ---- chains at most 3
@@ -95,7 +80,7 @@ levels-back ls rest i (suc n) h =
 chains-low : (ls : List Level) (rest : List ℕ) (j n i : ℕ) → i < n → leb (word (levelWords ls j n ++ rest) (2 * i)) 3 ≡ true
 unfolding levelWords
 chains-low ls rest j zero i h = absurd (omega arith)
-chains-low ls rest j (suc n) zero h = chain-low ((getD ls j noLevel) .chain)
+chains-low ls rest j (suc n) zero h = le-leb _ 3 ((chains-read-back ((getD ls j noLevel) .chain)) .0)
 chains-low ls rest j (suc n) (suc i) h =
     let q : 2 * suc i ≡ suc (suc (2 * i)) = omega arith in
     rw q (chains-low ls rest (suc j) n i (omega arith))
