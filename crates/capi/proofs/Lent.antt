@@ -1,11 +1,11 @@
 -- Slices that are lent too short have no room, and those that are long enough have. Assumes nothing.
 use mathlib.Core.Path.{_≡_, sym, _∙_}
-use mathlib.Core.Bool.{Bool, true, false, cond}
+use mathlib.Core.Bool.{true, false}
 use mathlib.Core.List.{List}
 use Prim.Native.Nat.{ℕ, _<_, _≤_}
 use lib.ListN.{length}
 use borrow.Author.Tests.{lt-ltb, le-ltb}
-use Rattle.capi.specs.Words.{counterWords, lent, roomy}
+use Rattle.capi_calls.specs.Words.{counterWords, lent, roomy}
 use Rattle.term.proofs.Names.{never}
 
 pub no-counters : {A : Type 0} (cw : List ℕ) (n : ℕ) (w : List ℕ) → length cw < counterWords → roomy cw n w ≡ true → A

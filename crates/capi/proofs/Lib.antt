@@ -1,10 +1,3 @@
 pub mod Lent
 pub mod Writes
-pub mod ReadBack
-pub mod Unanswered
-pub mod Runs
-pub mod QueryRuns
-pub mod QueryLaws
-pub mod QueryBack
-pub mod QuerySlots
 pub mod QueryWrites

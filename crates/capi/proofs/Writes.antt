@@ -1,7 +1,7 @@
 -- What a call that writes comes to once the lent slices are long enough. Assumes nothing.
 use mathlib.Core.Path.{_≡_, sym, ap, _∙_, refl}
 use lib.Dec.{eqb}
-use mathlib.Core.Bool.{Bool, true, false, cond}
+use mathlib.Core.Bool.{false}
 use mathlib.Core.List.{List}
 use Prim.Native.Nat.{ℕ, _<_, _≤_}
 use lib.ListN.{length, set}
@@ -14,7 +14,7 @@ use Rattle.store.specs.declared.Asserted.{Asserted}
 use Rattle.store.specs.declared.Interned.{Interned}
 use Rattle.store.specs.declared.Interned.the-variants.{Refused as NotInterned}
 use Rattle.store.specs.declared.Refusal.{Refusal}
-use Rattle.store.specs.declared.Refusal.the-variants.{Capacity, Malformed, Full, UnknownNumber, KindNotPermitted, BadCursor, NoBudget, BadQuery, Damaged, BadLine}
+use Rattle.store.specs.declared.Refusal.the-variants.{Capacity}
 use Rattle.store.specs.declared.ScanCursor.{ScanCursor}
 use Rattle.store.specs.declared.ScanOpened.{ScanOpened}
 use Rattle.store.specs.declared.ScanOpened.the-variants.{Cursor, Refused as NotOpened}
@@ -23,9 +23,10 @@ use Rattle.store.specs.Statement.{retractOf, assertOf}
 use Rattle.store.specs.Scan.{openOf}
 use Rattle.store.specs.Dictionary.{InternAnswer}
 use Rattle.store.specs.Values.{refusalNumber, scannedValues, assertedValues, internedValues}
-use Rattle.capi.specs.declared.Answer.{Answer}
-use Rattle.capi.specs.Words.{tooShort, counterWords, countersOf, cursorWords, retractAnswer, withCursor, lent, done, wrote, nextFrom, scannedAnswer, assertAnswer, enterAnswer, withCounters}
-use Rattle.capi.specs.Calls.{retractCall, openCall, nextCall, assertCall, enterAs, EnterCall}
+use Rattle.capi_calls.specs.declared.Answer.{Answer}
+use Rattle.capi_calls.specs.Words.{tooShort, counterWords, countersOf, cursorWords, retractAnswer, withCursor, lent, done, wrote, nextFrom, scannedAnswer, assertAnswer, enterAnswer, withCounters}
+use Rattle.capi_calls.specs.Calls.{retractCall, openCall, nextCall, assertCall, enterAs, EnterCall}
+use Rattle.capi_calls.proofs.Unanswered.{refuses}
 use Rattle.capi.proofs.Lent.{no-counters, no-reply, some-room}
 
 pub retract-done : (cw w : List ℕ) (m : Tables) {m′ : Tables} {r : Retracted} {c : Counters} {x y : Triple} {a : Answer}
@@ -35,19 +36,6 @@ unfolding retractCall lent
 retract-done cw w m {m′} {r} {c} {x} {y} {a} ec ex e ea h k =
     let z : retractOf (countersOf cw) m y ≡ after m′ r = cc in
     simp (le-ltb (length cw) counterWords h, le-ltb (length w) 1 k, z, ea)
-
--- no refusal has the number 0
-pub refuses : (e : Refusal) → eqb (refusalNumber e) 0 ≡ false
-refuses Capacity = refl
-refuses Malformed = refl
-refuses Full = refl
-refuses UnknownNumber = refl
-refuses KindNotPermitted = refl
-refuses BadCursor = refl
-refuses NoBudget = refl
-refuses BadQuery = refl
-refuses Damaged = refl
-refuses BadLine = refl
 
 pub open-refused : (cw w : List ℕ) (m : Tables) {s : ScanOpened} {c : Counters} {x y : Triple} {e : Refusal} {n : ℕ}
     → c ≡ countersOf cw → x ≡ y → s ≡ openOf c m x → s ≡ NotOpened e → n ≡ refusalNumber e → counterWords ≤ length cw → cursorWords ≤ length w

@@ -3,155 +3,39 @@
 // A slice is a pointer and a length in elements. A store function begins with five of them: counters (R, T, B), resources, statements,
 // index (words of 32 bits) and text (bytes). What a function gives back is 0 where it answers, the paper's refusal number, or 100 where a
 // lent counters, cursor or reply slice is too short; then nothing is written. Beside a refusal the reply's words are 0. Words past those
-// that a reply names keep their values. The contracts are one equation each with the definitions in `specs/Calls.antt`.
-use crate::replies::assert_answer;
-use crate::replies::asserted_counters;
-use crate::replies::chain_of;
-use crate::replies::chain_word;
-use crate::replies::check_answer;
-use crate::replies::enter_answer;
-use crate::replies::interned_counters;
-use crate::replies::kind_answer;
-use crate::replies::line_answer;
-use crate::replies::lookup_answer;
-use crate::replies::name_answer;
-use crate::replies::retract_answer;
-use crate::replies::scanned_answer;
-use crate::replies::scanned_cursor;
-use crate::replies::statement_answer;
-use store::Counters;
-use store::Refusal;
+// that a reply names keep their values. The contracts are one equation each with the definitions in `specs/Calls.antt` of `capi_calls`.
+use capi_calls::COUNTER_WORDS;
+use capi_calls::CURSOR_WORDS;
+use capi_calls::TOO_SHORT;
+use capi_words::replies::assert_answer;
+use capi_words::replies::asserted_counters;
+use capi_words::replies::check_answer;
+use capi_words::replies::enter_answer;
+use capi_words::replies::interned_counters;
+use capi_words::replies::kind_answer;
+use capi_words::replies::line_answer;
+use capi_words::replies::lookup_answer;
+use capi_words::replies::name_answer;
+use capi_words::replies::retract_answer;
+use capi_words::replies::scanned_answer;
+use capi_words::replies::scanned_cursor;
+use capi_words::replies::statement_answer;
+use capi_words::words::counters_of;
+use capi_words::words::next_from;
+use capi_words::words::put_counters;
+use capi_words::words::put_cursor;
+use capi_words::words::triple_of;
 use store::ResourceId;
-use store::ScanCursor;
 use store::ScanOpened;
-use store::Scanned;
 use store::StatementId;
-use store::Triple;
 use store::refusal_number;
 ghost use mathlib.Core.Path.{_≡_};
-ghost use Prim.Native.Nat.{_≤_};
-ghost use lib.ListN.{length};
 ghost use Rattle.store.specs.Tables.{tables};
 ghost use Rattle.store.specs.Triple.{triple};
-ghost use Rattle.capi.specs.Words.{counterWords, cursorWords, countersOf, withCounters, cursorOf, withCursor, nextFrom, done, wrote};
-ghost use Rattle.capi.specs.Calls.{kindCall, CheckCall, FindCall, nameCall, statementCall, lineCall, retractCall, openCall, nextCall, assertCall, EnterCall};
+ghost use Rattle.capi_calls.specs.Words.{done, wrote};
+ghost use Rattle.capi_calls.specs.Calls.{kindCall, CheckCall, FindCall, nameCall, statementCall, lineCall, retractCall, openCall, nextCall, assertCall, EnterCall};
 
 pub mod queries;
-mod replies;
-
-// The words of the lent counters.
-pub const COUNTER_WORDS: usize = 3;
-
-// The words of a lent cursor: subject, predicate, object, chain (0 none, 1 subject, 2 predicate, 3 object), next.
-pub const CURSOR_WORDS: usize = 5;
-
-// The result where a lent counters, cursor or reply slice is too short.
-pub const TOO_SHORT: u32 = 100;
-
-// What a call gives back, and the first words of its reply, 0 where it names fewer.
-pub struct Answer {
-    pub result: u32,
-    pub first: u32,
-    pub second: u32,
-    pub third: u32,
-    pub fourth: u32,
-}
-
-// What reading a line gives back, and the eight words of its reply.
-pub struct LineAnswer {
-    pub result: u32,
-    pub what: u64,
-    pub next: u64,
-    pub first: u64,
-    pub second: u64,
-    pub third: u64,
-    pub fourth: u64,
-    pub fifth: u64,
-    pub sixth: u64,
-}
-
-// Three numbers as a triple or a pattern.
-fn triple_of(subject: u32, predicate: u32, object: u32) -> Triple
-    ensures { λ r. ⌜ r ≡ triple subject predicate object ⌝ }
-{
-    Triple {
-        subject: ResourceId(subject),
-        predicate: ResourceId(predicate),
-        object: ResourceId(object),
-    }
-}
-
-// Writes a cursor's five words.
-fn put_cursor(words: &mut [u32], q: ScanCursor)
-    requires { ⌜ cursorWords ≤ length (now words) ⌝ }
-    ensures { λ _. ⌜ now (words .exit) ≡ withCursor (now (words .entry)) q ⌝ }
-{
-    let x = q.pattern;
-    let c = q.chain;
-    let chain = chain_word(c);
-    words[0] = x.subject.0;
-    words[1] = x.predicate.0;
-    words[2] = x.object.0;
-    words[3] = chain;
-    words[4] = q.next.0;
-}
-
-// The counters that the first three words tell.
-fn counters_of(words: &[u32]) -> Counters
-    requires { ⌜ counterWords ≤ length (now words) ⌝ }
-    ensures { λ c. ⌜ c ≡ countersOf (now (words .entry)) ⌝ }
-{
-    Counters {
-        resources: words[0],
-        statements: words[1],
-        text: words[2],
-    }
-}
-
-// Writes the counters' three words.
-fn put_counters(words: &mut [u32], c: Counters)
-    requires { ⌜ counterWords ≤ length (now words) ⌝ }
-    ensures { λ _. ⌜ now (words .exit) ≡ withCounters (now (words .entry)) c ⌝ }
-{
-    words[0] = c.resources;
-    words[1] = c.statements;
-    words[2] = c.text;
-}
-
-// The cursor that five words tell, whose chain word is at most 3.
-fn cursor_of(words: &[u32]) -> ScanCursor
-    requires { ⌜ cursorWords ≤ length (now words) ⌝ }
-    ensures { λ q. ⌜ q ≡ cursorOf (now (words .entry)) ⌝ }
-{
-    ScanCursor {
-        pattern: triple_of(words[0], words[1], words[2]),
-        chain: chain_of(words[3]),
-        next: StatementId(words[4]),
-    }
-}
-
-// Next of a pattern scan from a cursor's words. A chain word above 3 is refused 6, after refusal 1.
-fn next_from(
-    c: Counters,
-    resources: &[u32],
-    statements: &[u32],
-    index: &[u32],
-    text: &[u8],
-    words: &[u32],
-    budget: u32,
-) -> Scanned
-    requires { ⌜ cursorWords ≤ length (now words) ⌝ }
-    ensures { λ r. ⌜ r ≡ nextFrom c (tables (now (resources .entry)) (now (statements .entry)) (now (index .entry)) (now (text .entry))) (now (words .entry)) budget ⌝ }
-{
-    if words[3] > 3 {
-        if table::fits(c, resources, statements, index, text) {
-            return Scanned::Refused(Refusal::BadCursor);
-        }
-        return Scanned::Refused(Refusal::Capacity);
-    }
-    let q = cursor_of(words);
-    scan::scan_next(c, resources, statements, index, text, q, budget)
-}
 
 // The kind of a name: 1 an IRI, 2 a blank node, 3 a literal; refusal 2 where it is malformed.
 #[no_mangle]

@@ -1,8 +1,8 @@
 -- `capi::lt_assert` meets its contract. Assumes nothing.
 use Rattle.capi.proofs.Writes.{assert-refused, assert-answered}
 use Rattle.store.specs.Tables.{tables}
-use Rattle.capi.specs.Words.{counterWords, lent}
-use Rattle.capi.specs.Calls.{assertCall}
+use Rattle.capi_calls.specs.Words.{counterWords, lent}
+use Rattle.capi_calls.specs.Calls.{assertCall}
 use lib.ListN.{length, set, length-set}
 use borrow.Author.Tests.{lt-ltb, le-ltb, eq-eqb, ne-eqb}
 use mathlib.Core.Path.{_≡_, sym, ap, _∙_, refl}
@@ -11,11 +11,11 @@ use Rattle.capi.proofs.lt_assert.Statement.{statement}
 use Rattle.capi.proofs.lt_assert.Tie as tie
 use Rattle.capi.proofs.lt_assert.Reads as reads
 use Rattle.capi.proofs.lt_assert.Lts as lts
-use Rattle.capi.proofs.counters_of.Reads as counters-of-reads
-use Rattle.capi.proofs.put_counters.Reads as put-counters-reads
-use Rattle.capi.proofs.replies.assert_answer.Reads as assert-answer-reads
-use Rattle.capi.proofs.replies.asserted_counters.Reads as asserted-counters-reads
-use Rattle.capi.proofs.triple_of.Reads as triple-of-reads
+use Rattle.capi_words.proofs.words.counters_of.Reads as counters-of-reads
+use Rattle.capi_words.proofs.words.put_counters.Reads as put-counters-reads
+use Rattle.capi_words.proofs.replies.assert_answer.Reads as assert-answer-reads
+use Rattle.capi_words.proofs.replies.asserted_counters.Reads as asserted-counters-reads
+use Rattle.capi_words.proofs.words.triple_of.Reads as triple-of-reads
 use Rattle.statement.proofs.assert.Reads as assert-reads
 
 returns : tie.Need-returns

@@ -1,8 +1,8 @@
 -- `capi::lt_check` meets its contract. Assumes nothing.
 use mathlib.Core.Bool.{false}
 use Rattle.capi.proofs.Lent.{no-counters, no-reply}
-use Rattle.capi.specs.Words.{counterWords, lent}
-use Rattle.capi.specs.Calls.{checkAs}
+use Rattle.capi_calls.specs.Words.{counterWords, lent}
+use Rattle.capi_calls.specs.Calls.{checkAs}
 use lib.ListN.{length, set, length-set}
 use borrow.Author.Tests.{lt-ltb, le-ltb, eq-eqb, ne-eqb}
 use mathlib.Core.Path.{_≡_, sym, ap, _∙_, refl}
@@ -11,8 +11,8 @@ use Rattle.capi.proofs.lt_check.Statement.{statement}
 use Rattle.capi.proofs.lt_check.Tie as tie
 use Rattle.capi.proofs.lt_check.Reads as reads
 use Rattle.capi.proofs.lt_check.Lts as lts
-use Rattle.capi.proofs.counters_of.Reads as counters-of-reads
-use Rattle.capi.proofs.replies.check_answer.Reads as check-answer-reads
+use Rattle.capi_words.proofs.words.counters_of.Reads as counters-of-reads
+use Rattle.capi_words.proofs.replies.check_answer.Reads as check-answer-reads
 use Rattle.integrity.proofs.check.Reads as check-reads
 
 returns : tie.Need-returns

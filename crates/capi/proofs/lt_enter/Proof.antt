@@ -5,10 +5,10 @@ use Rattle.capi.proofs.lt_enter.Statement.{statement}
 use Rattle.capi.proofs.lt_enter.Tie as tie
 use Rattle.capi.proofs.lt_enter.Reads as reads
 use Rattle.capi.proofs.lt_enter.Lts as lts
-use Rattle.capi.proofs.counters_of.Reads as counters-of-reads
-use Rattle.capi.proofs.put_counters.Reads as put-counters-reads
-use Rattle.capi.proofs.replies.enter_answer.Reads as enter-answer-reads
-use Rattle.capi.proofs.replies.interned_counters.Reads as interned-counters-reads
+use Rattle.capi_words.proofs.words.counters_of.Reads as counters-of-reads
+use Rattle.capi_words.proofs.words.put_counters.Reads as put-counters-reads
+use Rattle.capi_words.proofs.replies.enter_answer.Reads as enter-answer-reads
+use Rattle.capi_words.proofs.replies.interned_counters.Reads as interned-counters-reads
 use Rattle.dictionary.proofs.intern.Reads as intern-reads
 
 returns : tie.Need-returns

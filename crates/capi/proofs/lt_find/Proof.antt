@@ -1,8 +1,8 @@
 -- `capi::lt_find` meets its contract. Assumes nothing.
 use Rattle.store.specs.declared.Lookup.the-variants.{Absent}
 use Rattle.capi.proofs.Lent.{no-counters, no-reply}
-use Rattle.capi.specs.Words.{counterWords, lent}
-use Rattle.capi.specs.Calls.{findAs}
+use Rattle.capi_calls.specs.Words.{counterWords, lent}
+use Rattle.capi_calls.specs.Calls.{findAs}
 use lib.ListN.{length, set, length-set}
 use borrow.Author.Tests.{lt-ltb, le-ltb, eq-eqb, ne-eqb}
 use mathlib.Core.Path.{_≡_, sym, ap, _∙_, refl}
@@ -11,8 +11,8 @@ use Rattle.capi.proofs.lt_find.Statement.{statement}
 use Rattle.capi.proofs.lt_find.Tie as tie
 use Rattle.capi.proofs.lt_find.Reads as reads
 use Rattle.capi.proofs.lt_find.Lts as lts
-use Rattle.capi.proofs.counters_of.Reads as counters-of-reads
-use Rattle.capi.proofs.replies.lookup_answer.Reads as lookup-answer-reads
+use Rattle.capi_words.proofs.words.counters_of.Reads as counters-of-reads
+use Rattle.capi_words.proofs.replies.lookup_answer.Reads as lookup-answer-reads
 use Rattle.dictionary.proofs.find.Reads as find-reads
 
 returns : tie.Need-returns

@@ -1,6 +1,6 @@
 -- `capi::lt_name` meets its contract. Assumes nothing.
-use Rattle.capi.specs.Words.{counterWords, lent}
-use Rattle.capi.specs.Calls.{nameCall}
+use Rattle.capi_calls.specs.Words.{counterWords, lent}
+use Rattle.capi_calls.specs.Calls.{nameCall}
 use native.Mathlib.Omega.{arith}
 use lib.ListN.{length, set, length-set}
 use borrow.Author.Tests.{lt-ltb, le-ltb, eq-eqb, ne-eqb}
@@ -10,8 +10,8 @@ use Rattle.capi.proofs.lt_name.Statement.{statement}
 use Rattle.capi.proofs.lt_name.Tie as tie
 use Rattle.capi.proofs.lt_name.Reads as reads
 use Rattle.capi.proofs.lt_name.Lts as lts
-use Rattle.capi.proofs.counters_of.Reads as counters-of-reads
-use Rattle.capi.proofs.replies.name_answer.Reads as name-answer-reads
+use Rattle.capi_words.proofs.words.counters_of.Reads as counters-of-reads
+use Rattle.capi_words.proofs.replies.name_answer.Reads as name-answer-reads
 use Rattle.table.proofs.name_span.Reads as name-span-reads
 
 returns : tie.Need-returns

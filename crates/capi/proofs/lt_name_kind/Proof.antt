@@ -1,5 +1,5 @@
 -- `capi::lt_name_kind` meets its contract. Assumes nothing.
-use Rattle.capi.specs.Calls.{kindCall}
+use Rattle.capi_calls.specs.Calls.{kindCall}
 use lib.ListN.{length, set, length-set}
 use borrow.Author.Tests.{lt-ltb, le-ltb, eq-eqb, ne-eqb}
 use mathlib.Core.Path.{_≡_, sym, ap, _∙_, refl}
@@ -8,7 +8,7 @@ use Rattle.capi.proofs.lt_name_kind.Statement.{statement}
 use Rattle.capi.proofs.lt_name_kind.Tie as tie
 use Rattle.capi.proofs.lt_name_kind.Reads as reads
 use Rattle.capi.proofs.lt_name_kind.Lts as lts
-use Rattle.capi.proofs.replies.kind_answer.Reads as kind-answer-reads
+use Rattle.capi_words.proofs.replies.kind_answer.Reads as kind-answer-reads
 use Rattle.term.proofs.name_kind.Reads as name-kind-reads
 
 returns : tie.Need-returns

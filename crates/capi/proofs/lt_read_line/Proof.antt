@@ -1,5 +1,5 @@
 -- `capi::lt_read_line` meets its contract. Assumes nothing.
-use Rattle.capi.specs.Calls.{lineCall}
+use Rattle.capi_calls.specs.Calls.{lineCall}
 use native.Mathlib.Omega.{arith}
 use lib.ListN.{length, set, length-set}
 use borrow.Author.Tests.{lt-ltb, le-ltb, eq-eqb, ne-eqb}
@@ -9,7 +9,7 @@ use Rattle.capi.proofs.lt_read_line.Statement.{statement}
 use Rattle.capi.proofs.lt_read_line.Tie as tie
 use Rattle.capi.proofs.lt_read_line.Reads as reads
 use Rattle.capi.proofs.lt_read_line.Lts as lts
-use Rattle.capi.proofs.replies.line_answer.Reads as line-answer-reads
+use Rattle.capi_words.proofs.replies.line_answer.Reads as line-answer-reads
 use Rattle.ntriples.proofs.read_line.Reads as read-line-reads
 
 returns : tie.Need-returns

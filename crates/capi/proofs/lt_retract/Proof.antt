@@ -1,8 +1,8 @@
 -- `capi::lt_retract` meets its contract. Assumes nothing.
 use Rattle.capi.proofs.Writes.{retract-done}
 use Rattle.store.specs.Tables.{tables}
-use Rattle.capi.specs.Words.{counterWords, lent}
-use Rattle.capi.specs.Calls.{retractCall}
+use Rattle.capi_calls.specs.Words.{counterWords, lent}
+use Rattle.capi_calls.specs.Calls.{retractCall}
 use lib.ListN.{length, set, length-set}
 use borrow.Author.Tests.{lt-ltb, le-ltb, eq-eqb, ne-eqb}
 use mathlib.Core.Path.{_≡_, sym, ap, _∙_, refl}
@@ -11,9 +11,9 @@ use Rattle.capi.proofs.lt_retract.Statement.{statement}
 use Rattle.capi.proofs.lt_retract.Tie as tie
 use Rattle.capi.proofs.lt_retract.Reads as reads
 use Rattle.capi.proofs.lt_retract.Lts as lts
-use Rattle.capi.proofs.counters_of.Reads as counters-of-reads
-use Rattle.capi.proofs.replies.retract_answer.Reads as retract-answer-reads
-use Rattle.capi.proofs.triple_of.Reads as triple-of-reads
+use Rattle.capi_words.proofs.words.counters_of.Reads as counters-of-reads
+use Rattle.capi_words.proofs.replies.retract_answer.Reads as retract-answer-reads
+use Rattle.capi_words.proofs.words.triple_of.Reads as triple-of-reads
 use Rattle.statement.proofs.retract.Reads as retract-reads
 
 returns : tie.Need-returns

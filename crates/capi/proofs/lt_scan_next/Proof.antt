@@ -1,8 +1,8 @@
 -- `capi::lt_scan_next` meets its contract. Assumes nothing.
-use Rattle.capi.specs.Words.{counterWords, cursorWords}
+use Rattle.capi_calls.specs.Words.{counterWords, cursorWords}
 use Rattle.capi.proofs.Writes.{next-refused, next-answered}
 use Rattle.store.specs.Tables.{tables}
-use Rattle.capi.specs.Calls.{nextCall}
+use Rattle.capi_calls.specs.Calls.{nextCall}
 use native.Mathlib.Omega.{arith}
 use lib.ListN.{length, set, length-set}
 use borrow.Author.Tests.{lt-ltb, le-ltb, eq-eqb, ne-eqb}
@@ -12,11 +12,11 @@ use Rattle.capi.proofs.lt_scan_next.Statement.{statement}
 use Rattle.capi.proofs.lt_scan_next.Tie as tie
 use Rattle.capi.proofs.lt_scan_next.Reads as reads
 use Rattle.capi.proofs.lt_scan_next.Lts as lts
-use Rattle.capi.proofs.counters_of.Reads as counters-of-reads
-use Rattle.capi.proofs.next_from.Reads as next-from-reads
-use Rattle.capi.proofs.put_cursor.Reads as put-cursor-reads
-use Rattle.capi.proofs.replies.scanned_answer.Reads as scanned-answer-reads
-use Rattle.capi.proofs.replies.scanned_cursor.Reads as scanned-cursor-reads
+use Rattle.capi_words.proofs.words.counters_of.Reads as counters-of-reads
+use Rattle.capi_words.proofs.words.next_from.Reads as next-from-reads
+use Rattle.capi_words.proofs.words.put_cursor.Reads as put-cursor-reads
+use Rattle.capi_words.proofs.replies.scanned_answer.Reads as scanned-answer-reads
+use Rattle.capi_words.proofs.replies.scanned_cursor.Reads as scanned-cursor-reads
 
 returns : tie.Need-returns
 unfolding nextCall

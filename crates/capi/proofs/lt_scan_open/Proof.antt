@@ -1,8 +1,8 @@
 -- `capi::lt_scan_open` meets its contract. Assumes nothing.
 use Rattle.capi.proofs.Writes.{open-refused, open-opened}
 use Rattle.store.specs.Tables.{tables}
-use Rattle.capi.specs.Words.{counterWords, cursorWords, lent}
-use Rattle.capi.specs.Calls.{openCall}
+use Rattle.capi_calls.specs.Words.{counterWords, cursorWords, lent}
+use Rattle.capi_calls.specs.Calls.{openCall}
 use lib.ListN.{length, set, length-set}
 use borrow.Author.Tests.{lt-ltb, le-ltb, eq-eqb, ne-eqb}
 use mathlib.Core.Path.{_≡_, sym, ap, _∙_, refl}
@@ -11,10 +11,10 @@ use Rattle.capi.proofs.lt_scan_open.Statement.{statement}
 use Rattle.capi.proofs.lt_scan_open.Tie as tie
 use Rattle.capi.proofs.lt_scan_open.Reads as reads
 use Rattle.capi.proofs.lt_scan_open.Lts as lts
-use Rattle.capi.proofs.counters_of.Reads as counters-of-reads
-use Rattle.capi.proofs.put_cursor.Reads as put-cursor-reads
+use Rattle.capi_words.proofs.words.counters_of.Reads as counters-of-reads
+use Rattle.capi_words.proofs.words.put_cursor.Reads as put-cursor-reads
 use Rattle.store.proofs.refusal_number.Reads as refusal-number-reads
-use Rattle.capi.proofs.triple_of.Reads as triple-of-reads
+use Rattle.capi_words.proofs.words.triple_of.Reads as triple-of-reads
 use Rattle.scan.proofs.scan_open.Reads as scan-open-reads
 
 returns : tie.Need-returns

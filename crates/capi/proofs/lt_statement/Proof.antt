@@ -1,6 +1,6 @@
 -- `capi::lt_statement` meets its contract. Assumes nothing.
-use Rattle.capi.specs.Words.{counterWords, lent}
-use Rattle.capi.specs.Calls.{statementCall}
+use Rattle.capi_calls.specs.Words.{counterWords, lent}
+use Rattle.capi_calls.specs.Calls.{statementCall}
 use native.Mathlib.Omega.{arith}
 use lib.ListN.{length, set, length-set}
 use borrow.Author.Tests.{lt-ltb, le-ltb, eq-eqb, ne-eqb}
@@ -10,8 +10,8 @@ use Rattle.capi.proofs.lt_statement.Statement.{statement}
 use Rattle.capi.proofs.lt_statement.Tie as tie
 use Rattle.capi.proofs.lt_statement.Reads as reads
 use Rattle.capi.proofs.lt_statement.Lts as lts
-use Rattle.capi.proofs.counters_of.Reads as counters-of-reads
-use Rattle.capi.proofs.replies.statement_answer.Reads as statement-answer-reads
+use Rattle.capi_words.proofs.words.counters_of.Reads as counters-of-reads
+use Rattle.capi_words.proofs.replies.statement_answer.Reads as statement-answer-reads
 use Rattle.table.proofs.read_statement.Reads as read-statement-reads
 
 returns : tie.Need-returns

@@ -1,8 +1,8 @@
 -- `capi::queries::lt_query_next` meets its contract. Assumes nothing.
 use Rattle.capi.proofs.QueryWrites.{next-refused, next-answered}
-use Rattle.capi.specs.QueryCalls.{queryNextCall}
-use Rattle.capi.specs.QueryWords.{queryCursorWords, queryReplyWords}
-use Rattle.capi.specs.Words.{counterWords}
+use Rattle.capi_calls.specs.QueryCalls.{queryNextCall}
+use Rattle.capi_calls.specs.QueryWords.{queryCursorWords, queryReplyWords}
+use Rattle.capi_calls.specs.Words.{counterWords}
 use borrow.Author.Tests.{lt-ltb, le-ltb}
 use lib.ListN.{length}
 use Rattle.store.specs.Tables.{tables}
@@ -11,11 +11,11 @@ use Rattle.capi.proofs.queries.lt_query_next.Statement.{statement}
 use Rattle.capi.proofs.queries.lt_query_next.Tie as tie
 use Rattle.capi.proofs.queries.lt_query_next.Reads as reads
 use Rattle.capi.proofs.queries.lt_query_next.Lts as lts
-use Rattle.capi.proofs.counters_of.Reads as counters-of-reads
-use Rattle.capi.proofs.queries.put_query_answer.Reads as put-query-answer-reads
-use Rattle.capi.proofs.queries.put_query_cursor.Reads as put-query-cursor-reads
-use Rattle.capi.proofs.queries.query_from.Reads as query-from-reads
-use Rattle.capi.proofs.queries.step_refusal.Reads as step-refusal-reads
+use Rattle.capi_words.proofs.words.counters_of.Reads as counters-of-reads
+use Rattle.capi_query_words.proofs.queries.put_query_answer.Reads as put-query-answer-reads
+use Rattle.capi_query_words.proofs.queries.put_query_cursor.Reads as put-query-cursor-reads
+use Rattle.capi_query_words.proofs.queries.query_from.Reads as query-from-reads
+use Rattle.capi_query_words.proofs.queries.step_refusal.Reads as step-refusal-reads
 
 returns : tie.Need-returns
 unfolding queryNextCall

@@ -1,8 +1,8 @@
 -- `capi::queries::lt_query_open` meets its contract. Assumes nothing.
 use Rattle.capi.proofs.QueryWrites.{open-refused, open-opened}
-use Rattle.capi.specs.QueryCalls.{queryOpenCall}
-use Rattle.capi.specs.QueryWords.{queryCursorWords}
-use Rattle.capi.specs.Words.{counterWords, lent}
+use Rattle.capi_calls.specs.QueryCalls.{queryOpenCall}
+use Rattle.capi_calls.specs.QueryWords.{queryCursorWords}
+use Rattle.capi_calls.specs.Words.{counterWords, lent}
 use borrow.Author.Tests.{lt-ltb, le-ltb}
 use lib.ListN.{length}
 use Rattle.store.specs.Tables.{tables}
@@ -11,9 +11,9 @@ use Rattle.capi.proofs.queries.lt_query_open.Statement.{statement}
 use Rattle.capi.proofs.queries.lt_query_open.Tie as tie
 use Rattle.capi.proofs.queries.lt_query_open.Reads as reads
 use Rattle.capi.proofs.queries.lt_query_open.Lts as lts
-use Rattle.capi.proofs.counters_of.Reads as counters-of-reads
-use Rattle.capi.proofs.queries.opening_refusal.Reads as opening-refusal-reads
-use Rattle.capi.proofs.queries.put_query_cursor.Reads as put-query-cursor-reads
+use Rattle.capi_words.proofs.words.counters_of.Reads as counters-of-reads
+use Rattle.capi_query_words.proofs.queries.opening_refusal.Reads as opening-refusal-reads
+use Rattle.capi_query_words.proofs.queries.put_query_cursor.Reads as put-query-cursor-reads
 use Rattle.query.proofs.query_open.Reads as query-open-reads
 
 returns : tie.Need-returns

@@ -1,0 +1,155 @@
+-- Closed runs of what words tell a query's cursor, which of them are refused, and what is written: whole slices compared. Assumes nothing.
+use mathlib.Core.Path.{_≡_, refl}
+use mathlib.Core.Bool.{true, false}
+use mathlib.Core.List.{List, [], _∷_, _++_}
+use Prim.Native.Nat.{ℕ, suc, _+_, _-_}
+use lib.ListN.{replicate}
+use Rattle.store.specs.declared.Chain.the-variants.{All, By}
+use Rattle.store.specs.declared.Position.the-variants.{Object}
+use Rattle.store.specs.Triple.{known}
+use Rattle.store.specs.Tables.{Tables, tables, fits, termAt, nextAt, flagAt, tripleAt, firstAt, countAt}
+use Rattle.store.specs.Model.{better, pick}
+use Rattle.store.specs.Walk.{pickChain, pickable, startOf, linkOf, sits, visitable}
+use Rattle.store.specs.Scan.{chainOk, recordOk}
+use Rattle.graph.specs.declared.Progress.the-variants.{Within}
+use Rattle.graph.specs.Query.{patternsOf, wordOk, allOk, wordsOk, valueOf, under, bind, match, level, noLevel, recordAt, past, struck}
+use Rattle.graph.specs.Query.{intact, anyStruck, pruned, settle, remains, nextPattern, binds, asked, enteredOk, placeOk, enter, hit}
+use Rattle.graph.specs.Query.{tried, visit, walk, begun, resume, answerOf, levelsOf, insideOf, placeAs, written, cursorAt, openQueryOf}
+use Rattle.graph.specs.Query.{maxPatterns, variables, packed, nextQueryOf}
+use Rattle.integrity.specs.Tests.{allBelow}
+use Rattle.capi_calls.specs.Words.{lent}
+use Rattle.capi_calls.specs.QueryWords.{queryCursorWords, queryReplyWords, queryCursorOf, levelsFrom, spelt, nextQueryFrom, levelWords, numbersFrom}
+use Rattle.capi_calls.specs.QueryCalls.{queryOpenCall, queryNextCall}
+
+-- the word of variable n
+abbrev v : ℕ → ℕ
+v n = 2147483648 + n
+
+-- 1 = (1,2,3), 2 = (1,2,4), as the loading program's example leaves them; no text is needed
+abbrev counters : List ℕ
+counters = 4 ∷ 2 ∷ 0 ∷ 77 ∷ []
+
+abbrev two : Tables
+two = tables
+    ((2 ∷ 0 ∷ 0 ∷ 2 ∷ 0 ∷ 0 ∷ 0 ∷ 1 ∷ 0 ∷ 2 ∷ 0 ∷ 0 ∷ 2 ∷ 0 ∷ 0 ∷ 1 ∷ [])
+    ++ (0 ∷ 0 ∷ 1 ∷ 0 ∷ 0 ∷ 1 ∷ 0 ∷ 1 ∷ 0 ∷ 0 ∷ 2 ∷ 0 ∷ 0 ∷ 1 ∷ 0 ∷ 1 ∷ []))
+    (1 ∷ 2 ∷ 3 ∷ 0 ∷ 0 ∷ 0 ∷ 0 ∷ 1 ∷ 2 ∷ 4 ∷ 1 ∷ 1 ∷ 0 ∷ 0 ∷ []) (replicate 4 0) []
+
+-- what is known of 1
+abbrev about : List ℕ
+about = 1 ∷ v 0 ∷ v 1 ∷ []
+
+-- two words, then the slots of the first two levels, x in each slot past them; a word past the cursor's
+abbrev cursor : ℕ → ℕ → ℕ → ℕ → ℕ → ℕ → ℕ → List ℕ
+cursor p d a b e f x = p ∷ d ∷ a ∷ b ∷ e ∷ f ∷ (replicate (queryCursorWords - 6) x ++ (55 ∷ []))
+
+-- a reply's first four words, zeros, a word past the reply's
+abbrev reply : ℕ → ℕ → ℕ → ℕ → List ℕ
+reply s n a b = s ∷ n ∷ a ∷ b ∷ (replicate (variables - 2) 0 ++ (66 ∷ []))
+
+abbrev blank : List ℕ
+blank = replicate queryReplyWords 9 ++ (66 ∷ [])
+
+-- ---- what words tell
+
+told : queryCursorOf (cursor 1 2 3 7 0 9 0)
+    ≡ record {
+      progress = Within;
+      depth = 2;
+      levels = level (By Object) 7 ∷ level All 9 ∷ replicate (maxPatterns - 2) noLevel;
+    }
+unfolding levelsFrom
+told = refl
+
+-- a chain's word above 3 counts at the levels entered alone, and only within
+pub record Spelling : Type 0 where
+  pub first-above-2 : spelt (cursor 3 0 0 0 0 0 0) ≡ false
+  pub entered : spelt (cursor 1 2 3 7 4 9 0) ≡ false
+  pub past-entered : spelt (cursor 1 1 3 7 4 9 4) ≡ true
+  pub none-entered : spelt (cursor 1 0 4 7 4 9 4) ≡ true
+  pub at-start : spelt (cursor 0 maxPatterns 4 7 4 9 4) ≡ true
+  pub at-end : spelt (cursor 2 maxPatterns 4 7 4 9 4) ≡ true
+  pub last-slot : spelt (cursor 1 maxPatterns 3 7 3 9 4) ≡ false
+  pub more-than-slots : spelt (cursor 1 4294967295 3 7 3 9 3) ≡ true
+
+spellings : Spelling
+unfolding spelt allBelow
+spellings =
+    record {
+      first-above-2 = refl;
+      entered = refl;
+      past-entered = refl;
+      none-entered = refl;
+      at-start = refl;
+      at-end = refl;
+      last-slot = refl;
+      more-than-slots = refl;
+    }
+
+-- ---- whole calls
+
+-- the result, then what is lent
+abbrev opened : List ℕ → List ℕ → ℕ × List ℕ
+opened ws q = queryOpenCall counters two ws q
+
+abbrev next : List ℕ → List ℕ → ℕ → ℕ × (List ℕ × List ℕ)
+next ws q b = queryNextCall counters two ws q b blank
+
+abbrev says : ℕ → List ℕ → List ℕ → ℕ × (List ℕ × List ℕ)
+says r q w = (r, (q, w))
+
+abbrev refusal : ℕ → List ℕ → ℕ × (List ℕ × List ℕ)
+refusal r q = says r q (reply 0 0 0 0)
+
+pub record Calling : Type 0 where
+  -- open writes the start, zeros in each slot; no query is refused 8, and a short cursor stays as it was
+  pub opens : opened about (cursor 9 9 9 9 9 9 9) ≡ (0, cursor 0 0 0 0 0 0 0)
+  pub open-no-query : opened (1 ∷ 0 ∷ 1 ∷ []) (cursor 9 9 9 9 9 9 9) ≡ (8, cursor 9 9 9 9 9 9 9)
+  pub open-short : opened about (replicate (queryCursorWords - 1) 9) ≡ (100, replicate (queryCursorWords - 1) 9)
+  -- the newest first, then on along the subject's chain, spent, ended
+  pub first : next about (cursor 0 9 9 9 9 9 9) 1 ≡ says 0 (cursor 1 1 1 1 0 0 0) (reply 1 1 2 4)
+  pub within-none : next about (cursor 1 0 9 9 9 9 9) 1 ≡ says 0 (cursor 1 1 1 1 0 0 0) (reply 1 1 2 4)
+  pub second : next about (cursor 1 1 1 1 9 9 9) 5 ≡ says 0 (cursor 1 1 1 0 0 0 0) (reply 1 1 2 3)
+  pub over : next about (cursor 1 1 1 0 0 0 0) 5 ≡ says 0 (cursor 2 0 0 0 0 0 0) (reply 2 0 0 0)
+  pub at-end : next about (cursor 2 9 9 9 9 9 9) 5 ≡ says 0 (cursor 2 0 0 0 0 0 0) (reply 2 0 0 0)
+  pub spent : next (1 ∷ v 0 ∷ 3 ∷ []) (cursor 1 1 1 2 9 9 9) 1 ≡ says 0 (cursor 1 1 1 1 0 0 0) (reply 3 1 0 0)
+  -- 8 before 6, 6 before 7
+  pub no-query : next (1 ∷ 0 ∷ 1 ∷ []) (cursor 3 0 0 0 0 0 0) 0 ≡ refusal 8 (cursor 3 0 0 0 0 0 0)
+  pub first-word : next about (cursor 3 0 0 0 0 0 0) 0 ≡ refusal 6 (cursor 3 0 0 0 0 0 0)
+  pub chain-word : next about (cursor 1 1 4 1 0 0 0) 0 ≡ refusal 6 (cursor 1 1 4 1 0 0 0)
+  pub levels : next about (cursor 1 (suc maxPatterns) 1 1 1 1 1) 0 ≡ refusal 6 (cursor 1 (suc maxPatterns) 1 1 1 1 1)
+  pub no-budget : next about (cursor 1 1 1 1 4 4 4) 0 ≡ refusal 7 (cursor 1 1 1 1 4 4 4)
+  -- counters, cursor, reply
+  pub no-counters : queryNextCall (4 ∷ 2 ∷ []) two about [] 1 [] ≡ says 100 [] []
+  pub no-cursor : queryNextCall counters two about (replicate (queryCursorWords - 1) 0) 1 [] ≡ says 100 (replicate (queryCursorWords - 1) 0) []
+  pub no-reply : queryNextCall counters two about (replicate queryCursorWords 0) 1 (replicate (queryReplyWords - 1) 9)
+      ≡ says 100 (replicate queryCursorWords 0) (replicate (queryReplyWords - 1) 9)
+  -- counters above what the tables hold are refused 1, before all else
+  pub no-room : queryNextCall (5 ∷ 2 ∷ 0 ∷ []) two (1 ∷ []) (cursor 3 0 0 0 0 0 0) 0 blank ≡ refusal 1 (cursor 3 0 0 0 0 0 0)
+
+calls : Calling
+unfolding queryOpenCall queryNextCall lent nextQueryFrom spelt allBelow levelsFrom levelWords numbersFrom wordOk allOk wordsOk patternsOf
+    valueOf under bind match recordAt past struck intact anyStruck pruned settle remains nextPattern binds asked enteredOk placeOk
+    enter hit tried visit walk begun resume answerOf levelsOf insideOf placeAs written cursorAt openQueryOf packed nextQueryOf known
+    better pick termAt nextAt flagAt tripleAt firstAt countAt linkOf startOf sits visitable pickChain pickable chainOk recordOk fits
+calls =
+    record {
+      opens = refl;
+      open-no-query = refl;
+      open-short = refl;
+      first = refl;
+      within-none = refl;
+      second = refl;
+      over = refl;
+      at-end = refl;
+      spent = refl;
+      no-query = refl;
+      first-word = refl;
+      chain-word = refl;
+      levels = refl;
+      no-budget = refl;
+      no-counters = refl;
+      no-cursor = refl;
+      no-reply = refl;
+      no-room = refl;
+    }

@@ -1,0 +1,124 @@
+-- In the cursor that an answered call over queries writes, the slots past the levels entered are 0, and at the start and at the end none
+-- are entered. Assumes nothing.
+use mathlib.Core.Path.{_≡_, refl, ap, _∙_}
+use mathlib.Core.Logic.{_≢_}
+use mathlib.Core.Bool.{Bool, true, false, cond}
+use mathlib.Core.List.{List, [], _∷_, _++_}
+use Prim.Native.Nat.{ℕ, zero, suc, _+_, _*_, _≤_, _<_}
+use native.Mathlib.Omega.{arith}
+use lib.ListN.{length, getD, drop}
+use lib.Seq.{sets-eq}
+use lib.Dec.{ltb}
+use borrow.Author.Tests.{ltb-false}
+use Rattle.store.specs.declared.Counters.{Counters}
+use Rattle.store.specs.Tables.{Tables, word}
+use Rattle.store.proofs.Tests.{decide}
+use Rattle.graph.specs.declared.Level.{Level}
+use Rattle.graph.specs.declared.QueryCursor.{QueryCursor}
+use Rattle.graph.specs.Query.{maxPatterns, noLevel, Place, start, inside, finish, cursorAt, Answer, refused, found, ended, spent}
+use Rattle.graph.specs.Query.{packed, answerOf, placeOf, openQueryOf, nextQueryOf}
+use Rattle.graph.proofs.Laws.{written-past}
+use Rattle.capi_calls.specs.Words.{counterWords, tooShort, countersOf, chainWord, done, lent}
+use Rattle.capi_calls.specs.QueryWords.{queryCursorWords, queryReplyWords, progressWord, queryCursorOf, spelt, misspelt, nextQueryFrom}
+use Rattle.capi_calls.specs.QueryWords.{levelWords, withQueryCursor}
+use Rattle.capi_calls.specs.QueryCalls.{queryOpenCall, queryNextCall, SlotsBlank, OpenedSlotsBlank, AnsweredSlotsBlank}
+use Rattle.capi_calls.proofs.QueryBack.{levels-size}
+
+-- ---- the cursor as a value
+
+record Clear (q : QueryCursor) : Type 0 where
+  unused : (i : ℕ) → q .depth ≤ i → getD (q .levels) i noLevel ≡ noLevel
+  entered : progressWord (q .progress) ≢ 1 → q .depth ≡ 0
+
+place-clear : (p : Place) → Clear (cursorAt p)
+unfolding cursorAt
+place-clear start = record { unused = written-past []; entered = λ _. refl }
+place-clear (inside l up) = record { unused = written-past (l ∷ up); entered = λ h. absurd (h refl) }
+place-clear finish = record { unused = written-past []; entered = λ _. refl }
+
+answer-clear : (a : Answer) → Clear ((packed a) .cursor)
+unfolding packed
+answer-clear (refused e) = place-clear start
+answer-clear (found b v p) = place-clear p
+answer-clear (ended v) = place-clear finish
+answer-clear (spent v p) = place-clear p
+
+opened-clear : (c : Counters) (m : Tables) (ws : List ℕ) → Clear ((openQueryOf c m ws) .cursor)
+unfolding openQueryOf cursorAt
+opened-clear c m ws = place-clear start
+
+next-clear : (c : Counters) (m : Tables) (ws q : List ℕ) (b : ℕ) → Clear ((nextQueryFrom c m ws q b) .cursor)
+unfolding nextQueryFrom nextQueryOf
+next-clear c m ws q b =
+    let told = answer-clear (answerOf c m ws (placeOf (queryCursorOf q)) b) in
+    let none = answer-clear (refused (misspelt ((openQueryOf c m ws) .opening))) in
+    decide (spelt q) (λ e. rw e told) (λ e. rw e none)
+
+-- ---- its words
+
+chain-at : (ls : List Level) (rest : List ℕ) (j n i : ℕ) → i < n
+    → word (levelWords ls j n ++ rest) (2 * i) ≡ chainWord ((getD ls (j + i) noLevel) .chain)
+unfolding levelWords
+chain-at ls rest j zero i h = absurd (omega arith)
+chain-at ls rest j (suc n) zero h = let e : j + 0 ≡ j = omega arith in rw e
+chain-at ls rest j (suc n) (suc i) h =
+    let q : 2 * suc i ≡ suc (suc (2 * i)) = omega arith in
+    let e : j + suc i ≡ suc j + i = omega arith in
+    rw (q, e) (chain-at ls rest (suc j) n i (omega arith))
+
+record-at : (ls : List Level) (rest : List ℕ) (j n i : ℕ) → i < n
+    → word (levelWords ls j n ++ rest) (suc (2 * i)) ≡ (getD ls (j + i) noLevel) .statement .0
+unfolding levelWords
+record-at ls rest j zero i h = absurd (omega arith)
+record-at ls rest j (suc n) zero h = let e : j + 0 ≡ j = omega arith in rw e
+record-at ls rest j (suc n) (suc i) h =
+    let q : 2 * suc i ≡ suc (suc (2 * i)) = omega arith in
+    let e : j + suc i ≡ suc j + i = omega arith in
+    rw (q, e) (record-at ls rest (suc j) n i (omega arith))
+
+told-blank : (p d : ℕ) (ls : List Level) (rest : List ℕ) → ((i : ℕ) → d ≤ i → getD ls i noLevel ≡ noLevel) → (p ≢ 1 → d ≡ 0)
+    → SlotsBlank (p ∷ d ∷ levelWords ls 0 maxPatterns ++ rest)
+told-blank p d ls rest none out =
+    record {
+      chain-blank = λ i h k. let q : 2 + 2 * i ≡ suc (suc (2 * i)) = omega arith in
+          rw q (chain-at ls rest 0 maxPatterns i k ∙ ap (λ (l : Level). chainWord (l .chain)) (none (0 + i) (omega arith)));
+      record-blank = λ i h k. let q : 3 + 2 * i ≡ suc (suc (suc (2 * i))) = omega arith in
+          rw q (record-at ls rest 0 maxPatterns i k ∙ ap (λ (l : Level). l .statement .0) (none (0 + i) (omega arith)));
+      outside-blank = out;
+    }
+
+words-blank : (w : List ℕ) (q : QueryCursor) → queryCursorWords ≤ length w → Clear q → SlotsBlank (withQueryCursor w q)
+words-blank w q h c =
+    let vs = progressWord (q .progress) ∷ q .depth ∷ levelWords (q .levels) 0 maxPatterns in
+    let rest = drop (0 + length vs) w in
+    let k : 0 + length vs ≤ length w = let e = levels-size (q .levels) 0 maxPatterns in omega arith in
+    let e : withQueryCursor w q ≡ vs ++ rest = sets-eq vs w 0 k in
+    rw e (told-blank (progressWord (q .progress)) (q .depth) (q .levels) rest (c .unused) (c .entered))
+
+-- ---- the calls
+
+-- what holds of both ways, each with what its test told
+each : {A : Type 0} (P : A → Type 0) (b : Bool) {s a : A} → P s → (b ≡ false → P a) → P (cond b s a)
+each P true p q = p
+each P false p q = q refl
+
+pub opened-slots-blank : OpenedSlotsBlank
+unfolding queryOpenCall lent
+opened-slots-blank cw m ws w =
+    let P : ℕ × List ℕ → Type 0 = λ z. z .0 ≡ 0 → SlotsBlank (z .1) in
+    let a = openQueryOf (countersOf cw) m ws in
+    let short : P (done tooShort w) = λ e. absurd (omega arith) in
+    each P (ltb (length cw) counterWords) short (λ _.
+    each P (ltb (length w) queryCursorWords) short (λ f e.
+    rw e (words-blank w (a .cursor) (ltb-false (length w) queryCursorWords f) (opened-clear (countersOf cw) m ws))))
+
+pub answered-slots-blank : AnsweredSlotsBlank
+unfolding queryNextCall
+answered-slots-blank cw m ws q b w =
+    let P : ℕ × (List ℕ × List ℕ) → Type 0 = λ z. z .0 ≡ 0 → SlotsBlank (z .1 .0) in
+    let a = nextQueryFrom (countersOf cw) m ws q b in
+    let short : P (tooShort, (q, w)) = λ e. absurd (omega arith) in
+    each P (ltb (length cw) counterWords) short (λ _.
+    each P (ltb (length q) queryCursorWords) short (λ f.
+    each P (ltb (length w) queryReplyWords) short (λ _ e.
+    rw e (words-blank q (a .cursor) (ltb-false (length q) queryCursorWords f) (next-clear (countersOf cw) m ws q b)))))

@@ -1,0 +1,104 @@
+-- Closed runs of the calls on a store of two names, <a> and <b>, each computed to its result and the words after it. They pin the order of
+-- the words, which stands on both sides of the contracts. Every lent slice has a word more than is named, and keeps it. Assumes nothing.
+use mathlib.Core.Path.{_≡_, refl}
+use mathlib.Core.List.{List, [], _∷_}
+use Prim.Native.Nat.{ℕ}
+use Rattle.store.specs.declared.Interned.the-variants.{Number as Id}
+use Rattle.store.specs.declared.Lookup.the-variants.{Number}
+use Rattle.store.specs.Triple.{triple, known, within, same, agrees, permitted, below}
+use Rattle.store.specs.Tables.{Tables, tables, fits, termAt, nextAt, flagAt, tripleAt, firstAt, countAt, offsetAt, kindAt}
+use Rattle.store.specs.Walk.{entryAt, pickChain, pickable, startOf, linkOf, sits, visitable, walk}
+use Rattle.store.specs.Model.{matches, pick, better}
+use Rattle.store.specs.Statement.{seek, locate, appendRecord, linkFirst, linkRecord, kinded, asserting, assertOf, retracting, retractOf}
+use Rattle.store.specs.Scan.{openOf, chainOk, recordOk, cursorOk, walkFrom, nextOf}
+use Rattle.store.specs.Reading.{inRange, statementOf, zeroFrom, nameSpanOf}
+use Rattle.capi_calls.specs.Words.{lent, done, wrote, nextFrom}
+use Rattle.capi_calls.specs.Calls.{findAs, enterAs, nameCall, statementCall, retractCall, openCall, nextCall, assertCall}
+
+-- ---- the store before <a> <b> <a> . and after it; its two statement records hold anything
+
+abbrev counters : ℕ → List ℕ
+counters t = 2 ∷ t ∷ 8 ∷ 77 ∷ []
+
+abbrev names : List ℕ
+names = 60 ∷ 97 ∷ 62 ∷ 0 ∷ 60 ∷ 98 ∷ 62 ∷ 0 ∷ []
+
+abbrev before : Tables
+before =
+    tables (0 ∷ 0 ∷ 0 ∷ 0 ∷ 0 ∷ 0 ∷ 0 ∷ 1 ∷ 0 ∷ 0 ∷ 0 ∷ 0 ∷ 0 ∷ 0 ∷ 4 ∷ 1 ∷ [])
+    (9 ∷ 9 ∷ 9 ∷ 9 ∷ 9 ∷ 9 ∷ 9 ∷ 9 ∷ 9 ∷ 9 ∷ 9 ∷ 9 ∷ 9 ∷ 9 ∷ []) (1 ∷ 2 ∷ []) names
+
+abbrev holding : ℕ → Tables
+holding flag =
+    tables (1 ∷ 0 ∷ 1 ∷ 1 ∷ 0 ∷ 1 ∷ 0 ∷ 1 ∷ 0 ∷ 1 ∷ 0 ∷ 0 ∷ 1 ∷ 0 ∷ 4 ∷ 1 ∷ [])
+    (1 ∷ 2 ∷ 1 ∷ 0 ∷ 0 ∷ 0 ∷ flag ∷ 9 ∷ 9 ∷ 9 ∷ 9 ∷ 9 ∷ 9 ∷ 9 ∷ []) (1 ∷ 2 ∷ []) names
+
+abbrev written : ℕ → List ℕ → Tables → List ℕ → ℕ × (List ℕ × (Tables × List ℕ))
+written r cw m w = (r, (cw, (m, w)))
+
+abbrev beside : ℕ → List ℕ → List ℕ → ℕ × (List ℕ × List ℕ)
+beside r q w = (r, (q, w))
+
+-- ---- assert: new, already, revived, an unknown number, a reply too short
+
+asserts : assertCall (counters 0) before (triple 1 2 1) (5 ∷ 5 ∷ 66 ∷ [])
+    ∷ assertCall (counters 1) (holding 0) (triple 1 2 1) (5 ∷ 5 ∷ 66 ∷ [])
+    ∷ assertCall (counters 1) (holding 1) (triple 1 2 1) (5 ∷ 5 ∷ 66 ∷ [])
+    ∷ assertCall (counters 1) (holding 0) (triple 3 2 1) (5 ∷ 5 ∷ 66 ∷ [])
+    ∷ assertCall (counters 0) before (triple 1 2 1) (5 ∷ [])
+    ∷ []
+    ≡ written 0 (counters 1) (holding 0) (1 ∷ 1 ∷ 66 ∷ [])
+    ∷ written 0 (counters 1) (holding 0) (2 ∷ 1 ∷ 66 ∷ [])
+    ∷ written 0 (counters 1) (holding 0) (3 ∷ 1 ∷ 66 ∷ [])
+    ∷ written 4 (counters 1) (holding 0) (0 ∷ 0 ∷ 66 ∷ [])
+    ∷ written 100 (counters 0) before (5 ∷ [])
+    ∷ []
+unfolding fits known within same agrees permitted below termAt nextAt flagAt tripleAt firstAt countAt kindAt matches pick better entryAt pickChain pickable startOf linkOf sits visitable walk seek locate appendRecord linkFirst linkRecord kinded asserting assertOf lent assertCall
+asserts = refl
+
+-- ---- retract: live until now, no longer live
+
+retracts : retractCall (counters 1) (holding 0) (triple 1 2 1) (5 ∷ 66 ∷ []) ∷ retractCall (counters 1) (holding 1) (triple 1 2 1) (5 ∷ 66 ∷ []) ∷ []
+    ≡ wrote 0 (holding 1) (1 ∷ 66 ∷ []) ∷ wrote 0 (holding 1) (0 ∷ 66 ∷ []) ∷ []
+unfolding fits known within same agrees permitted below termAt nextAt flagAt tripleAt firstAt countAt kindAt matches pick better entryAt pickChain pickable startOf linkOf sits visitable walk seek locate retracting retractOf lent retractCall
+retracts = refl
+
+-- ---- a statement and a name; find and enter as answered
+
+reads-statement : statementCall (counters 1) (holding 1) 1 (5 ∷ 5 ∷ 5 ∷ 5 ∷ 66 ∷ []) ≡ done 0 (1 ∷ 2 ∷ 1 ∷ 1 ∷ 66 ∷ [])
+unfolding fits known inRange statementOf tripleAt termAt flagAt lent statementCall
+reads-statement = refl
+
+reads-name : nameCall (counters 1) (holding 0) 2 (5 ∷ 5 ∷ 66 ∷ []) ≡ done 0 (4 ∷ 3 ∷ 66 ∷ [])
+unfolding fits inRange zeroFrom nameSpanOf offsetAt lent nameCall
+reads-name = refl
+
+finds : findAs (counters 1) (5 ∷ 66 ∷ []) (Number (record { 0 = 2 })) ≡ done 0 (2 ∷ 66 ∷ [])
+unfolding lent findAs
+finds = refl
+
+enters : enterAs (counters 1) (5 ∷ 66 ∷ []) (Id (record { 0 = 3 }) (record { resources = 3; statements = 1; text = 12 }))
+    ≡ beside 0 (3 ∷ 1 ∷ 12 ∷ 77 ∷ []) (3 ∷ 66 ∷ [])
+unfolding lent enterAs
+enters = refl
+
+-- ---- a scan: opened at the subject's chain; found, ended past a retracted statement, at its end, no budget, a chain word above 3
+
+opens : openCall (counters 1) (holding 0) (triple 1 0 0) (5 ∷ 5 ∷ 5 ∷ 5 ∷ 5 ∷ 88 ∷ []) ≡ done 0 (1 ∷ 0 ∷ 0 ∷ 1 ∷ 1 ∷ 88 ∷ [])
+unfolding fits known within same agrees permitted below termAt nextAt flagAt tripleAt firstAt countAt kindAt matches pick better entryAt pickChain pickable startOf linkOf sits visitable walk openOf lent openCall
+opens = refl
+
+nexts : nextCall (counters 1) (holding 0) (1 ∷ 0 ∷ 0 ∷ 1 ∷ 1 ∷ 88 ∷ []) 5 (5 ∷ 5 ∷ 5 ∷ 66 ∷ [])
+    ∷ nextCall (counters 1) (holding 1) (1 ∷ 0 ∷ 0 ∷ 1 ∷ 1 ∷ 88 ∷ []) 5 (5 ∷ 5 ∷ 5 ∷ 66 ∷ [])
+    ∷ nextCall (counters 1) (holding 0) (0 ∷ 1 ∷ 0 ∷ 2 ∷ 0 ∷ 88 ∷ []) 1 (5 ∷ 5 ∷ 5 ∷ 66 ∷ [])
+    ∷ nextCall (counters 1) (holding 0) (1 ∷ 0 ∷ 0 ∷ 1 ∷ 1 ∷ 88 ∷ []) 0 (5 ∷ 5 ∷ 5 ∷ 66 ∷ [])
+    ∷ nextCall (counters 1) (holding 0) (1 ∷ 0 ∷ 0 ∷ 4 ∷ 1 ∷ 88 ∷ []) 5 (5 ∷ 5 ∷ 5 ∷ 66 ∷ [])
+    ∷ []
+    ≡ beside 0 (1 ∷ 0 ∷ 0 ∷ 1 ∷ 0 ∷ 88 ∷ []) (1 ∷ 1 ∷ 1 ∷ 66 ∷ [])
+    ∷ beside 0 (1 ∷ 0 ∷ 0 ∷ 1 ∷ 0 ∷ 88 ∷ []) (2 ∷ 0 ∷ 1 ∷ 66 ∷ [])
+    ∷ beside 0 (0 ∷ 1 ∷ 0 ∷ 2 ∷ 0 ∷ 88 ∷ []) (2 ∷ 0 ∷ 0 ∷ 66 ∷ [])
+    ∷ beside 7 (1 ∷ 0 ∷ 0 ∷ 1 ∷ 1 ∷ 88 ∷ []) (0 ∷ 0 ∷ 0 ∷ 66 ∷ [])
+    ∷ beside 6 (1 ∷ 0 ∷ 0 ∷ 4 ∷ 1 ∷ 88 ∷ []) (0 ∷ 0 ∷ 0 ∷ 66 ∷ [])
+    ∷ []
+unfolding fits known within same agrees permitted below termAt nextAt flagAt tripleAt firstAt countAt kindAt matches pick better entryAt pickChain pickable startOf linkOf sits visitable walk chainOk recordOk cursorOk walkFrom nextOf nextFrom nextCall
+nexts = refl

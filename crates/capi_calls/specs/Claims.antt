@@ -1,0 +1,97 @@
+-- What a caller relies on, as statements. Reading back what was written gives it back, and the words past those named are kept. A call
+-- that is not answered leaves counters, cursor and tables as they were, and its reply's words are 0; one that is lent too little leaves
+-- the reply too. The definitions of `Words`, `Calls` and `QueryCalls` stand on both sides of the contracts, so these say of them what they come to.
+-- Declared in `proofs/ReadBack.antt` and `proofs/Unanswered.antt`. Assumes nothing.
+use mathlib.Core.Path.{_≡_}
+use mathlib.Core.Logic.{_≢_}
+use mathlib.Core.Bool.{cond}
+use mathlib.Core.List.{List}
+use Prim.Native.Nat.{ℕ, zero, suc, _≤_}
+use lib.ListN.{length, set}
+use lib.Dec.{eqb}
+use Rattle.store.specs.declared.Counters.{Counters}
+use Rattle.store.specs.declared.Chain.{Chain}
+use Rattle.store.specs.declared.ScanCursor.{ScanCursor}
+use Rattle.store.specs.declared.Triple.{Triple}
+use Rattle.store.specs.Tables.{Tables, word}
+use Rattle.capi_calls.specs.Words.{counterWords, cursorWords, tooShort, countersOf, withCounters, cursorOf, withCursor, chainOf, chainWord, done, wrote}
+use Rattle.capi_calls.specs.Calls.{FindCall, nameCall, statementCall, retractCall, openCall, nextCall, assertCall, EnterCall}
+use Rattle.capi_calls.specs.QueryWords.{queryReplyWords}
+use Rattle.capi_calls.specs.QueryCalls.{queryOpenCall, queryNextCall}
+
+-- ---- counters
+
+abbrev pub CountersReadBack : Type 0
+CountersReadBack = (w : List ℕ) (c : Counters) → counterWords ≤ length w → countersOf (withCounters w c) ≡ c
+
+abbrev pub CountersKeepTheRest : Type 0
+CountersKeepTheRest = (w : List ℕ) (c : Counters)
+    → (length (withCounters w c) ≡ length w) × ((i : ℕ) → counterWords ≤ i → word (withCounters w c) i ≡ word w i)
+
+-- ---- a cursor
+
+abbrev pub ChainsReadBack : Type 0
+ChainsReadBack = (k : Chain) → (chainWord k ≤ 3) × (chainOf (chainWord k) ≡ k)
+
+abbrev pub CursorsReadBack : Type 0
+CursorsReadBack = (w : List ℕ) (q : ScanCursor) → cursorWords ≤ length w → cursorOf (withCursor w q) ≡ q
+
+abbrev pub CursorsKeepTheRest : Type 0
+CursorsKeepTheRest = (w : List ℕ) (q : ScanCursor)
+    → (length (withCursor w q) ≡ length w) × ((i : ℕ) → cursorWords ≤ i → word (withCursor w q) i ≡ word w i)
+
+-- ---- a call that is not answered, so of result r: the first n words of its reply are 0, or as they were where it is lent too little
+
+abbrev pub blank : ℕ → List ℕ → List ℕ
+blank zero w = w
+blank (suc n) w = set (blank n w) n 0
+
+abbrev pub bare : ℕ → List ℕ → ℕ → ℕ × List ℕ
+bare n w r = done r (cond (eqb r tooShort) w (blank n w))
+
+abbrev pub UnansweredFind : Type 0
+UnansweredFind = (cw : List ℕ) (m : Tables) (name w : List ℕ) (z : ℕ × List ℕ) → FindCall cw m name w z → z .0 ≢ 0 → z ≡ bare 1 w (z .0)
+
+abbrev pub UnansweredName : Type 0
+UnansweredName = (cw : List ℕ) (m : Tables) (n : ℕ) (w : List ℕ) → (nameCall cw m n w) .0 ≢ 0
+    → nameCall cw m n w ≡ bare 2 w ((nameCall cw m n w) .0)
+
+abbrev pub UnansweredStatement : Type 0
+UnansweredStatement = (cw : List ℕ) (m : Tables) (n : ℕ) (w : List ℕ) → (statementCall cw m n w) .0 ≢ 0
+    → statementCall cw m n w ≡ bare 4 w ((statementCall cw m n w) .0)
+
+-- the tables too
+abbrev pub UnansweredRetract : Type 0
+UnansweredRetract = (cw : List ℕ) (m : Tables) (x : Triple) (w : List ℕ) → (retractCall cw m x w) .0 ≢ 0
+    → retractCall cw m x w ≡ wrote ((retractCall cw m x w) .0) m ((bare 1 w ((retractCall cw m x w) .0)) .1)
+
+-- and counters or a cursor q as they were; the counters and the tables too
+abbrev pub bareBeside : ℕ → List ℕ → List ℕ → ℕ → ℕ × (List ℕ × List ℕ)
+bareBeside n q w r = (r, (q, (bare n w r) .1))
+
+abbrev pub bareStore : ℕ → List ℕ → Tables → List ℕ → ℕ → ℕ × (List ℕ × (Tables × List ℕ))
+bareStore n cw m w r = (r, (cw, (m, (bare n w r) .1)))
+
+abbrev pub UnansweredAssert : Type 0
+UnansweredAssert = (cw : List ℕ) (m : Tables) (x : Triple) (w : List ℕ) → (assertCall cw m x w) .0 ≢ 0
+    → assertCall cw m x w ≡ bareStore 2 cw m w ((assertCall cw m x w) .0)
+
+abbrev pub UnansweredEnter : Type 0
+UnansweredEnter = (cw : List ℕ) (m m′ : Tables) (name w : List ℕ) (z : ℕ × (List ℕ × List ℕ)) → EnterCall cw m m′ name w z → z .0 ≢ 0
+    → (z ≡ bareBeside 1 cw w (z .0)) × (m′ ≡ m)
+
+abbrev pub UnansweredOpen : Type 0
+UnansweredOpen = (cw : List ℕ) (m : Tables) (x : Triple) (q : List ℕ) → (openCall cw m x q) .0 ≢ 0
+    → openCall cw m x q ≡ done ((openCall cw m x q) .0) q
+
+abbrev pub UnansweredNext : Type 0
+UnansweredNext = (cw : List ℕ) (m : Tables) (q : List ℕ) (b : ℕ) (w : List ℕ) → (nextCall cw m q b w) .0 ≢ 0
+    → nextCall cw m q b w ≡ bareBeside 3 q w ((nextCall cw m q b w) .0)
+
+abbrev pub UnansweredQueryOpen : Type 0
+UnansweredQueryOpen = (cw : List ℕ) (m : Tables) (ws q : List ℕ) → (queryOpenCall cw m ws q) .0 ≢ 0
+    → queryOpenCall cw m ws q ≡ done ((queryOpenCall cw m ws q) .0) q
+
+abbrev pub UnansweredQueryNext : Type 0
+UnansweredQueryNext = (cw : List ℕ) (m : Tables) (ws q : List ℕ) (b : ℕ) (w : List ℕ) → (queryNextCall cw m ws q b w) .0 ≢ 0
+    → queryNextCall cw m ws q b w ≡ bareBeside queryReplyWords q w ((queryNextCall cw m ws q b w) .0)

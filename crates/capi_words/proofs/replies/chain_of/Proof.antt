@@ -1,0 +1,23 @@
+-- `capi_words::replies::chain_of` meets its contract. Assumes nothing.
+use borrow.Author.Tests.{eq-eqb, ne-eqb, lt-leb, le-leb}
+use mathlib.Core.Path.{_≡_, sym, ap, _∙_, refl}
+use borrow.Author.Needs.{needs}
+use Rattle.capi_words.proofs.replies.chain_of.Statement.{statement}
+use Rattle.capi_words.proofs.replies.chain_of.Tie as tie
+use Rattle.capi_words.proofs.replies.chain_of.Reads as reads
+use Rattle.capi_words.proofs.replies.chain_of.Lts as lts
+
+returns : tie.Need-returns
+returns c = simp (eq-eqb _ _ (c .if1 .taken))
+
+returns-2 : tie.Need-returns-2
+returns-2 c = simp (ne-eqb _ _ (c .before .if1 .left), eq-eqb _ _ (c .if2 .taken))
+
+returns-3 : tie.Need-returns-3
+returns-3 c = simp (ne-eqb _ _ (c .before .before .if1 .left), ne-eqb _ _ (c .before .if2 .left), eq-eqb _ _ (c .if3 .taken))
+
+returns-4 : tie.Need-returns-4
+returns-4 c = simp (ne-eqb _ _ (c .before .before .if1 .left), ne-eqb _ _ (c .before .if2 .left), ne-eqb _ _ (c .if3 .left))
+
+pub chain-of-spec : {M : Type 1} → statement M
+chain-of-spec = tie.close (tie.spec returns returns-2 returns-3 returns-4)

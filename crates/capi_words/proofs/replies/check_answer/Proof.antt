@@ -1,0 +1,24 @@
+-- `capi_words::replies::check_answer` meets its contract. Assumes nothing.
+use Rattle.capi_calls.specs.Words.{checkAnswer}
+use mathlib.Core.Path.{_≡_, sym, ap, _∙_, refl}
+use borrow.Author.Needs.{needs}
+use Rattle.capi_words.proofs.replies.check_answer.Statement.{statement}
+use Rattle.capi_words.proofs.replies.check_answer.Tie as tie
+use Rattle.capi_words.proofs.replies.check_answer.Reads as reads
+use Rattle.capi_words.proofs.replies.check_answer.Lts as lts
+use Rattle.capi_words.proofs.replies.words.Reads as words-reads
+
+words-requires : tie.Need-words-requires
+words-requires c κs = search needs
+
+returns : tie.Need-returns
+returns c = c .words .ensures ∙ sym (ap checkAnswer (c .before .if1 .taken))
+
+words-requires-2 : tie.Need-words-requires-2
+words-requires-2 c κs = search needs
+
+returns-2 : tie.Need-returns-2
+returns-2 c = c .words2 .ensures ∙ sym (ap checkAnswer (c .before .if1 .left))
+
+pub check-answer-spec : {M : Type 1} → statement M
+check-answer-spec = tie.close (tie.spec words-requires returns words-requires-2 returns-2)

@@ -1,0 +1,43 @@
+-- `capi_words::replies::enter_answer` meets its contract. Assumes nothing.
+use Rattle.capi_calls.specs.Words.{enterAnswer}
+use mathlib.Core.Path.{_≡_, sym, ap, _∙_, refl}
+use borrow.Author.Needs.{needs}
+use Rattle.capi_words.proofs.replies.enter_answer.Statement.{statement}
+use Rattle.capi_words.proofs.replies.enter_answer.Tie as tie
+use Rattle.capi_words.proofs.replies.enter_answer.Reads as reads
+use Rattle.capi_words.proofs.replies.enter_answer.Lts as lts
+use Rattle.store.proofs.refusal_number.Reads as refusal-number-reads
+use Rattle.capi_words.proofs.replies.words.Reads as words-reads
+
+enum-known-a : tie.Need-enum-known-a
+enum-known-a c = search needs
+
+words-requires : tie.Need-words-requires
+words-requires c κs = search needs
+
+enum-known-a-2 : tie.Need-enum-known-a-2
+enum-known-a-2 c = search needs
+
+refusal-number-requires : tie.Need-refusal-number-requires
+refusal-number-requires c κs = search needs
+
+words-requires-2 : tie.Need-words-requires-2
+words-requires-2 c κs = search needs
+
+returns : tie.Need-returns
+returns c = c .words .ensures ∙ sym (ap enterAnswer (c .before .before .a .given .1))
+
+returns-2 : tie.Need-returns-2
+returns-2 c = simp (c .words2 .ensures, c .before .refusal-number .ensures, c .before .before .before .a2 .given .1)
+
+pub enter-answer-spec : {M : Type 1} → statement M
+enter-answer-spec =
+    tie.close
+    (tie.spec
+    enum-known-a
+    words-requires
+    enum-known-a-2
+    refusal-number-requires
+    words-requires-2
+    returns
+    returns-2)

@@ -1,0 +1,24 @@
+-- `capi_words::replies::kind_answer` meets its contract. Assumes nothing.
+use borrow.Author.Tests.{lt-ltb, le-ltb, eq-eqb, ne-eqb}
+use mathlib.Core.Path.{_≡_, sym, ap, _∙_, refl}
+use borrow.Author.Needs.{needs}
+use Rattle.capi_words.proofs.replies.kind_answer.Statement.{statement}
+use Rattle.capi_words.proofs.replies.kind_answer.Tie as tie
+use Rattle.capi_words.proofs.replies.kind_answer.Reads as reads
+use Rattle.capi_words.proofs.replies.kind_answer.Lts as lts
+use Rattle.capi_words.proofs.replies.words.Reads as words-reads
+
+words-requires : tie.Need-words-requires
+words-requires c κs = search needs
+
+returns : tie.Need-returns
+returns c = simp (c .words .ensures, eq-eqb _ _ (c .before .if1 .taken))
+
+words-requires-2 : tie.Need-words-requires-2
+words-requires-2 c κs = search needs
+
+returns-2 : tie.Need-returns-2
+returns-2 c = simp (c .words2 .ensures, ne-eqb _ _ (c .before .if1 .left))
+
+pub kind-answer-spec : {M : Type 1} → statement M
+kind-answer-spec = tie.close (tie.spec words-requires returns words-requires-2 returns-2)

@@ -1,0 +1,99 @@
+// Counters, triples and cursors as the words that C lends, read and written, and next of a pattern scan from a cursor's words.
+use crate::replies::chain_of;
+use crate::replies::chain_word;
+use store::Counters;
+use store::Refusal;
+use store::ResourceId;
+use store::ScanCursor;
+use store::Scanned;
+use store::StatementId;
+use store::Triple;
+ghost use mathlib.Core.Path.{_≡_};
+ghost use Prim.Native.Nat.{_≤_};
+ghost use lib.ListN.{length};
+ghost use Rattle.store.specs.Tables.{tables};
+ghost use Rattle.store.specs.Triple.{triple};
+ghost use Rattle.capi_calls.specs.Words.{counterWords, cursorWords, countersOf, withCounters, cursorOf, withCursor, nextFrom};
+
+// Three numbers as a triple or a pattern.
+pub fn triple_of(subject: u32, predicate: u32, object: u32) -> Triple
+    ensures { λ r. ⌜ r ≡ triple subject predicate object ⌝ }
+{
+    Triple {
+        subject: ResourceId(subject),
+        predicate: ResourceId(predicate),
+        object: ResourceId(object),
+    }
+}
+
+// Writes a cursor's words.
+pub fn put_cursor(words: &mut [u32], q: ScanCursor)
+    requires { ⌜ cursorWords ≤ length (now words) ⌝ }
+    ensures { λ _. ⌜ now (words .exit) ≡ withCursor (now (words .entry)) q ⌝ }
+{
+    let x = q.pattern;
+    let c = q.chain;
+    let chain = chain_word(c);
+    words[0] = x.subject.0;
+    words[1] = x.predicate.0;
+    words[2] = x.object.0;
+    words[3] = chain;
+    words[4] = q.next.0;
+}
+
+// The counters that the first words tell.
+pub fn counters_of(words: &[u32]) -> Counters
+    requires { ⌜ counterWords ≤ length (now words) ⌝ }
+    ensures { λ c. ⌜ c ≡ countersOf (now (words .entry)) ⌝ }
+{
+    Counters {
+        resources: words[0],
+        statements: words[1],
+        text: words[2],
+    }
+}
+
+// Writes the counters' words.
+pub fn put_counters(words: &mut [u32], c: Counters)
+    requires { ⌜ counterWords ≤ length (now words) ⌝ }
+    ensures { λ _. ⌜ now (words .exit) ≡ withCounters (now (words .entry)) c ⌝ }
+{
+    words[0] = c.resources;
+    words[1] = c.statements;
+    words[2] = c.text;
+}
+
+// The cursor that words tell, whose chain word is at most 3.
+fn cursor_of(words: &[u32]) -> ScanCursor
+    requires { ⌜ cursorWords ≤ length (now words) ⌝ }
+    ensures { λ q. ⌜ q ≡ cursorOf (now (words .entry)) ⌝ }
+{
+    ScanCursor {
+        pattern: triple_of(words[0], words[1], words[2]),
+        chain: chain_of(words[3]),
+        next: StatementId(words[4]),
+    }
+}
+
+// Next of a pattern scan from a cursor's words. A chain word above 3 is refused 6, after refusal 1.
+pub fn next_from(
+    c: Counters,
+    resources: &[u32],
+    statements: &[u32],
+    index: &[u32],
+    text: &[u8],
+    words: &[u32],
+    budget: u32,
+) -> Scanned
+    requires { ⌜ cursorWords ≤ length (now words) ⌝ }
+    ensures { λ r. ⌜ r ≡ nextFrom c (tables (now (resources .entry)) (now (statements .entry)) (now (index .entry)) (now (text .entry))) (now (words .entry)) budget ⌝ }
+{
+    if words[3] > 3 {
+        if table::fits(c, resources, statements, index, text) {
+            return Scanned::Refused(Refusal::BadCursor);
+        }
+        return Scanned::Refused(Refusal::Capacity);
+    }
+    let q = cursor_of(words);
+    scan::scan_next(c, resources, statements, index, text, q, budget)
+}
