@@ -3,6 +3,7 @@
 //
 // Levels stand in an array, the first pattern first; a function is told how many of them count. What each entered
 // record must be for its words to be read is asked of the caller, who has tested it (refusal 6) or visited the record.
+use chain_walk::walk::link_of;
 use graph::Level;
 use graph::MAX_PATTERNS;
 use graph::Progress;
@@ -11,7 +12,6 @@ use graph::Solution;
 use pattern::binding::meet;
 use pattern::binding::none_bound;
 use pattern::words::pattern_at;
-use chain_walk::walk::link_of;
 use store::Chain;
 use store::StatementId;
 use table::inner::flag_at;

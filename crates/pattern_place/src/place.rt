@@ -3,6 +3,8 @@
 //
 // A test that holds hands on what the levels before the deepest bind, so that a reading that goes on does not bind
 // them again.
+use chain::pick::chain_ok;
+use chain_walk::walk::record_ok;
 use graph::Level;
 use graph::MAX_PATTERNS;
 use graph::Progress;
@@ -15,8 +17,6 @@ use pattern::binding::none_bound;
 use pattern::binding::under;
 use pattern::words::pattern_at;
 use pattern::words::patterns;
-use chain::pick::chain_ok;
-use chain_walk::walk::record_ok;
 use store::Counters;
 use store::Triple;
 use table::inner::triple_at;

@@ -3,6 +3,12 @@
 //
 // A turn of the walk leaves the deepest level, visits its record, or enters the next pattern; each is a function here,
 // and so are the replies that a walk ends with.
+use chain::pick::pick_chain;
+use chain::pick::pickable;
+use chain::pick::start_of;
+use chain_walk::walk::Sought;
+use chain_walk::walk::Visited;
+use chain_walk::walk::visit;
 use graph::Level;
 use graph::MAX_PATTERNS;
 use graph::Progress;
@@ -19,12 +25,6 @@ use pattern_level::level::bindings;
 use pattern_level::level::cursor_of;
 use pattern_level::level::past;
 use pattern_level::level::remains;
-use chain_walk::walk::Sought;
-use chain_walk::walk::Visited;
-use chain::pick::pick_chain;
-use chain::pick::pickable;
-use chain::pick::start_of;
-use chain_walk::walk::visit;
 use store::Chain;
 use store::Refusal;
 use store::StatementId;

@@ -1,5 +1,6 @@
 // The walk of a query: level by level along the chains, up to the first whole solution (paper 01, "Next of a
 // question").
+use chain_walk::walk::Visited;
 use graph::QueryAnswer;
 use query_stack::stack::Outcome;
 use query_stack::stack::Stack;
@@ -11,7 +12,6 @@ use query_stack::stack::refused;
 use query_stack::stack::seen;
 use query_stack::stack::tried;
 use query_stack::stack::whole;
-use chain_walk::walk::Visited;
 use store::Counters;
 use store::Refusal;
 ghost use mathlib.Core.Path.{_≡_};
