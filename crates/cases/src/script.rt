@@ -1,0 +1,122 @@
+// The script's lines: words with one space between them.
+ghost use Prim.Native.Nat.{_≤_};
+ghost use lib.ListN.{length};
+
+// The offset of the byte `stop` from `at` on, or the end.
+pub fn until(bytes: &[u8], at: usize, stop: u8) -> usize
+    requires { ⌜ at ≤ length (now bytes) ⌝ }
+    ensures { λ r. ⌜ (at ≤ r) × (r ≤ length (now (bytes .entry))) ⌝ }
+{
+    let mut i = at;
+    while i < bytes.len() {
+        if bytes[i] == stop {
+            return i;
+        }
+        i += 1;
+    }
+    i
+}
+
+// The offset of word k, from 0, or the line's end.
+fn start(line: &[u8], k: u32) -> usize
+    ensures { λ r. ⌜ r ≤ length (now (line .entry)) ⌝ }
+{
+    let mut left = k;
+    let mut i = 0;
+    while i < line.len() {
+        if left == 0 {
+            return i;
+        }
+        if line[i] == b' ' {
+            left -= 1;
+        }
+        i += 1;
+    }
+    i
+}
+
+// Word k, from 0; empty past the last one.
+pub fn word(line: &[u8], k: u32) -> &[u8] {
+    let from = start(line, k);
+    let end = until(line, from, b' ');
+    &line[from..end]
+}
+
+// The line from word k on.
+pub fn rest(line: &[u8], k: u32) -> &[u8] {
+    let from = start(line, k);
+    &line[from..]
+}
+
+// The number that word k is.
+pub fn number(line: &[u8], k: u32) -> u32 {
+    value(word(line, k))
+}
+
+// The first byte of a word, or 0.
+pub fn letter(word: &[u8]) -> u8 {
+    if word.len() == 0 {
+        return 0;
+    }
+    word[0]
+}
+
+// The decimal digits of a word; bytes that are no digits are passed over.
+pub fn value(word: &[u8]) -> u32 {
+    let mut v: u64 = 0;
+    let mut i = 0;
+    while i < word.len() {
+        v = more(v, word[i]);
+        i += 1;
+    }
+    low(v)
+}
+
+// One byte more; numbers past ten digits are not read on.
+fn more(v: u64, b: u8) -> u64 {
+    if v > 999999999 {
+        return v;
+    }
+    match b {
+        b'0'..=b'9' => v * 10 + (b - b'0') as u64,
+        _ => v,
+    }
+}
+
+// A number of the script as a word of a table.
+fn low(v: u64) -> u32 {
+    if v > 4294967295 {
+        return 4294967295;
+    }
+    v as u32
+}
+
+// Which word of a list a word is, from 0; as many as the list has if it is none of them.
+pub fn position(word: &[u8], list: &[u8]) -> u32 {
+    let mut n: u32 = 0;
+    let mut at = 0;
+    while at < list.len() {
+        let from = at;
+        let end = until(list, from, b' ');
+        at = end + 1;
+        if same(word, &list[from..end]) {
+            return n;
+        }
+        n = std::num::wrapping_add_u32(n, 1);
+    }
+    n
+}
+
+fn same(a: &[u8], b: &[u8]) -> bool {
+    if a.len() != b.len() {
+        return false;
+    }
+    let mut i = 0;
+    while i < a.len() {
+        if a[i] != b[i] {
+            return false;
+        }
+        i += 1;
+    }
+    true
+}
