@@ -35,10 +35,24 @@ pub fn names(
     let c = state::counters(state);
     match verb {
         0 => {
-            let a = dictionary::intern(c, resources, statements, index, text, script::rest(line, 2));
+            let a = dictionary::intern(
+                c,
+                resources,
+                statements,
+                index,
+                text,
+                script::rest(line, 2),
+            );
             reply::interned(state, a)
         }
-        1 => reply::looked_up(dictionary::find(c, resources, statements, index, text, script::rest(line, 2))),
+        1 => reply::looked_up(dictionary::find(
+            c,
+            resources,
+            statements,
+            index,
+            text,
+            script::rest(line, 2),
+        )),
         _ => {
             let n = ResourceId(script::number(line, 2));
             let a = table::name_span(c, resources, statements, index, text, n);
@@ -62,7 +76,14 @@ pub fn statements(
             let a = statement::assert(c, resources, statements, index, text, triple(line));
             reply::asserted(state, a)
         }
-        4 => reply::retracted(statement::retract(c, resources, statements, index, text, triple(line))),
+        4 => reply::retracted(statement::retract(
+            c,
+            resources,
+            statements,
+            index,
+            text,
+            triple(line),
+        )),
         _ => {
             let n = StatementId(script::number(line, 2));
             reply::read(table::read_statement(c, resources, statements, index, text, n))
@@ -83,7 +104,13 @@ pub fn readings(
     match verb {
         6 | 7 => listings(verb, line, state, resources, statements, index, text),
         8 | 9 => questions(verb, line, state, resources, statements, index, text),
-        _ => reply::checked(integrity::check(state::counters(state), resources, statements, index, text)),
+        _ => reply::checked(integrity::check(
+            state::counters(state),
+            resources,
+            statements,
+            index,
+            text,
+        )),
     }
 }
 
@@ -103,7 +130,15 @@ fn listings(
         return;
     }
     let q = state::listing(state);
-    let a = statement::scan_next(c, resources, statements, index, text, q, script::number(line, 2));
+    let a = statement::scan_next(
+        c,
+        resources,
+        statements,
+        index,
+        text,
+        q,
+        script::number(line, 2),
+    );
     reply::scanned(state, a);
 }
 
@@ -118,7 +153,14 @@ fn questions(
 ) {
     let c = state::counters(state);
     if verb == 8 {
-        let a = query::query_open(c, resources, statements, index, text, state::question(state));
+        let a = query::query_open(
+            c,
+            resources,
+            statements,
+            index,
+            text,
+            state::question(state),
+        );
         reply::asked(state, a);
         return;
     }

@@ -140,10 +140,15 @@ fn act(
         0 => {}
         1..=5 => setup::settings(verb, line, state),
         6..=11 => setup::tables(verb, line, resources, statements, index, text),
-        _ => case(line, state, resources, statements, index, text),
+        _ => {
+            print::begin(state, line);
+            case(line, state, resources, statements, index, text);
+            print::end();
+        }
     }
 }
 
+// What a case calls or shows.
 fn case(
     line: &[u8],
     state: &mut [u32],
@@ -152,7 +157,6 @@ fn case(
     index: &mut [u32],
     text: &mut [u8],
 ) {
-    print::begin(state, line);
     let verb = calls::verb(line);
     match verb {
         0..=2 => calls::names(verb, line, state, resources, statements, index, text),
@@ -160,6 +164,4 @@ fn case(
         6..=10 => calls::readings(verb, line, state, resources, statements, index, text),
         _ => print::show(line, resources, statements, index, text),
     }
-    ;
-    print::end();
 }

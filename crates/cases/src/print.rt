@@ -136,10 +136,7 @@ pub fn solution(b: Solution) {
 
 pub fn show(line: &[u8], resources: &[u32], statements: &[u32], index: &[u32], bytes: &[u8]) {
     let n = script::number(line, 3);
-    match script::position(
-        script::word(line, 2),
-        b"resource statement resources index",
-    ) {
+    match script::position(script::word(line, 2), b"resource statement resources index") {
         0 => resource(resources, words::resource(n)),
         1 => statement(statements, words::statement(n)),
         2 => all_resources(resources),

@@ -103,7 +103,11 @@ fn index_words(line: &[u8], index: &mut [u32]) {
 }
 
 fn text_bytes(line: &[u8], text: &mut [u8]) {
-    put_bytes(text, script::number(line, 1) as usize, script::rest(line, 2));
+    put_bytes(
+        text,
+        script::number(line, 1) as usize,
+        script::rest(line, 2),
+    );
 }
 
 fn put_bytes(text: &mut [u8], first: usize, bytes: &[u8]) {
@@ -178,7 +182,12 @@ fn write(table: &mut [u32], first: usize, at: u32, v: u32) -> u32 {
 fn value(word: &[u8], table: &mut [u32], first: usize, at: u32) -> u32 {
     let v = script::value(word);
     match script::letter(word) {
-        b'?' => write(table, first, at, std::num::wrapping_add_u32(graph::FIRST_VARIABLE, v)),
+        b'?' => write(
+            table,
+            first,
+            at,
+            std::num::wrapping_add_u32(graph::FIRST_VARIABLE, v),
+        ),
         b'-' => level(table, first, at, 0, v),
         b's' => level(table, first, at, 1, v),
         b'p' => level(table, first, at, 2, v),

@@ -64,13 +64,21 @@ fn within(n: usize, short: u32, length: usize) -> usize
 pub fn lent_resources(state: &[u32], length: usize) -> usize
     ensures { λ r. ⌜ r ≤ length ⌝ }
 {
-    within(words::resources(get(state, LENT, 0)), get(state, LENT, SHORT), length)
+    within(
+        words::resources(get(state, LENT, 0)),
+        get(state, LENT, SHORT),
+        length,
+    )
 }
 
 pub fn lent_statements(state: &[u32], length: usize) -> usize
     ensures { λ r. ⌜ r ≤ length ⌝ }
 {
-    within(words::statements(get(state, LENT, 1)), get(state, LENT, SHORT + 1), length)
+    within(
+        words::statements(get(state, LENT, 1)),
+        get(state, LENT, SHORT + 1),
+        length,
+    )
 }
 
 pub fn lent_index(state: &[u32], length: usize) -> usize
@@ -219,7 +227,12 @@ pub fn put_answered(state: &mut [u32], q: QueryCursor) {
 fn put_level(state: &mut [u32], k: u32, l: Level) {
     let chain = l.chain;
     put(state, ANSWERED, k, chain_word(chain));
-    put(state, ANSWERED, std::num::wrapping_add_u32(k, 1), l.statement.0);
+    put(
+        state,
+        ANSWERED,
+        std::num::wrapping_add_u32(k, 1),
+        l.statement.0,
+    );
 }
 
 // The place last answered is the place of the question from now on.
