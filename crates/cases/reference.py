@@ -474,10 +474,6 @@ class Store:
         return from_bytes(self.text[: self.bytes])
 
 
-def level(word):
-    return "-spo".index(word[0]), int(word[1:])
-
-
 # A line that sets something up.
 def set_up(store, verb, words, line):
     if verb == "lend":
@@ -506,7 +502,7 @@ def set_up(store, verb, words, line):
         store.question = [number(w) for w in words]
     elif verb == "place":
         assert words[0] in ("start", "within", "end")
-        levels = [level(w) for w in words[2:]]
+        levels = [("-spo".index(chain), int(n)) for chain, n in zip(words[2::2], words[3::2])]
         store.place = (words[0], int((words + ["0"])[1]), levels + [(0, 0)] * (PATTERNS - len(levels)))
     else:
         raise SyntaxError(line)

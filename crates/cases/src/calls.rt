@@ -1,18 +1,15 @@
 // The calls, each on the counters and the lent parts of all four tables.
+use crate::print;
 use crate::reply;
 use crate::script;
 use crate::state;
+use crate::state::QUESTION_WORDS;
+use crate::state::State;
+use store::Counters;
 use store::ResourceId;
+use store::ScanCursor;
 use store::StatementId;
 use store::Triple;
-
-// Which call a case makes, in this order; a greater number for a case that shows words.
-pub fn verb(line: &[u8]) -> u32 {
-    script::position(
-        script::word(line, 1),
-        b"enter find name assert retract read open next ask answer check",
-    )
-}
 
 // The three numbers of a call.
 fn triple(line: &[u8]) -> Triple {
@@ -24,112 +21,129 @@ fn triple(line: &[u8]) -> Triple {
 }
 
 pub fn names(
+    c: Counters,
     verb: u32,
     line: &[u8],
-    state: &mut [u32],
     resources: &mut [u32],
     statements: &[u32],
     index: &mut [u32],
     text: &mut [u8],
+) -> Counters {
+    if verb == 12 {
+        let a = dictionary::intern(c, resources, statements, index, text, script::rest(line, 2));
+        return reply::interned(c, a);
+    }
+    names_read(c, verb, line, resources, statements, index, text);
+    c
+}
+
+fn names_read(
+    c: Counters,
+    verb: u32,
+    line: &[u8],
+    resources: &[u32],
+    statements: &[u32],
+    index: &[u32],
+    text: &[u8],
 ) {
-    let c = state::counters(state);
-    match verb {
-        0 => {
-            let a = dictionary::intern(
-                c,
-                resources,
-                statements,
-                index,
-                text,
-                script::rest(line, 2),
-            );
-            reply::interned(state, a)
-        }
-        1 => reply::looked_up(dictionary::find(
+    if verb == 13 {
+        reply::looked_up(dictionary::find(
             c,
             resources,
             statements,
             index,
             text,
             script::rest(line, 2),
-        )),
-        _ => {
-            let n = ResourceId(script::number(line, 2));
-            let a = table::name_span(c, resources, statements, index, text, n);
-            reply::named(a, table::name(c, resources, statements, index, text, n))
-        }
+        ));
+        return;
     }
+    let n = ResourceId(script::number(line, 2));
+    let a = table::name_span(c, resources, statements, index, text, n);
+    reply::named(a, table::name(c, resources, statements, index, text, n));
 }
 
 pub fn statements(
+    c: Counters,
     verb: u32,
     line: &[u8],
-    state: &mut [u32],
     resources: &mut [u32],
     statements: &mut [u32],
     index: &[u32],
     text: &[u8],
-) {
-    let c = state::counters(state);
+) -> Counters {
+    let x = triple(line);
+    if verb == 15 {
+        let a = statement::assert(c, resources, statements, index, text, x);
+        return reply::asserted(c, a);
+    }
+    reply::retracted(statement::retract(c, resources, statements, index, text, x));
+    c
+}
+
+// Calls that write to no table.
+pub fn readings(
+    s: State,
+    verb: u32,
+    line: &[u8],
+    resources: &[u32],
+    statements: &[u32],
+    index: &[u32],
+    text: &[u8],
+) -> State {
+    let c = s.counters;
     match verb {
-        3 => {
-            let a = statement::assert(c, resources, statements, index, text, triple(line));
-            reply::asserted(state, a)
+        18 | 19 => {
+            let q = s.listing;
+            state::with_listing(
+                s,
+                listings(c, q, verb, line, resources, statements, index, text),
+            )
         }
-        4 => reply::retracted(statement::retract(
+        20 | 21 => questions(s, verb, line, resources, statements, index, text),
+        _ => {
+            others(c, verb, line, resources, statements, index, text);
+            s
+        }
+    }
+}
+
+fn others(
+    c: Counters,
+    verb: u32,
+    line: &[u8],
+    resources: &[u32],
+    statements: &[u32],
+    index: &[u32],
+    text: &[u8],
+) {
+    match verb {
+        17 => reply::read(table::read_statement(
             c,
             resources,
             statements,
             index,
             text,
-            triple(line),
+            StatementId(script::number(line, 2)),
         )),
-        _ => {
-            let n = StatementId(script::number(line, 2));
-            reply::read(table::read_statement(c, resources, statements, index, text, n))
-        }
-    }
-}
-
-// Calls that write to no table.
-pub fn readings(
-    verb: u32,
-    line: &[u8],
-    state: &mut [u32],
-    resources: &[u32],
-    statements: &[u32],
-    index: &[u32],
-    text: &[u8],
-) {
-    match verb {
-        6 | 7 => listings(verb, line, state, resources, statements, index, text),
-        8 | 9 => questions(verb, line, state, resources, statements, index, text),
-        _ => reply::checked(integrity::check(
-            state::counters(state),
-            resources,
-            statements,
-            index,
-            text,
-        )),
+        22 => reply::checked(integrity::check(c, resources, statements, index, text)),
+        _ => print::show(line, resources, statements, index, text),
     }
 }
 
 fn listings(
+    c: Counters,
+    q: ScanCursor,
     verb: u32,
     line: &[u8],
-    state: &mut [u32],
     resources: &[u32],
     statements: &[u32],
     index: &[u32],
     text: &[u8],
-) {
-    let c = state::counters(state);
-    if verb == 6 {
+) -> ScanCursor {
+    if verb == 18 {
         let a = statement::scan_open(c, resources, statements, index, text, triple(line));
-        reply::opened(state, a);
-        return;
+        return reply::opened(q, a);
     }
-    let q = state::listing(state);
     let a = statement::scan_next(
         c,
         resources,
@@ -139,41 +153,45 @@ fn listings(
         q,
         script::number(line, 2),
     );
-    reply::scanned(state, a);
+    reply::scanned(q, a)
+}
+
+// The question's words.
+fn asked(words: &[u32; QUESTION_WORDS], size: usize) -> &[u32] {
+    part(words, size)
+}
+
+fn part(words: &[u32], size: usize) -> &[u32] {
+    let n = state::within(size, 0, words.len());
+    &words[0..n]
 }
 
 fn questions(
+    s: State,
     verb: u32,
     line: &[u8],
-    state: &mut [u32],
     resources: &[u32],
     statements: &[u32],
     index: &[u32],
     text: &[u8],
-) {
-    let c = state::counters(state);
-    if verb == 8 {
-        let a = query::query_open(
-            c,
-            resources,
-            statements,
-            index,
-            text,
-            state::question(state),
-        );
-        reply::asked(state, a);
-        return;
+) -> State {
+    let words = s.question.words;
+    let size = s.question.size;
+    let c = s.counters;
+    let q = s.place;
+    if verb == 20 {
+        let a = query::query_open(c, resources, statements, index, text, asked(&words, size));
+        return state::with_place(s, reply::asked(q, a));
     }
-    let q = state::place(state);
     let a = query::query_next(
         c,
         resources,
         statements,
         index,
         text,
-        state::question(state),
+        asked(&words, size),
         q,
         script::number(line, 2),
     );
-    reply::answered(state, a);
+    state::with_place(s, reply::answered(q, a))
 }

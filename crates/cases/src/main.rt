@@ -15,7 +15,7 @@
 // | text AT BYTES               | bytes of the text, from AT on, which counts from 0; a bar stands for a zero byte                  |
 // | listing S P O CHAIN N       | the place of the listing: pattern, chain (none, s, p, o), next                                    |
 // | question W ..               | the question's words, a variable as `?` and its number                                            |
-// | place HOW [DEPTH LEVEL ..]  | the place of the question: start, within or end, the levels entered, chain and record of each: s2 |
+// | place HOW [DEPTH LEVEL ..]  | the place of the question: start, within or end, the levels entered, chain (-, s, p, o) and record of each |
 //
 // A field is `first`, `count`, `offset`, `kind` of a resource, `triple`, `next`, `flag` of a statement; a field of three words is followed by
 // three numbers, or by `subject`, `predicate` or `object` and one number. What is not told is 0.
@@ -39,6 +39,7 @@
 // | show resource Y, show statement N  | the record's words, each field after its name                            |
 // | show resources                     | every whole resource record that is lent                                 |
 // | show index, show text              | the words or bytes that are lent                                         |
+use crate::state::State;
 use libc::STDIN_FILENO;
 use table::RESOURCE_WORDS;
 use table::STATEMENT_WORDS;
@@ -63,14 +64,12 @@ const TEXT: usize = 1024;
 fn main() {
     let mut script = [0u8; 262144];
     let n = io::read_full(STDIN_FILENO, &mut script);
-    let mut state = [0u32; state::WORDS];
     let mut resources = [0u32; RESOURCES * RESOURCE_WORDS];
     let mut statements = [0u32; STATEMENTS * STATEMENT_WORDS];
     let mut index = [0u32; INDEX];
     let mut text = [0u8; TEXT];
     run(
         &script[..n],
-        &mut state,
         &mut resources,
         &mut statements,
         &mut index,
@@ -81,20 +80,20 @@ fn main() {
 // Every line of the script.
 fn run(
     script: &[u8],
-    state: &mut [u32],
     resources: &mut [u32],
     statements: &mut [u32],
     index: &mut [u32],
     text: &mut [u8],
 ) {
+    let mut state = state::start();
     let mut at = 0;
     while at < script.len() {
         let start = at;
         let end = script::until(script, start, b'\n');
         at = end + 1;
-        step(
-            &script[start..end],
+        state = step(
             state,
+            &script[start..end],
             resources,
             statements,
             index,
@@ -105,63 +104,54 @@ fn run(
 
 // One line, on the lent parts of the tables.
 fn step(
+    s: State,
     line: &[u8],
-    state: &mut [u32],
     resources: &mut [u32],
     statements: &mut [u32],
     index: &mut [u32],
     text: &mut [u8],
-) {
-    let r = state::lent_resources(state, resources.len());
-    let s = state::lent_statements(state, statements.len());
-    let i = state::lent_index(state, index.len());
-    let b = state::lent_text(state, text.len());
+) -> State {
+    let verb = script::verb(line);
+    let r = state::lent_resources(s, resources.len());
+    let t = state::lent_statements(s, statements.len());
+    let i = state::within(s.lent.index as usize, 0, index.len());
+    let b = state::within(s.lent.text as usize, 0, text.len());
     act(
+        print::begin(s, verb, line),
+        verb,
         line,
-        state,
         &mut resources[0..r],
-        &mut statements[0..s],
+        &mut statements[0..t],
         &mut index[0..i],
         &mut text[0..b],
-    );
+    )
 }
 
 // A set-up of the state, a set-up of the tables, or a case.
 fn act(
+    s: State,
+    verb: u32,
     line: &[u8],
-    state: &mut [u32],
     resources: &mut [u32],
     statements: &mut [u32],
     index: &mut [u32],
     text: &mut [u8],
-) {
-    let verb = setup::verb(line);
+) -> State {
+    let c = s.counters;
     match verb {
-        0 => {}
-        1..=5 => setup::settings(verb, line, state),
-        6..=11 => setup::tables(verb, line, resources, statements, index, text),
-        _ => {
-            print::begin(state, line);
-            case(line, state, resources, statements, index, text);
-            print::end();
+        0..=5 => setup::settings(s, verb, line),
+        6..=11 => {
+            setup::tables(verb, line, resources, statements, index, text);
+            s
         }
-    }
-}
-
-// What a case calls or shows.
-fn case(
-    line: &[u8],
-    state: &mut [u32],
-    resources: &mut [u32],
-    statements: &mut [u32],
-    index: &mut [u32],
-    text: &mut [u8],
-) {
-    let verb = calls::verb(line);
-    match verb {
-        0..=2 => calls::names(verb, line, state, resources, statements, index, text),
-        3..=5 => calls::statements(verb, line, state, resources, statements, index, text),
-        6..=10 => calls::readings(verb, line, state, resources, statements, index, text),
-        _ => print::show(line, resources, statements, index, text),
+        12..=14 => state::with_counters(
+            s,
+            calls::names(c, verb, line, resources, statements, index, text),
+        ),
+        15 | 16 => state::with_counters(
+            s,
+            calls::statements(c, verb, line, resources, statements, index, text),
+        ),
+        _ => calls::readings(s, verb, line, resources, statements, index, text),
     }
 }

@@ -1,11 +1,19 @@
 // A case's line: its number, its name, the answer.
 use crate::script;
-use crate::state;
+use crate::state::State;
 use crate::words;
+use graph::Level;
+use graph::MAX_PATTERNS;
+use graph::Progress;
+use graph::QueryCursor;
 use graph::Solution;
 use graph::VARIABLES;
 use libc::STDOUT_FILENO;
+use store::Chain;
+use store::Position;
 use store::Refusal;
+use store::ScanCursor;
+use store::Triple;
 use table::COUNT;
 use table::FLAG;
 use table::KIND;
@@ -13,22 +21,57 @@ use table::NEXT;
 use table::OFFSET;
 use table::RESOURCE_WORDS;
 
-// The case's number, one more than the last one's, and its name: the line up to the colon.
-pub fn begin(state: &mut [u32], line: &[u8]) {
-    let case = std::num::wrapping_add_u32(words::get(state, state::CASE, 0), 1);
-    words::put(state, state::CASE, 0, case);
-    let end = script::until(line, 0, b':');
-    io::print_decimal(STDOUT_FILENO, case as u64);
-    text(b" ");
-    text(&line[0..end]);
-}
+// The words of answers, by their number in `token`.
+pub const NEW: u32 = 0;
 
-pub fn end() {
-    text(b"\n");
-}
+pub const ALREADY: u32 = 1;
 
-pub fn text(bytes: &[u8]) {
+pub const REVIVED: u32 = 2;
+
+pub const FOUND: u32 = 3;
+
+pub const ENDED: u32 = 4;
+
+pub const SPENT: u32 = 5;
+
+pub const OPENED: u32 = 6;
+
+pub const REFUSED: u32 = 7;
+
+pub const ABSENT: u32 = 8;
+
+pub const SOUND: u32 = 9;
+
+pub const UNSOUND: u32 = 10;
+
+pub const VISITS: u32 = 11;
+
+pub const SOLUTION: u32 = 12;
+
+pub const PLACE: u32 = 13;
+
+pub const START: u32 = 14;
+
+// `none` for a listing's chain, then those of the positions; `-` for a level's.
+pub const NONE: u32 = 17;
+
+pub const DASH: u32 = 21;
+
+pub const PART: u32 = 22;
+
+pub const FIRST: u32 = 23;
+
+pub const TRIPLE: u32 = 27;
+
+fn text(bytes: &[u8]) {
     io::write_all(STDOUT_FILENO, bytes);
+}
+
+pub fn token(k: u32) {
+    let words =
+        b"new already revived found ended spent opened refused absent sound unsound visits solution place start within end none s p o - part first count offset kind triple next flag";
+    text(b" ");
+    text(script::word(words, k));
 }
 
 pub fn number(n: u32) {
@@ -36,34 +79,63 @@ pub fn number(n: u32) {
     io::print_decimal(STDOUT_FILENO, n as u64);
 }
 
-// The words of a table from `first` on, n of them.
-pub fn numbers(table: &[u32], first: usize, n: u32) {
-    let mut k: u32 = 0;
-    while k < n {
-        number(words::get(table, first, k));
-        k += 1;
-    }
+pub fn end() {
+    text(b"\n");
 }
 
-pub fn refused(e: Refusal) {
-    text(b" refused");
-    number(store::refusal_number(e));
+// The last number of a line.
+pub fn only(n: u32) {
+    number(n);
+    end();
 }
 
-// Writes a status that is no refusal.
-pub fn status(bytes: &[u8]) -> bool {
-    text(bytes);
+// The last word of a line.
+pub fn verdict(k: u32) {
+    token(k);
+    end();
+}
+
+// A word, and a number.
+pub fn labelled(k: u32, n: u32) {
+    token(k);
+    number(n);
+}
+
+// A status that is no refusal.
+pub fn status(k: u32) -> bool {
+    token(k);
     true
 }
 
-pub fn visits(n: u32) {
-    text(b" visits");
-    number(n);
+pub fn refused(e: Refusal) -> bool {
+    labelled(REFUSED, store::refusal_number(e));
+    false
+}
+
+// A refusal that ends the line.
+pub fn refusal(e: Refusal) {
+    refused(e);
+    end();
+}
+
+// A case's number, one more than the last one's, and its name: the line up to the colon. Of another line nothing.
+pub fn begin(s: State, verb: u32, line: &[u8]) -> State {
+    if verb < 12 {
+        return s;
+    }
+    let mut t = s;
+    t.case = std::num::wrapping_add_u32(s.case, 1);
+    let end = script::until(line, 0, b':');
+    io::print_decimal(STDOUT_FILENO, t.case as u64);
+    text(b" ");
+    text(&line[0..end]);
+    t
 }
 
 // A part's length, and its bytes if they are few.
 pub fn part(bytes: &[u8]) {
-    text(b" part ");
+    token(PART);
+    text(b" ");
     io::print_decimal(STDOUT_FILENO, bytes.len() as u64);
     if bytes.len() == 0 {
         return;
@@ -74,56 +146,71 @@ pub fn part(bytes: &[u8]) {
     }
 }
 
+pub fn triple(x: Triple) {
+    number(x.subject.0);
+    number(x.predicate.0);
+    number(x.object.0);
+}
+
 // ---- places and solutions
 
+fn position(p: Position) -> u32 {
+    match p {
+        Position::Subject => NONE + 1,
+        Position::Predicate => NONE + 2,
+        Position::Object => NONE + 3,
+    }
+}
+
+// A chain, by letter or by the word for all records.
+fn chain(c: Chain, all: u32) {
+    match c {
+        Chain::All => token(all),
+        Chain::By(p) => token(position(p)),
+    }
+}
+
 // The pattern, the chain, the next record.
-pub fn listing(state: &[u32]) {
-    text(b" place");
-    numbers(state, state::LISTING, 3);
-    match words::get(state, state::LISTING, 3) {
-        1 => text(b" s"),
-        2 => text(b" p"),
-        3 => text(b" o"),
-        _ => text(b" none"),
-    }
-    ;
-    number(words::get(state, state::LISTING, 4));
+pub fn listing(q: ScanCursor) {
+    token(PLACE);
+    let x = q.pattern;
+    triple(x);
+    let c = q.chain;
+    chain(c, NONE);
+    only(q.next.0);
 }
 
-// The place last answered: how far, how many levels, and every level, the first pattern's first.
-pub fn place(state: &[u32]) {
-    match words::get(state, state::ANSWERED, 0) {
-        1 => text(b" place within"),
-        2 => text(b" place end"),
-        _ => text(b" place start"),
-    }
-    ;
-    number(words::get(state, state::ANSWERED, 1));
-    let mut k: u32 = 2;
-    while k < state::PLACE_WORDS {
-        level(
-            words::get(state, state::ANSWERED, k),
-            words::get(state, state::ANSWERED, k + 1),
-        );
-        k += 2;
+fn progress(g: Progress) -> u32 {
+    match g {
+        Progress::Start => START,
+        Progress::Within => START + 1,
+        Progress::End => START + 2,
     }
 }
 
-// A level: its chain, by letter or `-` for all records, and its record.
-fn level(chain: u32, n: u32) {
-    match chain {
-        1 => text(b" s"),
-        2 => text(b" p"),
-        3 => text(b" o"),
-        _ => text(b" -"),
+// How far, how many levels, and every level, the first pattern's first.
+pub fn place(q: QueryCursor) {
+    token(PLACE);
+    let g = q.progress;
+    labelled(progress(g), q.depth);
+    let mut i = 0;
+    while i < MAX_PATTERNS {
+        let l = q.levels[i];
+        level(l);
+        i += 1;
     }
-    ;
-    io::print_decimal(STDOUT_FILENO, n as u64);
+    end();
+}
+
+fn level(l: Level) {
+    let c = l.chain;
+    chain(c, DASH);
+    io::print_decimal(STDOUT_FILENO, l.statement.0 as u64);
 }
 
 // The number of each variable.
 pub fn solution(b: Solution) {
-    text(b" solution");
+    token(SOLUTION);
     let mut v = 0;
     while v < VARIABLES {
         let y = b.values[v];
@@ -143,25 +230,32 @@ pub fn show(line: &[u8], resources: &[u32], statements: &[u32], index: &[u32], b
         3 => all(index),
         _ => barred(bytes),
     }
+    ;
+    end();
 }
 
 fn resource(resources: &[u32], first: usize) {
-    field(b" first", resources, first, 0, 3);
-    field(b" count", resources, first, COUNT, 3);
-    field(b" offset", resources, first, OFFSET, 1);
-    field(b" kind", resources, first, KIND, 1);
+    field(FIRST, resources, first, 0, 3);
+    field(FIRST + 1, resources, first, COUNT, 3);
+    field(FIRST + 2, resources, first, OFFSET, 1);
+    field(FIRST + 3, resources, first, KIND, 1);
 }
 
 fn statement(statements: &[u32], first: usize) {
-    field(b" triple", statements, first, 0, 3);
-    field(b" next", statements, first, NEXT, 3);
-    field(b" flag", statements, first, FLAG, 1);
+    field(TRIPLE, statements, first, 0, 3);
+    field(TRIPLE + 1, statements, first, NEXT, 3);
+    field(TRIPLE + 2, statements, first, FLAG, 1);
 }
 
 // A field's name, and its words.
-fn field(name: &[u8], table: &[u32], first: usize, at: usize, n: u32) {
-    text(name);
-    numbers(table, std::num::wrapping_add_usize(first, at), n);
+fn field(name: u32, table: &[u32], first: usize, at: usize, n: u32) {
+    token(name);
+    let from = std::num::wrapping_add_usize(first, at);
+    let mut k: u32 = 0;
+    while k < n {
+        number(words::get(table, from, k));
+        k += 1;
+    }
 }
 
 // Every whole record.

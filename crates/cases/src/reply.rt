@@ -1,6 +1,5 @@
-// What each call answers: it is written, and the state has the counters and the place from now on.
+// What each call answers: it is written, and the counters or the place from now on come back.
 use crate::print;
-use crate::state;
 use graph::Opening;
 use graph::QueryAnswer;
 use graph::QueryCursor;
@@ -18,23 +17,27 @@ use store::Scanned;
 use store::StatementId;
 use store::StatementRead;
 
-pub fn interned(state: &mut [u32], a: Interned) {
+pub fn interned(c: Counters, a: Interned) -> Counters {
     match a {
-        Interned::Number(n, c) => {
+        Interned::Number(n, d) => {
             print::number(n.0);
-            print::number(c.resources);
-            print::number(c.text);
-            state::put_counters(state, c);
+            print::number(d.resources);
+            print::number(d.text);
+            print::end();
+            d
         }
-        Interned::Refused(e) => print::refused(e),
+        Interned::Refused(e) => {
+            print::refusal(e);
+            c
+        }
     }
 }
 
 pub fn looked_up(a: Lookup) {
     match a {
-        Lookup::Number(n) => print::number(n.0),
-        Lookup::Absent => print::text(b" absent"),
-        Lookup::Refused(e) => print::refused(e),
+        Lookup::Number(n) => print::only(n.0),
+        Lookup::Absent => print::verdict(print::ABSENT),
+        Lookup::Refused(e) => print::refusal(e),
     }
 }
 
@@ -45,10 +48,11 @@ pub fn named(a: NameRead, part: &[u8]) {
             print::number(start);
             print::number(size);
             print::part(part);
+            print::end();
         }
         NameRead::Refused(e) => {
             print::part(part);
-            print::refused(e);
+            print::refusal(e);
         }
     }
 }
@@ -56,118 +60,125 @@ pub fn named(a: NameRead, part: &[u8]) {
 pub fn read(a: StatementRead) {
     match a {
         StatementRead::Is(x, flag) => {
-            print::number(x.subject.0);
-            print::number(x.predicate.0);
-            print::number(x.object.0);
-            print::number(flag);
+            print::triple(x);
+            print::only(flag);
         }
-        StatementRead::Refused(e) => print::refused(e),
+        StatementRead::Refused(e) => print::refusal(e),
     }
 }
 
-pub fn asserted(state: &mut [u32], a: Asserted) {
+pub fn asserted(c: Counters, a: Asserted) -> Counters {
     match a {
-        Asserted::New(n, c) => entered(state, b" new", n, c),
-        Asserted::Already(n, c) => entered(state, b" already", n, c),
-        Asserted::Revived(n, c) => entered(state, b" revived", n, c),
-        Asserted::Refused(e) => print::refused(e),
+        Asserted::New(n, d) => entered(print::NEW, n, d),
+        Asserted::Already(n, d) => entered(print::ALREADY, n, d),
+        Asserted::Revived(n, d) => entered(print::REVIVED, n, d),
+        Asserted::Refused(e) => {
+            print::refusal(e);
+            c
+        }
     }
 }
 
-fn entered(state: &mut [u32], status: &[u8], n: StatementId, c: Counters) {
-    print::text(status);
+fn entered(status: u32, n: StatementId, d: Counters) -> Counters {
+    print::token(status);
     print::number(n.0);
-    state::put_counters(state, c);
-    print::numbers(state, state::COUNTERS, state::COUNTER_WORDS);
+    print::number(d.resources);
+    print::number(d.statements);
+    print::number(d.text);
+    print::end();
+    d
 }
 
 pub fn retracted(a: Retracted) {
     match a {
-        Retracted::Number(n) => print::number(n.0),
-        Retracted::Absent => print::number(0),
-        Retracted::Refused(e) => print::refused(e),
+        Retracted::Number(n) => print::only(n.0),
+        Retracted::Absent => print::only(0),
+        Retracted::Refused(e) => print::refusal(e),
     }
 }
 
-pub fn opened(state: &mut [u32], a: ScanOpened) {
+pub fn opened(q: ScanCursor, a: ScanOpened) -> ScanCursor {
     match a {
-        ScanOpened::Cursor(q) => listed(state, q),
-        ScanOpened::Refused(e) => print::refused(e),
+        ScanOpened::Cursor(p) => listed(p),
+        ScanOpened::Refused(e) => {
+            print::refusal(e);
+            q
+        }
     }
 }
 
-pub fn scanned(state: &mut [u32], a: Scanned) {
+pub fn scanned(q: ScanCursor, a: Scanned) -> ScanCursor {
     match a {
-        Scanned::Found(n, v, q) => moved(state, b" found", n, v, q),
-        Scanned::Ended(v, q) => moved(state, b" ended", StatementId(0), v, q),
-        Scanned::Spent(v, q) => moved(state, b" spent", StatementId(0), v, q),
-        Scanned::Refused(e) => print::refused(e),
+        Scanned::Found(n, v, p) => moved(print::FOUND, n.0, v, p),
+        Scanned::Ended(v, p) => moved(print::ENDED, 0, v, p),
+        Scanned::Spent(v, p) => moved(print::SPENT, 0, v, p),
+        Scanned::Refused(e) => {
+            print::refusal(e);
+            q
+        }
     }
 }
 
-fn moved(state: &mut [u32], status: &[u8], n: StatementId, visits: u32, q: ScanCursor) {
-    print::text(status);
-    print::number(n.0);
-    print::visits(visits);
-    listed(state, q);
+fn moved(status: u32, n: u32, visits: u32, p: ScanCursor) -> ScanCursor {
+    print::token(status);
+    print::number(n);
+    print::labelled(print::VISITS, visits);
+    listed(p)
 }
 
-fn listed(state: &mut [u32], q: ScanCursor) {
-    state::put_listing(state, q);
-    print::listing(state);
+fn listed(p: ScanCursor) -> ScanCursor {
+    print::listing(p);
+    p
 }
 
-pub fn asked(state: &mut [u32], a: QueryOpened) {
-    let q = a.cursor;
-    let opening = a.opening;
+// Of an opening: whether it is no refusal.
+fn told(opening: Opening) -> bool {
     match opening {
-        Opening::Opened => {
-            print::text(b" opened");
-            placed(state, q);
-            state::take_answered(state);
-        }
-        Opening::Refused(e) => {
-            print::refused(e);
-            placed(state, q);
-        }
+        Opening::Opened => print::status(print::OPENED),
+        Opening::Refused(e) => print::refused(e),
     }
 }
 
-pub fn answered(state: &mut [u32], a: QueryAnswer) {
-    let step = a.step;
-    let goes_on = stepped(step);
-    print::visits(a.visits);
-    let solution = a.solution;
-    print::solution(solution);
-    let q = a.cursor;
-    placed(state, q);
-    if goes_on {
-        state::take_answered(state);
-    }
-}
-
-// Writes the status; whether it is no refusal.
+// Of a next call: whether it is no refusal.
 fn stepped(step: QueryStep) -> bool {
     match step {
-        QueryStep::Found => print::status(b" found"),
-        QueryStep::Ended => print::status(b" ended"),
-        QueryStep::Spent => print::status(b" spent"),
-        QueryStep::Refused(e) => {
-            print::refused(e);
-            false
-        }
+        QueryStep::Found => print::status(print::FOUND),
+        QueryStep::Ended => print::status(print::ENDED),
+        QueryStep::Spent => print::status(print::SPENT),
+        QueryStep::Refused(e) => print::refused(e),
     }
 }
 
-fn placed(state: &mut [u32], q: QueryCursor) {
-    state::put_answered(state, q);
-    print::place(state);
+pub fn asked(q: QueryCursor, a: QueryOpened) -> QueryCursor {
+    let opening = a.opening;
+    let goes_on = told(opening);
+    let p = a.cursor;
+    placed(q, p, goes_on)
+}
+
+pub fn answered(q: QueryCursor, a: QueryAnswer) -> QueryCursor {
+    let step = a.step;
+    let goes_on = stepped(step);
+    print::labelled(print::VISITS, a.visits);
+    let solution = a.solution;
+    print::solution(solution);
+    let p = a.cursor;
+    placed(q, p, goes_on)
+}
+
+// The reply's place is written; beside a refusal the place stays what it was.
+fn placed(q: QueryCursor, p: QueryCursor, goes_on: bool) -> QueryCursor {
+    print::place(p);
+    if goes_on {
+        return p;
+    }
+    q
 }
 
 pub fn checked(sound: bool) {
     if sound {
-        print::text(b" sound");
+        print::verdict(print::SOUND);
         return;
     }
-    print::text(b" unsound");
+    print::verdict(print::UNSOUND);
 }

@@ -48,11 +48,6 @@ pub fn rest(line: &[u8], k: u32) -> &[u8] {
     &line[from..]
 }
 
-// The number that word k is.
-pub fn number(line: &[u8], k: u32) -> u32 {
-    value(word(line, k))
-}
-
 // The first byte of a word, or 0.
 pub fn letter(word: &[u8]) -> u8 {
     if word.len() == 0 {
@@ -61,8 +56,22 @@ pub fn letter(word: &[u8]) -> u8 {
     word[0]
 }
 
-// The decimal digits of a word; bytes that are no digits are passed over.
+// The number that word k is; 0 if there is none.
+pub fn number(line: &[u8], k: u32) -> u32 {
+    value(word(line, k))
+}
+
+// The number that a word is; a variable's word for `?` and its number.
 pub fn value(word: &[u8]) -> u32 {
+    let v = digits(word);
+    if letter(word) == b'?' {
+        return std::num::wrapping_add_u32(graph::FIRST_VARIABLE, v);
+    }
+    v
+}
+
+// The decimal digits of a word; other bytes are passed over.
+fn digits(word: &[u8]) -> u32 {
     let mut v: u64 = 0;
     let mut i = 0;
     while i < word.len() {
@@ -77,10 +86,13 @@ fn more(v: u64, b: u8) -> u64 {
     if v > 999999999 {
         return v;
     }
-    match b {
-        b'0'..=b'9' => v * 10 + (b - b'0') as u64,
-        _ => v,
+    if b < b'0' {
+        return v;
     }
+    if b > b'9' {
+        return v;
+    }
+    v * 10 + (b - b'0') as u64
 }
 
 // A number of the script as a word of a table.
@@ -119,4 +131,24 @@ fn same(a: &[u8], b: &[u8]) -> bool {
         i += 1;
     }
     true
+}
+
+// What a line does: 0 nothing, 1 to 10 a set-up, 12 and more a call, in this order; after `change`, and after the name of a case, the
+// second word says it.
+pub fn verb(line: &[u8]) -> u32 {
+    if line.len() == 0 {
+        return 0;
+    }
+    let n = spelt(word(line, 0));
+    if n < 11 {
+        return n;
+    }
+    spelt(word(line, 1))
+}
+
+fn spelt(word: &[u8]) -> u32 {
+    position(
+        word,
+        b"# lend counters listing question place fill resource statement index text change enter find name assert retract read open next ask answer check show",
+    )
 }

@@ -1,7 +1,17 @@
 // Lines that set something up.
 use crate::script;
 use crate::state;
+use crate::state::Lent;
+use crate::state::QUESTION_WORDS;
+use crate::state::Question;
+use crate::state::State;
 use crate::words;
+use graph::MAX_PATTERNS;
+use graph::Progress;
+use graph::QueryCursor;
+use store::Counters;
+use store::ScanCursor;
+use store::StatementId;
 use table::COUNT;
 use table::FLAG;
 use table::KIND;
@@ -10,37 +20,100 @@ use table::OFFSET;
 use table::RESOURCE_WORDS;
 use table::STATEMENT_WORDS;
 
-// Which set-up a line is: 0 for a line that is passed over, 1 to 11 in this order, 12 for a case.
-pub fn verb(line: &[u8]) -> u32 {
-    if line.len() == 0 {
-        return 0;
-    }
-    script::position(
-        script::word(line, 0),
-        b"# lend counters listing question place fill resource statement change index text",
-    )
-}
-
 // ---- the state
 
-pub fn settings(verb: u32, line: &[u8], state: &mut [u32]) {
+pub fn settings(s: State, verb: u32, line: &[u8]) -> State {
     match verb {
-        1 => setting(line, state, state::LENT, state::LENT_WORDS),
-        2 => setting(line, state, state::COUNTERS, state::COUNTER_WORDS),
-        3 => setting(line, state, state::LISTING, state::LISTING_WORDS),
-        4 => question(line, state),
-        _ => setting(line, state, state::PLACE, state::PLACE_WORDS),
+        1 => lend(s, line),
+        2 => state::with_counters(s, counters(line)),
+        3 => state::with_listing(s, listing(line)),
+        4 => question(s, line),
+        5 => state::with_place(s, place(line)),
+        _ => s,
     }
 }
 
-fn setting(line: &[u8], state: &mut [u32], first: usize, n: u32) {
-    words::clear(state, first, n);
-    fields(line, 1, state, first);
+fn lend(s: State, line: &[u8]) -> State {
+    let lent = Lent {
+        resources: script::number(line, 1),
+        statements: script::number(line, 2),
+        index: script::number(line, 3),
+        text: script::number(line, 4),
+        short_resources: script::number(line, 6),
+        short_statements: script::number(line, 7),
+    };
+    let mut t = s;
+    t.lent = lent;
+    t
 }
 
-fn question(line: &[u8], state: &mut [u32]) {
-    let n = fields(line, 1, state, state::QUESTION + 1);
-    words::put(state, state::QUESTION, 0, n);
+fn counters(line: &[u8]) -> Counters {
+    Counters {
+        resources: script::number(line, 1),
+        statements: script::number(line, 2),
+        text: script::number(line, 3),
+    }
+}
+
+fn listing(line: &[u8]) -> ScanCursor {
+    ScanCursor {
+        pattern: state::triple(
+            script::number(line, 1),
+            script::number(line, 2),
+            script::number(line, 3),
+        ),
+        chain: state::chain_of(script::letter(script::word(line, 4))),
+        next: StatementId(script::number(line, 5)),
+    }
+}
+
+fn question(s: State, line: &[u8]) -> State {
+    let mut words = [0u32; QUESTION_WORDS];
+    let mut k: u32 = 0;
+    while k < 32 {
+        let word = script::word(line, k + 1);
+        if word.len() == 0 {
+            break;
+        }
+        words[k as usize] = script::value(word);
+        k += 1;
+    }
+    let asked = Question {
+        words: words,
+        size: k as usize,
+    };
+    let mut t = s;
+    t.question = asked;
+    t
+}
+
+fn progress_of(letter: u8) -> Progress {
+    match letter {
+        b'w' => Progress::Within,
+        b'e' => Progress::End,
+        _ => Progress::Start,
+    }
+}
+
+fn place(line: &[u8]) -> QueryCursor {
+    let none = state::level(b'-', 0);
+    let mut levels = [none; MAX_PATTERNS];
+    let mut i: usize = 0;
+    let mut k: u32 = 3;
+    while i < MAX_PATTERNS {
+        let l = state::level(
+            script::letter(script::word(line, k)),
+            script::number(line, k + 1),
+        );
+        levels[i] = l;
+        i += 1;
+        k += 2;
+    }
+    QueryCursor {
+        progress: progress_of(script::letter(script::word(line, 1))),
+        depth: script::number(line, 2),
+        levels: levels,
+    }
 }
 
 // ---- the tables
@@ -55,11 +128,24 @@ pub fn tables(
 ) {
     match verb {
         6 => fill(script::number(line, 1), resources, statements, index, text),
-        7 => resource(line, resources),
-        8 => statement(line, statements),
-        9 => change(line, resources, statements),
-        10 => index_words(line, index),
-        _ => text_bytes(line, text),
+        7 => record(
+            line,
+            resources,
+            words::resource(script::number(line, number_at(line))),
+            RESOURCE_WORDS as u32,
+        ),
+        8 => record(
+            line,
+            statements,
+            words::statement(script::number(line, number_at(line))),
+            STATEMENT_WORDS as u32,
+        ),
+        9 => fields(line, 2, index, script::number(line, 1) as usize),
+        _ => bytes(
+            text,
+            script::number(line, 1) as usize,
+            script::rest(line, 2),
+        ),
     }
 }
 
@@ -77,43 +163,78 @@ fn byte_of(v: u32) -> u8 {
     v as u8
 }
 
-fn resource(line: &[u8], resources: &mut [u32]) {
-    let first = words::resource(script::number(line, 1));
-    words::clear(resources, first, RESOURCE_WORDS as u32);
-    fields(line, 2, resources, first);
+// Which word of a line has a record's number: the second, or after `change` the third.
+fn number_at(line: &[u8]) -> u32 {
+    if script::letter(line) == b'c' {
+        return 2;
+    }
+    1
 }
 
-fn statement(line: &[u8], statements: &mut [u32]) {
-    let first = words::statement(script::number(line, 1));
-    words::clear(statements, first, STATEMENT_WORDS as u32);
-    fields(line, 2, statements, first);
-}
-
-fn change(line: &[u8], resources: &mut [u32], statements: &mut [u32]) {
-    let n = script::number(line, 2);
-    if script::letter(script::word(line, 1)) == b'r' {
-        fields(line, 3, resources, words::resource(n));
+// A record whole, or after `change` the fields named.
+fn record(line: &[u8], table: &mut [u32], first: usize, width: u32) {
+    if number_at(line) == 2 {
+        fields(line, 3, table, first);
         return;
     }
-    fields(line, 3, statements, words::statement(n));
+    words::clear(table, first, width);
+    fields(line, 2, table, first);
 }
 
-fn index_words(line: &[u8], index: &mut [u32]) {
-    fields(line, 2, index, script::number(line, 1) as usize);
+// The words of a line from word `from` on: a field goes to its place in the part of the table that begins at `first`, a number is written
+// there.
+fn fields(line: &[u8], from: u32, table: &mut [u32], first: usize) {
+    let mut at: u32 = 0;
+    let mut k = from;
+    while k < 64 {
+        let word = script::word(line, k);
+        if word.len() == 0 {
+            return;
+        }
+        at = field(word, table, first, at);
+        k += 1;
+    }
 }
 
-fn text_bytes(line: &[u8], text: &mut [u8]) {
-    put_bytes(
-        text,
-        script::number(line, 1) as usize,
-        script::rest(line, 2),
+// One word of a line: where the next one goes.
+fn field(word: &[u8], table: &mut [u32], first: usize, at: u32) -> u32 {
+    let n = script::position(
+        word,
+        b"subject predicate object first triple count next offset kind flag",
     );
+    if n < 10 {
+        return moved(at, n);
+    }
+    words::put(table, first, at, script::value(word));
+    std::num::wrapping_add_u32(at, 1)
 }
 
-fn put_bytes(text: &mut [u8], first: usize, bytes: &[u8]) {
+// Where a place's word is after its field's first one, or where a field's words begin in the record.
+fn moved(at: u32, n: u32) -> u32 {
+    match n {
+        0 => at,
+        1 => std::num::wrapping_add_u32(at, 1),
+        2 => std::num::wrapping_add_u32(at, 2),
+        5 => COUNT as u32,
+        6 => NEXT as u32,
+        7 => OFFSET as u32,
+        8 => KIND as u32,
+        9 => FLAG as u32,
+        _ => 0,
+    }
+}
+
+// Bytes into the text from `first` on, a zero byte for a bar.
+fn bytes(text: &mut [u8], first: usize, from: &[u8]) {
     let mut i = 0;
-    while i < bytes.len() {
-        words::put_byte(text, first, i, unbarred(bytes[i]));
+    while i < from.len() {
+        if first >= text.len() {
+            return;
+        }
+        if i >= text.len() - first {
+            return;
+        }
+        text[first + i] = unbarred(from[i]);
         i += 1;
     }
 }
@@ -123,80 +244,4 @@ fn unbarred(b: u8) -> u8 {
         return 0;
     }
     b
-}
-
-// ---- fields and numbers
-
-// The words of a line from word `from` on: a field goes to its place in the part of the table that begins at `first`, a number is written
-// there. The place after the last one is answered.
-fn fields(line: &[u8], from: u32, table: &mut [u32], first: usize) -> u32 {
-    let mut at: u32 = 0;
-    let mut k = from;
-    while k < 100 {
-        let word = script::word(line, k);
-        if word.len() == 0 {
-            return at;
-        }
-        at = field(word, table, first, at);
-        k += 1;
-    }
-    at
-}
-
-// One word of a line: where the next one goes.
-fn field(word: &[u8], table: &mut [u32], first: usize, at: u32) -> u32 {
-    let n = script::position(
-        word,
-        b"subject predicate object first triple count next offset kind flag short none s p o start within end",
-    );
-    match n {
-        0 => at,
-        1 => std::num::wrapping_add_u32(at, 1),
-        2 => std::num::wrapping_add_u32(at, 2),
-        3..=10 => group(n),
-        11..=14 => write(table, first, at, n - 11),
-        15..=17 => write(table, first, at, n - 15),
-        _ => value(word, table, first, at),
-    }
-}
-
-// Where a field's words begin in its record.
-fn group(n: u32) -> u32 {
-    match n {
-        5 => COUNT as u32,
-        6 => NEXT as u32,
-        7 => OFFSET as u32,
-        8 => KIND as u32,
-        9 => FLAG as u32,
-        10 => state::SHORT,
-        _ => 0,
-    }
-}
-
-fn write(table: &mut [u32], first: usize, at: u32, v: u32) -> u32 {
-    words::put(table, first, at, v);
-    std::num::wrapping_add_u32(at, 1)
-}
-
-// A number, a variable, or a level: a chain's letter and a record's number.
-fn value(word: &[u8], table: &mut [u32], first: usize, at: u32) -> u32 {
-    let v = script::value(word);
-    match script::letter(word) {
-        b'?' => write(
-            table,
-            first,
-            at,
-            std::num::wrapping_add_u32(graph::FIRST_VARIABLE, v),
-        ),
-        b'-' => level(table, first, at, 0, v),
-        b's' => level(table, first, at, 1, v),
-        b'p' => level(table, first, at, 2, v),
-        b'o' => level(table, first, at, 3, v),
-        _ => write(table, first, at, v),
-    }
-}
-
-fn level(table: &mut [u32], first: usize, at: u32, chain: u32, n: u32) -> u32 {
-    let next = write(table, first, at, chain);
-    write(table, first, next, n)
 }

@@ -21,14 +21,6 @@ pub fn put(table: &mut [u32], first: usize, k: u32, v: u32) {
     }
 }
 
-pub fn put_byte(text: &mut [u8], first: usize, j: usize, b: u8) {
-    if first < text.len() {
-        if j < text.len() - first {
-            text[first + j] = b;
-        }
-    }
-}
-
 // The words from `first` on become 0, n of them.
 pub fn clear(table: &mut [u32], first: usize, n: u32) {
     let mut k: u32 = 0;

@@ -8,16 +8,20 @@ use Rattle.cases.proofs.run.Tie as tie
 use Rattle.cases.proofs.run.Reads as reads
 use Rattle.cases.proofs.run.Lts as lts
 use Rattle.cases.proofs.script.until.Reads as until-reads
+use Rattle.cases.proofs.state.start.Reads as start-reads
 use Rattle.cases.proofs.step.Reads as step-reads
 
 abbrev Inv-loop : tie.InvT-loop
-Inv-loop script state₀ resources₀ statements₀ index₀ text₀ at₀ state resources statements index text at =
-    (length state ≡ length state₀) × (length resources ≡ length resources₀) × (length statements ≡ length statements₀)
+Inv-loop script resources₀ statements₀ index₀ text₀ state₀ at₀ resources statements index text state at =
+    (length resources ≡ length resources₀) × (length statements ≡ length statements₀)
     × (length index ≡ length index₀) × (length text ≡ length text₀)
 
 abbrev μ-loop : tie.MeasureT-loop
-μ-loop script state₀ resources₀ statements₀ index₀ text₀ at₀ state resources statements index text at =
+μ-loop script resources₀ statements₀ index₀ text₀ state₀ at₀ resources statements index text state at =
     length script - at
+
+start-requires : tie.Need-start-requires Inv-loop μ-loop
+start-requires c κs = search needs
 
 loop-holds : tie.Need-loop-holds Inv-loop μ-loop
 loop-holds c = search needs
@@ -58,9 +62,6 @@ same-length-3 c = search needs
 same-length-4 : tie.Need-same-length-4 Inv-loop μ-loop
 same-length-4 c = search needs
 
-same-length-5 : tie.Need-same-length-5 Inv-loop μ-loop
-same-length-5 c = search needs
-
 returns : tie.Need-returns Inv-loop μ-loop
 returns c = search needs
 
@@ -70,6 +71,7 @@ run-spec =
     (tie.spec
     Inv-loop
     μ-loop
+    start-requires
     loop-holds
     until-requires
     add-at
@@ -83,5 +85,4 @@ run-spec =
     same-length-2
     same-length-3
     same-length-4
-    same-length-5
     returns)

@@ -5,67 +5,50 @@ use Rattle.cases.proofs.print.place.Statement.{statement}
 use Rattle.cases.proofs.print.place.Tie as tie
 use Rattle.cases.proofs.print.place.Reads as reads
 use Rattle.cases.proofs.print.place.Lts as lts
+use Rattle.cases.proofs.print.end.Reads as end-reads
+use Rattle.cases.proofs.print.labelled.Reads as labelled-reads
 use Rattle.cases.proofs.print.level.Reads as level-reads
-use Rattle.cases.proofs.print.number.Reads as number-reads
-use Rattle.cases.proofs.print.text.Reads as text-reads
-use Rattle.cases.proofs.words.get.Reads as get-reads
+use Rattle.cases.proofs.print.progress.Reads as progress-reads
+use Rattle.cases.proofs.print.token.Reads as token-reads
 
 abbrev Inv-loop : tie.InvT-loop
-Inv-loop state k₀ k = k ≤ 19
+Inv-loop q i₀ i = i ≤ 8
 
 abbrev μ-loop : tie.MeasureT-loop
-μ-loop state k₀ k = 18 - k
+μ-loop q i₀ i = 8 - i
 
-get-requires : tie.Need-get-requires Inv-loop μ-loop
-get-requires c κs = search needs
+token-requires : tie.Need-token-requires Inv-loop μ-loop
+token-requires c κs = search needs
 
-slice-aggregate-text : tie.Need-slice-aggregate-text Inv-loop μ-loop
-slice-aggregate-text c = search needs
+progress-requires : tie.Need-progress-requires Inv-loop μ-loop
+progress-requires c κs = search needs
 
-text-requires : tie.Need-text-requires Inv-loop μ-loop
-text-requires c κs = search needs
-
-slice-aggregate-text-2 : tie.Need-slice-aggregate-text-2 Inv-loop μ-loop
-slice-aggregate-text-2 c = search needs
-
-text-requires-2 : tie.Need-text-requires-2 Inv-loop μ-loop
-text-requires-2 c κs = search needs
-
-slice-aggregate-text-3 : tie.Need-slice-aggregate-text-3 Inv-loop μ-loop
-slice-aggregate-text-3 c = search needs
-
-text-requires-3 : tie.Need-text-requires-3 Inv-loop μ-loop
-text-requires-3 c κs = search needs
-
-get-requires-2 : tie.Need-get-requires-2 Inv-loop μ-loop
-get-requires-2 c κs = search needs
-
-number-requires : tie.Need-number-requires Inv-loop μ-loop
-number-requires c κs = search needs
+labelled-requires : tie.Need-labelled-requires Inv-loop μ-loop
+labelled-requires c κs = search needs
 
 loop-holds : tie.Need-loop-holds Inv-loop μ-loop
 loop-holds c = search needs
 
-get-requires-3 : tie.Need-get-requires-3 Inv-loop μ-loop
-get-requires-3 c κs = search needs
+mul-l : tie.Need-mul-l Inv-loop μ-loop
+mul-l c = search needs
 
-add-get : tie.Need-add-get Inv-loop μ-loop
-add-get c = search needs
-
-get-requires-4 : tie.Need-get-requires-4 Inv-loop μ-loop
-get-requires-4 c κs = search needs
+element-copy-out-l : tie.Need-element-copy-out-l Inv-loop μ-loop
+element-copy-out-l c = search needs
 
 level-requires : tie.Need-level-requires Inv-loop μ-loop
 level-requires c κs = search needs
 
-add-k : tie.Need-add-k Inv-loop μ-loop
-add-k c = search needs
+add-i : tie.Need-add-i Inv-loop μ-loop
+add-i c = search needs
 
 loop-less : tie.Need-loop-less Inv-loop μ-loop
 loop-less c = search needs
 
 loop-again : tie.Need-loop-again Inv-loop μ-loop
 loop-again c = search needs
+
+end-requires : tie.Need-end-requires Inv-loop μ-loop
+end-requires c κs = search needs
 
 returns : tie.Need-returns Inv-loop μ-loop
 returns c = search needs
@@ -76,21 +59,15 @@ place-spec =
     (tie.spec
     Inv-loop
     μ-loop
-    get-requires
-    slice-aggregate-text
-    text-requires
-    slice-aggregate-text-2
-    text-requires-2
-    slice-aggregate-text-3
-    text-requires-3
-    get-requires-2
-    number-requires
+    token-requires
+    progress-requires
+    labelled-requires
     loop-holds
-    get-requires-3
-    add-get
-    get-requires-4
+    mul-l
+    element-copy-out-l
     level-requires
-    add-k
+    add-i
     loop-less
     loop-again
+    end-requires
     returns)

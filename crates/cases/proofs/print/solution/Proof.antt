@@ -6,7 +6,7 @@ use Rattle.cases.proofs.print.solution.Tie as tie
 use Rattle.cases.proofs.print.solution.Reads as reads
 use Rattle.cases.proofs.print.solution.Lts as lts
 use Rattle.cases.proofs.print.number.Reads as number-reads
-use Rattle.cases.proofs.print.text.Reads as text-reads
+use Rattle.cases.proofs.print.token.Reads as token-reads
 
 abbrev Inv-loop : tie.InvT-loop
 Inv-loop b v₀ v = v ≤ 16
@@ -14,11 +14,8 @@ Inv-loop b v₀ v = v ≤ 16
 abbrev μ-loop : tie.MeasureT-loop
 μ-loop b v₀ v = 16 - v
 
-slice-aggregate-text : tie.Need-slice-aggregate-text Inv-loop μ-loop
-slice-aggregate-text c = search needs
-
-text-requires : tie.Need-text-requires Inv-loop μ-loop
-text-requires c κs = search needs
+token-requires : tie.Need-token-requires Inv-loop μ-loop
+token-requires c κs = search needs
 
 loop-holds : tie.Need-loop-holds Inv-loop μ-loop
 loop-holds c = search needs
@@ -50,8 +47,7 @@ solution-spec =
     (tie.spec
     Inv-loop
     μ-loop
-    slice-aggregate-text
-    text-requires
+    token-requires
     loop-holds
     mul-y
     element-copy-out-y

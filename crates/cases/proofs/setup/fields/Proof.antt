@@ -14,7 +14,7 @@ abbrev Inv-loop : tie.InvT-loop
 Inv-loop line from table₀ first at₀ k₀ table at k = length table ≡ length table₀
 
 abbrev μ-loop : tie.MeasureT-loop
-μ-loop line from table₀ first at₀ k₀ table at k = 100 - k
+μ-loop line from table₀ first at₀ k₀ table at k = 64 - k
 
 loop-holds : tie.Need-loop-holds Inv-loop μ-loop
 loop-holds c = search needs

@@ -1,11 +1,11 @@
--- `cases::script::value` is safe and ends. Assumes nothing.
+-- `cases::script::digits` is safe and ends. Assumes nothing.
 use Prim.Native.Nat.{_≤_, _-_}
 use lib.ListN.{length}
 use borrow.Author.Needs.{needs}
-use Rattle.cases.proofs.script.value.Statement.{statement}
-use Rattle.cases.proofs.script.value.Tie as tie
-use Rattle.cases.proofs.script.value.Reads as reads
-use Rattle.cases.proofs.script.value.Lts as lts
+use Rattle.cases.proofs.script.digits.Statement.{statement}
+use Rattle.cases.proofs.script.digits.Tie as tie
+use Rattle.cases.proofs.script.digits.Reads as reads
+use Rattle.cases.proofs.script.digits.Lts as lts
 use Rattle.cases.proofs.script.low.Reads as low-reads
 use Rattle.cases.proofs.script.more.Reads as more-reads
 
@@ -39,8 +39,8 @@ low-requires c κs = search needs
 returns : tie.Need-returns Inv-loop μ-loop
 returns c = search needs
 
-pub value-spec : {M : Type 1} → statement M
-value-spec =
+pub digits-spec : {M : Type 1} → statement M
+digits-spec =
     tie.close
     (tie.spec
     Inv-loop

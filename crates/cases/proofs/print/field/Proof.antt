@@ -1,18 +1,26 @@
--- `cases::print::numbers` is safe and ends. Assumes nothing.
+-- `cases::print::field` is safe and ends. Assumes nothing.
 use Prim.Native.Nat.{_≤_, _-_}
 use borrow.Author.Needs.{needs}
-use Rattle.cases.proofs.print.numbers.Statement.{statement}
-use Rattle.cases.proofs.print.numbers.Tie as tie
-use Rattle.cases.proofs.print.numbers.Reads as reads
-use Rattle.cases.proofs.print.numbers.Lts as lts
+use Rattle.cases.proofs.print.field.Statement.{statement}
+use Rattle.cases.proofs.print.field.Tie as tie
+use Rattle.cases.proofs.print.field.Reads as reads
+use Rattle.cases.proofs.print.field.Lts as lts
 use Rattle.cases.proofs.print.number.Reads as number-reads
+use Rattle.cases.proofs.print.token.Reads as token-reads
 use Rattle.cases.proofs.words.get.Reads as get-reads
+use Rattle.std.proofs.num.wrapping_add_usize.Reads as wrapping-add-usize-reads
 
 abbrev Inv-loop : tie.InvT-loop
-Inv-loop table first n k₀ k = k ≤ n
+Inv-loop name table first at n from k₀ k = k ≤ n
 
 abbrev μ-loop : tie.MeasureT-loop
-μ-loop table first n k₀ k = n - k
+μ-loop name table first at n from k₀ k = n - k
+
+token-requires : tie.Need-token-requires Inv-loop μ-loop
+token-requires c κs = search needs
+
+wrapping-add-usize-requires : tie.Need-wrapping-add-usize-requires Inv-loop μ-loop
+wrapping-add-usize-requires c κs = search needs
 
 loop-holds : tie.Need-loop-holds Inv-loop μ-loop
 loop-holds c = search needs
@@ -35,12 +43,14 @@ loop-again c = search needs
 returns : tie.Need-returns Inv-loop μ-loop
 returns c = search needs
 
-pub numbers-spec : {M : Type 1} → statement M
-numbers-spec =
+pub field-spec : {M : Type 1} → statement M
+field-spec =
     tie.close
     (tie.spec
     Inv-loop
     μ-loop
+    token-requires
+    wrapping-add-usize-requires
     loop-holds
     get-requires
     number-requires
