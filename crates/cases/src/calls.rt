@@ -20,24 +20,19 @@ fn triple(line: &[u8]) -> Triple {
     )
 }
 
-pub fn names(
+pub fn enter(
     c: Counters,
-    verb: u32,
     line: &[u8],
     resources: &mut [u32],
     statements: &[u32],
     index: &mut [u32],
     text: &mut [u8],
 ) -> Counters {
-    if verb == 12 {
-        let a = dictionary::intern(c, resources, statements, index, text, script::rest(line, 2));
-        return reply::interned(c, a);
-    }
-    names_read(c, verb, line, resources, statements, index, text);
-    c
+    let a = dictionary::intern(c, resources, statements, index, text, script::rest(line, 2));
+    reply::interned(c, a)
 }
 
-fn names_read(
+fn names(
     c: Counters,
     verb: u32,
     line: &[u8],
@@ -46,7 +41,7 @@ fn names_read(
     index: &[u32],
     text: &[u8],
 ) {
-    if verb == 13 {
+    if verb == 19 {
         reply::looked_up(dictionary::find(
             c,
             resources,
@@ -72,7 +67,7 @@ pub fn statements(
     text: &[u8],
 ) -> Counters {
     let x = triple(line);
-    if verb == 15 {
+    if verb == 13 {
         let a = statement::assert(c, resources, statements, index, text, x);
         return reply::asserted(c, a);
     }
@@ -92,14 +87,14 @@ pub fn readings(
 ) -> State {
     let c = s.counters;
     match verb {
-        18 | 19 => {
+        15 | 16 => {
             let q = s.listing;
             state::with_listing(
                 s,
                 listings(c, q, verb, line, resources, statements, index, text),
             )
         }
-        20 | 21 => questions(s, verb, line, resources, statements, index, text),
+        17 | 18 => questions(s, verb, line, resources, statements, index, text),
         _ => {
             others(c, verb, line, resources, statements, index, text);
             s
@@ -117,7 +112,8 @@ fn others(
     text: &[u8],
 ) {
     match verb {
-        17 => reply::read(table::read_statement(
+        19 | 20 => names(c, verb, line, resources, statements, index, text),
+        21 => reply::read(table::read_statement(
             c,
             resources,
             statements,
@@ -140,7 +136,7 @@ fn listings(
     index: &[u32],
     text: &[u8],
 ) -> ScanCursor {
-    if verb == 18 {
+    if verb == 15 {
         let a = statement::scan_open(c, resources, statements, index, text, triple(line));
         return reply::opened(q, a);
     }
@@ -179,7 +175,7 @@ fn questions(
     let size = s.question.size;
     let c = s.counters;
     let q = s.place;
-    if verb == 20 {
+    if verb == 17 {
         let a = query::query_open(c, resources, statements, index, text, asked(&words, size));
         return state::with_place(s, reply::asked(q, a));
     }

@@ -43,6 +43,8 @@ use crate::state::State;
 use libc::STDIN_FILENO;
 use table::RESOURCE_WORDS;
 use table::STATEMENT_WORDS;
+ghost use mathlib.Core.Path.{_≡_};
+ghost use lib.ListN.{length};
 
 mod calls;
 mod print;
@@ -61,11 +63,27 @@ const INDEX: usize = 64;
 
 const TEXT: usize = 1024;
 
+// As many bytes as the script may have.
+const SCRIPT: usize = 262144;
+
+// Two buffers so long that their lengths are told by a contract.
+fn script_buffer() -> [u8; SCRIPT]
+    ensures { λ r. ⌜ 262144 ≡ length r ⌝ }
+{
+    [0; SCRIPT]
+}
+
+fn statement_table() -> [u32; STATEMENTS * STATEMENT_WORDS]
+    ensures { λ r. ⌜ 458752 ≡ length r ⌝ }
+{
+    [0; STATEMENTS * STATEMENT_WORDS]
+}
+
 fn main() {
-    let mut script = [0u8; 262144];
+    let mut script = script_buffer();
     let n = io::read_full(STDIN_FILENO, &mut script);
     let mut resources = [0u32; RESOURCES * RESOURCE_WORDS];
-    let mut statements = [0u32; STATEMENTS * STATEMENT_WORDS];
+    let mut statements = statement_table();
     let mut index = [0u32; INDEX];
     let mut text = [0u8; TEXT];
     run(
@@ -144,11 +162,8 @@ fn act(
             setup::tables(verb, line, resources, statements, index, text);
             s
         }
-        12..=14 => state::with_counters(
-            s,
-            calls::names(c, verb, line, resources, statements, index, text),
-        ),
-        15 | 16 => state::with_counters(
+        12 => state::with_counters(s, calls::enter(c, line, resources, statements, index, text)),
+        13 | 14 => state::with_counters(
             s,
             calls::statements(c, verb, line, resources, statements, index, text),
         ),

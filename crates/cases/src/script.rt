@@ -149,6 +149,6 @@ pub fn verb(line: &[u8]) -> u32 {
 fn spelt(word: &[u8]) -> u32 {
     position(
         word,
-        b"# lend counters listing question place fill resource statement index text change enter find name assert retract read open next ask answer check show",
+        b"# lend counters listing question place fill resource statement index text change enter assert retract open next ask answer find name read check show",
     )
 }

@@ -126,26 +126,18 @@ pub fn tables(
     index: &mut [u32],
     text: &mut [u8],
 ) {
+    let n = script::number(line, number_at(line));
     match verb {
-        6 => fill(script::number(line, 1), resources, statements, index, text),
-        7 => record(
-            line,
-            resources,
-            words::resource(script::number(line, number_at(line))),
-            RESOURCE_WORDS as u32,
-        ),
+        6 => fill(n, resources, statements, index, text),
+        7 => record(line, resources, words::resource(n), RESOURCE_WORDS as u32),
         8 => record(
             line,
             statements,
-            words::statement(script::number(line, number_at(line))),
+            words::statement(n),
             STATEMENT_WORDS as u32,
         ),
-        9 => fields(line, 2, index, script::number(line, 1) as usize),
-        _ => bytes(
-            text,
-            script::number(line, 1) as usize,
-            script::rest(line, 2),
-        ),
+        9 => fields(line, 2, index, n as usize),
+        _ => bytes(text, n as usize, script::rest(line, 2)),
     }
 }
 
@@ -163,7 +155,7 @@ fn byte_of(v: u32) -> u8 {
     v as u8
 }
 
-// Which word of a line has a record's number: the second, or after `change` the third.
+// Which word of a line has its number: the second, or after `change` the third.
 fn number_at(line: &[u8]) -> u32 {
     if script::letter(line) == b'c' {
         return 2;
