@@ -93,9 +93,10 @@ fn main() {
         &mut index,
         &mut text,
     );
+    print::end();
 }
 
-// Every line of the script.
+// Every line of the script. A case's line is ended when the next case begins, and the last one's by `main`.
 fn run(
     script: &[u8],
     resources: &mut [u32],
@@ -135,7 +136,7 @@ fn step(
     let i = state::within(s.lent.index as usize, 0, index.len());
     let b = state::within(s.lent.text as usize, 0, text.len());
     act(
-        print::begin(s, verb, line),
+        state::numbered(s, verb, line),
         verb,
         line,
         &mut resources[0..r],

@@ -1,6 +1,5 @@
 // A case's line: its number, its name, the answer.
 use crate::script;
-use crate::state::State;
 use crate::words;
 use graph::Level;
 use graph::MAX_PATTERNS;
@@ -83,18 +82,6 @@ pub fn end() {
     text(b"\n");
 }
 
-// The last number of a line.
-pub fn only(n: u32) {
-    number(n);
-    end();
-}
-
-// The last word of a line.
-pub fn verdict(k: u32) {
-    token(k);
-    end();
-}
-
 // A word, and a number.
 pub fn labelled(k: u32, n: u32) {
     token(k);
@@ -112,24 +99,17 @@ pub fn refused(e: Refusal) -> bool {
     false
 }
 
-// A refusal that ends the line.
-pub fn refusal(e: Refusal) {
-    refused(e);
-    end();
-}
-
-// A case's number, one more than the last one's, and its name: the line up to the colon. Of another line nothing.
-pub fn begin(s: State, verb: u32, line: &[u8]) -> State {
-    if verb < 12 {
-        return s;
+// The case's number, one more than the last one's, and its name: the line up to the colon. The last case's line ends here.
+pub fn begin(last: u32, line: &[u8]) -> u32 {
+    let case = std::num::wrapping_add_u32(last, 1);
+    if last != 0 {
+        end();
     }
-    let mut t = s;
-    t.case = std::num::wrapping_add_u32(s.case, 1);
-    let end = script::until(line, 0, b':');
-    io::print_decimal(STDOUT_FILENO, t.case as u64);
+    io::print_decimal(STDOUT_FILENO, case as u64);
     text(b" ");
-    text(&line[0..end]);
-    t
+    let stop = script::until(line, 0, b':');
+    text(&line[0..stop]);
+    case
 }
 
 // A part's length, and its bytes if they are few.
@@ -177,7 +157,7 @@ pub fn listing(q: ScanCursor) {
     triple(x);
     let c = q.chain;
     chain(c, NONE);
-    only(q.next.0);
+    number(q.next.0);
 }
 
 fn progress(g: Progress) -> u32 {
@@ -199,7 +179,6 @@ pub fn place(q: QueryCursor) {
         level(l);
         i += 1;
     }
-    end();
 }
 
 fn level(l: Level) {
@@ -230,8 +209,6 @@ pub fn show(line: &[u8], resources: &[u32], statements: &[u32], index: &[u32], b
         3 => all(index),
         _ => barred(bytes),
     }
-    ;
-    end();
 }
 
 fn resource(resources: &[u32], first: usize) {

@@ -23,11 +23,10 @@ pub fn interned(c: Counters, a: Interned) -> Counters {
             print::number(n.0);
             print::number(d.resources);
             print::number(d.text);
-            print::end();
             d
         }
         Interned::Refused(e) => {
-            print::refusal(e);
+            print::refused(e);
             c
         }
     }
@@ -35,9 +34,11 @@ pub fn interned(c: Counters, a: Interned) -> Counters {
 
 pub fn looked_up(a: Lookup) {
     match a {
-        Lookup::Number(n) => print::only(n.0),
-        Lookup::Absent => print::verdict(print::ABSENT),
-        Lookup::Refused(e) => print::refusal(e),
+        Lookup::Number(n) => print::number(n.0),
+        Lookup::Absent => print::token(print::ABSENT),
+        Lookup::Refused(e) => {
+            print::refused(e);
+        }
     }
 }
 
@@ -48,11 +49,10 @@ pub fn named(a: NameRead, part: &[u8]) {
             print::number(start);
             print::number(size);
             print::part(part);
-            print::end();
         }
         NameRead::Refused(e) => {
             print::part(part);
-            print::refusal(e);
+            print::refused(e);
         }
     }
 }
@@ -61,9 +61,11 @@ pub fn read(a: StatementRead) {
     match a {
         StatementRead::Is(x, flag) => {
             print::triple(x);
-            print::only(flag);
+            print::number(flag);
         }
-        StatementRead::Refused(e) => print::refusal(e),
+        StatementRead::Refused(e) => {
+            print::refused(e);
+        }
     }
 }
 
@@ -73,7 +75,7 @@ pub fn asserted(c: Counters, a: Asserted) -> Counters {
         Asserted::Already(n, d) => entered(print::ALREADY, n, d),
         Asserted::Revived(n, d) => entered(print::REVIVED, n, d),
         Asserted::Refused(e) => {
-            print::refusal(e);
+            print::refused(e);
             c
         }
     }
@@ -85,15 +87,16 @@ fn entered(status: u32, n: StatementId, d: Counters) -> Counters {
     print::number(d.resources);
     print::number(d.statements);
     print::number(d.text);
-    print::end();
     d
 }
 
 pub fn retracted(a: Retracted) {
     match a {
-        Retracted::Number(n) => print::only(n.0),
-        Retracted::Absent => print::only(0),
-        Retracted::Refused(e) => print::refusal(e),
+        Retracted::Number(n) => print::number(n.0),
+        Retracted::Absent => print::number(0),
+        Retracted::Refused(e) => {
+            print::refused(e);
+        }
     }
 }
 
@@ -101,7 +104,7 @@ pub fn opened(q: ScanCursor, a: ScanOpened) -> ScanCursor {
     match a {
         ScanOpened::Cursor(p) => listed(p),
         ScanOpened::Refused(e) => {
-            print::refusal(e);
+            print::refused(e);
             q
         }
     }
@@ -113,7 +116,7 @@ pub fn scanned(q: ScanCursor, a: Scanned) -> ScanCursor {
         Scanned::Ended(v, p) => moved(print::ENDED, 0, v, p),
         Scanned::Spent(v, p) => moved(print::SPENT, 0, v, p),
         Scanned::Refused(e) => {
-            print::refusal(e);
+            print::refused(e);
             q
         }
     }
@@ -177,8 +180,8 @@ fn placed(q: QueryCursor, p: QueryCursor, goes_on: bool) -> QueryCursor {
 
 pub fn checked(sound: bool) {
     if sound {
-        print::verdict(print::SOUND);
+        print::token(print::SOUND);
         return;
     }
-    print::verdict(print::UNSOUND);
+    print::token(print::UNSOUND);
 }

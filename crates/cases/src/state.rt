@@ -1,5 +1,5 @@
 // What the last line left: the last case's number, what is lent, the counters, the listing's place, the question and its place.
-use crate::words;
+use crate::print;
 use graph::Level;
 use graph::MAX_PATTERNS;
 use graph::Progress;
@@ -11,6 +11,8 @@ use store::ResourceId;
 use store::ScanCursor;
 use store::StatementId;
 use store::Triple;
+use table::RESOURCE_WORDS;
+use table::STATEMENT_WORDS;
 ghost use Prim.Native.Nat.{_≤_};
 
 pub struct State {
@@ -91,7 +93,7 @@ pub fn lent_resources(s: State, length: usize) -> usize
     ensures { λ r. ⌜ r ≤ length ⌝ }
 {
     within(
-        words::resources(s.lent.resources),
+        s.lent.resources as usize * RESOURCE_WORDS,
         s.lent.short_resources,
         length,
     )
@@ -101,13 +103,23 @@ pub fn lent_statements(s: State, length: usize) -> usize
     ensures { λ r. ⌜ r ≤ length ⌝ }
 {
     within(
-        words::statements(s.lent.statements),
+        s.lent.statements as usize * STATEMENT_WORDS,
         s.lent.short_statements,
         length,
     )
 }
 
 // ---- the state with something else
+
+// A case counts, and its number and name are written; no other line does.
+pub fn numbered(s: State, verb: u32, line: &[u8]) -> State {
+    if verb < 12 {
+        return s;
+    }
+    let mut t = s;
+    t.case = print::begin(s.case, line);
+    t
+}
 
 pub fn with_counters(s: State, c: Counters) -> State {
     let mut t = s;

@@ -46,20 +46,11 @@ pub fn fill_bytes(text: &mut [u8], b: u8) {
     }
 }
 
-// Where the record after n others begins.
-pub fn resources(n: u32) -> usize {
-    n as usize * RESOURCE_WORDS
-}
-
-pub fn statements(n: u32) -> usize {
-    n as usize * STATEMENT_WORDS
-}
-
 // Where record n begins; far past every table for 0.
 pub fn resource(n: u32) -> usize {
-    resources(std::num::wrapping_sub_u32(n, 1))
+    std::num::wrapping_sub_u32(n, 1) as usize * RESOURCE_WORDS
 }
 
 pub fn statement(n: u32) -> usize {
-    statements(std::num::wrapping_sub_u32(n, 1))
+    std::num::wrapping_sub_u32(n, 1) as usize * STATEMENT_WORDS
 }
