@@ -3,11 +3,9 @@ use crate::print;
 use crate::reply;
 use crate::script;
 use crate::state;
-use crate::state::QUESTION_WORDS;
 use crate::state::State;
 use store::Counters;
 use store::ResourceId;
-use store::ScanCursor;
 use store::StatementId;
 use store::Triple;
 
@@ -21,58 +19,35 @@ fn triple(line: &[u8]) -> Triple {
 }
 
 pub fn enter(
-    c: Counters,
+    s: State,
     line: &[u8],
     resources: &mut [u32],
     statements: &[u32],
     index: &mut [u32],
     text: &mut [u8],
-) -> Counters {
+) -> State {
+    let c = state::counters(s);
     let a = dictionary::intern(c, resources, statements, index, text, script::rest(line, 2));
-    reply::interned(c, a)
-}
-
-fn names(
-    c: Counters,
-    verb: u32,
-    line: &[u8],
-    resources: &[u32],
-    statements: &[u32],
-    index: &[u32],
-    text: &[u8],
-) {
-    if verb == 19 {
-        reply::looked_up(dictionary::find(
-            c,
-            resources,
-            statements,
-            index,
-            text,
-            script::rest(line, 2),
-        ));
-        return;
-    }
-    let n = ResourceId(script::number(line, 2));
-    let a = table::name_span(c, resources, statements, index, text, n);
-    reply::named(a, table::name(c, resources, statements, index, text, n));
+    reply::interned(s, a)
 }
 
 pub fn statements(
-    c: Counters,
+    s: State,
     verb: u32,
     line: &[u8],
     resources: &mut [u32],
     statements: &mut [u32],
     index: &[u32],
     text: &[u8],
-) -> Counters {
+) -> State {
+    let c = state::counters(s);
     let x = triple(line);
     if verb == 13 {
         let a = statement::assert(c, resources, statements, index, text, x);
-        return reply::asserted(c, a);
+        return reply::asserted(s, a);
     }
     reply::retracted(statement::retract(c, resources, statements, index, text, x));
-    c
+    s
 }
 
 // Calls that write to no table.
@@ -85,18 +60,19 @@ pub fn readings(
     index: &[u32],
     text: &[u8],
 ) -> State {
-    let c = s.counters;
     match verb {
-        15 | 16 => {
-            let q = s.listing;
-            state::with_listing(
-                s,
-                listings(c, q, verb, line, resources, statements, index, text),
-            )
-        }
+        15 | 16 => listings(s, verb, line, resources, statements, index, text),
         17 | 18 => questions(s, verb, line, resources, statements, index, text),
         _ => {
-            others(c, verb, line, resources, statements, index, text);
+            others(
+                state::counters(s),
+                verb,
+                line,
+                resources,
+                statements,
+                index,
+                text,
+            );
             s
         }
     }
@@ -126,20 +102,40 @@ fn others(
     }
 }
 
-fn listings(
+fn names(
     c: Counters,
-    q: ScanCursor,
     verb: u32,
     line: &[u8],
     resources: &[u32],
     statements: &[u32],
     index: &[u32],
     text: &[u8],
-) -> ScanCursor {
+) {
+    if verb == 19 {
+        let a = dictionary::find(c, resources, statements, index, text, script::rest(line, 2));
+        reply::looked_up(a);
+        return;
+    }
+    let n = ResourceId(script::number(line, 2));
+    let a = table::name_span(c, resources, statements, index, text, n);
+    reply::named(a, table::name(c, resources, statements, index, text, n));
+}
+
+fn listings(
+    s: State,
+    verb: u32,
+    line: &[u8],
+    resources: &[u32],
+    statements: &[u32],
+    index: &[u32],
+    text: &[u8],
+) -> State {
+    let c = state::counters(s);
     if verb == 15 {
         let a = statement::scan_open(c, resources, statements, index, text, triple(line));
-        return reply::opened(q, a);
+        return reply::opened(s, a);
     }
+    let q = state::listing(s);
     let a = statement::scan_next(
         c,
         resources,
@@ -149,17 +145,7 @@ fn listings(
         q,
         script::number(line, 2),
     );
-    reply::scanned(q, a)
-}
-
-// The question's words.
-fn asked(words: &[u32; QUESTION_WORDS], size: usize) -> &[u32] {
-    part(words, size)
-}
-
-fn part(words: &[u32], size: usize) -> &[u32] {
-    let n = state::within(size, 0, words.len());
-    &words[0..n]
+    reply::scanned(s, a)
 }
 
 fn questions(
@@ -171,23 +157,29 @@ fn questions(
     index: &[u32],
     text: &[u8],
 ) -> State {
-    let words = s.question.words;
-    let size = s.question.size;
-    let c = s.counters;
-    let q = s.place;
+    let c = state::counters(s);
+    let words = s.words;
     if verb == 17 {
-        let a = query::query_open(c, resources, statements, index, text, asked(&words, size));
-        return state::with_place(s, reply::asked(q, a));
+        let a = query::query_open(
+            c,
+            resources,
+            statements,
+            index,
+            text,
+            state::question(&words),
+        );
+        return reply::asked(s, a);
     }
+    let q = state::place(s);
     let a = query::query_next(
         c,
         resources,
         statements,
         index,
         text,
-        asked(&words, size),
+        state::question(&words),
         q,
         script::number(line, 2),
     );
-    state::with_place(s, reply::answered(q, a))
+    reply::answered(s, a)
 }

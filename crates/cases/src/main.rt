@@ -133,10 +133,10 @@ fn step(
     let verb = script::verb(line);
     let r = state::lent_resources(s, resources.len());
     let t = state::lent_statements(s, statements.len());
-    let i = state::within(s.lent.index as usize, 0, index.len());
-    let b = state::within(s.lent.text as usize, 0, text.len());
+    let i = state::lent(s, state::LENT + 2, index.len());
+    let b = state::lent(s, state::LENT + 3, text.len());
     act(
-        state::numbered(s, verb, line),
+        print::begin(s, verb, line),
         verb,
         line,
         &mut resources[0..r],
@@ -156,18 +156,14 @@ fn act(
     index: &mut [u32],
     text: &mut [u8],
 ) -> State {
-    let c = s.counters;
     match verb {
         0..=5 => setup::settings(s, verb, line),
         6..=11 => {
             setup::tables(verb, line, resources, statements, index, text);
             s
         }
-        12 => state::with_counters(s, calls::enter(c, line, resources, statements, index, text)),
-        13 | 14 => state::with_counters(
-            s,
-            calls::statements(c, verb, line, resources, statements, index, text),
-        ),
+        12 => calls::enter(s, line, resources, statements, index, text),
+        13 | 14 => calls::statements(s, verb, line, resources, statements, index, text),
         _ => calls::readings(s, verb, line, resources, statements, index, text),
     }
 }

@@ -1,18 +1,13 @@
 // A case's line: its number, its name, the answer.
 use crate::script;
+use crate::state;
+use crate::state::State;
 use crate::words;
-use graph::Level;
 use graph::MAX_PATTERNS;
-use graph::Progress;
-use graph::QueryCursor;
 use graph::Solution;
 use graph::VARIABLES;
 use libc::STDOUT_FILENO;
-use store::Chain;
-use store::Position;
 use store::Refusal;
-use store::ScanCursor;
-use store::Triple;
 use table::COUNT;
 use table::FLAG;
 use table::KIND;
@@ -51,16 +46,16 @@ pub const PLACE: u32 = 13;
 
 pub const START: u32 = 14;
 
-// `none` for a listing's chain, then those of the positions; `-` for a level's.
+// The chain of a listing: none, then one for each position; of a level likewise.
 pub const NONE: u32 = 17;
 
 pub const DASH: u32 = 21;
 
-pub const PART: u32 = 22;
+pub const PART: u32 = 25;
 
-pub const FIRST: u32 = 23;
+pub const FIRST: u32 = 26;
 
-pub const TRIPLE: u32 = 27;
+pub const TRIPLE: u32 = 30;
 
 fn text(bytes: &[u8]) {
     io::write_all(STDOUT_FILENO, bytes);
@@ -68,7 +63,7 @@ fn text(bytes: &[u8]) {
 
 pub fn token(k: u32) {
     let words =
-        b"new already revived found ended spent opened refused absent sound unsound visits solution place start within end none s p o - part first count offset kind triple next flag";
+        b"new already revived found ended spent opened refused absent sound unsound visits solution place start within end none s p o - s p o part first count offset kind triple next flag";
     text(b" ");
     text(script::word(words, k));
 }
@@ -99,9 +94,19 @@ pub fn refused(e: Refusal) -> bool {
     false
 }
 
-// The case's number, one more than the last one's, and its name: the line up to the colon. The last case's line ends here.
-pub fn begin(last: u32, line: &[u8]) -> u32 {
+// A case's number, one more than the last one's, and its name: the line up to the colon; the last case's line ends here. Nothing of another
+// line.
+pub fn begin(s: State, verb: u32, line: &[u8]) -> State {
+    if verb < 12 {
+        return s;
+    }
+    let last = state::get(s, state::CASE);
     let case = std::num::wrapping_add_u32(last, 1);
+    name(last, case, line);
+    state::set(s, state::CASE, case)
+}
+
+fn name(last: u32, case: u32, line: &[u8]) {
     if last != 0 {
         end();
     }
@@ -109,7 +114,6 @@ pub fn begin(last: u32, line: &[u8]) -> u32 {
     text(b" ");
     let stop = script::until(line, 0, b':');
     text(&line[0..stop]);
-    case
 }
 
 // A part's length, and its bytes if they are few.
@@ -126,65 +130,45 @@ pub fn part(bytes: &[u8]) {
     }
 }
 
-pub fn triple(x: Triple) {
-    number(x.subject.0);
-    number(x.predicate.0);
-    number(x.object.0);
-}
-
 // ---- places and solutions
 
-fn position(p: Position) -> u32 {
-    match p {
-        Position::Subject => NONE + 1,
-        Position::Predicate => NONE + 2,
-        Position::Object => NONE + 3,
-    }
-}
-
-// A chain, by letter or by the word for all records.
-fn chain(c: Chain, all: u32) {
-    match c {
-        Chain::All => token(all),
-        Chain::By(p) => token(position(p)),
-    }
-}
-
 // The pattern, the chain, the next record.
-pub fn listing(q: ScanCursor) {
+pub fn listing(s: State) {
     token(PLACE);
-    let x = q.pattern;
-    triple(x);
-    let c = q.chain;
-    chain(c, NONE);
-    number(q.next.0);
+    number(state::get(s, state::LISTING));
+    number(state::get(s, state::LISTING + 1));
+    number(state::get(s, state::LISTING + 2));
+    token(std::num::wrapping_add_u32(NONE, state::get(s, state::LISTING + 3)));
+    number(state::get(s, state::LISTING + 4));
 }
 
-fn progress(g: Progress) -> u32 {
+fn progress(g: u32) -> u32 {
     match g {
-        Progress::Start => START,
-        Progress::Within => START + 1,
-        Progress::End => START + 2,
+        4 => START + 1,
+        5 => START + 2,
+        _ => START,
     }
 }
 
 // How far, how many levels, and every level, the first pattern's first.
-pub fn place(q: QueryCursor) {
+pub fn place(s: State) {
     token(PLACE);
-    let g = q.progress;
-    labelled(progress(g), q.depth);
-    let mut i = 0;
+    labelled(
+        progress(state::get(s, state::PLACE)),
+        state::get(s, state::PLACE + 1),
+    );
+    let mut i: usize = 0;
     while i < MAX_PATTERNS {
-        let l = q.levels[i];
-        level(l);
+        let k = state::PLACE + 2 + 2 * i;
+        level(state::get(s, k), state::get(s, k + 1));
         i += 1;
     }
 }
 
-fn level(l: Level) {
-    let c = l.chain;
-    chain(c, DASH);
-    io::print_decimal(STDOUT_FILENO, l.statement.0 as u64);
+// A chain, by letter or `-` for all records, and a record.
+fn level(chain: u32, n: u32) {
+    token(std::num::wrapping_add_u32(DASH, chain));
+    io::print_decimal(STDOUT_FILENO, n as u64);
 }
 
 // The number of each variable.
@@ -227,10 +211,11 @@ fn statement(statements: &[u32], first: usize) {
 // A field's name, and its words.
 fn field(name: u32, table: &[u32], first: usize, at: usize, n: u32) {
     token(name);
-    let from = std::num::wrapping_add_usize(first, at);
+    let mut i = std::num::wrapping_add_usize(first, at);
     let mut k: u32 = 0;
     while k < n {
-        number(words::get(table, from, k));
+        number(words::get(table, i));
+        i = std::num::wrapping_add_usize(i, 1);
         k += 1;
     }
 }

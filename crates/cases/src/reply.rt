@@ -1,5 +1,7 @@
-// What each call answers: it is written, and the counters or the place from now on come back.
+// What each call answers: it is written, and the state from then on comes back.
 use crate::print;
+use crate::state;
+use crate::state::State;
 use graph::Opening;
 use graph::QueryAnswer;
 use graph::QueryCursor;
@@ -17,17 +19,17 @@ use store::Scanned;
 use store::StatementId;
 use store::StatementRead;
 
-pub fn interned(c: Counters, a: Interned) -> Counters {
+pub fn interned(s: State, a: Interned) -> State {
     match a {
         Interned::Number(n, d) => {
             print::number(n.0);
             print::number(d.resources);
             print::number(d.text);
-            d
+            state::with_counters(s, d)
         }
         Interned::Refused(e) => {
             print::refused(e);
-            c
+            s
         }
     }
 }
@@ -60,7 +62,9 @@ pub fn named(a: NameRead, part: &[u8]) {
 pub fn read(a: StatementRead) {
     match a {
         StatementRead::Is(x, flag) => {
-            print::triple(x);
+            print::number(x.subject.0);
+            print::number(x.predicate.0);
+            print::number(x.object.0);
             print::number(flag);
         }
         StatementRead::Refused(e) => {
@@ -69,25 +73,25 @@ pub fn read(a: StatementRead) {
     }
 }
 
-pub fn asserted(c: Counters, a: Asserted) -> Counters {
+pub fn asserted(s: State, a: Asserted) -> State {
     match a {
-        Asserted::New(n, d) => entered(print::NEW, n, d),
-        Asserted::Already(n, d) => entered(print::ALREADY, n, d),
-        Asserted::Revived(n, d) => entered(print::REVIVED, n, d),
+        Asserted::New(n, d) => entered(s, print::NEW, n, d),
+        Asserted::Already(n, d) => entered(s, print::ALREADY, n, d),
+        Asserted::Revived(n, d) => entered(s, print::REVIVED, n, d),
         Asserted::Refused(e) => {
             print::refused(e);
-            c
+            s
         }
     }
 }
 
-fn entered(status: u32, n: StatementId, d: Counters) -> Counters {
+fn entered(s: State, status: u32, n: StatementId, d: Counters) -> State {
     print::token(status);
     print::number(n.0);
     print::number(d.resources);
     print::number(d.statements);
     print::number(d.text);
-    d
+    state::with_counters(s, d)
 }
 
 pub fn retracted(a: Retracted) {
@@ -100,38 +104,39 @@ pub fn retracted(a: Retracted) {
     }
 }
 
-pub fn opened(q: ScanCursor, a: ScanOpened) -> ScanCursor {
+pub fn opened(s: State, a: ScanOpened) -> State {
     match a {
-        ScanOpened::Cursor(p) => listed(p),
+        ScanOpened::Cursor(p) => listed(s, p),
         ScanOpened::Refused(e) => {
             print::refused(e);
-            q
+            s
         }
     }
 }
 
-pub fn scanned(q: ScanCursor, a: Scanned) -> ScanCursor {
+pub fn scanned(s: State, a: Scanned) -> State {
     match a {
-        Scanned::Found(n, v, p) => moved(print::FOUND, n.0, v, p),
-        Scanned::Ended(v, p) => moved(print::ENDED, 0, v, p),
-        Scanned::Spent(v, p) => moved(print::SPENT, 0, v, p),
+        Scanned::Found(n, v, p) => moved(s, print::FOUND, n.0, v, p),
+        Scanned::Ended(v, p) => moved(s, print::ENDED, 0, v, p),
+        Scanned::Spent(v, p) => moved(s, print::SPENT, 0, v, p),
         Scanned::Refused(e) => {
             print::refused(e);
-            q
+            s
         }
     }
 }
 
-fn moved(status: u32, n: u32, visits: u32, p: ScanCursor) -> ScanCursor {
+fn moved(s: State, status: u32, n: u32, visits: u32, p: ScanCursor) -> State {
     print::token(status);
     print::number(n);
     print::labelled(print::VISITS, visits);
-    listed(p)
+    listed(s, p)
 }
 
-fn listed(p: ScanCursor) -> ScanCursor {
-    print::listing(p);
-    p
+fn listed(s: State, p: ScanCursor) -> State {
+    let t = state::with_listing(s, p);
+    print::listing(t);
+    t
 }
 
 // Of an opening: whether it is no refusal.
@@ -152,30 +157,31 @@ fn stepped(step: QueryStep) -> bool {
     }
 }
 
-pub fn asked(q: QueryCursor, a: QueryOpened) -> QueryCursor {
+pub fn asked(s: State, a: QueryOpened) -> State {
     let opening = a.opening;
     let goes_on = told(opening);
     let p = a.cursor;
-    placed(q, p, goes_on)
+    placed(s, p, goes_on)
 }
 
-pub fn answered(q: QueryCursor, a: QueryAnswer) -> QueryCursor {
+pub fn answered(s: State, a: QueryAnswer) -> State {
     let step = a.step;
     let goes_on = stepped(step);
     print::labelled(print::VISITS, a.visits);
     let solution = a.solution;
     print::solution(solution);
     let p = a.cursor;
-    placed(q, p, goes_on)
+    placed(s, p, goes_on)
 }
 
 // The reply's place is written; beside a refusal the place stays what it was.
-fn placed(q: QueryCursor, p: QueryCursor, goes_on: bool) -> QueryCursor {
-    print::place(p);
+fn placed(s: State, p: QueryCursor, goes_on: bool) -> State {
+    let t = state::with_place(s, p);
+    print::place(t);
     if goes_on {
-        return p;
+        return t;
     }
-    q
+    s
 }
 
 pub fn checked(sound: bool) {

@@ -61,13 +61,19 @@ pub fn number(line: &[u8], k: u32) -> u32 {
     value(word(line, k))
 }
 
-// The number that a word is; a variable's word for `?` and its number.
+// What a word stands for: a number, a variable's word for `?` and its number, or by its first letter a chain (s, p, o; none and - are 0) or
+// how far a question is (within, end; start counts as 0).
 pub fn value(word: &[u8]) -> u32 {
     let v = digits(word);
-    if letter(word) == b'?' {
-        return std::num::wrapping_add_u32(graph::FIRST_VARIABLE, v);
+    match letter(word) {
+        b'?' => std::num::wrapping_add_u32(graph::FIRST_VARIABLE, v),
+        b's' => 1,
+        b'p' => 2,
+        b'o' => 3,
+        b'w' => 4,
+        b'e' => 5,
+        _ => v,
     }
-    v
 }
 
 // The decimal digits of a word; other bytes are passed over.
@@ -101,6 +107,19 @@ fn low(v: u64) -> u32 {
         return 4294967295;
     }
     v as u32
+}
+
+// How many words a line has after its first.
+pub fn count(line: &[u8]) -> u32 {
+    let mut n: u32 = 0;
+    let mut i = 0;
+    while i < line.len() {
+        if line[i] == b' ' {
+            n = std::num::wrapping_add_u32(n, 1);
+        }
+        i += 1;
+    }
+    n
 }
 
 // Which word of a list a word is, from 0; as many as the list has if it is none of them.

@@ -1,17 +1,8 @@
 // Lines that set something up.
 use crate::script;
 use crate::state;
-use crate::state::Lent;
-use crate::state::QUESTION_WORDS;
-use crate::state::Question;
 use crate::state::State;
 use crate::words;
-use graph::MAX_PATTERNS;
-use graph::Progress;
-use graph::QueryCursor;
-use store::Counters;
-use store::ScanCursor;
-use store::StatementId;
 use table::COUNT;
 use table::FLAG;
 use table::KIND;
@@ -24,96 +15,31 @@ use table::STATEMENT_WORDS;
 
 pub fn settings(s: State, verb: u32, line: &[u8]) -> State {
     match verb {
-        1 => lend(s, line),
-        2 => state::with_counters(s, counters(line)),
-        3 => state::with_listing(s, listing(line)),
+        1 => values(s, state::LENT, state::LENT_WORDS, line),
+        2 => values(s, state::COUNTERS, state::COUNTER_WORDS, line),
+        3 => values(s, state::LISTING, state::LISTING_WORDS, line),
         4 => question(s, line),
-        5 => state::with_place(s, place(line)),
+        5 => values(s, state::PLACE, state::PLACE_WORDS, line),
         _ => s,
     }
 }
 
-fn lend(s: State, line: &[u8]) -> State {
-    let lent = Lent {
-        resources: script::number(line, 1),
-        statements: script::number(line, 2),
-        index: script::number(line, 3),
-        text: script::number(line, 4),
-        short_resources: script::number(line, 6),
-        short_statements: script::number(line, 7),
-    };
+// The words of a line after its first, n of them, as words of the state from `first` on; 0 for one that is not there.
+fn values(s: State, first: usize, n: u32, line: &[u8]) -> State {
     let mut t = s;
-    t.lent = lent;
+    let mut at = first;
+    let mut k: u32 = 0;
+    while k < n {
+        k += 1;
+        t = state::set(t, at, script::number(line, k));
+        at = std::num::wrapping_add_usize(at, 1);
+    }
     t
-}
-
-fn counters(line: &[u8]) -> Counters {
-    Counters {
-        resources: script::number(line, 1),
-        statements: script::number(line, 2),
-        text: script::number(line, 3),
-    }
-}
-
-fn listing(line: &[u8]) -> ScanCursor {
-    ScanCursor {
-        pattern: state::triple(
-            script::number(line, 1),
-            script::number(line, 2),
-            script::number(line, 3),
-        ),
-        chain: state::chain_of(script::letter(script::word(line, 4))),
-        next: StatementId(script::number(line, 5)),
-    }
 }
 
 fn question(s: State, line: &[u8]) -> State {
-    let mut words = [0u32; QUESTION_WORDS];
-    let mut k: u32 = 0;
-    while k < 32 {
-        let word = script::word(line, k + 1);
-        if word.len() == 0 {
-            break;
-        }
-        words[k as usize] = script::value(word);
-        k += 1;
-    }
-    let asked = Question {
-        words: words,
-        size: k as usize,
-    };
-    let mut t = s;
-    t.question = asked;
-    t
-}
-
-fn progress_of(letter: u8) -> Progress {
-    match letter {
-        b'w' => Progress::Within,
-        b'e' => Progress::End,
-        _ => Progress::Start,
-    }
-}
-
-fn place(line: &[u8]) -> QueryCursor {
-    let none = state::level(b'-', 0);
-    let mut levels = [none; MAX_PATTERNS];
-    let mut i: usize = 0;
-    let mut k: u32 = 3;
-    while i < MAX_PATTERNS {
-        let l = state::level(
-            script::letter(script::word(line, k)),
-            script::number(line, k + 1),
-        );
-        levels[i] = l;
-        i += 1;
-        k += 2;
-    }
-    QueryCursor {
-        progress: progress_of(script::letter(script::word(line, 1))),
-        depth: script::number(line, 2),
-        levels: levels,
-    }
+    let t = values(s, state::QUESTION + 1, state::QUESTION_WORDS, line);
+    state::set(t, state::QUESTION, script::count(line))
 }
 
 // ---- the tables
@@ -129,13 +55,8 @@ pub fn tables(
     let n = script::number(line, number_at(line));
     match verb {
         6 => fill(n, resources, statements, index, text),
-        7 => record(line, resources, words::resource(n), RESOURCE_WORDS as u32),
-        8 => record(
-            line,
-            statements,
-            words::statement(n),
-            STATEMENT_WORDS as u32,
-        ),
+        7 => record(line, resources, words::resource(n), RESOURCE_WORDS),
+        8 => record(line, statements, words::statement(n), STATEMENT_WORDS),
         9 => fields(line, 2, index, n as usize),
         _ => bytes(text, n as usize, script::rest(line, 2)),
     }
@@ -164,7 +85,7 @@ fn number_at(line: &[u8]) -> u32 {
 }
 
 // A record whole, or after `change` the fields named.
-fn record(line: &[u8], table: &mut [u32], first: usize, width: u32) {
+fn record(line: &[u8], table: &mut [u32], first: usize, width: usize) {
     if number_at(line) == 2 {
         fields(line, 3, table, first);
         return;
@@ -176,7 +97,7 @@ fn record(line: &[u8], table: &mut [u32], first: usize, width: u32) {
 // The words of a line from word `from` on: a field goes to its place in the part of the table that begins at `first`, a number is written
 // there.
 fn fields(line: &[u8], from: u32, table: &mut [u32], first: usize) {
-    let mut at: u32 = 0;
+    let mut at = first;
     let mut k = from;
     while k < 64 {
         let word = script::word(line, k);
@@ -189,44 +110,40 @@ fn fields(line: &[u8], from: u32, table: &mut [u32], first: usize) {
 }
 
 // One word of a line: where the next one goes.
-fn field(word: &[u8], table: &mut [u32], first: usize, at: u32) -> u32 {
+fn field(word: &[u8], table: &mut [u32], first: usize, at: usize) -> usize {
     let n = script::position(
         word,
         b"subject predicate object first triple count next offset kind flag",
     );
-    if n < 10 {
-        return moved(at, n);
+    if n < 3 {
+        return std::num::wrapping_add_usize(at, n as usize);
     }
-    words::put(table, first, at, script::value(word));
-    std::num::wrapping_add_u32(at, 1)
+    if n < 10 {
+        return std::num::wrapping_add_usize(first, group(n));
+    }
+    words::put(table, at, script::value(word));
+    std::num::wrapping_add_usize(at, 1)
 }
 
-// Where a place's word is after its field's first one, or where a field's words begin in the record.
-fn moved(at: u32, n: u32) -> u32 {
+// Where a field's words begin in its record.
+fn group(n: u32) -> usize {
     match n {
-        0 => at,
-        1 => std::num::wrapping_add_u32(at, 1),
-        2 => std::num::wrapping_add_u32(at, 2),
-        5 => COUNT as u32,
-        6 => NEXT as u32,
-        7 => OFFSET as u32,
-        8 => KIND as u32,
-        9 => FLAG as u32,
+        5 => COUNT,
+        6 => NEXT,
+        7 => OFFSET,
+        8 => KIND,
+        9 => FLAG,
         _ => 0,
     }
 }
 
 // Bytes into the text from `first` on, a zero byte for a bar.
 fn bytes(text: &mut [u8], first: usize, from: &[u8]) {
+    let mut at = first;
     let mut i = 0;
     while i < from.len() {
-        if first >= text.len() {
-            return;
-        }
-        if i >= text.len() - first {
-            return;
-        }
-        text[first + i] = unbarred(from[i]);
+        words::put_byte(text, at, unbarred(from[i]));
+        at = std::num::wrapping_add_usize(at, 1);
         i += 1;
     }
 }

@@ -1,5 +1,6 @@
-// What the last line left: the last case's number, what is lent, the counters, the listing's place, the question and its place.
-use crate::print;
+// What the last line left, as words by value: a value of many parts is dear to check where it is passed on, and these are passed through every
+// line. The places and the counters are made of their words where a call needs them.
+use crate::words::get as get_word;
 use graph::Level;
 use graph::MAX_PATTERNS;
 use graph::Progress;
@@ -16,62 +17,59 @@ use table::STATEMENT_WORDS;
 ghost use Prim.Native.Nat.{_≤_};
 
 pub struct State {
-    pub case: u32,
-    pub lent: Lent,
-    pub counters: Counters,
-    pub listing: ScanCursor,
-    pub question: Question,
-    pub place: QueryCursor,
+    pub words: [u32; WORDS],
 }
 
-// Resource records, statement records, index words, text bytes; how many words the records are short.
-pub struct Lent {
-    pub resources: u32,
-    pub statements: u32,
-    pub index: u32,
-    pub text: u32,
-    pub short_resources: u32,
-    pub short_statements: u32,
-}
+pub const WORDS: usize = 96;
 
-// The words that a question may have in the script.
-pub const QUESTION_WORDS: usize = 32;
+// The last case's number.
+pub const CASE: usize = 0;
 
-pub struct Question {
-    pub words: [u32; QUESTION_WORDS],
-    pub size: usize,
-}
+// Resource records, statement records, index words, text bytes; from `SHORT` on, how many words the two tables of records are short.
+pub const LENT: usize = 1;
+
+pub const LENT_WORDS: u32 = 7;
+
+pub const SHORT: usize = LENT + 5;
+
+pub const COUNTERS: usize = 8;
+
+pub const COUNTER_WORDS: u32 = 3;
+
+// Pattern, chain, next.
+pub const LISTING: usize = 16;
+
+pub const LISTING_WORDS: u32 = 5;
+
+// How far, how many levels, and of each level its chain and its record.
+pub const PLACE: usize = 24;
+
+pub const PLACE_WORDS: u32 = 2 + 2 * MAX_PATTERNS as u32;
+
+// How many words, and the words.
+pub const QUESTION: usize = 48;
+
+pub const QUESTION_WORDS: u32 = 32;
 
 pub fn start() -> State {
-    let none = level(b'-', 0);
-    let levels = [none; MAX_PATTERNS];
-    let words = [0u32; QUESTION_WORDS];
-    State {
-        case: 0,
-        lent: Lent {
-            resources: 0,
-            statements: 0,
-            index: 0,
-            text: 0,
-            short_resources: 0,
-            short_statements: 0,
-        },
-        counters: Counters::fresh(),
-        listing: ScanCursor {
-            pattern: triple(0, 0, 0),
-            chain: Chain::All,
-            next: StatementId(0),
-        },
-        question: Question {
-            words: words,
-            size: 0,
-        },
-        place: QueryCursor {
-            progress: Progress::Start,
-            depth: 0,
-            levels: levels,
-        },
+    let words = [0u32; WORDS];
+    State { words: words }
+}
+
+pub fn get(s: State, k: usize) -> u32 {
+    if k < WORDS {
+        return s.words[k];
     }
+    0
+}
+
+pub fn set(s: State, k: usize, v: u32) -> State {
+    if k >= WORDS {
+        return s;
+    }
+    let mut t = s;
+    t.words[k] = v;
+    t
 }
 
 // ---- what is lent, within the table's length
@@ -92,54 +90,67 @@ pub fn within(n: usize, short: u32, length: usize) -> usize
 pub fn lent_resources(s: State, length: usize) -> usize
     ensures { λ r. ⌜ r ≤ length ⌝ }
 {
-    within(
-        s.lent.resources as usize * RESOURCE_WORDS,
-        s.lent.short_resources,
-        length,
-    )
+    let n = get(s, LENT) as usize * RESOURCE_WORDS;
+    within(n, get(s, SHORT), length)
 }
 
 pub fn lent_statements(s: State, length: usize) -> usize
     ensures { λ r. ⌜ r ≤ length ⌝ }
 {
-    within(
-        s.lent.statements as usize * STATEMENT_WORDS,
-        s.lent.short_statements,
-        length,
-    )
+    let n = get(s, LENT + 1) as usize * STATEMENT_WORDS;
+    within(n, get(s, SHORT + 1), length)
 }
 
-// ---- the state with something else
+// Of the index, or of the text.
+pub fn lent(s: State, k: usize, length: usize) -> usize
+    ensures { λ r. ⌜ r ≤ length ⌝ }
+{
+    within(get(s, k) as usize, 0, length)
+}
 
-// A case counts, and its number and name are written; no other line does.
-pub fn numbered(s: State, verb: u32, line: &[u8]) -> State {
-    if verb < 12 {
-        return s;
+// ---- the counters
+
+pub fn counters(s: State) -> Counters {
+    Counters {
+        resources: get(s, COUNTERS),
+        statements: get(s, COUNTERS + 1),
+        text: get(s, COUNTERS + 2),
     }
-    let mut t = s;
-    t.case = print::begin(s.case, line);
-    t
 }
 
 pub fn with_counters(s: State, c: Counters) -> State {
-    let mut t = s;
-    t.counters = c;
-    t
+    let s = set(s, COUNTERS, c.resources);
+    let s = set(s, COUNTERS + 1, c.statements);
+    set(s, COUNTERS + 2, c.text)
 }
 
-pub fn with_listing(s: State, q: ScanCursor) -> State {
-    let mut t = s;
-    t.listing = q;
-    t
+// ---- chains: 0 for all records, 1 to 3 by subject, predicate, object
+
+fn chain_of(h: u32) -> Chain {
+    match h {
+        1 => Chain::By(Position::Subject),
+        2 => Chain::By(Position::Predicate),
+        3 => Chain::By(Position::Object),
+        _ => Chain::All,
+    }
 }
 
-pub fn with_place(s: State, q: QueryCursor) -> State {
-    let mut t = s;
-    t.place = q;
-    t
+fn position_word(p: Position) -> u32 {
+    match p {
+        Position::Subject => 1,
+        Position::Predicate => 2,
+        Position::Object => 3,
+    }
 }
 
-// ---- values
+fn chain_word(chain: Chain) -> u32 {
+    match chain {
+        Chain::All => 0,
+        Chain::By(p) => position_word(p),
+    }
+}
+
+// ---- the place of the listing
 
 pub fn triple(s: u32, p: u32, o: u32) -> Triple {
     Triple {
@@ -149,18 +160,95 @@ pub fn triple(s: u32, p: u32, o: u32) -> Triple {
     }
 }
 
-pub fn chain_of(letter: u8) -> Chain {
-    match letter {
-        b's' => Chain::By(Position::Subject),
-        b'p' => Chain::By(Position::Predicate),
-        b'o' => Chain::By(Position::Object),
-        _ => Chain::All,
+pub fn listing(s: State) -> ScanCursor {
+    ScanCursor {
+        pattern: triple(get(s, LISTING), get(s, LISTING + 1), get(s, LISTING + 2)),
+        chain: chain_of(get(s, LISTING + 3)),
+        next: StatementId(get(s, LISTING + 4)),
     }
 }
 
-pub fn level(letter: u8, n: u32) -> Level {
+pub fn with_listing(s: State, q: ScanCursor) -> State {
+    let chain = q.chain;
+    let s = set(s, LISTING, q.pattern.subject.0);
+    let s = set(s, LISTING + 1, q.pattern.predicate.0);
+    let s = set(s, LISTING + 2, q.pattern.object.0);
+    let s = set(s, LISTING + 3, chain_word(chain));
+    set(s, LISTING + 4, q.next.0)
+}
+
+// ---- the place of the question: its first word is 4 within and 5 at the end, as the script's words `within` and `end` are
+
+fn progress_of(g: u32) -> Progress {
+    match g {
+        4 => Progress::Within,
+        5 => Progress::End,
+        _ => Progress::Start,
+    }
+}
+
+fn progress_word(progress: Progress) -> u32 {
+    match progress {
+        Progress::Start => 0,
+        Progress::Within => 4,
+        Progress::End => 5,
+    }
+}
+
+fn level(h: u32, n: u32) -> Level {
     Level {
-        chain: chain_of(letter),
+        chain: chain_of(h),
         statement: StatementId(n),
     }
+}
+
+pub fn place(s: State) -> QueryCursor {
+    let none = level(0, 0);
+    let mut levels = [none; MAX_PATTERNS];
+    let mut i: usize = 0;
+    while i < MAX_PATTERNS {
+        let k = PLACE + 2 + 2 * i;
+        let l = level(get(s, k), get(s, k + 1));
+        levels[i] = l;
+        i += 1;
+    }
+    QueryCursor {
+        progress: progress_of(get(s, PLACE)),
+        depth: get(s, PLACE + 1),
+        levels: levels,
+    }
+}
+
+pub fn with_place(s: State, q: QueryCursor) -> State {
+    let progress = q.progress;
+    let s = set(s, PLACE, progress_word(progress));
+    let mut t = set(s, PLACE + 1, q.depth);
+    let mut i: usize = 0;
+    while i < MAX_PATTERNS {
+        let l = q.levels[i];
+        t = with_level(t, PLACE + 2 + 2 * i, l);
+        i += 1;
+    }
+    t
+}
+
+fn with_level(s: State, k: usize, l: Level) -> State {
+    let chain = l.chain;
+    let s = set(s, k, chain_word(chain));
+    set(s, std::num::wrapping_add_usize(k, 1), l.statement.0)
+}
+
+// ---- the question's words
+
+pub fn question(words: &[u32; WORDS]) -> &[u32] {
+    part(words)
+}
+
+fn part(words: &[u32]) -> &[u32] {
+    let from = QUESTION + 1;
+    if words.len() < from {
+        return &words[0..0];
+    }
+    let end = from + within(get_word(words, QUESTION) as usize, 0, words.len() - from);
+    &words[from..end]
 }

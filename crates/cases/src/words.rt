@@ -1,31 +1,31 @@
-// Words of a table: a part of it that begins at `first`, and word k of that part. What lies past the table is 0, and is not written.
+// Words of a table. What lies past it is 0, and is not written.
 use table::RESOURCE_WORDS;
 use table::STATEMENT_WORDS;
 
-pub fn get(table: &[u32], first: usize, k: u32) -> u32 {
-    let j = k as usize;
-    if first < table.len() {
-        if j < table.len() - first {
-            return table[first + j];
-        }
+pub fn get(table: &[u32], i: usize) -> u32 {
+    if i < table.len() {
+        return table[i];
     }
     0
 }
 
-pub fn put(table: &mut [u32], first: usize, k: u32, v: u32) {
-    let j = k as usize;
-    if first < table.len() {
-        if j < table.len() - first {
-            table[first + j] = v;
-        }
+pub fn put(table: &mut [u32], i: usize, v: u32) {
+    if i < table.len() {
+        table[i] = v;
+    }
+}
+
+pub fn put_byte(text: &mut [u8], i: usize, b: u8) {
+    if i < text.len() {
+        text[i] = b;
     }
 }
 
 // The words from `first` on become 0, n of them.
-pub fn clear(table: &mut [u32], first: usize, n: u32) {
-    let mut k: u32 = 0;
+pub fn clear(table: &mut [u32], first: usize, n: usize) {
+    let mut k = 0;
     while k < n {
-        put(table, first, k, 0);
+        put(table, std::num::wrapping_add_usize(first, k), 0);
         k += 1;
     }
 }

@@ -11,10 +11,10 @@ use Rattle.cases.proofs.words.get.Reads as get-reads
 use Rattle.std.proofs.num.wrapping_add_usize.Reads as wrapping-add-usize-reads
 
 abbrev Inv-loop : tie.InvT-loop
-Inv-loop name table first at n from k₀ k = k ≤ n
+Inv-loop name table first at n i₀ k₀ i k = k ≤ n
 
 abbrev μ-loop : tie.MeasureT-loop
-μ-loop name table first at n from k₀ k = n - k
+μ-loop name table first at n i₀ k₀ i k = n - k
 
 token-requires : tie.Need-token-requires Inv-loop μ-loop
 token-requires c κs = search needs
@@ -30,6 +30,9 @@ get-requires c κs = search needs
 
 number-requires : tie.Need-number-requires Inv-loop μ-loop
 number-requires c κs = search needs
+
+wrapping-add-usize-requires-2 : tie.Need-wrapping-add-usize-requires-2 Inv-loop μ-loop
+wrapping-add-usize-requires-2 c κs = search needs
 
 add-k : tie.Need-add-k Inv-loop μ-loop
 add-k c = search needs
@@ -54,6 +57,7 @@ field-spec =
     loop-holds
     get-requires
     number-requires
+    wrapping-add-usize-requires-2
     add-k
     loop-less
     loop-again

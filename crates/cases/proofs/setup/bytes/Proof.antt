@@ -8,30 +8,17 @@ use Rattle.cases.proofs.setup.bytes.Tie as tie
 use Rattle.cases.proofs.setup.bytes.Reads as reads
 use Rattle.cases.proofs.setup.bytes.Lts as lts
 use Rattle.cases.proofs.setup.unbarred.Reads as unbarred-reads
+use Rattle.cases.proofs.words.put_byte.Reads as put-byte-reads
+use Rattle.std.proofs.num.wrapping_add_usize.Reads as wrapping-add-usize-reads
 
 abbrev Inv-loop : tie.InvT-loop
-Inv-loop text₀ first from i₀ text i = length text ≡ length text₀
+Inv-loop text₀ first from at₀ i₀ text at i = length text ≡ length text₀
 
 abbrev μ-loop : tie.MeasureT-loop
-μ-loop text₀ first from i₀ text i = length from - i
+μ-loop text₀ first from at₀ i₀ text at i = length from - i
 
 loop-holds : tie.Need-loop-holds Inv-loop μ-loop
 loop-holds c = search needs
-
-same-length : tie.Need-same-length Inv-loop μ-loop
-same-length c = search needs
-
-returns : tie.Need-returns Inv-loop μ-loop
-returns c = search needs
-
-sub-if2 : tie.Need-sub-if2 Inv-loop μ-loop
-sub-if2 c = search needs
-
-same-length-2 : tie.Need-same-length-2 Inv-loop μ-loop
-same-length-2 c = search needs
-
-returns-2 : tie.Need-returns-2 Inv-loop μ-loop
-returns-2 c = search needs
 
 shared-slice-read-unbarred : tie.Need-shared-slice-read-unbarred Inv-loop μ-loop
 shared-slice-read-unbarred c = search needs
@@ -39,11 +26,11 @@ shared-slice-read-unbarred c = search needs
 unbarred-requires : tie.Need-unbarred-requires Inv-loop μ-loop
 unbarred-requires c κs = search needs
 
-add-text : tie.Need-add-text Inv-loop μ-loop
-add-text c = search needs
+put-byte-requires : tie.Need-put-byte-requires Inv-loop μ-loop
+put-byte-requires c κs = search needs
 
-slice-write-text : tie.Need-slice-write-text Inv-loop μ-loop
-slice-write-text c = search needs
+wrapping-add-usize-requires : tie.Need-wrapping-add-usize-requires Inv-loop μ-loop
+wrapping-add-usize-requires c κs = search needs
 
 add-i : tie.Need-add-i Inv-loop μ-loop
 add-i c = search needs
@@ -54,11 +41,11 @@ loop-less c = search needs
 loop-again : tie.Need-loop-again Inv-loop μ-loop
 loop-again c = search needs
 
-same-length-3 : tie.Need-same-length-3 Inv-loop μ-loop
-same-length-3 c = search needs
+same-length : tie.Need-same-length Inv-loop μ-loop
+same-length c = search needs
 
-returns-3 : tie.Need-returns-3 Inv-loop μ-loop
-returns-3 c = search needs
+returns : tie.Need-returns Inv-loop μ-loop
+returns c = search needs
 
 pub bytes-spec : {M : Type 1} → statement M
 bytes-spec =
@@ -67,17 +54,12 @@ bytes-spec =
     Inv-loop
     μ-loop
     loop-holds
-    same-length
-    returns
-    sub-if2
-    same-length-2
-    returns-2
     shared-slice-read-unbarred
     unbarred-requires
-    add-text
-    slice-write-text
+    put-byte-requires
+    wrapping-add-usize-requires
     add-i
     loop-less
     loop-again
-    same-length-3
-    returns-3)
+    same-length
+    returns)

@@ -8,6 +8,7 @@ use Rattle.cases.proofs.words.clear.Tie as tie
 use Rattle.cases.proofs.words.clear.Reads as reads
 use Rattle.cases.proofs.words.clear.Lts as lts
 use Rattle.cases.proofs.words.put.Reads as put-reads
+use Rattle.std.proofs.num.wrapping_add_usize.Reads as wrapping-add-usize-reads
 
 abbrev Inv-loop : tie.InvT-loop
 Inv-loop table₀ first n k₀ table k = length table ≡ length table₀
@@ -17,6 +18,9 @@ abbrev μ-loop : tie.MeasureT-loop
 
 loop-holds : tie.Need-loop-holds Inv-loop μ-loop
 loop-holds c = search needs
+
+wrapping-add-usize-requires : tie.Need-wrapping-add-usize-requires Inv-loop μ-loop
+wrapping-add-usize-requires c κs = search needs
 
 put-requires : tie.Need-put-requires Inv-loop μ-loop
 put-requires c κs = search needs
@@ -43,6 +47,7 @@ clear-spec =
     Inv-loop
     μ-loop
     loop-holds
+    wrapping-add-usize-requires
     put-requires
     add-k
     loop-less
