@@ -133,8 +133,8 @@ fn step(
     let verb = script::verb(line);
     let r = state::lent_resources(s, resources.len());
     let t = state::lent_statements(s, statements.len());
-    let i = state::lent(s, state::LENT + 2, index.len());
-    let b = state::lent(s, state::LENT + 3, text.len());
+    let i = state::lent(s, state::LENT_INDEX, index.len());
+    let b = state::lent(s, state::LENT_TEXT, text.len());
     act(
         print::begin(s, verb, line),
         verb,
@@ -156,14 +156,14 @@ fn act(
     index: &mut [u32],
     text: &mut [u8],
 ) -> State {
-    match verb {
-        0..=5 => setup::settings(s, verb, line),
-        6..=11 => {
+    match script::sort(verb) {
+        0 => setup::settings(s, verb, line),
+        1 => {
             setup::tables(verb, line, resources, statements, index, text);
             s
         }
-        12 => calls::enter(s, line, resources, statements, index, text),
-        13 | 14 => calls::statements(s, verb, line, resources, statements, index, text),
+        2 => calls::enter(s, line, resources, statements, index, text),
+        3 => calls::statements(s, verb, line, resources, statements, index, text),
         _ => calls::readings(s, verb, line, resources, statements, index, text),
     }
 }

@@ -46,6 +46,10 @@ pub const PLACE: u32 = 13;
 
 pub const START: u32 = 14;
 
+pub const WITHIN: u32 = 15;
+
+pub const END: u32 = 16;
+
 // The chain of a listing: none, then one for each position; of a level likewise.
 pub const NONE: u32 = 17;
 
@@ -53,9 +57,20 @@ pub const DASH: u32 = 21;
 
 pub const PART: u32 = 25;
 
+// The fields of records.
 pub const FIRST: u32 = 26;
 
+pub const COUNTS: u32 = 27;
+
+pub const TEXT_OFFSET: u32 = 28;
+
+pub const NAME_KIND: u32 = 29;
+
 pub const TRIPLE: u32 = 30;
+
+pub const NEXTS: u32 = 31;
+
+pub const RETRACTED: u32 = 32;
 
 fn text(bytes: &[u8]) {
     io::write_all(STDOUT_FILENO, bytes);
@@ -136,16 +151,16 @@ pub fn part(bytes: &[u8]) {
 pub fn listing(s: State) {
     token(PLACE);
     number(state::get(s, state::LISTING));
-    number(state::get(s, state::LISTING + 1));
-    number(state::get(s, state::LISTING + 2));
-    token(std::num::wrapping_add_u32(NONE, state::get(s, state::LISTING + 3)));
-    number(state::get(s, state::LISTING + 4));
+    number(state::get(s, state::LISTING_PREDICATE));
+    number(state::get(s, state::LISTING_OBJECT));
+    token(std::num::wrapping_add_u32(NONE, state::get(s, state::LISTING_CHAIN)));
+    number(state::get(s, state::LISTING_NEXT));
 }
 
 fn progress(g: u32) -> u32 {
     match g {
-        4 => START + 1,
-        5 => START + 2,
+        4 => WITHIN,
+        5 => END,
         _ => START,
     }
 }
@@ -155,11 +170,11 @@ pub fn place(s: State) {
     token(PLACE);
     labelled(
         progress(state::get(s, state::PLACE)),
-        state::get(s, state::PLACE + 1),
+        state::get(s, state::DEPTH),
     );
     let mut i: usize = 0;
     while i < MAX_PATTERNS {
-        let k = state::PLACE + 2 + 2 * i;
+        let k = state::LEVELS + 2 * i;
         level(state::get(s, k), state::get(s, k + 1));
         i += 1;
     }
@@ -197,15 +212,15 @@ pub fn show(line: &[u8], resources: &[u32], statements: &[u32], index: &[u32], b
 
 fn resource(resources: &[u32], first: usize) {
     field(FIRST, resources, first, 0, 3);
-    field(FIRST + 1, resources, first, COUNT, 3);
-    field(FIRST + 2, resources, first, OFFSET, 1);
-    field(FIRST + 3, resources, first, KIND, 1);
+    field(COUNTS, resources, first, COUNT, 3);
+    field(TEXT_OFFSET, resources, first, OFFSET, 1);
+    field(NAME_KIND, resources, first, KIND, 1);
 }
 
 fn statement(statements: &[u32], first: usize) {
     field(TRIPLE, statements, first, 0, 3);
-    field(TRIPLE + 1, statements, first, NEXT, 3);
-    field(TRIPLE + 2, statements, first, FLAG, 1);
+    field(NEXTS, statements, first, NEXT, 3);
+    field(RETRACTED, statements, first, FLAG, 1);
 }
 
 // A field's name, and its words.

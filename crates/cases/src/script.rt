@@ -165,6 +165,17 @@ pub fn verb(line: &[u8]) -> u32 {
     spelt(word(line, 1))
 }
 
+// What a verb changes: 0 the state, 1 the tables, 2 and 3 both by a call, 4 at most the state.
+pub fn sort(verb: u32) -> u32 {
+    match verb {
+        0..=5 => 0,
+        6..=11 => 1,
+        12 => 2,
+        13 | 14 => 3,
+        _ => 4,
+    }
+}
+
 fn spelt(word: &[u8]) -> u32 {
     position(
         word,

@@ -38,7 +38,7 @@ fn values(s: State, first: usize, n: u32, line: &[u8]) -> State {
 }
 
 fn question(s: State, line: &[u8]) -> State {
-    let t = values(s, state::QUESTION + 1, state::QUESTION_WORDS, line);
+    let t = values(s, state::ASKED, state::QUESTION_WORDS, line);
     state::set(t, state::QUESTION, script::count(line))
 }
 

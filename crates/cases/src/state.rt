@@ -28,26 +28,53 @@ pub const CASE: usize = 0;
 // Resource records, statement records, index words, text bytes; from `SHORT` on, how many words the two tables of records are short.
 pub const LENT: usize = 1;
 
-pub const LENT_WORDS: u32 = 7;
+pub const LENT_STATEMENTS: usize = LENT + 1;
+
+pub const LENT_INDEX: usize = LENT + 2;
+
+pub const LENT_TEXT: usize = LENT + 3;
 
 pub const SHORT: usize = LENT + 5;
 
+pub const SHORT_STATEMENTS: usize = LENT + 6;
+
+pub const LENT_WORDS: u32 = 7;
+
+// Resources, statements, text.
 pub const COUNTERS: usize = 8;
+
+pub const COUNTER_STATEMENTS: usize = COUNTERS + 1;
+
+pub const COUNTER_TEXT: usize = COUNTERS + 2;
 
 pub const COUNTER_WORDS: u32 = 3;
 
 // Pattern, chain, next.
 pub const LISTING: usize = 16;
 
+pub const LISTING_PREDICATE: usize = LISTING + 1;
+
+pub const LISTING_OBJECT: usize = LISTING + 2;
+
+pub const LISTING_CHAIN: usize = LISTING + 3;
+
+pub const LISTING_NEXT: usize = LISTING + 4;
+
 pub const LISTING_WORDS: u32 = 5;
 
 // How far, how many levels, and of each level its chain and its record.
 pub const PLACE: usize = 24;
 
+pub const DEPTH: usize = PLACE + 1;
+
+pub const LEVELS: usize = PLACE + 2;
+
 pub const PLACE_WORDS: u32 = 2 + 2 * MAX_PATTERNS as u32;
 
 // How many words, and the words.
 pub const QUESTION: usize = 48;
+
+pub const ASKED: usize = QUESTION + 1;
 
 pub const QUESTION_WORDS: u32 = 32;
 
@@ -97,8 +124,8 @@ pub fn lent_resources(s: State, length: usize) -> usize
 pub fn lent_statements(s: State, length: usize) -> usize
     ensures { λ r. ⌜ r ≤ length ⌝ }
 {
-    let n = get(s, LENT + 1) as usize * STATEMENT_WORDS;
-    within(n, get(s, SHORT + 1), length)
+    let n = get(s, LENT_STATEMENTS) as usize * STATEMENT_WORDS;
+    within(n, get(s, SHORT_STATEMENTS), length)
 }
 
 // Of the index, or of the text.
@@ -113,15 +140,15 @@ pub fn lent(s: State, k: usize, length: usize) -> usize
 pub fn counters(s: State) -> Counters {
     Counters {
         resources: get(s, COUNTERS),
-        statements: get(s, COUNTERS + 1),
-        text: get(s, COUNTERS + 2),
+        statements: get(s, COUNTER_STATEMENTS),
+        text: get(s, COUNTER_TEXT),
     }
 }
 
 pub fn with_counters(s: State, c: Counters) -> State {
     let s = set(s, COUNTERS, c.resources);
-    let s = set(s, COUNTERS + 1, c.statements);
-    set(s, COUNTERS + 2, c.text)
+    let s = set(s, COUNTER_STATEMENTS, c.statements);
+    set(s, COUNTER_TEXT, c.text)
 }
 
 // ---- chains: 0 for all records, 1 to 3 by subject, predicate, object
@@ -162,19 +189,23 @@ pub fn triple(s: u32, p: u32, o: u32) -> Triple {
 
 pub fn listing(s: State) -> ScanCursor {
     ScanCursor {
-        pattern: triple(get(s, LISTING), get(s, LISTING + 1), get(s, LISTING + 2)),
-        chain: chain_of(get(s, LISTING + 3)),
-        next: StatementId(get(s, LISTING + 4)),
+        pattern: triple(
+            get(s, LISTING),
+            get(s, LISTING_PREDICATE),
+            get(s, LISTING_OBJECT),
+        ),
+        chain: chain_of(get(s, LISTING_CHAIN)),
+        next: StatementId(get(s, LISTING_NEXT)),
     }
 }
 
 pub fn with_listing(s: State, q: ScanCursor) -> State {
     let chain = q.chain;
     let s = set(s, LISTING, q.pattern.subject.0);
-    let s = set(s, LISTING + 1, q.pattern.predicate.0);
-    let s = set(s, LISTING + 2, q.pattern.object.0);
-    let s = set(s, LISTING + 3, chain_word(chain));
-    set(s, LISTING + 4, q.next.0)
+    let s = set(s, LISTING_PREDICATE, q.pattern.predicate.0);
+    let s = set(s, LISTING_OBJECT, q.pattern.object.0);
+    let s = set(s, LISTING_CHAIN, chain_word(chain));
+    set(s, LISTING_NEXT, q.next.0)
 }
 
 // ---- the place of the question: its first word is 4 within and 5 at the end, as the script's words `within` and `end` are
@@ -207,14 +238,14 @@ pub fn place(s: State) -> QueryCursor {
     let mut levels = [none; MAX_PATTERNS];
     let mut i: usize = 0;
     while i < MAX_PATTERNS {
-        let k = PLACE + 2 + 2 * i;
+        let k = LEVELS + 2 * i;
         let l = level(get(s, k), get(s, k + 1));
         levels[i] = l;
         i += 1;
     }
     QueryCursor {
         progress: progress_of(get(s, PLACE)),
-        depth: get(s, PLACE + 1),
+        depth: get(s, DEPTH),
         levels: levels,
     }
 }
@@ -222,11 +253,11 @@ pub fn place(s: State) -> QueryCursor {
 pub fn with_place(s: State, q: QueryCursor) -> State {
     let progress = q.progress;
     let s = set(s, PLACE, progress_word(progress));
-    let mut t = set(s, PLACE + 1, q.depth);
+    let mut t = set(s, DEPTH, q.depth);
     let mut i: usize = 0;
     while i < MAX_PATTERNS {
         let l = q.levels[i];
-        t = with_level(t, PLACE + 2 + 2 * i, l);
+        t = with_level(t, LEVELS + 2 * i, l);
         i += 1;
     }
     t
@@ -245,7 +276,7 @@ pub fn question(words: &[u32; WORDS]) -> &[u32] {
 }
 
 fn part(words: &[u32]) -> &[u32] {
-    let from = QUESTION + 1;
+    let from = ASKED;
     if words.len() < from {
         return &words[0..0];
     }

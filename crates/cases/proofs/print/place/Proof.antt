@@ -26,9 +26,6 @@ get-requires c κs = search needs
 progress-requires : tie.Need-progress-requires Inv-loop μ-loop
 progress-requires c κs = search needs
 
-add-get : tie.Need-add-get Inv-loop μ-loop
-add-get c = search needs
-
 get-requires-2 : tie.Need-get-requires-2 Inv-loop μ-loop
 get-requires-2 c κs = search needs
 
@@ -38,20 +35,17 @@ labelled-requires c κs = search needs
 loop-holds : tie.Need-loop-holds Inv-loop μ-loop
 loop-holds c = search needs
 
-add-k : tie.Need-add-k Inv-loop μ-loop
-add-k c = search needs
-
 mul-k : tie.Need-mul-k Inv-loop μ-loop
 mul-k c = search needs
 
-add-k-2 : tie.Need-add-k-2 Inv-loop μ-loop
-add-k-2 c = search needs
+add-k : tie.Need-add-k Inv-loop μ-loop
+add-k c = search needs
 
 get-requires-3 : tie.Need-get-requires-3 Inv-loop μ-loop
 get-requires-3 c κs = search needs
 
-add-get-2 : tie.Need-add-get-2 Inv-loop μ-loop
-add-get-2 c = search needs
+add-get : tie.Need-add-get Inv-loop μ-loop
+add-get c = search needs
 
 get-requires-4 : tie.Need-get-requires-4 Inv-loop μ-loop
 get-requires-4 c κs = search needs
@@ -80,15 +74,13 @@ place-spec =
     token-requires
     get-requires
     progress-requires
-    add-get
     get-requires-2
     labelled-requires
     loop-holds
-    add-k
     mul-k
-    add-k-2
+    add-k
     get-requires-3
-    add-get-2
+    add-get
     get-requires-4
     level-requires
     add-i

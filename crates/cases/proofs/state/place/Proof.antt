@@ -23,14 +23,11 @@ level-requires c κs = search needs
 loop-holds : tie.Need-loop-holds Inv-loop μ-loop
 loop-holds c = search needs
 
-add-k : tie.Need-add-k Inv-loop μ-loop
-add-k c = search needs
-
 mul-k : tie.Need-mul-k Inv-loop μ-loop
 mul-k c = search needs
 
-add-k-2 : tie.Need-add-k-2 Inv-loop μ-loop
-add-k-2 c = search needs
+add-k : tie.Need-add-k Inv-loop μ-loop
+add-k c = search needs
 
 get-requires : tie.Need-get-requires Inv-loop μ-loop
 get-requires c κs = search needs
@@ -65,9 +62,6 @@ get-requires-3 c κs = search needs
 progress-of-requires : tie.Need-progress-of-requires Inv-loop μ-loop
 progress-of-requires c κs = search needs
 
-add-get-2 : tie.Need-add-get-2 Inv-loop μ-loop
-add-get-2 c = search needs
-
 get-requires-4 : tie.Need-get-requires-4 Inv-loop μ-loop
 get-requires-4 c κs = search needs
 
@@ -82,9 +76,8 @@ place-spec =
     μ-loop
     level-requires
     loop-holds
-    add-k
     mul-k
-    add-k-2
+    add-k
     get-requires
     add-get
     get-requires-2
@@ -96,6 +89,5 @@ place-spec =
     loop-again
     get-requires-3
     progress-of-requires
-    add-get-2
     get-requires-4
     returns)

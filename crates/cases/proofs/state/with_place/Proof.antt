@@ -21,9 +21,6 @@ progress-word-requires c κs = search needs
 set-requires : tie.Need-set-requires Inv-loop μ-loop
 set-requires c κs = search needs
 
-add-set : tie.Need-add-set Inv-loop μ-loop
-add-set c = search needs
-
 set-requires-2 : tie.Need-set-requires-2 Inv-loop μ-loop
 set-requires-2 c κs = search needs
 
@@ -36,14 +33,11 @@ mul-l c = search needs
 element-copy-out-l : tie.Need-element-copy-out-l Inv-loop μ-loop
 element-copy-out-l c = search needs
 
-add-with-level : tie.Need-add-with-level Inv-loop μ-loop
-add-with-level c = search needs
-
 mul-with-level : tie.Need-mul-with-level Inv-loop μ-loop
 mul-with-level c = search needs
 
-add-with-level-2 : tie.Need-add-with-level-2 Inv-loop μ-loop
-add-with-level-2 c = search needs
+add-with-level : tie.Need-add-with-level Inv-loop μ-loop
+add-with-level c = search needs
 
 with-level-requires : tie.Need-with-level-requires Inv-loop μ-loop
 with-level-requires c κs = search needs
@@ -68,14 +62,12 @@ with-place-spec =
     μ-loop
     progress-word-requires
     set-requires
-    add-set
     set-requires-2
     loop-holds
     mul-l
     element-copy-out-l
-    add-with-level
     mul-with-level
-    add-with-level-2
+    add-with-level
     with-level-requires
     add-i
     loop-less
