@@ -42,7 +42,7 @@ pub fn statements(
 ) -> State {
     let c = state::counters(s);
     let x = triple(line);
-    if verb == 13 {
+    if verb == script::ASSERT {
         let a = statement::assert(c, resources, statements, index, text, x);
         return reply::asserted(s, a);
     }
@@ -61,8 +61,16 @@ pub fn readings(
     text: &[u8],
 ) -> State {
     match verb {
-        15 | 16 => listings(s, verb, line, resources, statements, index, text),
-        17 | 18 => questions(s, verb, line, resources, statements, index, text),
+        script::OPEN | script::NEXT => listings(s, verb, line, resources, statements, index, text),
+        script::ASK | script::ANSWER => questions(
+            s,
+            verb,
+            line,
+            resources,
+            statements,
+            index,
+            text,
+        ),
         _ => {
             others(
                 state::counters(s),
@@ -88,8 +96,8 @@ fn others(
     text: &[u8],
 ) {
     match verb {
-        19 | 20 => names(c, verb, line, resources, statements, index, text),
-        21 => reply::read(table::read_statement(
+        script::FIND | script::NAME => names(c, verb, line, resources, statements, index, text),
+        script::READ => reply::read(table::read_statement(
             c,
             resources,
             statements,
@@ -97,7 +105,7 @@ fn others(
             text,
             StatementId(script::number(line, 2)),
         )),
-        22 => reply::checked(integrity::check(c, resources, statements, index, text)),
+        script::CHECK => reply::checked(integrity::check(c, resources, statements, index, text)),
         _ => print::show(line, resources, statements, index, text),
     }
 }
@@ -111,7 +119,7 @@ fn names(
     index: &[u32],
     text: &[u8],
 ) {
-    if verb == 19 {
+    if verb == script::FIND {
         let a = dictionary::find(c, resources, statements, index, text, script::rest(line, 2));
         reply::looked_up(a);
         return;
@@ -131,7 +139,7 @@ fn listings(
     text: &[u8],
 ) -> State {
     let c = state::counters(s);
-    if verb == 15 {
+    if verb == script::OPEN {
         let a = statement::scan_open(c, resources, statements, index, text, triple(line));
         return reply::opened(s, a);
     }
@@ -159,7 +167,7 @@ fn questions(
 ) -> State {
     let c = state::counters(s);
     let words = s.words;
-    if verb == 17 {
+    if verb == script::ASK {
         let a = query::query_open(
             c,
             resources,

@@ -78,7 +78,8 @@ fn text(bytes: &[u8]) {
 
 pub fn token(k: u32) {
     let words =
-        b"new already revived found ended spent opened refused absent sound unsound visits solution place start within end none s p o - s p o part first count offset kind triple next flag";
+        b"new already revived found ended spent opened refused absent sound unsound visits solution place start within end \
+          none s p o - s p o part first count offset kind triple next flag";
     text(b" ");
     text(script::word(words, k));
 }
@@ -112,7 +113,7 @@ pub fn refused(e: Refusal) -> bool {
 // A case's number, one more than the last one's, and its name: the line up to the colon; the last case's line ends here. Nothing of another
 // line.
 pub fn begin(s: State, verb: u32, line: &[u8]) -> State {
-    if verb < 12 {
+    if verb < script::ENTER {
         return s;
     }
     let last = state::get(s, state::CASE);

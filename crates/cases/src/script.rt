@@ -152,14 +152,58 @@ fn same(a: &[u8], b: &[u8]) -> bool {
     true
 }
 
-// What a line does: 0 nothing, 1 to 10 a set-up, 12 and more a call, in this order; after `change`, and after the name of a case, the
-// second word says it.
+// The verbs, by their numbers in `spelt`: set-ups of the state up to `PLACE`, of the tables up to `CHANGE`, then the calls; `show` is the last.
+pub const LEND: u32 = 1;
+
+pub const COUNTERS: u32 = 2;
+
+pub const LISTING: u32 = 3;
+
+pub const QUESTION: u32 = 4;
+
+pub const PLACE: u32 = 5;
+
+pub const FILL: u32 = 6;
+
+pub const RESOURCE: u32 = 7;
+
+pub const STATEMENT: u32 = 8;
+
+pub const INDEX: u32 = 9;
+
+pub const TEXT: u32 = 10;
+
+pub const CHANGE: u32 = 11;
+
+pub const ENTER: u32 = 12;
+
+pub const ASSERT: u32 = 13;
+
+pub const RETRACT: u32 = 14;
+
+pub const OPEN: u32 = 15;
+
+pub const NEXT: u32 = 16;
+
+pub const ASK: u32 = 17;
+
+pub const ANSWER: u32 = 18;
+
+pub const FIND: u32 = 19;
+
+pub const NAME: u32 = 20;
+
+pub const READ: u32 = 21;
+
+pub const CHECK: u32 = 22;
+
+// What a line does, as the number of its verb in `spelt`; after `change`, and after the name of a case, the second word says it.
 pub fn verb(line: &[u8]) -> u32 {
     if line.len() == 0 {
         return 0;
     }
     let n = spelt(word(line, 0));
-    if n < 11 {
+    if n < CHANGE {
         return n;
     }
     spelt(word(line, 1))
@@ -167,11 +211,15 @@ pub fn verb(line: &[u8]) -> u32 {
 
 // What a verb changes: 0 the state, 1 the tables, 2 and 3 both by a call, 4 at most the state.
 pub fn sort(verb: u32) -> u32 {
+    if verb <= PLACE {
+        return 0;
+    }
+    if verb <= CHANGE {
+        return 1;
+    }
     match verb {
-        0..=5 => 0,
-        6..=11 => 1,
-        12 => 2,
-        13 | 14 => 3,
+        ENTER => 2,
+        ASSERT | RETRACT => 3,
         _ => 4,
     }
 }
@@ -179,6 +227,7 @@ pub fn sort(verb: u32) -> u32 {
 fn spelt(word: &[u8]) -> u32 {
     position(
         word,
-        b"# lend counters listing question place fill resource statement index text change enter assert retract open next ask answer find name read check show",
+        b"# lend counters listing question place fill resource statement index text change \
+          enter assert retract open next ask answer find name read check show",
     )
 }

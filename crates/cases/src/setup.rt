@@ -15,11 +15,11 @@ use table::STATEMENT_WORDS;
 
 pub fn settings(s: State, verb: u32, line: &[u8]) -> State {
     match verb {
-        1 => values(s, state::LENT, state::LENT_WORDS, line),
-        2 => values(s, state::COUNTERS, state::COUNTER_WORDS, line),
-        3 => values(s, state::LISTING, state::LISTING_WORDS, line),
-        4 => question(s, line),
-        5 => values(s, state::PLACE, state::PLACE_WORDS, line),
+        script::LEND => values(s, state::LENT, state::LENT_WORDS, line),
+        script::COUNTERS => values(s, state::COUNTERS, state::COUNTER_WORDS, line),
+        script::LISTING => values(s, state::LISTING, state::LISTING_WORDS, line),
+        script::QUESTION => question(s, line),
+        script::PLACE => values(s, state::PLACE, state::PLACE_WORDS, line),
         _ => s,
     }
 }
@@ -54,10 +54,10 @@ pub fn tables(
 ) {
     let n = script::number(line, number_at(line));
     match verb {
-        6 => fill(n, resources, statements, index, text),
-        7 => record(line, resources, words::resource(n), RESOURCE_WORDS),
-        8 => record(line, statements, words::statement(n), STATEMENT_WORDS),
-        9 => fields(line, 2, index, n as usize),
+        script::FILL => fill(n, resources, statements, index, text),
+        script::RESOURCE => record(line, resources, words::resource(n), RESOURCE_WORDS),
+        script::STATEMENT => record(line, statements, words::statement(n), STATEMENT_WORDS),
+        script::INDEX => fields(line, 2, index, n as usize),
         _ => bytes(text, n as usize, script::rest(line, 2)),
     }
 }

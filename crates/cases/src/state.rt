@@ -162,18 +162,14 @@ fn chain_of(h: u32) -> Chain {
     }
 }
 
-fn position_word(p: Position) -> u32 {
-    match p {
-        Position::Subject => 1,
-        Position::Predicate => 2,
-        Position::Object => 3,
-    }
-}
-
 fn chain_word(chain: Chain) -> u32 {
     match chain {
         Chain::All => 0,
-        Chain::By(p) => position_word(p),
+        Chain::By(p) => match p {
+            Position::Subject => 1,
+            Position::Predicate => 2,
+            Position::Object => 3,
+        },
     }
 }
 
