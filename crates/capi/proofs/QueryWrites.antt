@@ -1,20 +1,35 @@
 -- What the two calls over queries come to once the lent slices are long enough, for each way out of the code. Assumes nothing.
 use mathlib.Core.Path.{_≡_, sym, _∙_}
-use mathlib.Core.Bool.{false}
+use mathlib.Core.Bool.{true, false}
 use mathlib.Core.List.{List}
 use Prim.Native.Nat.{ℕ, _≤_}
 use lib.ListN.{length}
 use lib.Dec.{eqb}
 use borrow.Author.Tests.{le-ltb, ne-eqb}
 use Rattle.store.specs.declared.Counters.{Counters}
+use Rattle.store.specs.declared.Refusal.{Refusal}
 use Rattle.store.specs.Tables.{Tables}
 use Rattle.graph.specs.declared.QueryOpened.{QueryOpened}
 use Rattle.graph.specs.declared.QueryAnswer.{QueryAnswer}
-use Rattle.graph.specs.Query.{openQueryOf}
+use Rattle.graph.specs.Query.{refused, packed, openQueryOf, nextQueryOf}
 use Rattle.graph.specs.Values.{openingRefusal, stepRefusal}
 use Rattle.capi_calls.specs.Words.{counterWords, countersOf, done, lent}
-use Rattle.capi_calls.specs.QueryWords.{queryCursorWords, queryReplyWords, nextQueryFrom, withQueryCursor, withQueryAnswer}
+use Rattle.capi_calls.specs.QueryWords.{queryCursorWords, queryReplyWords, queryCursorOf, spelt, misspelt, nextQueryFrom, withQueryCursor}
+use Rattle.capi_calls.specs.QueryWords.{withQueryAnswer}
 use Rattle.capi_calls.specs.QueryCalls.{queryOpenCall, queryNextCall}
+
+module _ (c : Counters) (m : Tables) (ws w : List ℕ) (b : ℕ) where
+  -- words that tell a cursor, and words that tell none
+  pub from-told : {a : QueryAnswer} → spelt w ≡ true → a ≡ nextQueryOf c m ws (queryCursorOf w) b → a ≡ nextQueryFrom c m ws w b
+  unfolding nextQueryFrom
+  from-told {a} s e = simp (s, e)
+
+  pub from-none : {o : QueryOpened} {a : QueryAnswer} (e : Refusal) → spelt w ≡ false → o ≡ openQueryOf c m ws → misspelt (o .opening) ≡ e
+      → a ≡ packed (refused e) → a ≡ nextQueryFrom c m ws w b
+  unfolding nextQueryFrom
+  from-none {o} {a} e s eo em ea =
+      let z : openQueryOf c m ws ≡ o = sym eo in
+      simp (s, z, em, ea)
 
 module _ (cw w ws : List ℕ) (m : Tables) {o : QueryOpened} {c : Counters} {r : ℕ} where
   pub open-refused : c ≡ countersOf cw → o ≡ openQueryOf c m ws → r ≡ openingRefusal (o .opening) → (r ≡ 0 → ⊥)

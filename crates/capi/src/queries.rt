@@ -8,14 +8,50 @@ use capi_calls::TOO_SHORT;
 use capi_query_words::queries::opening_refusal;
 use capi_query_words::queries::put_query_answer;
 use capi_query_words::queries::put_query_cursor;
-use capi_query_words::queries::query_from;
+use capi_query_words::queries::query_cursor_of;
+use capi_query_words::queries::spelt;
 use capi_query_words::queries::step_refusal;
 use capi_words::words::counters_of;
+use graph::Opening;
+use graph::QueryAnswer;
+use query::query_next;
 use query::query_open;
+use query_stack::stack::refused;
+use store::Counters;
+use store::Refusal;
 ghost use mathlib.Core.Path.{_≡_};
+ghost use Prim.Native.Nat.{_≤_};
+ghost use lib.ListN.{length};
 ghost use Rattle.store.specs.Tables.{tables};
 ghost use Rattle.capi_calls.specs.Words.{done};
+ghost use Rattle.capi_calls.specs.QueryWords.{queryCursorWords, nextQueryFrom};
 ghost use Rattle.capi_calls.specs.QueryCalls.{queryOpenCall, queryNextCall};
+
+// Next of a query from a cursor's words. Words that tell no cursor are refused 6, after refusals 1 and 8.
+fn query_from(
+    c: Counters,
+    resources: &[u32],
+    statements: &[u32],
+    index: &[u32],
+    text: &[u8],
+    words: &[u32],
+    cursor: &[u32],
+    budget: u32,
+) -> QueryAnswer
+    requires { ⌜ queryCursorWords ≤ length (now cursor) ⌝ }
+    ensures { λ a. ⌜ a ≡ nextQueryFrom c (tables (now (resources .entry)) (now (statements .entry)) (now (index .entry)) (now (text .entry))) (now (words .entry)) (now (cursor .entry)) budget ⌝ }
+{
+    if spelt(cursor) {
+        let q = query_cursor_of(cursor);
+        return query_next(c, resources, statements, index, text, words, q, budget);
+    }
+    let o = query_open(c, resources, statements, index, text, words);
+    let opening = o.opening;
+    match opening {
+        Opening::Opened => refused(Refusal::BadCursor),
+        Opening::Refused(e) => refused(e),
+    }
+}
 
 // Open a query: the cursor at the start, which stays as it was beside a refusal (1, 8).
 #[no_mangle]

@@ -1,22 +1,17 @@
--- Laws of a query's words for the loops that read and write them: one slot more, none left; and next from words that tell a cursor, and
--- from words that tell none. Assumes nothing.
-use mathlib.Core.Path.{_≡_, refl, sym, ap, _∙_}
-use mathlib.Core.Bool.{Bool, true, false}
+-- Laws of a query's words for the loops that read and write them: one slot more, none left. Assumes nothing.
+use mathlib.Core.Path.{_≡_, refl, ap, _∙_}
+use mathlib.Core.Bool.{Bool}
 use mathlib.Core.List.{List}
 use Prim.Native.Nat.{ℕ, zero, suc, _+_, _*_, _-_, _≤_, _<_}
 use native.Mathlib.Omega.{arith}
 use lib.ListN.{getD, set, replicate}
 use lib.Seq.{sets}
-use Rattle.store.specs.declared.Counters.{Counters}
-use Rattle.store.specs.declared.Refusal.{Refusal}
-use Rattle.store.specs.Tables.{Tables, word}
+use Rattle.store.specs.Tables.{word}
 use Rattle.graph.specs.declared.Level.{Level}
-use Rattle.graph.specs.declared.QueryOpened.{QueryOpened}
-use Rattle.graph.specs.declared.QueryAnswer.{QueryAnswer}
-use Rattle.graph.specs.Query.{maxPatterns, variables, Bindings, boundTo, level, noLevel, refused, packed, openQueryOf, nextQueryOf}
+use Rattle.graph.specs.Query.{maxPatterns, variables, Bindings, boundTo, level, noLevel}
 use Rattle.capi_calls.specs.Words.{chainOf, chainWord}
 use Rattle.integrity.specs.Tests.{allBelow}
-use Rattle.capi_calls.specs.QueryWords.{levelAt, levelsFrom, queryCursorOf, chainSpelt, slotsOf, spelt, misspelt, nextQueryFrom}
+use Rattle.capi_calls.specs.QueryWords.{levelAt, levelsFrom, chainSpelt, slotsOf, spelt}
 use Rattle.capi_calls.specs.QueryWords.{levelWords, numbersFrom}
 
 -- ---- reading
@@ -78,18 +73,3 @@ numbers-more w b v h =
 pub numbers-over : (w : List ℕ) (b : Bindings) (v : ℕ) → variables ≤ v → sets w (2 + v) (numbersFrom b v (variables - v)) ≡ w
 unfolding numbersFrom
 numbers-over w b v h = let a : variables - v ≡ 0 = omega arith in rw (a, numbersFrom)
-
--- ---- next
-
-module _ (c : Counters) (m : Tables) (ws w : List ℕ) (b : ℕ) where
-  -- words that tell a cursor, and words that tell none
-  pub from-told : {a : QueryAnswer} → spelt w ≡ true → a ≡ nextQueryOf c m ws (queryCursorOf w) b → a ≡ nextQueryFrom c m ws w b
-  unfolding nextQueryFrom
-  from-told {a} s e = simp (s, e)
-
-  pub from-none : {o : QueryOpened} {a : QueryAnswer} (e : Refusal) → spelt w ≡ false → o ≡ openQueryOf c m ws → misspelt (o .opening) ≡ e
-      → a ≡ packed (refused e) → a ≡ nextQueryFrom c m ws w b
-  unfolding nextQueryFrom
-  from-none {o} {a} e s eo em ea =
-      let z : openQueryOf c m ws ≡ o = sym eo in
-      simp (s, z, em, ea)

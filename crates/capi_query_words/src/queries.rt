@@ -15,24 +15,19 @@ use graph::QueryCursor;
 use graph::QueryStep;
 use graph::Solution;
 use graph::VARIABLES;
-use query::query_next;
-use query::query_open;
 use query_stack::stack::level;
 use query_stack::stack::refused;
 use store::Chain;
-use store::Counters;
-use store::Refusal;
 use store::refusal_number;
 ghost use mathlib.Core.Path.{_≡_};
 ghost use Prim.Native.Nat.{_≤_};
 ghost use lib.ListN.{length};
 ghost use lib.Seq.{sets};
-ghost use Rattle.store.specs.Tables.{tables};
 ghost use Rattle.graph.specs.Query.{maxPatterns, variables};
 ghost use Rattle.graph.specs.Values.{openingRefusal, stepRefusal, stepStatus};
 ghost use Rattle.integrity.specs.Tests.{allBelow};
 ghost use Rattle.capi_calls.specs.QueryWords.{queryCursorWords, queryReplyWords, progressOf, progressWord, levelsFrom, queryCursorOf};
-ghost use Rattle.capi_calls.specs.QueryWords.{chainSpelt, slotsOf, spelt, nextQueryFrom, levelWords, withQueryCursor, numbersFrom, withQueryAnswer};
+ghost use Rattle.capi_calls.specs.QueryWords.{chainSpelt, slotsOf, spelt, levelWords, withQueryCursor, numbersFrom, withQueryAnswer};
 
 // How far a reading is, from a cursor's first word of at most 2.
 fn progress_of(k: u32) -> Progress
@@ -75,7 +70,7 @@ fn levels_of(words: &[u32]) -> [Level; MAX_PATTERNS]
 }
 
 // The cursor that words tell.
-fn query_cursor_of(words: &[u32]) -> QueryCursor
+pub fn query_cursor_of(words: &[u32]) -> QueryCursor
     requires { ⌜ queryCursorWords ≤ length (now words) ⌝ }
     ensures { λ q. ⌜ q ≡ queryCursorOf (now (words .entry)) ⌝ }
 {
@@ -115,7 +110,7 @@ fn chains_spelt(words: &[u32], d: usize) -> bool
 }
 
 // Whether words tell a cursor; where not, next refuses 6.
-fn spelt(words: &[u32]) -> bool
+pub fn spelt(words: &[u32]) -> bool
     requires { ⌜ queryCursorWords ≤ length (now words) ⌝ }
     ensures { λ r. ⌜ r ≡ spelt (now (words .entry)) ⌝ }
 {
@@ -215,31 +210,5 @@ pub fn opening_refusal(opening: Opening) -> u32
     match opening {
         Opening::Opened => 0,
         Opening::Refused(e) => refusal_number(e),
-    }
-}
-
-// Next of a query from a cursor's words. Words that tell no cursor are refused 6, after refusals 1 and 8.
-pub fn query_from(
-    c: Counters,
-    resources: &[u32],
-    statements: &[u32],
-    index: &[u32],
-    text: &[u8],
-    words: &[u32],
-    cursor: &[u32],
-    budget: u32,
-) -> QueryAnswer
-    requires { ⌜ queryCursorWords ≤ length (now cursor) ⌝ }
-    ensures { λ a. ⌜ a ≡ nextQueryFrom c (tables (now (resources .entry)) (now (statements .entry)) (now (index .entry)) (now (text .entry))) (now (words .entry)) (now (cursor .entry)) budget ⌝ }
-{
-    if spelt(cursor) {
-        let q = query_cursor_of(cursor);
-        return query_next(c, resources, statements, index, text, words, q, budget);
-    }
-    let o = query_open(c, resources, statements, index, text, words);
-    let opening = o.opening;
-    match opening {
-        Opening::Opened => refused(Refusal::BadCursor),
-        Opening::Refused(e) => refused(e),
     }
 }

@@ -14,7 +14,7 @@ use Rattle.capi.proofs.queries.lt_query_next.Lts as lts
 use Rattle.capi_words.proofs.words.counters_of.Reads as counters-of-reads
 use Rattle.capi_query_words.proofs.queries.put_query_answer.Reads as put-query-answer-reads
 use Rattle.capi_query_words.proofs.queries.put_query_cursor.Reads as put-query-cursor-reads
-use Rattle.capi_query_words.proofs.queries.query_from.Reads as query-from-reads
+use Rattle.capi.proofs.queries.query_from.Reads as query-from-reads
 use Rattle.capi_query_words.proofs.queries.step_refusal.Reads as step-refusal-reads
 
 returns : tie.Need-returns

@@ -1,0 +1,15 @@
+-- `cases::statement_table` meets its contract, by the law on a repeated value: computing the length would count to it. Assumes nothing.
+use Prim.Native.Nat.{ℕ}
+use mathlib.Core.Path.{sym}
+use lib.ListN.{length-replicate}
+use Rattle.cases.proofs.statement_table.Statement.{statement}
+use Rattle.cases.proofs.statement_table.Tie as tie
+
+returns : tie.Need-returns
+returns c = sym (length-replicate {A = ℕ} 458752 0)
+
+pub statement-table-spec : {M : Type 1} → statement M
+statement-table-spec =
+    tie.close
+    (tie.spec
+    returns)

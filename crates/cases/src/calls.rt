@@ -1,0 +1,193 @@
+// The calls, each on the counters and the lent parts of all four tables.
+use crate::print;
+use crate::reply;
+use crate::script;
+use crate::state;
+use crate::state::State;
+use store::Counters;
+use store::ResourceId;
+use store::StatementId;
+use store::Triple;
+
+// The three numbers of a call.
+fn triple(line: &[u8]) -> Triple {
+    state::triple(
+        script::number(line, 2),
+        script::number(line, 3),
+        script::number(line, 4),
+    )
+}
+
+pub fn enter(
+    s: State,
+    line: &[u8],
+    resources: &mut [u32],
+    statements: &[u32],
+    index: &mut [u32],
+    text: &mut [u8],
+) -> State {
+    let c = state::counters(s);
+    let a = dictionary::intern(c, resources, statements, index, text, script::rest(line, 2));
+    reply::interned(s, a)
+}
+
+pub fn statements(
+    s: State,
+    verb: u32,
+    line: &[u8],
+    resources: &mut [u32],
+    statements: &mut [u32],
+    index: &[u32],
+    text: &[u8],
+) -> State {
+    let c = state::counters(s);
+    let x = triple(line);
+    if verb == script::ASSERT {
+        let a = statement::assert(c, resources, statements, index, text, x);
+        return reply::asserted(s, a);
+    }
+    reply::retracted(statement::retract(c, resources, statements, index, text, x));
+    s
+}
+
+// Calls that write to no table.
+pub fn readings(
+    s: State,
+    verb: u32,
+    line: &[u8],
+    resources: &[u32],
+    statements: &[u32],
+    index: &[u32],
+    text: &[u8],
+) -> State {
+    match verb {
+        script::OPEN | script::NEXT => listings(s, verb, line, resources, statements, index, text),
+        script::ASK | script::ANSWER => questions(
+            s,
+            verb,
+            line,
+            resources,
+            statements,
+            index,
+            text,
+        ),
+        _ => {
+            others(
+                state::counters(s),
+                verb,
+                line,
+                resources,
+                statements,
+                index,
+                text,
+            );
+            s
+        }
+    }
+}
+
+fn others(
+    c: Counters,
+    verb: u32,
+    line: &[u8],
+    resources: &[u32],
+    statements: &[u32],
+    index: &[u32],
+    text: &[u8],
+) {
+    match verb {
+        script::FIND | script::NAME => names(c, verb, line, resources, statements, index, text),
+        script::READ => reply::read(table::read_statement(
+            c,
+            resources,
+            statements,
+            index,
+            text,
+            StatementId(script::number(line, 2)),
+        )),
+        script::CHECK => reply::checked(integrity::check(c, resources, statements, index, text)),
+        _ => print::show(line, resources, statements, index, text),
+    }
+}
+
+fn names(
+    c: Counters,
+    verb: u32,
+    line: &[u8],
+    resources: &[u32],
+    statements: &[u32],
+    index: &[u32],
+    text: &[u8],
+) {
+    if verb == script::FIND {
+        let a = dictionary::find(c, resources, statements, index, text, script::rest(line, 2));
+        reply::looked_up(a);
+        return;
+    }
+    let n = ResourceId(script::number(line, 2));
+    let a = table::name_span(c, resources, statements, index, text, n);
+    reply::named(a, table::name(c, resources, statements, index, text, n));
+}
+
+fn listings(
+    s: State,
+    verb: u32,
+    line: &[u8],
+    resources: &[u32],
+    statements: &[u32],
+    index: &[u32],
+    text: &[u8],
+) -> State {
+    let c = state::counters(s);
+    if verb == script::OPEN {
+        let a = scan::scan_open(c, resources, statements, index, text, triple(line));
+        return reply::opened(s, a);
+    }
+    let q = state::listing(s);
+    let a = scan::scan_next(
+        c,
+        resources,
+        statements,
+        index,
+        text,
+        q,
+        script::number(line, 2),
+    );
+    reply::scanned(s, a)
+}
+
+fn questions(
+    s: State,
+    verb: u32,
+    line: &[u8],
+    resources: &[u32],
+    statements: &[u32],
+    index: &[u32],
+    text: &[u8],
+) -> State {
+    let c = state::counters(s);
+    let words = s.words;
+    if verb == script::ASK {
+        let a = query::query_open(
+            c,
+            resources,
+            statements,
+            index,
+            text,
+            state::question(&words),
+        );
+        return reply::asked(s, a);
+    }
+    let q = state::place(s);
+    let a = query::query_next(
+        c,
+        resources,
+        statements,
+        index,
+        text,
+        state::question(&words),
+        q,
+        script::number(line, 2),
+    );
+    reply::answered(s, a)
+}
