@@ -1,9 +1,9 @@
 // The calls, each on the counters and the lent parts of all four tables.
-use crate::print;
-use crate::reply;
-use crate::script;
-use crate::state;
-use crate::state::State;
+use cases_script::print;
+use cases_script::reply;
+use cases_script::script;
+use cases_script::state;
+use cases_script::state::State;
 use store::Counters;
 use store::ResourceId;
 use store::StatementId;

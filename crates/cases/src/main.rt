@@ -39,7 +39,11 @@
 // | show resource Y, show statement N  | the record's words, each field after its name                            |
 // | show resources                     | every whole resource record that is lent                                 |
 // | show index, show text              | the words or bytes that are lent                                         |
-use crate::state::State;
+use cases_script::print;
+use cases_script::script;
+use cases_script::setup;
+use cases_script::state;
+use cases_script::state::State;
 use libc::STDIN_FILENO;
 use table::RESOURCE_WORDS;
 use table::STATEMENT_WORDS;
@@ -47,12 +51,6 @@ ghost use mathlib.Core.Path.{_≡_};
 ghost use lib.ListN.{length};
 
 mod calls;
-mod print;
-mod reply;
-mod script;
-mod setup;
-mod state;
-mod words;
 
 // As many records, words and bytes as the script may lend.
 const RESOURCES: usize = 16;

@@ -7,8 +7,8 @@ use Rattle.cases.proofs.run.Statement.{statement}
 use Rattle.cases.proofs.run.Tie as tie
 use Rattle.cases.proofs.run.Reads as reads
 use Rattle.cases.proofs.run.Lts as lts
-use Rattle.cases.proofs.script.until.Reads as until-reads
-use Rattle.cases.proofs.state.start.Reads as start-reads
+use Rattle.cases_script.proofs.script.until.Reads as until-reads
+use Rattle.cases_script.proofs.state.start.Reads as start-reads
 use Rattle.cases.proofs.step.Reads as step-reads
 
 abbrev Inv-loop : tie.InvT-loop

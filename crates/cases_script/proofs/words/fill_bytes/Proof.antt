@@ -1,0 +1,50 @@
+-- `cases_script::words::fill_bytes` is safe and ends. Assumes nothing.
+use Prim.Native.Nat.{_-_}
+use mathlib.Core.Path.{_≡_}
+use lib.ListN.{length}
+use borrow.Author.Needs.{needs}
+use Rattle.cases_script.proofs.words.fill_bytes.Statement.{statement}
+use Rattle.cases_script.proofs.words.fill_bytes.Tie as tie
+use Rattle.cases_script.proofs.words.fill_bytes.Reads as reads
+use Rattle.cases_script.proofs.words.fill_bytes.Lts as lts
+
+abbrev Inv-loop : tie.InvT-loop
+Inv-loop text₀ b i₀ text i = length text ≡ length text₀
+
+abbrev μ-loop : tie.MeasureT-loop
+μ-loop text₀ b i₀ text i = length text₀ - i
+
+loop-holds : tie.Need-loop-holds Inv-loop μ-loop
+loop-holds c = search needs
+
+slice-write-text : tie.Need-slice-write-text Inv-loop μ-loop
+slice-write-text c = search needs
+
+add-i : tie.Need-add-i Inv-loop μ-loop
+add-i c = search needs
+
+loop-less : tie.Need-loop-less Inv-loop μ-loop
+loop-less c = search needs
+
+loop-again : tie.Need-loop-again Inv-loop μ-loop
+loop-again c = search needs
+
+same-length : tie.Need-same-length Inv-loop μ-loop
+same-length c = search needs
+
+returns : tie.Need-returns Inv-loop μ-loop
+returns c = search needs
+
+pub fill-bytes-spec : {M : Type 1} → statement M
+fill-bytes-spec =
+    tie.close
+    (tie.spec
+    Inv-loop
+    μ-loop
+    loop-holds
+    slice-write-text
+    add-i
+    loop-less
+    loop-again
+    same-length
+    returns)
