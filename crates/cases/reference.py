@@ -531,7 +531,7 @@ def call(store, verb, words, rest):
 def main():
     store, case, labels = Store(), 0, set()
     for line in sys.stdin.read().splitlines():
-        if line == "" or line[0] == "#":
+        if line == "" or line.startswith("# "):
             continue
         verb, *words = line.split(" ")
         if not verb.endswith(":"):

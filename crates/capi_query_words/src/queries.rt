@@ -16,7 +16,6 @@ use graph::QueryStep;
 use graph::Solution;
 use graph::VARIABLES;
 use query_stack::stack::level;
-use query_stack::stack::refused;
 use store::Chain;
 use store::refusal_number;
 ghost use mathlib.Core.Path.{_≡_};

@@ -48,7 +48,9 @@ use libc::STDIN_FILENO;
 use table::RESOURCE_WORDS;
 use table::STATEMENT_WORDS;
 ghost use mathlib.Core.Path.{_≡_};
+ghost use Prim.Native.Nat.{_*_};
 ghost use lib.ListN.{length};
+ghost use Rattle.store.specs.Tables.{statementWords};
 
 mod calls;
 
@@ -72,7 +74,7 @@ fn script_buffer() -> [u8; SCRIPT]
 }
 
 fn statement_table() -> [u32; STATEMENTS * STATEMENT_WORDS]
-    ensures { λ r. ⌜ 458752 ≡ length r ⌝ }
+    ensures { λ r. ⌜ 65536 * statementWords ≡ length r ⌝ }
 {
     [0; STATEMENTS * STATEMENT_WORDS]
 }

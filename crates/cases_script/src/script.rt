@@ -62,7 +62,7 @@ pub fn number(line: &[u8], k: u32) -> u32 {
 }
 
 // What a word stands for: a number, a variable's word for `?` and its number, or by its first letter a chain (s, p, o; none and - are 0) or
-// how far a question is (within, end; start counts as 0).
+// how far a question is (within 4, end 5; any other number is the start).
 pub fn value(word: &[u8]) -> u32 {
     let v = digits(word);
     match letter(word) {

@@ -1,5 +1,7 @@
 // What the last line left, as words by value: a value of many parts is dear to check where it is passed on, and these are passed through every
 // line. The places and the counters are made of their words where a call needs them.
+//
+// Names here are the script's, which are the paper's: a listing and a question with their places are a scan and a query with their cursors.
 use crate::words::get as get_word;
 use graph::Level;
 use graph::MAX_PATTERNS;

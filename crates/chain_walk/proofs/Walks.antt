@@ -40,20 +40,20 @@ plus-after v (some (ended w)) = ap (λ (z : ℕ). some (ended z)) (omega arith)
 plus-after v (some (spent w r)) = ap (λ (z : ℕ). some (spent z r)) (omega arith)
 
 -- what a visit's tests were
-torn : (a b : Bool) (m : ℕ) → cond a (cond b (Hit m) (Miss m)) Torn ≡ Torn → a ≡ false
-torn true true m e = let z : _≡_ {A = ℕ} 0 1 = cc in absurd (omega arith)
-torn true false m e = let z : _≡_ {A = ℕ} 0 1 = cc in absurd (omega arith)
-torn false b m e = refl
+pub was-torn : (a b : Bool) (m : ℕ) → cond a (cond b (Hit m) (Miss m)) Torn ≡ Torn → a ≡ false
+was-torn true true m e = let z : _≡_ {A = ℕ} 0 1 = cc in absurd (omega arith)
+was-torn true false m e = let z : _≡_ {A = ℕ} 0 1 = cc in absurd (omega arith)
+was-torn false b m e = refl
 
-hit : (a b : Bool) (m k : ℕ) → cond a (cond b (Hit m) (Miss m)) Torn ≡ Hit k → (a ≡ true) × (b ≡ true) × (m ≡ k)
-hit true true m k e = (refl, refl, cc)
-hit true false m k e = let z : _≡_ {A = ℕ} 0 1 = cc in absurd (omega arith)
-hit false b m k e = let z : _≡_ {A = ℕ} 0 1 = cc in absurd (omega arith)
+pub was-hit : (a b : Bool) (m k : ℕ) → cond a (cond b (Hit m) (Miss m)) Torn ≡ Hit k → (a ≡ true) × (b ≡ true) × (m ≡ k)
+was-hit true true m k e = (refl, refl, cc)
+was-hit true false m k e = let z : _≡_ {A = ℕ} 0 1 = cc in absurd (omega arith)
+was-hit false b m k e = let z : _≡_ {A = ℕ} 0 1 = cc in absurd (omega arith)
 
-miss : (a b : Bool) (m k : ℕ) → cond a (cond b (Hit m) (Miss m)) Torn ≡ Miss k → (a ≡ true) × (b ≡ false) × (m ≡ k)
-miss true true m k e = let z : _≡_ {A = ℕ} 0 1 = cc in absurd (omega arith)
-miss true false m k e = (refl, refl, cc)
-miss false b m k e = let z : _≡_ {A = ℕ} 0 1 = cc in absurd (omega arith)
+pub was-miss : (a b : Bool) (m k : ℕ) → cond a (cond b (Hit m) (Miss m)) Torn ≡ Miss k → (a ≡ true) × (b ≡ false) × (m ≡ k)
+was-miss true true m k e = let z : _≡_ {A = ℕ} 0 1 = cc in absurd (omega arith)
+was-miss true false m k e = (refl, refl, cc)
+was-miss false b m k e = let z : _≡_ {A = ℕ} 0 1 = cc in absurd (omega arith)
 
 module _ (k : Sought) (r : ℕ) (stm : List ℕ) (ch : Chain) (x : Triple) where
   -- the walk from record n with `left` visits left, v visits made
@@ -78,7 +78,7 @@ module _ (k : Sought) (r : ℕ) (stm : List ℕ) (ch : Chain) (x : Triple) where
   walk-torn v zero (suc i) h f e = absurd (f refl)
   walk-torn v (suc b) (suc i) h f e =
       let d : suc i - 1 ≡ i = omega arith in
-      let a = torn (visitable r stm ch x i) (hits k stm x i) (linkOf stm ch i) (rw d at e) in
+      let a = was-torn (visitable r stm ch x i) (hits k stm x i) (linkOf stm ch i) (rw d at e) in
       rw (walk, a)
 
   pub walk-hit : (v left n m : ℕ) → (n ≡ 0 → ⊥) → (left ≡ 0 → ⊥) → visitOf k r stm ch x (n - 1) ≡ Hit m → onward v left n ≡ some (found n (v + 1) m)
@@ -87,7 +87,7 @@ module _ (k : Sought) (r : ℕ) (stm : List ℕ) (ch : Chain) (x : Triple) where
   walk-hit v zero (suc i) m h f e = absurd (f refl)
   walk-hit v (suc b) (suc i) m h f e =
       let d : suc i - 1 ≡ i = omega arith in
-      let a = hit (visitable r stm ch x i) (hits k stm x i) (linkOf stm ch i) m (rw d at e) in
+      let a = was-hit (visitable r stm ch x i) (hits k stm x i) (linkOf stm ch i) m (rw d at e) in
       rw (walk, a .0, a .1, a .2)
 
   pub walk-miss : (v left n m : ℕ) → (n ≡ 0 → ⊥) → (left ≡ 0 → ⊥) → visitOf k r stm ch x (n - 1) ≡ Miss m → onward v left n ≡ onward (v + 1) (left - 1) m
@@ -97,7 +97,7 @@ module _ (k : Sought) (r : ℕ) (stm : List ℕ) (ch : Chain) (x : Triple) where
   walk-miss v (suc b) (suc i) m h f e =
       let d : suc i - 1 ≡ i = omega arith in
       let g : suc b - 1 ≡ b = omega arith in
-      let a = miss (visitable r stm ch x i) (hits k stm x i) (linkOf stm ch i) m (rw d at e) in
+      let a = was-miss (visitable r stm ch x i) (hits k stm x i) (linkOf stm ch i) m (rw d at e) in
       rw (walk, a .0, a .1, a .2, g) (plus-after v (walk (linkOf stm ch) (visitable r stm ch x) (hits k stm x) b m))
 
   -- a visit that goes on gives a lower record
@@ -107,7 +107,7 @@ module _ (k : Sought) (r : ℕ) (stm : List ℕ) (ch : Chain) (x : Triple) where
       let i = n - 1 in
       let l = leb (linkOf stm ch i) i in
       let f = leb (flagAt stm i) 1 in
-      let a = miss (visitable r stm ch x i) (hits k stm x i) (linkOf stm ch i) m e in
+      let a = was-miss (visitable r stm ch x i) (hits k stm x i) (linkOf stm ch i) m e in
       let b = and-l l f (and-r (sits stm ch x i) (l && f) (and-r (known r (tripleAt stm i)) (sits stm ch x i && (l && f)) (a .0))) in
       let d = leb-true (linkOf stm ch i) i b in
       omega arith

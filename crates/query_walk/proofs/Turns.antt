@@ -36,7 +36,7 @@ use Rattle.query_stack.specs.Stack.{deepest, entered, poppedAs, enteredAs, metA
 use Rattle.query_walk.specs.Turn.{Ready, LevelSure, Stands, Visitable, onto, turnAs, TurnIs, triedAt}
 use Rattle.store.proofs.Tests.{decide, and-l}
 use Rattle.chain.proofs.Chains.{pick-bound, start-within}
-use Rattle.chain_walk.proofs.Walks.{falling}
+use Rattle.chain_walk.proofs.Walks.{falling, was-torn, was-hit, was-miss}
 use Rattle.graph.proofs.Laws.{prev-minus, settle-stop, settle-pop, settle-none, turn-ended, turn-bad, turn-go}
 use Rattle.graph.proofs.Laws.{turn-whole, levels-length, levels-set}
 use Rattle.graph.proofs.Levels.{Low}
@@ -159,21 +159,6 @@ module _ (r t : ℕ) (res stm ws : List ℕ) (ls : List Level) (d : ℕ) (b : So
 
 -- ---- a visit
 
-torn : (a b : Bool) (m : ℕ) → cond a (cond b (Hit m) (Miss m)) Torn ≡ Torn → a ≡ false
-torn true true m e = let z : _≡_ {A = ℕ} 0 1 = cc in absurd (omega arith)
-torn true false m e = let z : _≡_ {A = ℕ} 0 1 = cc in absurd (omega arith)
-torn false b m e = refl
-
-was-hit : (a b : Bool) (m k : ℕ) → cond a (cond b (Hit m) (Miss m)) Torn ≡ Hit k → (a ≡ true) × (b ≡ true) × (m ≡ k)
-was-hit true true m k e = (refl, refl, cc)
-was-hit true false m k e = let z : _≡_ {A = ℕ} 0 1 = cc in absurd (omega arith)
-was-hit false b m k e = let z : _≡_ {A = ℕ} 0 1 = cc in absurd (omega arith)
-
-was-miss : (a b : Bool) (m k : ℕ) → cond a (cond b (Hit m) (Miss m)) Torn ≡ Miss k → (a ≡ true) × (b ≡ false) × (m ≡ k)
-was-miss true true m k e = let z : _≡_ {A = ℕ} 0 1 = cc in absurd (omega arith)
-was-miss true false m k e = (refl, refl, cc)
-was-miss false b m k e = let z : _≡_ {A = ℕ} 0 1 = cc in absurd (omega arith)
-
 visit-known : (r : ℕ) (stm : List ℕ) (ch : Chain) (x : Triple) (i : ℕ) → visitable r stm ch x i ≡ true
     → known r (tripleAt stm i) ≡ true
 unfolding visitable
@@ -232,7 +217,7 @@ module _ (r t : ℕ) (res stm ws : List ℕ) (k : Ready r t res stm ws) (q : Sta
   pub visit-torn : visited ≡ Torn → visit r t res stm (patternsOf ws) (deepest q) (entered q) ≡ bad
   unfolding visit visitOf
   visit-torn e =
-      let a = torn (visitable r stm chainOf (q .asked) (num - 1)) (hits LiveMatch stm (q .asked) (num - 1))
+      let a = was-torn (visitable r stm chainOf (q .asked) (num - 1)) (hits LiveMatch stm (q .asked) (num - 1))
       (linkOf stm chainOf (num - 1)) e in
       rw (prev-minus num, ← s .asked-is, a)
 
