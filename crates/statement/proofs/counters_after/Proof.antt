@@ -1,3 +1,6 @@
+use mathlib.Core.Path.{sym, ap}
+use Rattle.store.specs.declared.Asserted.{Asserted}
+use Rattle.store.specs.Statement.{countersAfter}
 use borrow.Author.Needs.{needs}
 use Rattle.statement.proofs.counters_after.Statement.{statement}
 use Rattle.statement.proofs.counters_after.Tie as tie
@@ -26,7 +29,7 @@ returns-3 : tie.Need-returns-3
 returns-3 c = search needs
 
 returns-4 : tie.Need-returns-4
-returns-4 c = search needs
+returns-4 c = sym (ap (λ (z : Asserted). countersAfter (c .before .before .args .c) z) (c .enum-told .given .1))
 
 pub counters-after-spec : {M : Type 1} → statement M
 counters-after-spec =
