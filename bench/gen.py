@@ -1,7 +1,7 @@
 #!/usr/bin/python3
 """Write workloads and the questions asked of them, the same at every run.
 
-    gen.py FOLDER WORKLOAD...      WORKLOAD: relay-T, wide-T or cross-T
+    gen.py FOLDER WORKLOAD...      WORKLOAD: relay-T, typed-T, wide-T or cross-T
 
   FOLDER/WORKLOAD.nt   exactly T distinct statements, in the order a site would load them
   FOLDER/WORKLOAD.q    questions, a line each, its fields separated by tabs:
@@ -20,6 +20,7 @@ import sys
 SEED = 20090926
 MAX_RESOURCES, MAX_TEXT, MAX_NAME = 65535, 1048576, 255
 INT = '^^<http://www.w3.org/2001/XMLSchema#integer>'
+STRING = '^^<http://www.w3.org/2001/XMLSchema#string>'
 
 
 def relay(T, rng):
@@ -84,6 +85,12 @@ def relay(T, rng):
     return out, ('<p:inBay>', '<p:trips>', '<p:label>', 0), ['<y:%d>' % (i + 1) for i in range(bay)]
 
 
+def typed(T, rng):
+    """The statements of relay, every literal that has neither tag nor datatype written with the string ending."""
+    out, join, ks = relay(T, rng)
+    return [(s, p, o + STRING if o.endswith('"') else o) for s, p, o in out], join, ks
+
+
 def wide(T, rng):
     """Nearly as many resources as statements, entered in random byte order: the name index at its dearest."""
     n = (T - 1) // 2
@@ -146,7 +153,8 @@ def queries(triples, join, ks, rng):
     return q
 
 
-MAKERS = {'relay': relay, 'wide': wide, 'cross': cross}
+MAKERS = {'relay': relay, 'typed': typed, 'wide': wide, 'cross': cross}
+SEED_OF = {'typed': 'relay'}
 
 
 def main():
@@ -154,7 +162,7 @@ def main():
     for workload in workloads:
         name, size = workload.rsplit('-', 1)
         T = int(size)
-        rng = random.Random('%d %s %d' % (SEED, name, T))
+        rng = random.Random('%d %s %d' % (SEED, SEED_OF.get(name, name), T))
         triples, join, ks = MAKERS[name](T, rng)
         names = {x for t in triples for x in t}
         text = sum(len(x) + 1 for x in names)

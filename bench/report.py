@@ -5,6 +5,7 @@
 
 ROUNDS.csv   round,peer,workload,metric,value           nanoseconds for each unit; bytes; sums
 COUNTS.csv   workload,instructions,peer,metric,number   and workload,units,peer,metric,number
+             workload,endings,,metric,number             literals with the string ending; the last workload is the first one so written
 """
 import collections
 import csv
@@ -19,6 +20,7 @@ import growth
 
 PEERS = ['library', 'reference', 'serd+sord', 'sqlite', 'lmdb']
 TITLES = {'library': 'library', 'reference': 'C reference', 'serd+sord': 'serd+sord', 'sqlite': 'SQLite', 'lmdb': 'LMDB'}
+COUNTED = ['library', 'reference', 'refusing']
 OPERATIONS = [
     ('parse', 'parse', 'a line'),
     ('load', 'load', 'a statement'),
@@ -141,22 +143,41 @@ def main():
         f.write(growth.picture(least, [w for w in workloads if w.startswith('relay-')], PEERS, TITLES))
 
 
+def against(each):
+    """Cells for a figure of the library, and of the two references with the ratio to each."""
+    cells = ['%.0f' % each['library']]
+    for p in COUNTED[1:]:
+        cells += ['%.0f' % each[p], ratio(each['library'] / each[p])] if p in each else ['', '']
+    return cells
+
+
 def instructions(counts):
-    """The table of instruction counts."""
-    number, units = {}, {}
+    """The tables of instruction counts: each operation on the first workload, and what the string ending costs on the last."""
+    kept = {'instructions': {}, 'units': {}, 'endings': {}}
     for workload, what, peer, metric, value in counts:
-        (number if what == 'instructions' else units)[peer, metric] = float(value)
-    out = ['## Instructions, %s' % counts[0][0], '',
+        kept[what][workload, peer, metric] = float(value)
+    number, units, endings = kept.values()
+    plain, typed = counts[0][0], counts[-1][0]
+    head = ['', 'library', 'C reference', 'ratio', 'with refusals', 'ratio']
+
+    out = ['## Instructions, %s' % plain, '',
            'Counted by callgrind: no other work on the machine changes them. "With refusals" is the reference compiled with the tests of refusals 1, 6, 7 and 9 and '
            'with classes of bytes by ranges in place of a table, as the library has them.', '']
     rows = []
     for metric, title, unit in OPERATIONS:
-        each = {p: number[p, metric] / units[p, metric] for p in ('library', 'reference', 'refusing') if (p, metric) in number}
-        row = ['%s, %s' % (title, unit), '%.0f' % each['library']]
-        for p in ('reference', 'refusing'):
-            row += ['%.0f' % each[p], ratio(each['library'] / each[p])] if p in each else ['', '']
-        rows.append(row)
-    return out + table(['', 'library', 'C reference', 'ratio', 'with refusals', 'ratio'], rows)
+        each = {p: number[plain, p, metric] / units[plain, p, metric] for p in COUNTED if (plain, p, metric) in number}
+        rows.append(['%s, %s' % (title, unit)] + against(each))
+    out += table(head, rows)
+
+    lines, names = endings[typed, '', 'parse'], endings[typed, '', 'find']
+    out += ['## Instructions, the string ending', '',
+            'What a literal with the string ending takes beyond the same one without it: %s less %s, divided by the %.0f lines and the %.0f names found that have it.'
+            % (typed, plain, lines, names), '']
+    rows = []
+    for metric, title, _ in OPERATIONS[:3]:
+        each = {p: (number[typed, p, metric] - number[plain, p, metric]) / endings[typed, '', metric] for p in COUNTED}
+        rows.append(['%s, a literal' % title] + against(each))
+    return out + table(head, rows)
 
 
 main()

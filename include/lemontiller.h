@@ -14,6 +14,10 @@
  * Resources and statements are numbered from 1; 0 is none. How much a store holds follows from the lengths lent: whole records (and for
  * resources index words too), up to the limits below.
  *
+ * The string ending is `^^<http://www.w3.org/2001/XMLSchema#string>`, exactly these 43 bytes: a literal is the same with it and without it,
+ * so `"A"` typed either way is one resource. It counts among the LT_MAX_NAME bytes of a name, and is then dropped: no name of a sound
+ * store has it.
+ *
  * What a function gives back is an `lt_result`. Beside a refusal the reply's words are 0 (except LT_BAD_LINE, see lt_read_line), and
  * counters, cursor and tables stay as they were. LT_TOO_SHORT comes before every refusal, and nothing at all is written with it. Words
  * past those that counters, a reply or a cursor name keep their values.
@@ -50,7 +54,7 @@ enum {
     LT_MAX_RESOURCES = 65535,
     LT_MAX_STATEMENTS = 65535,
     LT_MAX_TEXT = 1048576, /* bytes of all names, a closing zero for each included */
-    LT_MAX_NAME = 255,     /* bytes of one name, its closing zero not included */
+    LT_MAX_NAME = 255,     /* bytes of one name as it is spelled, its closing zero not included */
     LT_MAX_PATTERNS = 8,   /* of a query, and so the levels of its cursor */
     LT_VARIABLES = 16      /* of a query: 0 to 15 */
 };
@@ -110,30 +114,32 @@ static inline const char *lt_strerror(uint32_t result)
         const uint32_t *statements, size_t statements_len, const uint32_t *index, size_t index_len, \
         const uint8_t *text, size_t text_len
 
-/* The kind of a name, or LT_MALFORMED. reply 1: an `lt_kind`. */
+/* The kind of a name, or LT_MALFORMED, by the name as it is spelled. reply 1: an `lt_kind`. */
 uint32_t lt_name_kind(const uint8_t *name, size_t name_len, uint32_t *reply, size_t reply_len);
 
 /* Reads the line at a position of a text. reply LT_LINE_WORDS: an `lt_line`, position after, start and length in the text of subject,
- * predicate, object, which are 0 if there is no triple. At the text's end, or past it, the position stays. With LT_BAD_LINE: 0, position
- * after, the offset in the line of the first byte that fits no line (the line's length if it stops short), zeros. */
+ * predicate, object, which are 0 if there is no triple; the object's length is without the string ending. At the text's end, or past it,
+ * the position stays. With LT_BAD_LINE: 0, position after, the offset in the line, as it is spelled, of the first byte that fits no line
+ * (the line's length if it stops short), zeros. */
 uint32_t lt_read_line(const uint8_t *text, size_t text_len, size_t at, uint64_t *reply, size_t reply_len);
 
 /* Whether the store is sound: every word of it is as entering, asserting and retracting leave it. reply 1: 1 or 0. It refuses nothing. */
 uint32_t lt_check(LT_STORE, uint32_t *reply, size_t reply_len);
 
-/* Finds a name. LT_CAPACITY, LT_MALFORMED, LT_DAMAGED. reply 1: its number, or 0. Where names or index are not sound, LT_DAMAGED is not
- * certain: the answer may also be 0 or any number up to R. */
+/* Finds a name, without the string ending. LT_CAPACITY, LT_MALFORMED (by the name as it is spelled), LT_DAMAGED. reply 1: its number, or
+ * 0. Where names or index are not sound, LT_DAMAGED is not certain: the answer may also be 0 or any number up to R. */
 uint32_t lt_find(LT_STORE, const uint8_t *name, size_t name_len, uint32_t *reply, size_t reply_len);
 
-/* Enters a name: finds it, or gives it the next number. LT_CAPACITY, LT_MALFORMED, LT_DAMAGED, LT_FULL. reply 1: its number. Writes
- * counters, resources, index, text. Where names or index are not sound, LT_DAMAGED is not certain: the answer may also be any number up
- * to R, or R + 1; then the index, record R + 1 and text from B on are all of the tables that is written. */
+/* Enters a name: finds it, or gives it the next number and stores it without the string ending. LT_CAPACITY, LT_MALFORMED (by the name
+ * as it is spelled), LT_DAMAGED, LT_FULL (by what is stored). reply 1: its number. Writes counters, resources, index, text. Where names or
+ * index are not sound, LT_DAMAGED is not certain: the answer may also be any number up to R, or R + 1; then the index, record R + 1 and
+ * text from B on are all of the tables that is written. */
 uint32_t lt_enter(uint32_t *counters, size_t counters_len, uint32_t *resources, size_t resources_len, const uint32_t *statements,
                   size_t statements_len, uint32_t *index, size_t index_len, uint8_t *text, size_t text_len, const uint8_t *name,
                   size_t name_len, uint32_t *reply, size_t reply_len);
 
-/* The name of a resource's number. LT_CAPACITY, LT_UNKNOWN_NUMBER, LT_DAMAGED. reply 2: its start and length in the text, which hold as
- * long as the caller keeps the text. */
+/* The name of a resource's number, as it is stored. LT_CAPACITY, LT_UNKNOWN_NUMBER, LT_DAMAGED. reply 2: its start and length in the
+ * text, which hold as long as the caller keeps the text. */
 uint32_t lt_name(LT_STORE, uint32_t number, uint32_t *reply, size_t reply_len);
 
 /* Reads a statement. LT_CAPACITY, LT_UNKNOWN_NUMBER, LT_DAMAGED. reply 4: subject, predicate, object, 1 if it is retracted. */

@@ -67,7 +67,7 @@ static void key(uint8_t k[12], int o, const uint32_t t[3])
 
 static uint32_t find(db *d, const char *name, size_t len)
 {
-    MDB_val k = {len, (void *)name}, v;
+    MDB_val k = {nt_canonical(name, len), (void *)name}, v;
     uint32_t number = 0;
     if (!mdb_get(d->txn, d->name, &k, &v)) memcpy(&number, v.mv_data, 4);
     return number;

@@ -69,7 +69,7 @@ size_t peer_parse(const char *text, size_t len)
 static sqlite3_int64 find(db *d, const char *name, size_t len)
 {
     sqlite3_stmt *q = d->q[FIND];
-    sqlite3_bind_text(q, 1, name, (int)len, SQLITE_STATIC);
+    sqlite3_bind_text(q, 1, name, (int)nt_canonical(name, len), SQLITE_STATIC);
     sqlite3_int64 id = sqlite3_step(q) == SQLITE_ROW ? sqlite3_column_int64(q, 0) : 0;
     sqlite3_reset(q);
     return id;

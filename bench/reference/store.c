@@ -50,7 +50,7 @@ uint32_t store_find(const store *s, const char *name, uint32_t len)
     int hit;
     REFUSE(over(s));
     if (!nt_kind(name, len)) return 0;
-    uint32_t at = position(s, name, len, &hit);
+    uint32_t at = position(s, name, (uint32_t)nt_canonical(name, len), &hit);
     return hit ? s->index[at] : 0;
 }
 
@@ -60,6 +60,7 @@ uint32_t store_enter(store *s, const char *name, uint32_t len)
     REFUSE(over(s));
     int kind = nt_kind(name, len);
     if (!kind) return 0;
+    len = (uint32_t)nt_canonical(name, len);
     uint32_t at = position(s, name, len, &hit);
     if (hit) return s->index[at];
     if (s->R == s->cap_R || s->B + len + 1 > s->cap_B) return 0;

@@ -22,6 +22,7 @@ typedef struct {
 typedef struct { uint32_t part[3], place, next; } listing; /* place 3: none bound */
 enum { FOUND, ENDED, SPENT };
 
+/* A name is tested as spelled, then searched for and stored without the string ending. */
 uint32_t store_find(const store *s, const char *name, uint32_t len); /* 0 if absent or malformed */
 uint32_t store_enter(store *s, const char *name, uint32_t len);      /* 0 if refused */
 uint32_t store_assert(store *s, const uint32_t t[3]);                /* 0 if refused */

@@ -1,9 +1,9 @@
 #!/usr/bin/env python3
 """What the script comes to: `python3 reference.py < stdin > stdout`.
 
-It reads the script of `stdin` and follows paper 01 with plain Python lists: records are lists of fields, names are byte strings, the index is
-a list of numbers. It knows nothing of the library and shares nothing with it. The table of verbs stands at the top of `src/main.rt`; a word
-that is not in it stops the script, and so does a set-up past what is lent."""
+It reads the script of `stdin` and follows the papers with plain Python lists: records are lists of fields, names are byte strings, the
+index is a list of numbers. It knows nothing of the library and shares nothing with it. The table of verbs stands at the top of
+`src/main.rt`; a word that is not in it stops the script, and so does a set-up past what is lent."""
 import re
 import sys
 
@@ -18,10 +18,13 @@ FIELDS = {
 }
 
 IRI = rb"<[!#-;=?-\[\]_a-z~]+>"
+QUOTED = rb"\"(?:[ !#-\[\]-~]|\\[\"\\nr])*\""
 NAME = re.compile(
     rb"(?:%s|_:[A-Za-z0-9_](?:[A-Za-z0-9_.-]*[A-Za-z0-9_-])?"
-    rb"|\"(?:[ !#-\[\]-~]|\\[\"\\nr])*\"(?:@[A-Za-z]+(?:-[A-Za-z0-9]+)*|\^\^%s)?)" % (IRI, IRI)
+    rb"|%s(?:@[A-Za-z]+(?:-[A-Za-z0-9]+)*|\^\^%s)?)" % (IRI, QUOTED, IRI)
 )
+# A literal with the string ending.
+TYPED_STRING = re.compile(rb"(%s)\^\^<http://www\.w3\.org/2001/XMLSchema#string>" % QUOTED)
 KINDS = {b"<": 1, b"_": 2, b'"': 3}
 
 
@@ -33,8 +36,15 @@ def refuse(number):
     raise Refused(number)
 
 
+# By the name as spelled: a string ending counts among the 255 bytes.
 def well_formed(name):
     return len(name) <= NAME_LIMIT and NAME.fullmatch(name) is not None
+
+
+# What a well-formed name is compared and stored as: without the string ending.
+def shortened(name):
+    typed = TYPED_STRING.fullmatch(name)
+    return typed[1] if typed else name
 
 
 def number(word):
@@ -137,7 +147,7 @@ class Store:
         return bytes(self.text[offset : offset + size])
 
     # 1, 2, 9, then the number or 0. Which entries a search reads on an unsound store is left to the program: it reads all here, and scripts
-    # damage only stores of one name.
+    # damage only stores of one name. So is the answer where a stored name has the string ending: a script that asks for it is stopped.
     def search(self, name):
         self.test_counters()
         if not well_formed(name):
@@ -147,13 +157,15 @@ class Store:
         if any(y < 1 or y > R for y in entries):
             refuse(9)
         names = [self.spelling(y) for y in entries]
-        return entries[names.index(name)] if name in names else 0
+        assert not any(TYPED_STRING.fullmatch(n) for n in names)
+        return entries[names.index(shortened(name))] if shortened(name) in names else 0
 
     def find(self, name):
         return self.search(name) or "absent"
 
-    def enter(self, name):
-        n = self.search(name)
+    # Room and the stored bytes go by the shortened name.
+    def enter(self, spelled):
+        n, name = self.search(spelled), shortened(spelled)
         R, T, B = self.counters
         if n == 0:
             if R >= self.capacities()[0] or B + len(name) + 1 > self.capacities()[2]:
@@ -427,7 +439,7 @@ class Store:
         names = bytes(self.text[:B]).split(b"\0")
         if names.pop() != b"" or len(names) != R:
             return False
-        if not all(well_formed(n) for n in names) or len(set(names)) != R:
+        if not all(well_formed(n) and shortened(n) == n for n in names) or len(set(names)) != R:
             return False
         for y, n in enumerate(names, 1):
             if self.resource(y)["offset"][0] != sum(len(m) + 1 for m in names[: y - 1]) or self.resource(y)["kind"][0] != KINDS[n[:1]]:

@@ -2,7 +2,8 @@
 """Writes the files of the loading program's edges (data/, args) and what the paper says of each (stdout).
 
 Every line is given with what it holds, so nothing here parses: a list of names for a statement, None for a blank or comment line, 'bad' for
-a line that is no line. What the store answers is counted with two plain lists. Run in this folder: python3 cases.py
+a line that is no line. A name that a line holds is without the string ending, however the line spells it. What the store answers is counted
+with two plain lists. Run in this folder: python3 cases.py
 """
 import os
 
@@ -52,6 +53,14 @@ def line(s, p, o, ending=b'\n'):
     return (b' '.join([s, p, o]) + b' .', ending, [s, p, o])
 
 
+STRING = b'^^<http://www.w3.org/2001/XMLSchema#string>'
+
+
+def typed(s, p, o, after=b' .'):
+    """A statement whose object is spelled with the string ending."""
+    return (b' '.join([s, p, o]) + STRING + after, b'\n', [s, p, o])
+
+
 def iri(text, size=0):
     """An IRI, filled up with `x` to a size in bytes if one is given."""
     body = text.encode()
@@ -96,6 +105,44 @@ case('resources-full.nt', [line(iri(f's:{i}'), TRIPS, iri(f'o:{i}')) for i in ra
 # 64 names of 255 bytes are all of the text
 case('text-full.nt', [line(iri(f's:{i}', 255), iri('p:', 255), iri(f'o:{i}', 255)) for i in range(31)]
      + [line(iri('s:31', 255), iri('p:', 255), iri('o:0', 255)), line(iri('s:0', 255), iri('p:', 255), iri('a')), line(iri('s:0', 255), iri('p:', 255), iri('o:0', 255))])
+
+# The string ending: both spellings are one statement, whichever comes first
+A, B, C = b'"A"', b'"B"', b'"C"'
+XSD_STRING = STRING[2:]
+
+
+def bad(*pieces):
+    return (b''.join(pieces), b'\n', 'bad')
+
+
+def quoted(size):
+    return b'"' + b'x' * (size - 2) + b'"'
+
+
+def filled(size):
+    """A line of a size in bytes, with the string ending and a comment."""
+    body, ending, holds = typed(R21, TRIPS, C, b'.#')
+    return (body + b'x' * (size - len(body)), ending, holds)
+
+
+case('string-ending.nt', [
+    line(R21, TRIPS, A), typed(R21, TRIPS, A), typed(R21, TRIPS, A, b'.'),
+    line(R21, TRIPS, b'"A"^^<http://www.w3.org/2001/XMLSchema#String>'), line(R21, TRIPS, b'"A"@en'),
+    typed(R21, TRIPS, B, b'\t. # "A"'), line(R21, TRIPS, B),
+    typed(R21, TRIPS, b'""'), line(R21, TRIPS, b'""'),
+    line(R21, TRIPS, b'"A' + STRING + b'"'), line(R21, TRIPS, b'"A' + STRING[:-1] + b'"'),
+    line(R21, TRIPS, XSD_STRING), line(XSD_STRING, TRIPS, A),
+    bad(A, STRING, b' <p:trips> <b:4> .'), bad(b'<r:21> ', A, STRING, b' <b:4> .'),
+    bad(b'<r:21> <p:trips> "A"', STRING), bad(b'<r:21> <p:trips> "A"', STRING, b'@en .'),
+    bad(b'<r:21> <p:trips> "A"', STRING, STRING, b' .')])
+# An object of 255 bytes as spelled, then of 256; a line of 1,024 bytes as spelled, then of 1,025
+case('string-ending-255.nt', [
+    typed(R21, TRIPS, quoted(212)), line(R21, TRIPS, quoted(212)), bad(b'<r:21> <p:trips> ', quoted(213), STRING, b' .'),
+    line(R21, TRIPS, quoted(213)), filled(1024), filled(1025), line(R21, TRIPS, C)])
+# All of the text but 4 bytes: `"A"` fits in them though its spelling does not, and nothing after it
+S0, P = iri('s:0', 255), iri('p:', 255)
+case('string-ending-full.nt', [line(iri(f's:{i}', 255), P, iri(f'o:{i}', 255)) for i in range(31)]
+     + [line(iri('s:31', 251), P, iri('o:0', 255)), typed(S0, P, A), line(S0, P, A), typed(S0, P, A), typed(S0, P, B)])
 
 with open('args', 'w') as f:
     f.write('\n'.join(args) + '\n')

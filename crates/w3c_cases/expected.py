@@ -15,6 +15,8 @@ import sys
 HERE = os.path.dirname(os.path.abspath(__file__))
 DATA = os.path.join(HERE, 'data')
 LIMIT = 255
+# The string ending: an object is answered without it. Offsets and the 255 bytes go by the line as spelled.
+STRING = b'^^<http://www.w3.org/2001/XMLSchema#string>'
 
 # Regular expressions over bytes. NONE has no word, EMPTY the empty word; a frozenset is one byte of it.
 NONE, EMPTY = ('none',), ('empty',)
@@ -136,7 +138,15 @@ def read_line(line):
     if not answers:
         return len(line)
     assert all(a == answers[0] for a in answers), line
-    return [line[a:b] for a, b in answers[0]] or 'nothing'
+    if not answers[0]:
+        return 'nothing'
+    subject, predicate, object_ = [line[a:b] for a, b in answers[0]]
+    return [subject, predicate, shortened(object_)]
+
+
+def shortened(name):
+    """A literal without the string ending. No other name ends so: neither an IRI nor a label has a `^`."""
+    return name.removesuffix(STRING) if name.startswith(b'"') else name
 
 
 def lines_of(text):
@@ -145,9 +155,10 @@ def lines_of(text):
     return [l[:-1] if l.endswith(b'\r') else l for l in ended] + ([last] if last else [])
 
 
-# Edges, each with the answer worked out by hand from the paper: CR, the dot after a blank node, kinds by position, 255 bytes,
-# comments, bytes that are no spaces. A number is the offset of refusal 10.
+# Edges, each with the answer worked out by hand from the papers: CR, the dot after a blank node, kinds by position, 255 bytes,
+# comments, the string ending, bytes that are no spaces. A number is the offset of refusal 10.
 X, Y = '_:' + 'a' * 253, '_:' + 'a' * 252
+S, T = STRING.decode(), '^^<http://www.w3.org/2001/XMLSchema#String>'
 BY_HAND = [
     ('#a\r', 2), ('#a\r\n', 'nothing'), ('#a\r\r\n', 2), ('\r', 0), ('\n', 'nothing'), ('\r\n', 'nothing'),
     ('_:a<b>"c"@en.#x', ['_:a', '<b>', '"c"@en']), ('<a> # c', 4), ('<a><b>"c" @en', 10),
@@ -160,6 +171,13 @@ BY_HAND = [
     ('<a><b>' + X + '. y', 263), ('<a><b>' + X + 'a', 261), (X + '.b', 255),
     ('<a><b>' + Y + '.', ['<a>', '<b>', Y]), ('<a><b>' + Y + '..', 261), ('<a><b>' + Y + '.b', 261),
     ('<a><b><c>.#\t~', ['<a>', '<b>', '<c>']), ('<a><b><c>.#\x7f', 11), ('<a><b><c>.#\xe9', 11),
+    ('<a><b>"c"' + S + '.', ['<a>', '<b>', '"c"']), ('<a><b>""' + S + ' .', ['<a>', '<b>', '""']), ('<a><b>"c"' + S, 52),
+    ('<a><b>"' + 'a' * 210 + '"' + S + '.', ['<a>', '<b>', '"' + 'a' * 210 + '"']), ('<a><b>"' + 'a' * 211 + '"' + S + '.', 261),
+    ('<a><b>"c"' + T + '.', ['<a>', '<b>', '"c"' + T]), ('<a><b>"c' + S + '".', ['<a>', '<b>', '"c' + S + '"']),
+    ('<a><b>"c' + S + '"' + S + '.', ['<a>', '<b>', '"c' + S + '"']), (S[2:] * 3 + '.', [S[2:], S[2:], S[2:]]),
+    ('<a><b>"c' + S[:-1] + '".', ['<a>', '<b>', '"c' + S[:-1] + '"']),
+    ('<a><b>"c"' + S * 2 + '.', 52), ('<a><b>"c"' + S + '@en.', 52), ('<a><b>"c"@en' + S + '.', 12), ('<a><b>"c"' + S[:-1] + ' .', 51),
+    ('"c"' + S + '<b><c>.', 0), ('<a>"c"' + S + '<c>.', 3), ('<a><b><c>' + S + '.', 9), ('<a><b>_:c' + S + '.', 9), ('<a><b>' + S + '.', 6),
     ('\x00', 0), ('\x0b<a><b><c>.', 0), ('<a>\x0c<b><c>.', 3), ('\xef\xbb\xbf<a><b><c>.', 0),
 ]
 

@@ -11,6 +11,7 @@ use lib.Seq.{sets}
 use lib.Dec.{eqb, leb, ltb}
 use borrow.Author.Tests.{lt-ltb, le-ltb, ltb-true, ltb-false}
 use Rattle.term.specs.Scanner.{kindOf, firstKindOf}
+use Rattle.term.specs.Canonical.{canonical}
 use Rattle.store.specs.declared.Counters.{Counters}
 use Rattle.store.specs.declared.Refusal.{Refusal}
 use Rattle.store.specs.declared.Refusal.the-variants.{Capacity, Malformed, Full, Damaged}
@@ -25,7 +26,7 @@ use Rattle.store.specs.Reading.{inRange}
 use Rattle.store.specs.Model.{wellFormed}
 use Rattle.store.specs.Dictionary.{Named, PlaceWithin, indexPlaceOf, foundAs, findOf, FindAnswer, roomFor, oneNameMore, freshRecord, withName, internAs, internOf, InternWrites, InternAnswer}
 use Rattle.store.proofs.Tests.{decide, and-l, and-r}
-use Rattle.store.proofs.Form.{form-clean, form-kindOf}
+use Rattle.store.proofs.Form.{form-clean, form-short, canonical-formed, canonical-kind}
 use Rattle.store.proofs.Interning.{writes-nothing, intern-as-writes, intern-as-refused}
 use Rattle.table.proofs.Capacity.{fits-room}
 use Rattle.table.proofs.Held.{from-one, up-to}
@@ -127,15 +128,25 @@ module _ (c : Counters) (m : Tables) (w : List ℕ) (a : Lookup) where
     bounded = λ g h. absurd (true≢false (sym h ∙ b));
   }
 
-  pub find-searched : fits c m ≡ true → wellFormed w ≡ true → a ≡ foundAs (searched c (m .resources) (m .index) (m .text) w)
+  found-canonical : fits c m ≡ true → wellFormed w ≡ true → a ≡ foundAs (searched c (m .resources) (m .index) (m .text) (canonical w))
       → FindAnswer c m w a
   unfolding findOf
-  find-searched f b e = record {
+  found-canonical f b e = record {
     capacity = λ g. absurd (true≢false (sym f ∙ g));
     malformed = λ g h. absurd (true≢false (sym b ∙ h));
-    exact = λ ns N. e ∙ rw (f, b) (ap foundAs (searched-is ns c m N w (form-clean w b) (fits-room c m f .few-resources)));
-    bounded = λ g h. (searched c (m .resources) (m .index) (m .text) w, e, searched-within c (m .resources) (m .index) (m .text) w);
+    exact = λ ns N. e ∙ rw (f, b) (ap foundAs (searched-is ns c m N (canonical w)
+        (form-clean (canonical w) (canonical-formed w b)) (fits-room c m f .few-resources)));
+    bounded = λ g h. (
+      searched c (m .resources) (m .index) (m .text) (canonical w),
+      e,
+      searched-within c (m .resources) (m .index) (m .text) (canonical w),
+    );
   }
+
+  -- n is the name without the string ending
+  pub find-searched : (n : List ℕ) → n ≡ canonical w → fits c m ≡ true → wellFormed w ≡ true
+      → a ≡ foundAs (searched c (m .resources) (m .index) (m .text) n) → FindAnswer c m w a
+  find-searched n q f b e = found-canonical f b (rw q at e)
 
 -- ---- intern
 
@@ -163,32 +174,41 @@ module _ (c : Counters) (m m′ : Tables) (w : List ℕ) (a : Interned) where
   }
 
   abbrev found : IndexPlace
-  found = searched c (m .resources) (m .index) (m .text) w
+  found = searched c (m .resources) (m .index) (m .text) (canonical w)
 
-  pub intern-searched : fits c m ≡ true → wellFormed w ≡ true → after m′ a ≡ internAs c m w found → InternAnswer c m m′ w a
+  interned-canonical : fits c m ≡ true → wellFormed w ≡ true → after m′ a ≡ internAs c m (canonical w) found → InternAnswer c m m′ w a
   unfolding internOf
-  intern-searched f b e = record {
+  interned-canonical f b e = record {
     capacity = λ g. absurd (true≢false (sym f ∙ g));
     malformed = λ g h. absurd (true≢false (sym b ∙ h));
-    exact = λ ns N. e ∙ rw (f, b) (ap (internAs c m w) (searched-is ns c m N w (form-clean w b) (fits-room c m f .few-resources)));
-    bounded = λ g h. (found, e, searched-within c (m .resources) (m .index) (m .text) w);
-    writes = subst (InternWrites c m) (sym (ap (λ (o : Tables × Interned). o .0) e)) (intern-as-writes c m w found);
+    exact = λ ns N. e ∙ rw (f, b) (ap (internAs c m (canonical w)) (searched-is ns c m N (canonical w)
+        (form-clean (canonical w) (canonical-formed w b)) (fits-room c m f .few-resources)));
+    bounded = λ g h. (found, e, searched-within c (m .resources) (m .index) (m .text) (canonical w));
+    writes = subst (InternWrites c m) (sym (ap (λ (o : Tables × Interned). o .0) e)) (intern-as-writes c m (canonical w) found);
     refused = λ q g. ap (λ (o : Tables × Interned). o .0) e
-        ∙ intern-as-refused c m w found q (sym (ap (λ (o : Tables × Interned). o .1) e) ∙ g);
+        ∙ intern-as-refused c m (canonical w) found q (sym (ap (λ (o : Tables × Interned). o .1) e) ∙ g);
   }
 
-module _ (c : Counters) (m : Tables) (w : List ℕ) (f : fits c m ≡ true) (b : wellFormed w ≡ true) where
-  pub intern-full : (k : ℕ) → Before k ≡ searched c (m .resources) (m .index) (m .text) w → fits (oneNameMore c w) m ≡ false
+  pub intern-searched : (n : List ℕ) → n ≡ canonical w → fits c m ≡ true → wellFormed w ≡ true
+      → after m′ a ≡ internAs c m n (searched c (m .resources) (m .index) (m .text) n) → InternAnswer c m m′ w a
+  intern-searched n q f b e = interned-canonical f b (rw q at e)
+
+pub left-short : (n w : List ℕ) → n ≡ canonical w → wellFormed w ≡ true → length n ≤ 255
+left-short n w q b = rw q (form-short (canonical w) (canonical-formed w b))
+
+module _ (c : Counters) (m : Tables) (n w : List ℕ) (left : n ≡ canonical w) (f : fits c m ≡ true) (b : wellFormed w ≡ true) where
+  pub intern-full : (k : ℕ) → Before k ≡ searched c (m .resources) (m .index) (m .text) n → fits (oneNameMore c n) m ≡ false
       → InternAnswer c m m w (NotInterned Full)
   unfolding internAs
-  intern-full k s g = intern-searched c m m w (NotInterned Full) f b (rw (← s, room-grown c m w f, g))
+  intern-full k s g = intern-searched c m m w (NotInterned Full) n left f b (rw (← s, room-grown c m n f, g))
 
   -- the three writes are the definition's
-  pub intern-new : (k d : ℕ) (res′ idx′ text′ : List ℕ) (n : Counters) → Before k ≡ searched c (m .resources) (m .index) (m .text) w
-      → fits (oneNameMore c w) m ≡ true → n ≡ oneNameMore c w → d ≡ kindOf 255 w
-      → Extended c (m .resources) res′ (m .index) idx′ (m .text) text′ w k d
-      → InternAnswer c m (tables res′ (m .statements) idx′ text′) w (Id (record { 0 = n .resources }) n)
+  pub intern-new : (k d : ℕ) (res′ idx′ text′ : List ℕ) (t : Counters) → Before k ≡ searched c (m .resources) (m .index) (m .text) n
+      → fits (oneNameMore c n) m ≡ true → t ≡ oneNameMore c n → d ≡ kindOf 255 w
+      → Extended c (m .resources) res′ (m .index) idx′ (m .text) text′ n k d
+      → InternAnswer c m (tables res′ (m .statements) idx′ text′) w (Id (record { 0 = t .resources }) t)
   unfolding internAs
-  intern-new k d res′ idx′ text′ n s g e q x =
-      intern-searched c m (tables res′ (m .statements) idx′ text′) w _ f b
-      (rw (← s, room-grown c m w f, g, e, x .new-record, x .new-entry, x .new-name, q, form-kindOf w b))
+  intern-new k d res′ idx′ text′ t s g e q x =
+      let kind : d ≡ firstKindOf n = q ∙ (canonical-kind w b ∙ ap firstKindOf (sym left)) in
+      intern-searched c m (tables res′ (m .statements) idx′ text′) w _ n left f b
+      (rw (← s, room-grown c m n f, g, e, x .new-record, x .new-entry, x .new-name, kind))

@@ -10,16 +10,18 @@ use lib.ListN.{length, take, drop, getD}
 use lib.Seq.{getD-drop, drop-drop}
 use lib.Dec.{eqb, leb, ltb}
 use borrow.Author.Tests.{eq-eqb, ne-eqb, lt-ltb, le-ltb, le-leb, ltb-true, ltb-false, eqb-true, eqb-false}
+use Rattle.term.proofs.Booleans.{eqBytes-not}
 use Rattle.store.specs.declared.Counters.{Counters}
 use Rattle.store.specs.declared.IndexPlace.{IndexPlace}
 use Rattle.store.specs.declared.IndexPlace.the-variants.{At, Before, Torn}
 use Rattle.store.specs.Tables.{Tables, word, offsetAt, maxResources}
 use Rattle.store.specs.Reading.{inRange}
-use Rattle.store.specs.Model.{wellFormed, eqBytes, nameOf, bytesOf}
+use Rattle.store.specs.Model.{nameOf, bytesOf}
 use Rattle.store.specs.Dictionary.{Ordering, less, equal, more, compare, isLess, Named, nameAt, rank, placeAt, indexPlaceOf}
 use Rattle.store.proofs.Tests.{decide, three, and-of}
-use Rattle.store.proofs.Order.{flip, compare-less as order-less, compare-more as order-more, compare-tail, compare-refl, compare-flip, compare-equal, compare-trans, eqBytes-compare, eqBytes-not, less-not-equal}
-use Rattle.store.proofs.Form.{clean, form-clean}
+use Rattle.store.proofs.Order.{flip, compare-less as order-less, compare-more as order-more, compare-tail, compare-refl, compare-flip}
+use Rattle.store.proofs.Order.{compare-equal, compare-trans, eqBytes-compare, less-not-equal}
+use Rattle.store.proofs.Form.{clean, form-clean, storable-formed}
 use Rattle.store.proofs.Text.{text-at, name-read, bytes-take}
 use Rattle.store.proofs.Index.{rank-is}
 use Rattle.dictionary.specs.Search.{compareOf, probeOf, middle, searchOf, searched}
@@ -101,7 +103,7 @@ module _ (ns : List (List ℕ)) (c : Counters) (m : Tables) (N : Named ns c m) (
       let y = word (m .index) i in
       let q = in-names i h in
       rw (N .offsets y (N .index .low i h) (N .index .high i h))
-      (name-read ns (m .text) (c .text) (y - 1) (N .spelled) q (form-clean _ (N .well (y - 1) q)))
+      (name-read ns (m .text) (c .text) (y - 1) (N .spelled) q (form-clean _ (storable-formed _ (N .well (y - 1) q))))
 
   rises : (i j : ℕ) → i < j → j < R → compare (nm i) (nm j) ≡ less
   rises i j h g = rw (listed i (omega arith), listed j g) (N .index .rise i j h g)
@@ -113,8 +115,9 @@ module _ (ns : List (List ℕ)) (c : Counters) (m : Tables) (N : Named ns c m) (
       let low = N .index .low k h in
       let high = N .index .high k h in
       let q = in-names k h in
+      let clear = form-clean _ (storable-formed _ (N .well (y - 1) q)) in
       rw (lt-ltb 0 y low, le-leb y R high, listed k h, N .offsets y low high)
-      (compare-is (m .text) (c .text) (getD ns (y - 1) []) w (bytesOf (take (y - 1) ns)) _ (form-clean _ (N .well (y - 1) q)) cw
+      (compare-is (m .text) (c .text) (getD ns (y - 1) []) w (bytesOf (take (y - 1) ns)) _ clear cw
       (text-at ns (m .text) (c .text) (y - 1) (N .spelled) q)
       (omega (arith, bytes-take ns (y - 1) q, N .bytes)))
 

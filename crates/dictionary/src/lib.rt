@@ -2,9 +2,10 @@
 //
 // A name is found by halving the index, comparing in the text itself; nothing is copied. Each name costs at most 16 comparisons, of at
 // most 256 bytes each. A new name takes the next resource record, the text from B on, and its place in the index, whose tail moves up.
+// A name is searched and stored without the string ending.
 //
-// Refusals, in the order tested: 1 a counter over its capacity; 2 a name that is not well formed or over 255 bytes; 9 a word met on the
-// way that no sound store has; 3 no room for one name more.
+// Refusals, in the order tested: 1 a counter over its capacity; 2 a name that is not well formed or over 255 bytes, as spelled; 9 a word
+// met on the way that no sound store has; 3 no room for one name more.
 use store::Counters;
 use store::IndexPlace;
 use store::Interned;
@@ -44,7 +45,8 @@ pub fn find(
     if name_kind(name) == 0 {
         return Lookup::Refused(Refusal::Malformed);
     }
-    match inner::search(c, resources, index, text, name) {
+    let short = term::canonical(name);
+    match inner::search(c, resources, index, text, short) {
         IndexPlace::At(n, _) => Lookup::Number(n),
         IndexPlace::Before(_) => Lookup::Absent,
         IndexPlace::Torn => Lookup::Refused(Refusal::Damaged),
@@ -69,15 +71,16 @@ pub fn intern(
     if kind == 0 {
         return Interned::Refused(Refusal::Malformed);
     }
-    match inner::search(c, resources, index, text, name) {
+    let short = term::canonical(name);
+    match inner::search(c, resources, index, text, short) {
         IndexPlace::At(n, _) => Interned::Number(n, c),
         IndexPlace::Torn => Interned::Refused(Refusal::Damaged),
         IndexPlace::Before(at) => {
-            let grown = extend::one_name_more(c, name);
+            let grown = extend::one_name_more(c, short);
             if !fits(grown, resources, statements, index, text) {
                 return Interned::Refused(Refusal::Full);
             }
-            extend::append(c, resources, index, text, name, at, kind);
+            extend::append(c, resources, index, text, short, at, kind);
             Interned::Number(ResourceId(grown.resources), grown)
         }
     }

@@ -10,6 +10,7 @@ use native.Mathlib.Omega.{arith}
 use lib.ListN.{length}
 use lib.Dec.{eqb, leb, ltb}
 use borrow.Author.Tests.{leb-true, ltb-true, le-leb, lt-ltb}
+use Rattle.term.specs.Canonical.{canonical}
 use Rattle.store.specs.declared.Position.{Position}
 use Rattle.store.specs.declared.Chain.{Chain}
 use Rattle.store.specs.declared.Chain.the-variants.{All, By}
@@ -209,7 +210,7 @@ module _ (c : Counters) (m : Tables) where
   unfolding internOf
   intern-keeps w =
       cond-all InternKeeps (fits c m) _ _
-      (cond-all InternKeeps (wellFormed w) _ _ (interned-keeps w (indexPlaceOf c m w)) (keeps-same c m))
+      (cond-all InternKeeps (wellFormed w) _ _ (interned-keeps (canonical w) (indexPlaceOf c m (canonical w))) (keeps-same c m))
       (keeps-same c m)
 
 abbrev pub StoreKeeps : Store → Store → Type 0

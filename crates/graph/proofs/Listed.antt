@@ -10,17 +10,19 @@ use lib.ListN.{length, getD, List·getD-append}
 use lib.Seq.{getD-append-seam}
 use lib.Dec.{eqb, leb, ltb}
 use borrow.Author.Tests.{eqb-true, eqb-false, ltb-true, ltb-false}
+use Rattle.term.specs.Bytes.{eqBytes}
 use Rattle.term.specs.Scanner.{firstKindOf}
+use Rattle.term.specs.Canonical.{canonical}
+use Rattle.term.proofs.Booleans.{eqBytes-is}
 use Rattle.store.specs.declared.Position.{Position}
 use Rattle.store.specs.declared.Position.the-variants.{Subject, Predicate, Object}
 use Rattle.store.specs.declared.Triple.{Triple}
 use Rattle.store.specs.Triple.{at, known, same, permitted}
 use Rattle.store.specs.Values.{Values}
-use Rattle.store.specs.Model.{Entry, Model, Capacities, wellFormed, eqBytes, lookupName, nameOf, bytesOf, internName}
+use Rattle.store.specs.Model.{Entry, Model, Capacities, wellFormed, lookupName, nameOf, bytesOf, internName}
 use Rattle.store.specs.Model.{internModel, entry, lookup, mark, put, assertModel, strike, retractModel}
 use Rattle.store.proofs.Tests.{decide, three, known-low, known-high, same-self, same-is}
 use Rattle.store.proofs.Falling.{head-le, head-passes, head-pos}
-use Rattle.store.proofs.Order.{eqBytes-is}
 use Rattle.store.proofs.Text.{name-old, name-new, length-snoc}
 use Rattle.store.proofs.Represented.{mark-length, mark-same, mark-other}
 use Rattle.store.proofs.Kept.{Tidy}
@@ -138,11 +140,11 @@ module _ (k : Capacities) (s : Model) (D : Tidy s) where
     answered = λ z. let h = name-listed w (s .names) i e in (omega arith, omega (arith, h .0), h .1);
   }
 
-  pub model-enters : (w : Term) → ModelEntered s ((internModel k s w) .0) w ((internModel k s w) .1)
+  pub model-enters : (w : Term) → ModelEntered s ((internModel k s w) .0) (canonical w) ((internModel k s w) .1)
   unfolding internModel
   model-enters w =
-      decide (wellFormed w) (λ e. rw e (entered-as w (lookupName w (s .names)) refl))
-      (λ e. rw e (unchanged w _ (λ z. omega arith)))
+      decide (wellFormed w) (λ e. rw e (entered-as (canonical w) (lookupName (canonical w) (s .names)) refl))
+      (λ e. rw e (unchanged (canonical w) _ (λ z. omega arith)))
 
 -- ---- triples more, and marks
 

@@ -2,15 +2,17 @@
 -- Assumes nothing.
 use mathlib.Core.Path.{_≡_, refl, sym, ap, _∙_}
 use mathlib.Core.Logic.{_≢_, _⊎_, inl, inr}
-use mathlib.Core.Bool.{true, not, _&&_, false≢true}
+use mathlib.Core.Bool.{true, false, not, _&&_, false≢true}
 use mathlib.Core.List.{[]}
 use Prim.Native.Nat.{ℕ, _-_, _≤_, _<_}
 use native.Mathlib.Omega.{arith}
 use lib.ListN.{length, getD}
 use lib.Dec.{eqb}
 use borrow.Author.Tests.{eqb-true, eq-eqb}
+use Rattle.term.specs.Bytes.{eqBytes}
 use Rattle.term.specs.Grammar.{Iri, Blank, Literal, Name, iri, blank, literal}
 use Rattle.term.specs.Scanner.{firstKindOf}
+use Rattle.term.specs.Canonical.{writesString, canonical}
 use Rattle.term.proofs.Names.{kinds}
 use Rattle.store.specs.declared.Position.{Position}
 use Rattle.store.specs.declared.Position.the-variants.{Subject, Predicate, Object}
@@ -18,15 +20,15 @@ use Rattle.store.specs.declared.Counters.{Counters}
 use Rattle.store.specs.declared.Triple.{Triple}
 use Rattle.store.specs.Triple.{at, permitted}
 use Rattle.store.specs.Tables.{Tables, tripleAt, kindAt}
-use Rattle.store.specs.Model.{wellFormed, eqBytes, lookupName, nameOf}
+use Rattle.store.specs.Model.{wellFormed, lookupName, nameOf}
 use Rattle.store.specs.Dictionary.{nameAt}
 use Rattle.store.specs.Soundness.{Sound}
 use Rattle.store.proofs.Tests.{and-l, and-r, three}
 use Rattle.store.proofs.Falling.{head-le}
 use Rattle.store.proofs.Words.{triple-at}
-use Rattle.store.proofs.Form.{form-kind, form-kindOf}
+use Rattle.store.proofs.Form.{form-kind, form-kindOf, storable-formed, storable-plain}
 use Rattle.store.proofs.NamesAgree.{name-at}
-use Rattle.store.proofs.RoundTrips.{distinct-names, lookup-name}
+use Rattle.store.proofs.RoundTrips.{name-storable, name-kept, distinct-names, lookup-name}
 use Rattle.graph.specs.Meaning.{Term, termAt, IsTriple}
 use Rattle.graph.specs.Graph.{named, LiveAt}
 use Rattle.graph.specs.Claims.{GraphClaim}
@@ -67,6 +69,13 @@ module _ (c : Counters) (m : Tables) (S : Sound c m) where
       distinct-names c m S y z a b d e
       (sym (name-at (S .names) c m (S .named) y a b) ∙ h ∙ name-at (S .names) c m (S .named) z d e)
 
+  pub name-short : (y : ℕ) → 0 < y → y ≤ c .resources → canonical (nameAt m y) ≡ nameAt m y
+  name-short y a b = let e = name-at (S .names) c m (S .named) y a b in ap canonical e ∙ name-kept c m S y a b ∙ sym e
+
+  name-plain : (y : ℕ) → 0 < y → y ≤ c .resources → writesString (nameAt m y) ≡ false
+  name-plain y a b =
+      ap writesString (name-at (S .names) c m (S .named) y a b) ∙ storable-plain (nameOf (S .names) y) (name-storable c m S y a b)
+
   -- the number of a name, or 0
   unfoldable pub numberOfName : Term → ℕ
   numberOfName w = lookupName w (S .names)
@@ -82,18 +91,18 @@ module _ (c : Counters) (m : Tables) (S : Sound c m) where
 
   -- ---- the graph
 
-  name-kind : (y : ℕ) → 0 < y → y ≤ c .resources → Name (kindAt (m .resources) y) (nameAt m y)
+  pub name-kind : (y : ℕ) → 0 < y → y ≤ c .resources → Name (kindAt (m .resources) y) (nameAt m y)
   name-kind y a b =
       let w = nameOf (S .names) y in
-      let f : wellFormed w ≡ true = (unfold nameOf in (S .named .well (y - 1) (omega (arith, S .named .size)))) in
+      let f : wellFormed w ≡ true = (unfold nameOf in (storable-formed _ (S .named .well (y - 1) (omega (arith, S .named .size))))) in
       let e = S .named .kinds y a b in
       rw (e, name-at (S .names) c m (S .named) y a b)
       ((kinds 255 (firstKindOf w) w (form-kind w f)) .0 (form-kindOf w f) .1)
 
-  term-low : (p : Position) (i : ℕ) → i < c .statements → 0 < at p (tripleAt (m .statements) i)
+  pub term-low : (p : Position) (i : ℕ) → i < c .statements → 0 < at p (tripleAt (m .statements) i)
   term-low p i h = rw (triple-at (m .statements) p i) (S .linked .low p i h)
 
-  term-high : (p : Position) (i : ℕ) → i < c .statements → at p (tripleAt (m .statements) i) ≤ c .resources
+  pub term-high : (p : Position) (i : ℕ) → i < c .statements → at p (tripleAt (m .statements) i) ≤ c .resources
   term-high p i h = rw (triple-at (m .statements) p i) (S .linked .high p i h)
 
   live-triple : (i : ℕ) → i < c .statements → IsTriple (named m (tripleAt (m .statements) i))
@@ -108,6 +117,7 @@ module _ (c : Counters) (m : Tables) (S : Sound c m) where
         predicate-kind = asIri (name-kind (x .predicate .0) (term-low Predicate i h) (term-high Predicate i h))
             (eqb-true _ 1 (and-r (not (eqb (kindAt (m .resources) (x .subject .0)) 3)) _ k′));
         object-kind = asObject (name-kind (x .object .0) (term-low Object i h) (term-high Object i h));
+        object-spelling = name-plain (x .object .0) (term-low Object i h) (term-high Object i h);
       }
 
   live-once : (i j : ℕ) → LiveAt c m i → LiveAt c m j
@@ -123,5 +133,7 @@ pub live-graph : GraphClaim
 live-graph c m S = record {
   graph = λ x g. rw (← g .2) (live-triple c m S (g .0) (g .1 .0));
   once = live-once c m S;
-  distinct = names-apart c m S;
+  short = name-short c m S;
+  distinct = λ y z a b d e h.
+      names-apart c m S y z a b d e (sym (name-short c m S y a b) ∙ h ∙ name-short c m S z d e);
 }

@@ -10,6 +10,7 @@ use native.Mathlib.Omega.{arith}
 use lib.ListN.{length}
 use lib.Dec.{eqb}
 use borrow.Author.Tests.{eqb-true, eqb-false, ne-eqb}
+use Rattle.term.specs.Canonical.{canonical}
 use Rattle.store.specs.declared.Position.the-variants.{Subject, Predicate, Object}
 use Rattle.store.specs.declared.Counters.{Counters}
 use Rattle.store.specs.declared.Triple.{Triple}
@@ -33,7 +34,7 @@ use Rattle.store.proofs.Kept.{Tidy, tidy-history}
 use Rattle.store.proofs.Held.{entries-length, entries-at, named-names, agreeing-holds, sound-agrees, sound-tidy}
 use Rattle.graph.specs.Meaning.{Term, RdfTriple}
 use Rattle.graph.specs.Graph.{named, graphOf}
-use Rattle.graph.specs.Claims.{SoundStore, graphIn, SameGraph, Entered, Added, Removed, WriteClaim, loadOf}
+use Rattle.graph.specs.Claims.{SoundStore, graphIn, SameGraph, Entered, Added, Removed, WriteClaim, loadOf, canonicalTriple}
 use Rattle.graph.specs.Claims.{Loaded, LoadClaim}
 use Rattle.graph.proofs.Listed.{nameTriple, modelGraph, graph-trans, ModelEntered, model-enters, ModelAdded}
 use Rattle.graph.proofs.Listed.{model-asserts, ModelRemoved, model-retracts}
@@ -143,7 +144,7 @@ module _ (c : Counters) (m : Tables) (S : Sound c m) where
 
   -- ---- enter
 
-  model-entered : (w : Term) → ModelEntered lists ((callModel k lists (intern w)) .0) w
+  model-entered : (w : Term) → ModelEntered lists ((callModel k lists (intern w)) .0) (canonical w)
       ((callModel k lists (intern w)) .1)
   unfolding callModel
   model-entered w = model-enters k lists (sound-tidy c m S) w
@@ -327,7 +328,7 @@ module _ (s : Store) (S : SoundStore s) (y : RdfTriple) where
   fourth : Added (d .0) (e .0) (named (d .0 .tables) numbers) (e .1)
   fourth = writes (d .0) (third .sound) .asserts byValue numbers
 
-  names-are : a .1 .refusal ≡ 0 → b .1 .refusal ≡ 0 → d .1 .refusal ≡ 0 → named (d .0 .tables) numbers ≡ y
+  names-are : a .1 .refusal ≡ 0 → b .1 .refusal ≡ 0 → d .1 .refusal ≡ 0 → named (d .0 .tables) numbers ≡ canonicalTriple y
   names-are p q r =
       let x = first .answered p in
       let y₂ = second .kept (a .1 .number) (x .0) (x .1) in
@@ -335,7 +336,7 @@ module _ (s : Store) (S : SoundStore s) (y : RdfTriple) where
       let z = second .answered q in
       let z₃ = third .kept (b .1 .number) (z .0) (z .1) in
       let w = third .answered r in
-      triple-named (d .0 .tables) (a .1 .number) (b .1 .number) (d .1 .number) y (y₃ .1 ∙ y₂ .1 ∙ x .2)
+      triple-named (d .0 .tables) (a .1 .number) (b .1 .number) (d .1 .number) (canonicalTriple y) (y₃ .1 ∙ y₂ .1 ∙ x .2)
       (z₃ .1 ∙ z .2) (w .2)
 
   two-graph : SameGraph (graphIn (b .0)) (graphIn s)
@@ -344,10 +345,10 @@ module _ (s : Store) (S : SoundStore s) (y : RdfTriple) where
   three-graph : SameGraph (graphIn (d .0)) (graphIn s)
   three-graph = graph-trans (graphIn (d .0)) (graphIn (b .0)) (graphIn s) (third .graph) two-graph
 
-  stopped : (s′ : Store) (n : ℕ) → SoundStore s′ → SameGraph (graphIn s′) (graphIn s) → n ≢ 0 → Loaded s s′ y n
+  stopped : (s′ : Store) (n : ℕ) → SoundStore s′ → SameGraph (graphIn s′) (graphIn s) → n ≢ 0 → Loaded s s′ (canonicalTriple y) n
   stopped s′ n T g h = record { sound = T; refused = λ q. g; loaded = λ q. absurd (h q) }
 
-  whole : a .1 .refusal ≡ 0 → b .1 .refusal ≡ 0 → d .1 .refusal ≡ 0 → Loaded s (e .0) y (e .1 .refusal)
+  whole : a .1 .refusal ≡ 0 → b .1 .refusal ≡ 0 → d .1 .refusal ≡ 0 → Loaded s (e .0) (canonicalTriple y) (e .1 .refusal)
   whole p q r = record {
     sound = fourth .sound;
     refused = λ n. graph-trans (graphIn (e .0)) (graphIn (d .0)) (graphIn s) (fourth .refused n) three-graph;
@@ -357,11 +358,11 @@ module _ (s : Store) (S : SoundStore s) (y : RdfTriple) where
     );
   }
     where
-      there : (z : RdfTriple) → graphIn (d .0) z ⊎ (z ≡ named (d .0 .tables) numbers) → graphIn s z ⊎ (z ≡ y)
+      there : (z : RdfTriple) → graphIn (d .0) z ⊎ (z ≡ named (d .0 .tables) numbers) → graphIn s z ⊎ (z ≡ canonicalTriple y)
       there z (inl g) = inl (three-graph z .0 g)
       there z (inr h) = inr (h ∙ names-are p q r)
 
-      back : (z : RdfTriple) → graphIn s z ⊎ (z ≡ y) → graphIn (d .0) z ⊎ (z ≡ named (d .0 .tables) numbers)
+      back : (z : RdfTriple) → graphIn s z ⊎ (z ≡ canonicalTriple y) → graphIn (d .0) z ⊎ (z ≡ named (d .0 .tables) numbers)
       back z (inl g) = inl (three-graph z .1 g)
       back z (inr h) = inr (h ∙ sym (names-are p q r))
 

@@ -9,6 +9,7 @@ use mathlib.Core.List.{List, [], _∷_, map, List·Memᴰ}
 use Prim.Native.Nat.{ℕ, _+_, _*_, _≤_, _<_}
 use lib.ListN.{length}
 use lib.Dec.{eqb}
+use Rattle.term.specs.Canonical.{canonical}
 use Rattle.store.specs.declared.Position.{Position}
 use Rattle.store.specs.declared.Counters.{Counters}
 use Rattle.store.specs.declared.Triple.{Triple}
@@ -47,8 +48,11 @@ pub record LiveGraph (c : Counters) (m : Tables) : Type 0 where
   -- no triple twice
   pub once : (i j : ℕ) → LiveAt c m i → LiveAt c m j
       → named m (tripleAt (m .statements) i) ≡ named m (tripleAt (m .statements) j) → i ≡ j
+  -- names are without the string ending, so that equality of names is equality of their bytes
+  pub short : (y : ℕ) → 0 < y → y ≤ c .resources → canonical (nameAt m y) ≡ nameAt m y
   -- distinct numbers, distinct names
-  pub distinct : (y z : ℕ) → 0 < y → y ≤ c .resources → 0 < z → z ≤ c .resources → nameAt m y ≡ nameAt m z → y ≡ z
+  pub distinct : (y z : ℕ) → 0 < y → y ≤ c .resources → 0 < z → z ≤ c .resources
+      → canonical (nameAt m y) ≡ canonical (nameAt m z) → y ≡ z
 
 abbrev pub GraphClaim : Type 0
 GraphClaim = (c : Counters) (m : Tables) → Sound c m → LiveGraph c m
@@ -275,14 +279,14 @@ graphIn s = graphOf (s .counters) (s .tables)
 abbrev pub SameGraph : Graph → Graph → Type 0
 SameGraph G H = (z : RdfTriple) → G z ↔ H z
 
--- a name entered: numbers keep their names, and the number answered has this one
+-- a name entered: numbers keep their names, and the number answered has this one, without the string ending
 pub record Entered (s s′ : Store) (w : Term) (v : Values) : Type 0 where
   pub sound : SoundStore s′
   pub graph : SameGraph (graphIn s′) (graphIn s)
   pub kept : (n : ℕ) → 0 < n → n ≤ s .counters .resources → (n ≤ s′ .counters .resources)
       × (nameAt (s′ .tables) n ≡ nameAt (s .tables) n)
   pub answered : v .refusal ≡ 0
-      → (0 < v .number) × (v .number ≤ s′ .counters .resources) × (nameAt (s′ .tables) (v .number) ≡ w)
+      → (0 < v .number) × (v .number ≤ s′ .counters .resources) × (nameAt (s′ .tables) (v .number) ≡ canonical w)
 
 -- a triple asserted; status 2 is "already"
 pub record Added (s s′ : Store) (y : RdfTriple) (v : Values) : Type 0 where
@@ -322,11 +326,17 @@ loadOf s y =
     (b .0, b .1 .refusal))
     (a .0, a .1 .refusal)
 
--- a line's triple loaded is added, and nothing else; a refusal leaves the graph as it was
+-- a triple of names, each without the string ending
+abbrev pub canonicalTriple : RdfTriple → RdfTriple
+canonicalTriple y =
+    record { subject = canonical (y .subject); predicate = canonical (y .predicate); object = canonical (y .object) }
+
+-- a triple loaded is added, and nothing else; a refusal leaves the graph as it was
 pub record Loaded (s s′ : Store) (y : RdfTriple) (refusal : ℕ) : Type 0 where
   pub sound : SoundStore s′
   pub refused : refusal ≢ 0 → SameGraph (graphIn s′) (graphIn s)
   pub loaded : refusal ≡ 0 → (z : RdfTriple) → graphIn s′ z ↔ (graphIn s z ⊎ (z ≡ y))
 
 abbrev pub LoadClaim : Type 0
-LoadClaim = (s : Store) → SoundStore s → (y : RdfTriple) → Loaded s ((loadOf s y) .0) y ((loadOf s y) .1)
+LoadClaim = (s : Store) → SoundStore s → (y : RdfTriple)
+    → Loaded s ((loadOf s y) .0) (canonicalTriple y) ((loadOf s y) .1)

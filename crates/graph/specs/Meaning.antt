@@ -1,13 +1,15 @@
--- What a graph and a query mean, to be held beside RDF 1.1 Concepts (3) and SPARQL 1.1 (18.1, 18.3). Names are told
--- apart by their bytes, so `"A"` and `"A"` with the datatype xsd:string written out are two terms here, and so are two spellings of a
--- language tag; a blank node in a pattern stands for itself (paper 01). Nothing here speaks of tables,
--- chains, cursors or visits. Assumes nothing.
+-- What a graph and a query mean, to be held beside RDF 1.1 Concepts (3) and SPARQL 1.1 (18.1, 18.3). Names are without the
+-- string ending and then told apart by their bytes, so that two of them are two terms of RDF 1.1 (`NumbersAreTerms`, crate
+-- `lines`), a language tag as it is written. A blank node in a pattern stands for itself (paper 01). Nothing here speaks of
+-- tables, chains, cursors or visits. Assumes nothing.
 use mathlib.Core.Path.{_≡_}
 use mathlib.Core.Logic.{_⊎_, _↔_}
+use mathlib.Core.Bool.{false}
 use mathlib.Core.List.{List, List·Memᴰ}
 use mathlib.Core.Option.{Option, some}
 use Prim.Native.Nat.{ℕ}
 use Rattle.term.specs.Grammar.{Iri, Blank, Literal}
+use Rattle.term.specs.Canonical.{writesString}
 use Rattle.store.specs.declared.Position.{Position}
 use Rattle.store.specs.declared.Position.the-variants.{Subject, Predicate, Object}
 
@@ -28,6 +30,8 @@ pub record IsTriple (x : RdfTriple) : Type 0 where
   pub subject-kind : Iri (x .subject) ⊎ Blank (x .subject)
   pub predicate-kind : Iri (x .predicate)
   pub object-kind : Iri (x .object) ⊎ (Blank (x .object) ⊎ Literal (x .object))
+  -- 3.3: a literal with the datatype xsd:string is the one that writes no datatype, and is spelled so
+  pub object-spelling : writesString (x .object) ≡ false
 
 -- 3: a set of RDF triples
 abbrev pub Graph : Type 1

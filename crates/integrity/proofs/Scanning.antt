@@ -10,11 +10,12 @@ use lib.ListN.{length, getD, take, drop}
 use lib.Seq.{drop-cons}
 use lib.Dec.{eqb, ltb}
 use borrow.Author.Tests.{eqb-true, eqb-false, ltb-true, ltb-false, eq-eqb, ne-eqb, lt-ltb, le-ltb}
-use Rattle.term.specs.Scanner.{kindOf}
 use Rattle.term.specs.Grammar.{nameLimit}
+use Rattle.term.specs.Scanner.{kindOf}
+use Rattle.term.specs.Canonical.{writesString}
 use Rattle.store.specs.Tables.{offsetAt, kindAt}
 use Rattle.store.specs.Model.{wellFormed}
-use Rattle.store.specs.Dictionary.{upToZero, compare, isLess}
+use Rattle.store.specs.Dictionary.{storable, upToZero, compare, isLess}
 use Rattle.store.proofs.Tests.{and-l}
 use Rattle.store.proofs.Order.{compare-less, compare-more, compare-tail}
 use Rattle.integrity.specs.Names.{nameFrom, nameOk, namesOk}
@@ -101,17 +102,29 @@ module _ (res used : List ℕ) (y o : ℕ) where
   name-moved h e = rw (lt-ltb (o + length n) (length used) h, ne-eqb (offsetAt res y) o e)
 
   pub name-ill : o + length n < length used → offsetAt res y ≡ o → kindOf nameLimit n ≡ 0 → nameOk res used y o ≡ false
-  unfolding nameOk wellFormed
+  unfolding nameOk storable wellFormed
   name-ill h e k = rw (lt-ltb (o + length n) (length used) h, eq-eqb (offsetAt res y) o e, k)
 
-  pub name-kinds : o + length n < length used → offsetAt res y ≡ o → (kindOf nameLimit n ≡ 0 → ⊥)
-      → nameOk res used y o ≡ eqb (kindAt res y) (kindOf nameLimit n)
-  unfolding nameOk wellFormed
-  name-kinds h e k =
+  pub name-ending : o + length n < length used → offsetAt res y ≡ o → (kindOf nameLimit n ≡ 0 → ⊥) → writesString n ≡ true
+      → nameOk res used y o ≡ false
+  unfolding nameOk storable wellFormed
+  name-ending h e k t =
       rw (
         lt-ltb (o + length n) (length used) h,
         eq-eqb (offsetAt res y) o e,
         lt-ltb 0 (kindOf nameLimit n) (omega arith),
+        t,
+      )
+
+  pub name-kinds : o + length n < length used → offsetAt res y ≡ o → (kindOf nameLimit n ≡ 0 → ⊥) → writesString n ≡ false
+      → nameOk res used y o ≡ eqb (kindAt res y) (kindOf nameLimit n)
+  unfolding nameOk storable wellFormed
+  name-kinds h e k t =
+      rw (
+        lt-ltb (o + length n) (length used) h,
+        eq-eqb (offsetAt res y) o e,
+        lt-ltb 0 (kindOf nameLimit n) (omega arith),
+        t,
       )
 
 module _ (res used : List ℕ) (r y o : ℕ) where

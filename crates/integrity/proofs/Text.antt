@@ -1,5 +1,5 @@
 -- The names that one pass reads off the used text: the pass says yes exactly where the text is these names, well
--- formed, at the offsets and of the kinds that the records say. Assumes nothing.
+-- formed and without the string ending, at the offsets and of the kinds that the records say. Assumes nothing.
 use mathlib.Core.Path.{_≡_, refl, sym, ap, _∙_}
 use mathlib.Core.Bool.{true, _&&_}
 use mathlib.Core.List.{List, [], _∷_, _++_}
@@ -13,10 +13,10 @@ use borrow.Author.Tests.{eqb-true, eq-eqb, ltb-true, lt-ltb}
 use Rattle.term.specs.Scanner.{firstKindOf, kindOf}
 use Rattle.term.specs.Grammar.{nameLimit}
 use Rattle.store.specs.Tables.{offsetAt, kindAt}
-use Rattle.store.specs.Model.{wellFormed, bytesOf}
-use Rattle.store.specs.Dictionary.{joined, upToZero}
+use Rattle.store.specs.Model.{bytesOf}
+use Rattle.store.specs.Dictionary.{storable, joined, upToZero}
 use Rattle.store.proofs.Tests.{and-l, and-r, and-of}
-use Rattle.store.proofs.Form.{form-clean, form-kindOf}
+use Rattle.store.proofs.Form.{form-clean, form-kindOf, storable-formed}
 use Rattle.store.proofs.Text.{upToZero-stops}
 use Rattle.integrity.specs.Names.{nameFrom, nameOk, namesOk}
 
@@ -36,7 +36,7 @@ pub record Read (res used : List ℕ) (k y o : ℕ) (ns : List (List ℕ)) : Typ
   pub size : length ns ≡ k
   pub bytes : o + bytesOf ns ≡ length used
   pub spelled : drop o used ≡ joined ns
-  pub well : (i : ℕ) → i < k → wellFormed (getD ns i []) ≡ true
+  pub well : (i : ℕ) → i < k → storable (getD ns i []) ≡ true
   pub offsets : (i : ℕ) → i < k → offsetAt res (y + i) ≡ o + bytesOf (take i ns)
   pub kinds : (i : ℕ) → i < k → kindAt res (y + i) ≡ firstKindOf (getD ns i [])
 
@@ -49,7 +49,7 @@ each P k z s (suc i) h = s i (omega arith)
 record Tested (res used : List ℕ) (y o : ℕ) : Type 0 where
   closed : o + length (nameFrom used o) < length used
   offset : offsetAt res y ≡ o
-  formed : wellFormed (nameFrom used o) ≡ true
+  formed : storable (nameFrom used o) ≡ true
   kind : kindAt res y ≡ firstKindOf (nameFrom used o)
 
 module _ (res used : List ℕ) where
@@ -63,24 +63,25 @@ module _ (res used : List ℕ) where
       let a = ltb (o + length n) (length used) in
       let b = eqb (offsetAt res y) o in
       let d = eqb (kindAt res y) (kindOf nameLimit n) in
-      let e1 = and-r a (b && (wellFormed n && d)) e in
-      let e2 = and-r b (wellFormed n && d) e1 in
-      let w = and-l (wellFormed n) d e2 in
+      let e1 = and-r a (b && (storable n && d)) e in
+      let e2 = and-r b (storable n && d) e1 in
+      let w = and-l (storable n) d e2 in
       record {
         closed = ltb-true (o + length n) (length used) (and-l a _ e);
         offset = eqb-true (offsetAt res y) o (and-l b _ e1);
         formed = w;
-        kind = eqb-true (kindAt res y) (kindOf nameLimit n) (and-r (wellFormed n) d e2) ∙ form-kindOf n w;
+        kind = eqb-true (kindAt res y) (kindOf nameLimit n) (and-r (storable n) d e2) ∙ form-kindOf n (storable-formed n w);
       }
 
   tested-ok : (y o : ℕ) → Tested res used y o → nameOk res used y o ≡ true
   unfolding nameOk
   tested-ok y o T =
+      let k = form-kindOf (nameFrom used o) (storable-formed (nameFrom used o) (T .formed)) in
       rw (
         lt-ltb (o + length (nameFrom used o)) (length used) (T .closed),
         eq-eqb (offsetAt res y) o (T .offset),
         T .formed,
-        eq-eqb (kindAt res y) (kindOf nameLimit (nameFrom used o)) (T .kind ∙ sym (form-kindOf (nameFrom used o) (T .formed))),
+        eq-eqb (kindAt res y) (kindOf nameLimit (nameFrom used o)) (T .kind ∙ sym k),
       )
 
   split-name : (o : ℕ) → o + length (nameFrom used o) < length used → drop o used ≡ nameFrom used o ++ 0 ∷ drop (after o) used
@@ -101,7 +102,7 @@ module _ (res used : List ℕ) where
         size = ap suc (R .size);
         bytes = omega (arith, R .bytes);
         spelled = split-name o (T .closed) ∙ ap (λ (z : List ℕ). n ++ 0 ∷ z) (R .spelled);
-        well = each (λ i. wellFormed (getD (n ∷ ns) i []) ≡ true) k (T .formed) (λ i h. R .well i h);
+        well = each (λ i. storable (getD (n ∷ ns) i []) ≡ true) k (T .formed) (λ i h. R .well i h);
         offsets = each (λ i. offsetAt res (y + i) ≡ o + bytesOf (take i (n ∷ ns))) k
             (rw (add-zero, T .offset) (omega arith))
             (λ i h. rw (add-suc, ← suc-add, R .offsets i h) (omega arith));
@@ -140,7 +141,7 @@ module _ (res used : List ℕ) where
   module _ (k y o : ℕ) (n : List ℕ) (ns : List (List ℕ)) (R : Read res used (suc k) y o (n ∷ ns)) where
     head-name : nameFrom used o ≡ n
     unfolding nameFrom joined
-    head-name = ap upToZero (R .spelled) ∙ upToZero-stops n (joined ns) (form-clean n (R .well 0 (omega arith)))
+    head-name = ap upToZero (R .spelled) ∙ upToZero-stops n (joined ns) (form-clean n (storable-formed n (R .well 0 (omega arith))))
 
     head-tested : Tested res used y o
     unfolding bytesOf

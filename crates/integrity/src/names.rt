@@ -22,7 +22,7 @@ fn name_end(used: &[u8], from: usize) -> usize
     i
 }
 
-// Whether the name from `from` to `end` is closed and well formed, and resource y has its offset and kind.
+// Whether the name from `from` to `end` is closed, well formed and without the string ending, and resource y has its offset and kind.
 fn name_ok(resources: &[u32], used: &[u8], y: u32, from: usize, end: usize) -> bool
     requires { ⌜ ResourceHeld (now resources) y ⌝ }
     requires { ⌜ (end ≡ from + length (nameFrom (now used) from)) × (end ≤ length (now used)) ⌝ }
@@ -36,6 +36,9 @@ fn name_ok(resources: &[u32], used: &[u8], y: u32, from: usize, end: usize) -> b
     }
     let kind = term::name_kind(&used[from..end]);
     if kind == 0 {
+        return false;
+    }
+    if term::writes_string(&used[from..end]) {
         return false;
     }
     table::inner::kind_at(resources, y) == kind

@@ -1,22 +1,35 @@
 -- What a line of N-Triples does to the graph (demand 2, its last sentence): a line read as a triple gives the terms that the standard
--- gives it, and entering and asserting its parts adds exactly that triple to the graph; a refusal leaves the graph as it was.
--- Assumes nothing.
+-- gives it, and entering and asserting its parts adds exactly that triple to the graph; a refusal leaves the graph as it was. And what the
+-- numbers of a sound store are in RDF 1.1: a term each. Assumes nothing.
 use mathlib.Core.Path.{_≡_}
+use mathlib.Core.Logic.{_↔_}
 use mathlib.Core.List.{List}
-use Prim.Native.Nat.{ℕ, _<_}
+use Prim.Native.Nat.{ℕ, _≤_, _<_}
 use lib.ListN.{length, drop}
 use Rattle.term.specs.Grammar.{nameLimit}
-use Rattle.store.specs.History.{Store}
+use Rattle.store.specs.declared.Position.{Position}
+use Rattle.store.specs.declared.Counters.{Counters}
+use Rattle.store.specs.declared.ResourceId.{ResourceId}
+use Rattle.store.specs.declared.Lookup.the-variants.{Number}
+use Rattle.store.specs.Tables.{Tables, tripleAt}
+use Rattle.store.specs.Model.{intern}
+use Rattle.store.specs.Dictionary.{nameAt, findOf}
+use Rattle.store.specs.Soundness.{Sound}
+use Rattle.store.specs.History.{Store, callStore}
 use Rattle.ntriples.specs.declared.Span.{Span}
 use Rattle.ntriples.specs.declared.Line.the-variants as answer
 use Rattle.ntriples.specs.Text.{FirstLine, bytesOf, readOf}
+use Rattle.ntriples.specs.Terms.{termOf}
 use Rattle.ntriples.specs.Claims.{Meant, Enterable}
-use Rattle.graph.specs.Meaning.{RdfTriple}
-use Rattle.graph.specs.Claims.{SoundStore, Loaded, loadOf}
+use Rattle.graph.specs.Meaning.{RdfTriple, termAt}
+use Rattle.graph.specs.Graph.{named, LiveAt}
+use Rattle.graph.specs.Claims.{SoundStore, Loaded, loadOf, canonicalTriple}
 
--- the triple of names that a line's parts spell
-abbrev pub spelled : List ℕ → Span → Span → Span → RdfTriple
-spelled text s p o = record { subject = bytesOf text s; predicate = bytesOf text p; object = bytesOf text o }
+-- ---- loading a line
+
+-- the triple of names that stand in the parts answered
+abbrev pub namesIn : List ℕ → Span → Span → Span → RdfTriple
+namesIn text s p o = record { subject = bytesOf text s; predicate = bytesOf text p; object = bytesOf text o }
 
 -- the line l of the text, read with the parts s, p, o, and loaded into a store
 pub record LineLoads (text l : List ℕ) (s p o : Span) (before : Store) : Type 0 where
@@ -24,10 +37,38 @@ pub record LineLoads (text l : List ℕ) (s p o : Span) (before : Store) : Type 
   pub meant : Meant l text s p o
   -- its parts are names of permitted kinds
   pub enterable : Enterable nameLimit text s p o
-  -- its triple is added, and nothing else; a refusal leaves the graph
-  pub loaded : Loaded before ((loadOf before (spelled text s p o)) .0) (spelled text s p o) ((loadOf before (spelled text s p o)) .1)
+  -- they stand as the store holds them
+  pub short : canonicalTriple (namesIn text s p o) ≡ namesIn text s p o
+  -- their triple is added, and nothing else; a refusal leaves the graph
+  pub loaded : Loaded before ((loadOf before (namesIn text s p o)) .0) (canonicalTriple (namesIn text s p o))
+      ((loadOf before (namesIn text s p o)) .1)
 
 abbrev pub LinesLoad : Type 0
 LinesLoad = (text : List ℕ) (at : ℕ) (l : List ℕ) (n : ℕ) → at < length text → FirstLine (drop at text) l n
     → (s p o : Span) → readOf nameLimit text at .line ≡ answer.Triple s p o → (before : Store) → SoundStore before
     → LineLoads text l s p o before
+
+-- ---- a number, a term
+
+-- On a sound store two numbers are two terms of RDF 1.1,
+abbrev pub NumbersAreTerms : Type 0
+NumbersAreTerms = (c : Counters) (m : Tables) → Sound c m
+    → (y z : ℕ) → 0 < y → y ≤ c .resources → 0 < z → z ≤ c .resources → termOf (nameAt m y) ≡ termOf (nameAt m z) → y ≡ z
+
+-- and two live statements two triples.
+abbrev pub StatementsAreTriples : Type 0
+StatementsAreTriples = (c : Counters) (m : Tables) → Sound c m → (i j : ℕ) → LiveAt c m i → LiveAt c m j
+    → ((p : Position) → termOf (termAt p (named m (tripleAt (m .statements) i))) ≡ termOf (termAt p (named m (tripleAt (m .statements) j))))
+    → i ≡ j
+
+-- Two names found have one number exactly if RDF 1.1 gives them one term,
+abbrev pub FoundAsTerms : Type 0
+FoundAsTerms = (c : Counters) (m : Tables) → Sound c m → (v w : List ℕ) (y z : ResourceId)
+    → findOf c m v ≡ Number y → findOf c m w ≡ Number z → (y ≡ z) ↔ (termOf v ≡ termOf w)
+
+-- and so have two names entered, one after the other.
+abbrev pub EnteredAsTerms : Type 0
+EnteredAsTerms = (s : Store) → SoundStore s → (v w : List ℕ)
+    → let a = callStore s (intern v) in
+    let b = callStore (a .0) (intern w) in
+    a .1 .refusal ≡ 0 → b .1 .refusal ≡ 0 → (a .1 .number ≡ b .1 .number) ↔ (termOf v ≡ termOf w)

@@ -1,20 +1,25 @@
--- The claims of specs/Claims.antt. Assumes nothing.
+-- The claims of specs/Claims.antt, and laws of the object's part without the string ending. Assumes nothing.
 use Prim.Native.Nat.{ℕ, zero, suc, _+_, _-_, _≤_, _<_, min}
 use mathlib.Core.Path.{_≡_, refl, sym, _∙_, ap, subst}
 use mathlib.Core.List.{List, [], _∷_, _++_, append-assoc}
 use mathlib.Core.Bool.{Bool, true, false}
 use mathlib.Core.Logic.{_⊎_, ⊎-elim, inl, inr, _↔_}
 use lib.Dec.{leb, ltb, eqb}
-use lib.ListN.{length, take, drop, length-append}
+use lib.ListN.{length, take, drop, length-append, length-take, length-drop, take-append-drop}
 use lib.Seq.{drop-drop, drop-append-seam, take-append-seam}
 use native.Mathlib.Omega.{arith}
 use borrow.Author.Tests.{le-leb, lt-leb}
 use Rattle.term.specs.Bytes.{pick, among}
 use Rattle.term.specs.Scanner.{kindOf}
 use Rattle.term.specs.Grammar as g
+use Rattle.term.specs.Canonical.{canonical}
+use Rattle.term.specs.Theorems.{Canonical}
 use Rattle.term.proofs.Names.{never, kinds}
+use Rattle.term.proofs.Turn.{below-or}
+use Rattle.term.proofs.Shortened.{canonical-front, canonical-short, canonical-name}
 use Rattle.ntriples.specs.declared.Span.{Span}
 use Rattle.ntriples.specs.declared.Line.{Line}
+use Rattle.ntriples.specs.declared.LineRead.{LineRead}
 use Rattle.ntriples.specs.declared.Line.the-variants as answer
 use Rattle.ntriples.specs.Grammar.{
   span,
@@ -34,9 +39,11 @@ use Rattle.ntriples.specs.Grammar.{
   Longest,
 }
 use Rattle.ntriples.specs.Reader.{Outcome, Empty, Terms, Fails, Begin, placeOf, lineOf}
-use Rattle.ntriples.specs.Text.{FirstLine, bytesOf, firstLineOf, takenOf, answerOf, valuesOf, readOf}
+use Rattle.ntriples.specs.Text.{FirstLine, bytesOf, answerOf, valuesOf, readSpelled, shortPart, shortLine}
+use Rattle.ntriples.specs.Text.{readOf}
 use Rattle.ntriples.specs.Terms.{termOf}
 use Rattle.ntriples.specs.Claims.{
+  objectPart,
   Derived,
   Underivable,
   Enterable,
@@ -52,7 +59,7 @@ use Rattle.ntriples.proofs.Rest.{Rest, Derives, ShortParts, ShortOutcom
 use Rattle.ntriples.proofs.Reading.{broken, continued, answered, reads, unique, Stopped, stopped}
 use Rattle.ntriples.proofs.Derivation.{partsOf, rest-of, derivation, within-back, within-forth, viable-is}
 use Rattle.ntriples.proofs.Lines.{line-found, line-exists, line-first}
-use Rattle.ntriples.proofs.Terms.{subject-is, predicate-is, object-is}
+use Rattle.ntriples.proofs.Terms.{subject-is, predicate-is, object-is, object-same}
 
 -- a line with a derivation is read so
 triple-reads : {l : List ℕ} (m i : ℕ) → 1 ≤ m → (d : Triple l) → Within m d → lineOf m i l ≡ Terms (partsOf i d)
@@ -180,90 +187,8 @@ apart a b f h = omega arith
 longest-one : (m : ℕ) (l : List ℕ) (k k′ : ℕ) → Longest m l k → Longest m l k′ → k ≡ k′
 longest-one m l k k′ x y = apart k k′ (λ h. not-longer m l k k′ x y h) (λ h. not-longer m l k′ k y x h)
 
--- The answer for each way. An answer of one kind is none of another.
-nothing-triple : {C : Type 0} (s p o : Span) → answer.Nothing ≡ answer.Triple s p o → C
-nothing-triple s p o e = let z : _≡_ {A = ℕ} 0 1 = cc in absurd (omega arith)
-
-refused-triple : {C : Type 0} (k : ℕ) (s p o : Span) → answer.Refused k ≡ answer.Triple s p o → C
-refused-triple k s p o e = let z : _≡_ {A = ℕ} 0 1 = cc in absurd (omega arith)
-
-triple-nothing : {C : Type 0} (s p o : Span) → answer.Triple s p o ≡ answer.Nothing → C
-triple-nothing s p o e = nothing-triple s p o (sym e)
-
-refused-nothing : {C : Type 0} (k : ℕ) → answer.Refused k ≡ answer.Nothing → C
-refused-nothing k e = let z : _≡_ {A = ℕ} 0 1 = cc in absurd (omega arith)
-
-nothing-refused : {C : Type 0} (k : ℕ) → answer.Nothing ≡ answer.Refused k → C
-nothing-refused k e = refused-nothing k (sym e)
-
-triple-refused : {C : Type 0} (k : ℕ) (s p o : Span) → answer.Triple s p o ≡ answer.Refused k → C
-triple-refused k s p o e = refused-triple k s p o (sym e)
-
-derived-by : (m i : ℕ) (l : List ℕ) (s p o : Span) (r : Outcome) → Read m i l r
-    → answerOf i r ≡ answer.Triple s p o → Derived m i l s p o
-unfolding answerOf
-derived-by m i l s p o r (Read.nothing t) e = nothing-triple s p o e
-derived-by m i l s p o r (Read.triple d w) e =
-    record { derivation = d; within = w; subjectAt = cc; predicateAt = cc; objectAt = cc }
-derived-by m i l s p o r (Read.refused k u x) e = refused-triple (i + k - i) s p o e
-
-triple-answer : (i : ℕ) (s p o : Span) → answerOf i (Terms (s ∷ (p ∷ (o ∷ [])))) ≡ answer.Triple s p o
-unfolding answerOf
-triple-answer i s p o = refl
-
-derived-reads : (m i : ℕ) (l : List ℕ) (s p o : Span) → 1 ≤ m → Derived m i l s p o
-    → answerOf i (lineOf m i l) ≡ answer.Triple s p o
-derived-reads m i l s p o h d =
-    ap (answerOf i) (triple-reads m i h (d .derivation) (d .within))
-    ∙ (triple-answer i _ _ _ ∙ rw (d .subjectAt, d .predicateAt, d .objectAt))
-
-nothing-by : (m i : ℕ) (l : List ℕ) (r : Outcome) → Read m i l r → answerOf i r ≡ answer.Nothing → Trail l
-unfolding answerOf
-nothing-by m i l r (Read.nothing t) e = t
-nothing-by m i l r (Read.triple d w) e = triple-nothing _ _ _ e
-nothing-by m i l r (Read.refused k u x) e = refused-nothing (i + k - i) e
-
-nothing-reads : (m i : ℕ) (l : List ℕ) → 1 ≤ m → Trail l → answerOf i (lineOf m i l) ≡ answer.Nothing
-unfolding answerOf
-nothing-reads m i l h t = rw (trail-reads m i h t)
-
 back-off : (i k : ℕ) → i + k - i ≡ k
 back-off i k = omega arith
-
-refused-by : (m i : ℕ) (l : List ℕ) (k : ℕ) (r : Outcome) → Read m i l r → answerOf i r ≡ answer.Refused k
-    → Underivable m l × Longest m l k
-unfolding answerOf
-refused-by m i l k r (Read.nothing t) e = nothing-refused k e
-refused-by m i l k r (Read.triple d w) e = triple-refused k _ _ _ e
-refused-by m i l k r (Read.refused j u x) e =
-    let q : i + j - i ≡ k = cc in
-    (u, rw (sym (back-off i j) ∙ q) at x)
-
-refused-reads : (m i : ℕ) (l : List ℕ) (k : ℕ) (r : Outcome) → Read m i l r → Underivable m l × Longest m l k
-    → answerOf i r ≡ answer.Refused k
-unfolding answerOf
-refused-reads m i l k r (Read.nothing t) u = absurd (u .0 .notNothing t)
-refused-reads m i l k r (Read.triple d w) u = absurd (u .0 .noTriple d w)
-refused-reads m i l k r (Read.refused j v x) u = ap answer.Refused (back-off i j ∙ longest-one m l j k x (u .1))
-
-ten-by : (m i : ℕ) (l : List ℕ) (r : Outcome) → Read m i l r → valuesOf (answerOf i r) .refusal ≡ 10 → Underivable m l
-unfolding answerOf valuesOf
-ten-by m i l r (Read.nothing t) e = absurd (omega arith)
-ten-by m i l r (Read.triple d w) e = absurd (omega arith)
-ten-by m i l r (Read.refused k u x) e = u
-
-ten-reads : (m i : ℕ) (l : List ℕ) (r : Outcome) → Read m i l r → Underivable m l
-    → valuesOf (answerOf i r) .refusal ≡ 10
-unfolding answerOf valuesOf
-ten-reads m i l r (Read.nothing t) u = absurd (u .notNothing t)
-ten-reads m i l r (Read.triple d w) u = absurd (u .noTriple d w)
-ten-reads m i l r (Read.refused k v x) u = refl
-
-no-end : (m i : ℕ) (l : List ℕ) (r : Outcome) → Read m i l r → answerOf i r ≡ answer.End → ⊥
-unfolding answerOf
-no-end m i l r (Read.nothing t) e = let z : _≡_ {A = ℕ} 0 1 = cc in omega arith
-no-end m i l r (Read.triple d w) e = let z : _≡_ {A = ℕ} 0 1 = cc in omega arith
-no-end m i l r (Read.refused k u x) e = let z : _≡_ {A = ℕ} 0 1 = cc in omega arith
 
 -- The bytes of the parts.
 cut : (i : ℕ) (text w t s : List ℕ) → drop i text ≡ w ++ (t ++ s)
@@ -286,6 +211,122 @@ spelled text i d r e =
     let o = cut _ text (d .between₂) (d .object) _ (p .1) in
     record { subject = s .0; predicate = p .0; object = o .0 }
 
+front-is : (x y l : List ℕ) → l ≡ x ++ y → take (length x) l ≡ x
+front-is x y l e = rw e (take-append-seam x y)
+
+-- the bytes of a part without the ending are its bytes without the ending
+short-bytes : (text : List ℕ) (o : Span) → bytesOf text (shortPart text o) ≡ canonical (bytesOf text o)
+short-bytes text o =
+    let t = bytesOf text o in
+    let n = back-off (o .start) (length (canonical t)) in
+    let f = canonical-front t in
+    let l = drop (o .start) text in
+    let w : l ≡ canonical t ++ (f .0 ++ drop (o .end - o .start) l) =
+    sym (take-append-drop (o .end - o .start) l)
+    ∙ (ap (λ (z : List ℕ). z ++ drop (o .end - o .start) l) (f .1) ∙ append-assoc (canonical t) (f .0) _) in
+    rw n (front-is (canonical t) _ l w)
+
+short-object : {l : List ℕ} (text : List ℕ) (i : ℕ) (d : Triple l) (r : List ℕ) → drop i text ≡ l ++ r
+    → shortPart text (objectSpan i d) ≡ objectPart i d
+short-object text i d r e =
+    ap (λ (z : List ℕ). span (objectSpan i d .start) (objectSpan i d .start + length (canonical z)))
+    (spelled text i d r e .object)
+
+-- the bytes of the answered part
+object-bytes : {l : List ℕ} (text : List ℕ) (i : ℕ) (d : Triple l) (r : List ℕ) → drop i text ≡ l ++ r
+    → bytesOf text (objectPart i d) ≡ canonical (d .object)
+object-bytes text i d r e =
+    ap (bytesOf text) (sym (short-object text i d r e))
+    ∙ (short-bytes text (objectSpan i d) ∙ ap canonical (spelled text i d r e .object))
+
+-- The answer for each way. An answer of one kind is none of another.
+nothing-triple : {C : Type 0} (s p o : Span) → answer.Nothing ≡ answer.Triple s p o → C
+nothing-triple s p o e = let z : _≡_ {A = ℕ} 0 1 = cc in absurd (omega arith)
+
+refused-triple : {C : Type 0} (k : ℕ) (s p o : Span) → answer.Refused k ≡ answer.Triple s p o → C
+refused-triple k s p o e = let z : _≡_ {A = ℕ} 0 1 = cc in absurd (omega arith)
+
+triple-nothing : {C : Type 0} (s p o : Span) → answer.Triple s p o ≡ answer.Nothing → C
+triple-nothing s p o e = nothing-triple s p o (sym e)
+
+refused-nothing : {C : Type 0} (k : ℕ) → answer.Refused k ≡ answer.Nothing → C
+refused-nothing k e = let z : _≡_ {A = ℕ} 0 1 = cc in absurd (omega arith)
+
+nothing-refused : {C : Type 0} (k : ℕ) → answer.Nothing ≡ answer.Refused k → C
+nothing-refused k e = refused-nothing k (sym e)
+
+triple-refused : {C : Type 0} (k : ℕ) (s p o : Span) → answer.Triple s p o ≡ answer.Refused k → C
+triple-refused k s p o e = refused-triple k s p o (sym e)
+
+derived-by : (m i : ℕ) (text l t : List ℕ) (s p o : Span) (r : Outcome) → drop i text ≡ l ++ t → Read m i l r
+    → shortLine text (answerOf i r) ≡ answer.Triple s p o → Derived m i l s p o
+unfolding answerOf shortLine
+derived-by m i text l t s p o r z (Read.nothing x) e = nothing-triple s p o e
+derived-by m i text l t s p o r z (Read.triple d w) e =
+    let q = short-object text i d t z in
+    record { derivation = d; within = w; subjectAt = cc; predicateAt = cc; objectAt = cc }
+derived-by m i text l t s p o r z (Read.refused k u x) e = refused-triple (i + k - i) s p o e
+
+triple-answer : (i : ℕ) (text : List ℕ) (s p o : Span)
+    → shortLine text (answerOf i (Terms (s ∷ (p ∷ (o ∷ []))))) ≡ answer.Triple s p (shortPart text o)
+unfolding answerOf shortLine
+triple-answer i text s p o = refl
+
+triple-parts : (s p o s′ p′ o′ : Span) → s ≡ s′ → p ≡ p′ → o ≡ o′ → answer.Triple s p o ≡ answer.Triple s′ p′ o′
+triple-parts s p o s′ p′ o′ a b c = cc
+
+derived-reads : (m i : ℕ) (text l t : List ℕ) (s p o : Span) → 1 ≤ m → drop i text ≡ l ++ t → Derived m i l s p o
+    → shortLine text (answerOf i (lineOf m i l)) ≡ answer.Triple s p o
+derived-reads m i text l t s p o h z d =
+    ap (λ (r : Outcome). shortLine text (answerOf i r)) (triple-reads m i h (d .derivation) (d .within))
+    ∙ (triple-answer i text _ _ _
+    ∙ triple-parts _ _ _ s p o (d .subjectAt) (d .predicateAt) (short-object text i (d .derivation) t z ∙ d .objectAt))
+
+nothing-by : (m i : ℕ) (text l : List ℕ) (r : Outcome) → Read m i l r → shortLine text (answerOf i r) ≡ answer.Nothing → Trail l
+unfolding answerOf shortLine
+nothing-by m i text l r (Read.nothing t) e = t
+nothing-by m i text l r (Read.triple d w) e = triple-nothing _ _ _ e
+nothing-by m i text l r (Read.refused k u x) e = refused-nothing (i + k - i) e
+
+nothing-reads : (m i : ℕ) (text l : List ℕ) → 1 ≤ m → Trail l → shortLine text (answerOf i (lineOf m i l)) ≡ answer.Nothing
+unfolding answerOf shortLine
+nothing-reads m i text l h t = rw (trail-reads m i h t)
+
+refused-by : (m i : ℕ) (text l : List ℕ) (k : ℕ) (r : Outcome) → Read m i l r → shortLine text (answerOf i r) ≡ answer.Refused k
+    → Underivable m l × Longest m l k
+unfolding answerOf shortLine
+refused-by m i text l k r (Read.nothing t) e = nothing-refused k e
+refused-by m i text l k r (Read.triple d w) e = triple-refused k _ _ _ e
+refused-by m i text l k r (Read.refused j u x) e =
+    let q : i + j - i ≡ k = cc in
+    (u, rw (sym (back-off i j) ∙ q) at x)
+
+refused-reads : (m i : ℕ) (text l : List ℕ) (k : ℕ) (r : Outcome) → Read m i l r → Underivable m l × Longest m l k
+    → shortLine text (answerOf i r) ≡ answer.Refused k
+unfolding answerOf shortLine
+refused-reads m i text l k r (Read.nothing t) u = absurd (u .0 .notNothing t)
+refused-reads m i text l k r (Read.triple d w) u = absurd (u .0 .noTriple d w)
+refused-reads m i text l k r (Read.refused j v x) u = ap answer.Refused (back-off i j ∙ longest-one m l j k x (u .1))
+
+ten-by : (m i : ℕ) (text l : List ℕ) (r : Outcome) → Read m i l r → valuesOf (shortLine text (answerOf i r)) .refusal ≡ 10 → Underivable m l
+unfolding answerOf shortLine valuesOf
+ten-by m i text l r (Read.nothing t) e = absurd (omega arith)
+ten-by m i text l r (Read.triple d w) e = absurd (omega arith)
+ten-by m i text l r (Read.refused k u x) e = u
+
+ten-reads : (m i : ℕ) (text l : List ℕ) (r : Outcome) → Read m i l r → Underivable m l
+    → valuesOf (shortLine text (answerOf i r)) .refusal ≡ 10
+unfolding answerOf shortLine valuesOf
+ten-reads m i text l r (Read.nothing t) u = absurd (u .notNothing t)
+ten-reads m i text l r (Read.triple d w) u = absurd (u .noTriple d w)
+ten-reads m i text l r (Read.refused k v x) u = refl
+
+no-end : (m i : ℕ) (text l : List ℕ) (r : Outcome) → Read m i l r → shortLine text (answerOf i r) ≡ answer.End → ⊥
+unfolding answerOf shortLine
+no-end m i text l r (Read.nothing t) e = let z : _≡_ {A = ℕ} 0 1 = cc in omega arith
+no-end m i text l r (Read.triple d w) e = let z : _≡_ {A = ℕ} 0 1 = cc in omega arith
+no-end m i text l r (Read.refused k u x) e = let z : _≡_ {A = ℕ} 0 1 = cc in omega arith
+
 subject-kind : {t : List ℕ} (m : ℕ) → Subject t → length t ≤ m → (kindOf m t ≡ 1) ⊎ (kindOf m t ≡ 2)
 subject-kind {t} m (Subject.iri h) k = inl (kinds m 1 t (omega arith) .1 (k, g.Name.iri h))
 subject-kind {t} m (Subject.blank h) k = inr (kinds m 2 t (omega arith) .1 (k, g.Name.blank h))
@@ -298,15 +339,26 @@ object-kind {t} m (Object.iri h) k = inl (kinds m 1 t (omega arith) .1 (k, g.Nam
 object-kind {t} m (Object.blank h) k = inr (inl (kinds m 2 t (omega arith) .1 (k, g.Name.blank h)))
 object-kind {t} m (Object.literal h) k = inr (inr (kinds m 3 t (omega arith) .1 (k, g.Name.literal h)))
 
+-- without the string ending the object is a name of the same kind
+short-object-is : {t : List ℕ} (m : ℕ) → Object t → length t ≤ m → Canonical m t
+short-object-is {t} m h k = canonical-name m t (some (object-kind m h k))
+  where
+    some : (kindOf m t ≡ 1) ⊎ ((kindOf m t ≡ 2) ⊎ (kindOf m t ≡ 3)) → kindOf m t ≡ 0 → ⊥
+    some (inl e) z = omega arith
+    some (inr (inl e)) z = omega arith
+    some (inr (inr e)) z = omega arith
+
 enterable : (m : ℕ) (text : List ℕ) (i : ℕ) (l r : List ℕ) (s p o : Span) → drop i text ≡ l ++ r
     → Derived m i l s p o → Enterable m text s p o
 enterable m text i l r s p o e h =
     let d = h .derivation in
     let b = spelled text i d r e in
+    let short = short-object-is m (d .isObject) (h .within .2) in
     record {
       subjectKind = rw (← h .subjectAt, b .subject) (subject-kind m (d .isSubject) (h .within .0));
       predicateKind = rw (← h .predicateAt, b .predicate) (predicate-kind m (d .isPredicate) (h .within .1));
-      objectKind = rw (← h .objectAt, b .object) (object-kind m (d .isObject) (h .within .2));
+      objectKind = rw (← h .objectAt, object-bytes text i d r e, short .kind) (object-kind m (d .isObject) (h .within .2));
+      objectShort = rw (← h .objectAt, object-bytes text i d r e) (short .once);
     }
 
 meant : (m : ℕ) (text : List ℕ) (i : ℕ) (l r : List ℕ) (s p o : Span) → drop i text ≡ l ++ r → Derived m i l s p o
@@ -321,41 +373,114 @@ meant m text i l r s p o e h =
       predicateMeans =
           ap (λ (z : Span). termOf (bytesOf text z)) (sym (h .predicateAt)) ∙ (ap termOf (b .predicate) ∙ predicate-is
           (d .isPredicate));
-      objectMeans = ap (λ (z : Span). termOf (bytesOf text z)) (sym (h .objectAt)) ∙ (ap termOf (b .object)
-          ∙ object-is (d .isObject));
+      objectMeans = ap (λ (z : Span). termOf (bytesOf text z)) (sym (h .objectAt)) ∙ (ap termOf (object-bytes text i d r e)
+          ∙ (object-same (d .isObject) ∙ object-is (d .isObject)));
     }
 
 pub read-at : (m : ℕ) (text : List ℕ) (i : ℕ) (l : List ℕ) (n : ℕ) → i < length text → FirstLine (drop i text) l n
-    → readOf m text i ≡ record { line = answerOf i (lineOf m i l); next = i + n }
-unfolding readOf
+    → readSpelled m text i ≡ record { line = answerOf i (lineOf m i l); next = i + n }
+unfolding readSpelled
 read-at m text i l n h f = let w = line-found (drop i text) l n f in rw (lt-leb (length text) i h, w .0, w .1)
+
+read-short : (m : ℕ) (text : List ℕ) (i : ℕ) (l : List ℕ) (n : ℕ) → i < length text → FirstLine (drop i text) l n
+    → readOf m text i ≡ record { line = shortLine text (answerOf i (lineOf m i l)); next = i + n }
+unfolding readOf
+read-short m text i l n h f = let e = read-at m text i l n h f in rw e
 
 line-answered : (m : ℕ) (text : List ℕ) (i : ℕ) (l : List ℕ) (n : ℕ) → 1 ≤ m → i < length text
     → FirstLine (drop i text) l n
     → LineAnswered m text i l n
 line-answered m text i l n h k f =
-    let e = read-at m text i l n k f in
+    let e = read-short m text i l n k f in
     let v = read-line m i l h in
     let r = line-first (drop i text) l n f in
     let derived : (s p o : Span) → readOf m text i .line ≡ answer.Triple s p o → Derived m i l s p o =
-    λ s p o q. derived-by m i l s p o (lineOf m i l) v (rw e at q)
+    λ s p o q. derived-by m i text l (r .0) s p o (lineOf m i l) (r .1) v (rw e at q)
     in
     record {
       moves = rw e;
-      triple = λ s p o. (derived s p o, λ d. rw e (derived-reads m i l s p o h d));
-      nothing = (λ q. nothing-by m i l (lineOf m i l) v (rw e at q), λ t. rw e (nothing-reads m i l h t));
-      ten = (λ q. ten-by m i l (lineOf m i l) v (rw e at q), λ u. rw e (ten-reads m i l (lineOf m i l) v u));
+      triple = λ s p o. (derived s p o, λ d. rw e (derived-reads m i text l (r .0) s p o h (r .1) d));
+      nothing = (λ q. nothing-by m i text l (lineOf m i l) v (rw e at q), λ t. rw e (nothing-reads m i text l h t));
+      ten = (λ q. ten-by m i text l (lineOf m i l) v (rw e at q), λ u. rw e (ten-reads m i text l (lineOf m i l) v u));
       refused = λ j. (
-        λ q. refused-by m i l j (lineOf m i l) v (rw e at q),
-        λ u. rw e (refused-reads m i l j (lineOf m i l) v u),
+        λ q. refused-by m i text l j (lineOf m i l) v (rw e at q),
+        λ u. rw e (refused-reads m i text l j (lineOf m i l) v u),
       );
-      notEnd = λ q. no-end m i l (lineOf m i l) v (rw e at q);
+      notEnd = λ q. no-end m i text l (lineOf m i l) v (rw e at q);
       enterable = λ s p o q. enterable m text i l (r .0) s p o (r .1) (derived s p o q);
       meant = λ s p o q. meant m text i l (r .0) s p o (r .1) (derived s p o q);
     }
 
-pub reads-a-line : ReadsALine
+-- the object's part of a line as spelled lies in the text
+inside-by : (m i : ℕ) (text l t : List ℕ) (s p o : Span) (r : Outcome) → i ≤ length text → drop i text ≡ l ++ t → Read m i l r
+    → answerOf i r ≡ answer.Triple s p o → (o .start ≤ o .end) × (o .end ≤ length text)
+unfolding answerOf
+inside-by m i text l t s p o r h z (Read.nothing x) e = nothing-triple s p o e
+inside-by m i text l t s p o r h z (Read.triple d w) e =
+    let q : objectSpan i d ≡ o = cc in
+    let a = ap (λ (x : Span). x .start) q in
+    let b = ap (λ (x : Span). x .end) q in
+    let k = simp length-append at (sym (length-drop i text) ∙ ap length z) in
+    let n = simp length-append at (ap length (d .spells)) in
+    (omega arith, omega arith)
+inside-by m i text l t s p o r h z (Read.refused k u x) e = refused-triple (i + k - i) s p o e
+
+end-triple : {C : Type 0} (s p o : Span) → answer.End ≡ answer.Triple s p o → C
+end-triple s p o e = let z : _≡_ {A = ℕ} 0 1 = cc in absurd (omega arith)
+
+pub object-inside : (m : ℕ) (text : List ℕ) (i : ℕ) {r : LineRead} {s p o : Span} → 1 ≤ m → r ≡ readSpelled m text i
+    → r .line ≡ answer.Triple s p o → (o .start ≤ o .end) × (o .end ≤ length text)
+object-inside m text i {r} {s} {p} {o} h q f =
+    let e = ap (λ (x : LineRead). x .line) (sym q) ∙ f in
+    ⊎-elim
+    (λ (k : i < length text).
+    let w = line-exists (drop i text) in
+    let r = line-first (drop i text) (w .0) (w .1) (w .2) in
+    inside-by m i text (w .0) (r .0) s p o (lineOf m i (w .0)) (omega arith) (r .1) (read-line m i (w .0) h)
+    (ap (λ (x : LineRead). x .line) (sym (read-at m text i (w .0) (w .1) k (w .2))) ∙ e))
+    (λ (k : length text ≤ i). end-triple s p o (sym (past-end k) ∙ e))
+    (below-or i (length text))
+  where
+    past-end : length text ≤ i → readSpelled m text i .line ≡ answer.End
+    past-end k = unfold readSpelled in rw (le-leb (length text) i k)
+
+-- For the code: a line without an object is answered as spelled, and the object's part ends where what is left of it does.
+pub part-spelled : (text : List ℕ) (o : Span) → o .start ≤ o .end → o .start + length (bytesOf text o) ≤ o .end
+part-spelled text o h = let b = length-take (o .end - o .start) (drop (o .start) text) in omega arith
+
+pub part-short : (text : List ℕ) (o : Span) → o .start ≤ o .end → o .start + length (canonical (bytesOf text o)) ≤ o .end
+part-short text o h = let a = canonical-short (bytesOf text o) in let b = part-spelled text o h in omega arith
+
+abbrev lineRead : Line → ℕ → LineRead
+lineRead a n = record { line = a; next = n }
+
+pub read-plain : (m : ℕ) (text : List ℕ) (i : ℕ) (r : LineRead) (a : Line) → r ≡ readSpelled m text i → r .line ≡ a
+    → shortLine text a ≡ a → r ≡ readOf m text i
 unfolding readOf
+read-plain m text i r a e f g =
+    ap (λ (z : Line). lineRead z (r .next)) (f ∙ (sym g ∙ ap (shortLine text) (sym f)))
+    ∙ ap (λ (x : LineRead). lineRead (shortLine text (x .line)) (x .next)) e
+
+pub read-cut : (m : ℕ) (text : List ℕ) (i : ℕ) (r : LineRead) (s p o : Span) (n : List ℕ) → r ≡ readSpelled m text i
+    → r .line ≡ answer.Triple s p o → n ≡ canonical (bytesOf text o)
+    → _≡_ {A = LineRead} (record { line = answer.Triple s p (span (o .start) (o .start + length n)); next = r .next }) (readOf m text i)
+unfolding readOf shortLine
+read-cut m text i r s p o n e f g = rw (← e, f, g)
+
+pub end-short : (text : List ℕ) → shortLine text answer.End ≡ answer.End
+unfolding shortLine
+end-short text = refl
+
+pub nothing-short : (text : List ℕ) → shortLine text answer.Nothing ≡ answer.Nothing
+unfolding shortLine
+nothing-short text = refl
+
+pub refused-short : (text : List ℕ) (k : ℕ) → shortLine text (answer.Refused k) ≡ answer.Refused k
+unfolding shortLine
+refused-short text k = refl
+
+pub reads-a-line : ReadsALine
+unfolding readOf readSpelled shortLine
 reads-a-line m text i h =
     record { ended = λ k. rw (le-leb (length text) i k); answered = λ l n k f. line-answered m text i l n h k f }
 

@@ -1,11 +1,12 @@
--- Examples of READINGS 72 to 82 by computing, at the paper's limit, and the one pair of spellings that RDF 1.1 takes for one
--- literal (21). Assumes nothing.
+-- Examples of decisions 72 to 82, 123 and 124 by computing, at the paper's limit, and two spellings that RDF 1.1 takes for one literal
+-- (21). Assumes nothing.
 use Prim.Native.Nat.{ℕ}
 use mathlib.Core.Path.{_≡_, refl}
 use mathlib.Core.List.{List, [], _∷_, _++_, map}
 use lib.ListN.{replicate}
-use Rattle.term.specs.Bytes.{among, iriByte, textByte, pairByte, firstByte, labelByte, letter, alnum}
+use Rattle.term.specs.Bytes.{among, iriByte, textByte, pairByte, firstByte, labelByte, letter, alnum, eqBytes}
 use Rattle.term.specs.Scanner.{stepOf, wholeOf, isBad, firstKindOf}
+use Rattle.term.specs.Canonical.{stringEnding, writesString, canonical}
 use Rattle.ntriples.specs.declared.Line.{Line}
 use Rattle.ntriples.specs.declared.Line.the-variants.{End, Nothing, Triple, Refused}
 use Rattle.ntriples.specs.declared.LineRead.{LineRead}
@@ -25,8 +26,8 @@ use Rattle.ntriples.specs.Reader.{
   endOf,
   lineOf,
 }
-use Rattle.ntriples.specs.Text.{untilLf, hasLf, dropCr, firstLineOf, takenOf, answerOf, readOf}
-use Rattle.ntriples.specs.Terms.{xsdString, inner, lexicalFrom, suffixFrom, literalWith, termOf}
+use Rattle.ntriples.specs.Text.{untilLf, hasLf, dropCr, firstLineOf, takenOf, answerOf, readSpelled, shortLine, readOf}
+use Rattle.ntriples.specs.Terms.{inner, lexicalFrom, suffixFrom, literalWith, termOf}
 
 -- a text, a position, and what reading there answers
 record Row : Type 0 where
@@ -40,6 +41,10 @@ row text at line next = record { text = text; at = at; reads = record { line = l
 -- <a><b>_:
 abbrev blankObject : List ℕ
 blankObject = 60 ∷ 97 ∷ 62 ∷ 60 ∷ 98 ∷ 62 ∷ 95 ∷ 58 ∷ []
+
+-- <a><b>"
+abbrev literalObject : List ℕ
+literalObject = 60 ∷ 97 ∷ 62 ∷ 60 ∷ 98 ∷ 62 ∷ 34 ∷ []
 
 abbrev rows : List Row
 rows =
@@ -56,6 +61,16 @@ rows =
     -- _:a<b>"c"@en.#x (76)
     ∷ row (95 ∷ 58 ∷ 97 ∷ 60 ∷ 98 ∷ 62 ∷ 34 ∷ 99 ∷ 34 ∷ 64 ∷ 101 ∷ 110 ∷ 46 ∷ 35 ∷ 120 ∷ []) 0 (Triple (span 0 3)
     (span 3 6) (span 6 12)) 15
+    -- <a><b>"c" with the string ending, and the dot at once (124)
+    ∷ row (literalObject ++ (99 ∷ 34 ∷ (stringEnding ++ (46 ∷ [])))) 0 (Triple (span 0 3) (span 3 6) (span 6 9)) 53
+    -- "" with it
+    ∷ row (literalObject ++ (34 ∷ (stringEnding ++ (46 ∷ [])))) 0 (Triple (span 0 3) (span 3 6) (span 6 8)) 52
+    -- 255 bytes with it (123)
+    ∷ row (literalObject ++ (replicate 210 97 ++ (34 ∷ (stringEnding ++ (46 ∷ []))))) 0 (Triple (span 0 3) (span 3 6) (span 6 218)) 262
+    -- 256 bytes with it (123)
+    ∷ row (literalObject ++ (replicate 211 97 ++ (34 ∷ (stringEnding ++ (46 ∷ []))))) 0 (Refused 261) 263
+    -- the same bytes inside the quotes
+    ∷ row (literalObject ++ (stringEnding ++ (34 ∷ 46 ∷ []))) 0 (Triple (span 0 3) (span 3 6) (span 6 51)) 52
     -- <a> # c (76)
     ∷ row (60 ∷ 97 ∷ 62 ∷ 32 ∷ 35 ∷ 32 ∷ 99 ∷ []) 0 (Refused 4) 7
     -- <a><b>_:c.d. (77)
@@ -78,10 +93,12 @@ rows =
     ∷ []
 
 rows-hold : map (λ (r : Row). readOf 255 (r .text) (r .at)) rows ≡ map (λ (r : Row). r .reads) rows
-unfolding readOf answerOf firstLineOf takenOf untilLf hasLf dropCr lineOf placeOf endOf advanceOf leaveOf goesOnOf gapOf enterOf afterOf dotted opens isDot isBad permitted commentByte white stepOf wholeOf firstKindOf among iriByte textByte pairByte firstByte labelByte letter alnum
+unfolding readOf readSpelled shortLine eqBytes writesString canonical answerOf firstLineOf takenOf untilLf hasLf
+    dropCr lineOf placeOf endOf advanceOf leaveOf goesOnOf gapOf enterOf afterOf dotted opens isDot isBad permitted
+    commentByte white stepOf wholeOf firstKindOf among iriByte textByte pairByte firstByte labelByte letter alnum
 rows-hold = refl
 
--- "A" and "A"^^ with the datatype xsd:string
-same-term : termOf (34 ∷ 65 ∷ 34 ∷ []) ≡ termOf (34 ∷ 65 ∷ 34 ∷ 94 ∷ 94 ∷ 60 ∷ (xsdString ++ (62 ∷ [])))
+-- "A" without and with the string ending
+same-term : termOf (34 ∷ 65 ∷ 34 ∷ []) ≡ termOf (34 ∷ 65 ∷ 34 ∷ stringEnding)
 unfolding termOf inner lexicalFrom suffixFrom literalWith
 same-term = refl

@@ -39,7 +39,7 @@ use Rattle.ntriples.specs.Reader.{
   endOf,
   lineOf,
 }
-use Rattle.ntriples.specs.Text.{Unbroken, endsInCr, FirstLine, answerOf, readOf}
+use Rattle.ntriples.specs.Text.{Unbroken, endsInCr, FirstLine, answerOf, readSpelled}
 use Rattle.ntriples.specs.Productions.{Inline, Dark, RunEnd, runEnd, onward, TermEnds, ObjectEnds, crDropped, EolAt}
 use Rattle.ntriples.proofs.Forth.{gap-space}
 use Rattle.ntriples.proofs.Halts.{decide, strictly, step-to, at-end, onward-broken}
@@ -319,7 +319,7 @@ eol-join text i j k h l t u v = rw (slice-join text i j k h l t) (unbroken-appen
 
 -- the line ends at the end of the text
 pub read-last : (text : List ℕ) (i e : ℕ) → i < length text → EolAt text i e → e ≡ length text
-    → readOf 255 text i ≡ record { line = answerOf i (onward text e i Begin); next = e }
+    → readSpelled 255 text i ≡ record { line = answerOf i (onward text e i Begin); next = e }
 read-last text i e h t k =
     let l = slice i e text in
     let n = length-slice i e text (t .before) in
@@ -338,7 +338,7 @@ at-lf text i e t k =
 -- the line ends at a LF with no CR before it
 read-lf : (text : List ℕ) (i e : ℕ) → i < length text → EolAt text i e → e < length text
     → endsInCr (slice i e text) ≡ false
-    → readOf 255 text i ≡ record { line = answerOf i (onward text e i Begin); next = e + 1 }
+    → readSpelled 255 text i ≡ record { line = answerOf i (onward text e i Begin); next = e + 1 }
 read-lf text i e h t k c =
     let l = slice i e text in
     let n = length-slice i e text (t .before) in
@@ -350,7 +350,7 @@ read-lf text i e h t k c =
 -- the line ends at a CR and a LF
 read-crlf : (text : List ℕ) (i e : ℕ) → i < length text → EolAt text i e → e < length text → i < e
     → getD text (e - 1) 0 ≡ 13
-    → readOf 255 text i ≡ record { line = answerOf i (onward text (e - 1) i Begin); next = e + 1 }
+    → readSpelled 255 text i ≡ record { line = answerOf i (onward text (e - 1) i Begin); next = e + 1 }
 read-crlf text i e h t k m c =
     let d = e - 1 in
     let x : d + 1 ≡ e = omega arith in
@@ -389,7 +389,7 @@ unfolding crDropped
 dropped-no text i e z w = rw (z, w)
 
 pub read-broken : (text : List ℕ) (i e : ℕ) → i < length text → EolAt text i e → (e ≡ length text → ⊥)
-    → readOf 255 text i ≡ record { line = answerOf i (onward text (crDropped text i e) i Begin); next = e + 1 }
+    → readSpelled 255 text i ≡ record { line = answerOf i (onward text (crDropped text i e) i Begin); next = e + 1 }
 read-broken text i e h t n =
     let k = strictly e (length text) (t .before) n in
     ⊎-elim
@@ -424,6 +424,6 @@ stops-inline text i e s n t (inr w) =
     rw (w .1) record { before = f0; inText = omega arith }
 
 pub read-stops : (text : List ℕ) (i e s n : ℕ) → i < length text → EolAt text i e → Stops text i e s n
-    → readOf 255 text i ≡ record { line = answerOf i (onward text s i Begin); next = n }
+    → readSpelled 255 text i ≡ record { line = answerOf i (onward text s i Begin); next = n }
 read-stops text i e s n h t (inl w) = rw (w .1, w .2) (read-last text i e h t (w .0))
 read-stops text i e s n h t (inr w) = rw (w .1, w .2) (read-broken text i e h t (w .0))

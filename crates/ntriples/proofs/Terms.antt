@@ -1,16 +1,23 @@
--- The term of a name by one pass over its bytes is the term of its derivation, and two names have two terms.
--- Assumes nothing.
-use Prim.Native.Nat.{ℕ, zero, suc, _+_}
+-- The term of a name by one pass over its bytes is the term of its derivation; the string ending does not change it, and two names
+-- without it have two terms. Assumes nothing.
+use Prim.Native.Nat.{ℕ, _+_, _≤_}
 use mathlib.Core.Path.{_≡_, refl, sym, _∙_, ap}
-use mathlib.Core.List.{List, [], _∷_, _++_}
+use mathlib.Core.List.{List, [], _∷_, _++_, append-nil}
 use mathlib.Core.Bool.{Bool, true, false}
 use lib.Dec.{eqb}
-use lib.ListN.{drop}
+use lib.ListN.{length}
 use native.Mathlib.Omega.{arith}
 use borrow.Author.Tests.{eqb-true}
 use Rattle.term.specs.Bytes.{pick, among, textByte, pairByte}
 use Rattle.term.specs.Grammar as g
-use Rattle.term.proofs.Names.{never}
+use Rattle.term.specs.Scanner.{stepOf, runOf, wholeOf, kindOf}
+use Rattle.term.specs.Canonical.{xsdString, stringEnding, writesString, canonical}
+use Rattle.term.specs.declared.Scan.{Scan}
+use Rattle.term.specs.declared.Scan.the-variants.{Start, IriOpen, Under, Text, Escape, Quote, Bad}
+use Rattle.term.proofs.Names.{never, kinds, name-forth}
+use Rattle.term.proofs.Booleans.{decide}
+use Rattle.term.proofs.WellFormed.{name-positive}
+use Rattle.term.proofs.Shortened.{kept, rejoined, writes-joined, at-quote, isQuote, past-quote, quote-last, canonical-name}
 use Rattle.ntriples.specs.Grammar.{Subject, Predicate, Object}
 use Rattle.ntriples.specs.Terms.{
   Term,
@@ -18,7 +25,6 @@ use Rattle.ntriples.specs.Terms.{
   blank,
   literal,
   tagged,
-  xsdString,
   unescaped,
   iriRest,
   iriOf,
@@ -36,7 +42,7 @@ use Rattle.ntriples.specs.Terms.{
   literalWith,
   termOf,
 }
-use Rattle.ntriples.specs.Claims.{WritesString, DistinctTerms}
+use Rattle.ntriples.specs.Claims.{DistinctTerms}
 use Rattle.ntriples.proofs.Residual.{cases}
 
 inner-is : {s : List ℕ} (r : g.IriRest s) → inner s ≡ iriRest r
@@ -157,19 +163,22 @@ tag-of x y d e h = cc
 tag-no-type : {C : Type 0} (x y d e : List ℕ) → literal x d ≡ tagged y e → C
 tag-no-type x y d e h = let z : _≡_ {A = ℕ} 0 1 = cc in absurd (omega arith)
 
-writes-later : (b : ℕ) (s : List ℕ) → (WritesString (b ∷ s) → ⊥) → WritesString s → ⊥
+abbrev HasEnding : List ℕ → Type 0
+HasEnding s = (x : List ℕ) × (s ≡ x ++ stringEnding)
+
+writes-later : (b : ℕ) (s : List ℕ) → (HasEnding (b ∷ s) → ⊥) → HasEnding s → ⊥
 writes-later b s h w = h (b ∷ w .0, ap (λ (z : List ℕ). b ∷ z) (w .1))
 
 -- a datatype that is xsd:string is written out
-typed-writes : {s : List ℕ} (i : g.Iri s) → iriOf i ≡ xsdString → WritesString (94 ∷ (94 ∷ s))
+typed-writes : {s : List ℕ} (i : g.Iri s) → iriOf i ≡ xsdString → HasEnding (94 ∷ (94 ∷ s))
 typed-writes {s} i e =
     ([], ap (λ (z : List ℕ). 94 ∷ (94 ∷ z)) (iri-spelled i ∙ ap (λ (z : List ℕ). 60 ∷ (z ++ (62 ∷ []))) e))
 
 same-iri : {s t : List ℕ} (h : g.Iri s) (k : g.Iri t) → iriOf h ≡ iriOf k → s ≡ t
 same-iri h k e = iri-spelled h ∙ (ap (λ (z : List ℕ). 60 ∷ (z ++ (62 ∷ []))) e ∙ sym (iri-spelled k))
 
-same-suffix : {s t : List ℕ} (x y : List ℕ) (h : g.Suffix s) (k : g.Suffix t) → (WritesString s → ⊥)
-    → (WritesString t → ⊥)
+same-suffix : {s t : List ℕ} (x y : List ℕ) (h : g.Suffix s) (k : g.Suffix t) → (HasEnding s → ⊥)
+    → (HasEnding t → ⊥)
     → suffixed x h ≡ suffixed y k → s ≡ t
 same-suffix x y g.Suffix.none g.Suffix.none u v e = refl
 same-suffix x y g.Suffix.none (g.Suffix.tag f r) u v e = tag-no-type x y _ _ e
@@ -185,8 +194,8 @@ same-suffix x y (g.Suffix.datatype i) (g.Suffix.datatype j) u v e =
 cons-same : (b c : ℕ) (s t : List ℕ) → b ≡ c → s ≡ t → b ∷ s ≡ c ∷ t
 cons-same b c s t e f = cc
 
-same-text : {s t : List ℕ} (x y : List ℕ) (h : g.TextRest s) (k : g.TextRest t) → (WritesString s → ⊥)
-    → (WritesString t → ⊥)
+same-text : {s t : List ℕ} (x y : List ℕ) (h : g.TextRest s) (k : g.TextRest t) → (HasEnding s → ⊥)
+    → (HasEnding t → ⊥)
     → lexicalOf h ≡ lexicalOf k → textOf x h ≡ textOf y k → s ≡ t
 same-text x y (g.TextRest.byte {b = b} {s = s} p h) (g.TextRest.byte {b = c} {s = t} q k) u v e f =
     cons-same b c s t (first-of _ _ _ _ e)
@@ -225,7 +234,7 @@ text-lexical x (g.TextRest.byte e r) = text-lexical x r
 text-lexical x (g.TextRest.pair e r) = text-lexical x r
 text-lexical x (g.TextRest.close r) = suffix-lexical x r
 
-same-literal : {s t : List ℕ} (h : g.Literal s) (k : g.Literal t) → (WritesString s → ⊥) → (WritesString t → ⊥)
+same-literal : {s t : List ℕ} (h : g.Literal s) (k : g.Literal t) → (HasEnding s → ⊥) → (HasEnding t → ⊥)
     → literalOf h ≡ literalOf k → s ≡ t
 same-literal (g.Literal.open′ {s = s} h) (g.Literal.open′ {s = t} k) u v e =
     let x = sym (text-lexical (lexicalOf h) h) ∙ (ap lexicalIn e ∙ text-lexical (lexicalOf k) k) in
@@ -273,7 +282,7 @@ blank-of x y e = cc
 unlike : {C : Type 0} (a b : Term) (n m : ℕ) → sortOf a ≡ n → sortOf b ≡ m → (n ≡ m → ⊥) → a ≡ b → C
 unlike a b n m p q d e = absurd (d (sym p ∙ (ap sortOf e ∙ q)))
 
-same-name : {k j : ℕ} {s t : List ℕ} (h : g.Name k s) (i : g.Name j t) → (WritesString s → ⊥) → (WritesString t → ⊥)
+same-name : {k j : ℕ} {s t : List ℕ} (h : g.Name k s) (i : g.Name j t) → (HasEnding s → ⊥) → (HasEnding t → ⊥)
     → nameTerm h ≡ nameTerm i → s ≡ t
 unfolding nameTerm sortOf
 same-name (g.Name.iri h) (g.Name.iri i) u v e = same-iri h i (iri-of _ _ e)
@@ -287,5 +296,88 @@ same-name (g.Name.literal h) (g.Name.iri i) u v e = unlike _ _ 3 1 (literal-sort
 same-name (g.Name.literal h) (g.Name.blank i) u v e = unlike _ _ 3 2 (literal-sort h) refl (λ z. omega arith) e
 same-name (g.Name.literal h) (g.Name.literal i) u v e = same-literal h i u v e
 
+-- ---- the string ending
+
+abbrev Ends : Bool → List ℕ → List ℕ → Type 0
+Ends t x y = (lexicalFrom t (x ++ y) ≡ lexicalFrom t x) × (suffixFrom t (x ++ y) ≡ y)
+
+abbrev ToQuote : List ℕ → Scan → Type 0
+ToQuote x q = runOf q x ≡ Quote
+
+-- what follows the closing quote is the suffix, and no more of the lexical form
+mutual
+  unfolding stepOf runOf lexicalFrom suffixFrom
+
+  text-ends : (x y : List ℕ) → runOf Text x ≡ Quote → Ends false x y
+  text-ends [] y h = never (ap isQuote h)
+  text-ends (b ∷ x) y h =
+      cases (ToQuote x) (textByte b) Text _
+      (λ e w. let n = plain b e in let r = text-ends x y w in (rw (n .0, n .1, r .0), rw (n .0, n .1) (r .1)))
+      (λ e k. cases (ToQuote x) (eqb b 34) Quote _ (λ f w. (rw f, rw (f, quote-last x w)))
+      (λ f j. cases (ToQuote x) (eqb b 92) Escape Bad
+      (λ g w. let r = escape-ends x y w in (rw (f, g) (r .0), rw (f, g) (r .1))) (λ g w. past-quote x Bad refl w) j) k) h
+
+  escape-ends : (x y : List ℕ) → runOf Escape x ≡ Quote → Ends true x y
+  escape-ends [] y h = never (ap isQuote h)
+  escape-ends (b ∷ x) y h =
+      cases (ToQuote x) (pairByte b) Text Bad
+      (λ e w. let r = text-ends x y w in (ap (λ (z : List ℕ). unescaped b ∷ z) (r .0), r .1))
+      (λ e w. past-quote x Bad refl w) h
+
+-- a name at its closing quote has the term of the name with the ending
+literal-ends : (x : List ℕ) → runOf Text x ≡ Quote → termOf (34 ∷ (x ++ stringEnding)) ≡ termOf (34 ∷ x)
+unfolding termOf literalWith inner
+literal-ends x h =
+    let r = text-ends x stringEnding h in
+    let z = text-ends x [] h in
+    let n : suffixFrom false x ≡ [] = ap (suffixFrom false) (sym (append-nil x)) ∙ z .1 in
+    rw (r .0, r .1, n)
+
+ending-same : (x : List ℕ) → runOf Start x ≡ Quote → termOf (x ++ stringEnding) ≡ termOf x
+unfolding stepOf runOf
+ending-same [] h = never (ap isQuote h)
+ending-same (b ∷ x) h =
+    cases (ToQuote x) (eqb b 60) IriOpen _ (λ e w. past-quote x IriOpen refl w)
+    (λ e k. cases (ToQuote x) (eqb b 95) Under _ (λ f w. past-quote x Under refl w)
+    (λ f j. cases (ToQuote x) (eqb b 34) Text Bad (λ g w. rw (eqb-true b 34 g) (literal-ends x w))
+    (λ g w. past-quote x Bad refl w) j) k) h
+
+-- the term of a name is that of its spelling without the ending
+canonical-term : {k : ℕ} {s : List ℕ} → g.Name k s → termOf (canonical s) ≡ termOf s
+canonical-term {s = s} h =
+    decide (writesString s)
+    (λ e. let j = rejoined s e in
+    let q = at-quote (canonical s) (ap (λ (l : List ℕ). wholeOf (runOf Start l)) (sym j) ∙ name-forth h) in
+    sym (ap termOf j ∙ ending-same (canonical s) q))
+    (λ e. ap termOf (kept s e))
+
+found-kind : {k : ℕ} {s : List ℕ} → g.Name k s → kindOf (length s) s ≡ k
+found-kind {k} {s} h = kinds (length s) k s (name-positive h) .1 (omega arith, h)
+
+-- and that spelling is a name of the kind
+canonical-is : {k : ℕ} {s : List ℕ} → g.Name k s → g.Name k (canonical s) × (HasEnding (canonical s) → ⊥)
+canonical-is {k} {s} h =
+    let f = found-kind h in
+    let n = name-positive h in
+    let c = canonical-name (length s) s (λ z. omega arith) in (
+      kinds (length s) k (canonical s) n .0 (c .kind ∙ f) .1,
+      λ w. never (sym (c .ending) ∙ ap writesString (w .1) ∙ writes-joined (w .0)),
+    )
+
+distinct : {k j : ℕ} {a b : List ℕ} (h : g.Name k a) (i : g.Name j b) → (HasEnding a → ⊥) → (HasEnding b → ⊥)
+    → termOf a ≡ termOf b → a ≡ b
+distinct h i u v e = same-name h i u v (sym (name-is h) ∙ (e ∙ name-is i))
+
 pub distinct-terms : DistinctTerms
-distinct-terms k j a b h i u v e = same-name h i u v (sym (name-is h) ∙ (e ∙ name-is i))
+distinct-terms k j a b h i = (
+  λ e.
+      let x = canonical-is h in
+      let y = canonical-is i in
+      distinct (x .0) (y .0) (x .1) (y .1) (canonical-term h ∙ (e ∙ sym (canonical-term i))),
+  λ e. sym (canonical-term h) ∙ (ap termOf e ∙ canonical-term i),
+)
+
+pub object-same : {t : List ℕ} → Object t → termOf (canonical t) ≡ termOf t
+object-same (Object.iri h) = canonical-term (g.Name.iri h)
+object-same (Object.blank h) = canonical-term (g.Name.blank h)
+object-same (Object.literal h) = canonical-term (g.Name.literal h)

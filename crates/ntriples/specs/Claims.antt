@@ -1,36 +1,45 @@
--- What is proved of reading a line (scope paper, "Names", last paragraph, and "Read a line"), for every limit m of a term's
--- bytes from 1 up; the paper's is 255. Each claim is a type; proofs/Claims.antt has a value of each. Assumes nothing.
+-- What is proved of reading a line (scope paper, "Names", last paragraph, and "Read a line"; paper 02, note 7), for every limit m of a
+-- term's bytes from 1 up; the paper's is 255. Each claim is a type; proofs/Claims.antt and proofs/Terms.antt have a value of each. Assumes
+-- nothing.
 use Prim.Native.Nat.{ℕ, zero, suc, _+_, _-_, _≤_, _<_}
 use mathlib.Core.Path.{_≡_}
-use mathlib.Core.List.{List, [], _∷_, _++_}
+use mathlib.Core.List.{List}
 use mathlib.Core.Logic.{_⊎_, _↔_}
 use lib.ListN.{length, drop}
 use Rattle.term.specs.Grammar.{Name}
 use Rattle.term.specs.Scanner.{kindOf}
+use Rattle.term.specs.Canonical.{canonical}
 use Rattle.ntriples.specs.declared.Span.{Span}
 use Rattle.ntriples.specs.declared.Line.the-variants as answer
-use Rattle.ntriples.specs.Grammar.{Trail, Triple, subjectSpan, predicateSpan, objectSpan, Within, Longest}
+use Rattle.ntriples.specs.Grammar.{span, Trail, Triple, subjectSpan, predicateSpan, objectSpan, Within, Longest}
 use Rattle.ntriples.specs.Text.{FirstLine, bytesOf, valuesOf, readOf}
-use Rattle.ntriples.specs.Terms.{xsdString, termOf, subjectTerm, predicateTerm, objectTerm}
+use Rattle.ntriples.specs.Terms.{termOf, subjectTerm, predicateTerm, objectTerm}
 
--- The line l, whose first byte has position i, has a derivation with the parts s, p, o and terms of at most m bytes.
+-- The part of a derivation's object without the string ending: it begins where the object does.
+abbrev pub objectPart : {l : List ℕ} → ℕ → Triple l → Span
+objectPart i d = let a = objectSpan i d .start in span a (a + length (canonical (d .object)))
+
+-- The line l, whose first byte has position i, has a derivation with the parts s, p, o, the object's without the string ending, and
+-- terms of at most m bytes as spelled.
 pub record Derived (m i : ℕ) (l : List ℕ) (s p o : Span) : Type 0 where
   pub derivation : Triple l
   pub within : Within m derivation
   pub subjectAt : subjectSpan i derivation ≡ s
   pub predicateAt : predicateSpan i derivation ≡ p
-  pub objectAt : objectSpan i derivation ≡ o
+  pub objectAt : objectPart i derivation ≡ o
 
 -- No derivation exists: neither as a line that gives nothing nor as a triple with terms of at most m bytes.
 pub record Underivable (m : ℕ) (l : List ℕ) : Type 0 where
   pub notNothing : Trail l → ⊥
   pub noTriple : (d : Triple l) → Within m d → ⊥
 
--- The parts of a triple are well-formed names of the kinds that their places allow, so that entering them is not refused 2.
+-- The parts of a triple are well-formed names of the kinds that their places allow, so that entering them is not refused 2; the object's is
+-- without the string ending.
 pub record Enterable (m : ℕ) (text : List ℕ) (s p o : Span) : Type 0 where
   pub subjectKind : (kindOf m (bytesOf text s) ≡ 1) ⊎ (kindOf m (bytesOf text s) ≡ 2)
   pub predicateKind : kindOf m (bytesOf text p) ≡ 1
   pub objectKind : (kindOf m (bytesOf text o) ≡ 1) ⊎ ((kindOf m (bytesOf text o) ≡ 2) ⊎ (kindOf m (bytesOf text o) ≡ 3))
+  pub objectShort : canonical (bytesOf text o) ≡ bytesOf text o
 
 -- The terms of the parts are those that N-Triples gives the line's derivation.
 pub record Meant (l : List ℕ) (text : List ℕ) (s p o : Span) : Type 0 where
@@ -83,13 +92,7 @@ pub record SameStrings {l : List ℕ} (d e : Triple l) : Type 0 where
 abbrev pub OneDerivation : Type 0
 OneDerivation = (l : List ℕ) (d : Triple l) → ((e : Triple l) → SameStrings d e) × (Trail l → ⊥)
 
--- Two names have two terms, as the paper tells names apart by their bytes. The one exception within the paper's spelling is a
--- literal that writes the datatype xsd:string, to which RDF 1.1 gives the term of the same literal without it; the claim leaves
--- such names out. (RDF 1.1 also lets a store take language tags without their case; here a tag is as it is written.)
-abbrev pub WritesString : List ℕ → Type 0
-WritesString s = (x : List ℕ) × (s ≡ x ++ (94 ∷ (94 ∷ (60 ∷ (xsdString ++ (62 ∷ []))))))
-
+-- RDF 1.1 gives two names one term exactly if they are the same without the string ending. (RDF 1.1 also lets a store take language tags
+-- without their case; here a tag is as it is written.)
 abbrev pub DistinctTerms : Type 0
-DistinctTerms =
-    (k j : ℕ) (a b : List ℕ) → Name k a → Name j b → (WritesString a → ⊥) → (WritesString b → ⊥) → termOf a ≡ termOf b
-    → a ≡ b
+DistinctTerms = (k j : ℕ) (a b : List ℕ) → Name k a → Name j b → (termOf a ≡ termOf b) ↔ (canonical a ≡ canonical b)

@@ -6,6 +6,7 @@ use mathlib.Core.Bool.{Bool, true, false}
 use lib.Dec.{eqb}
 use lib.ListN.{drop}
 use Rattle.term.specs.Bytes.{pick}
+use Rattle.term.specs.Canonical.{xsdString}
 use Rattle.term.specs.Grammar as g
 use Rattle.ntriples.specs.Grammar.{Subject, Predicate, Object, Triple}
 
@@ -15,12 +16,6 @@ pub data Term : Type 0 where
   blank : List ℕ → Term
   literal : List ℕ → List ℕ → Term
   tagged : List ℕ → List ℕ → Term
-
--- http://www.w3.org/2001/XMLSchema#string: the datatype of a literal that writes none
-abbrev pub xsdString : List ℕ
-xsdString =
-    104 ∷ 116 ∷ 116 ∷ 112 ∷ 58 ∷ 47 ∷ 47 ∷ 119 ∷ 119 ∷ 119 ∷ 46 ∷ 119 ∷ 51 ∷ 46 ∷ 111 ∷ 114 ∷ 103 ∷ 47 ∷ 50 ∷ 48 ∷ 48 ∷ 49
-    ∷ 47 ∷ 88 ∷ 77 ∷ 76 ∷ 83 ∷ 99 ∷ 104 ∷ 101 ∷ 109 ∷ 97 ∷ 35 ∷ 115 ∷ 116 ∷ 114 ∷ 105 ∷ 110 ∷ 103 ∷ []
 
 -- what `\` and b stand for: `\n` is LF, `\r` is CR, `\"` and `\\` are the second byte
 abbrev pub unescaped : ℕ → ℕ

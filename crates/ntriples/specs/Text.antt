@@ -1,4 +1,4 @@
--- Lines of a text, and reading the line at a position (scope paper, "Names", last paragraph, and "Read a line").
+-- Lines of a text, and reading the line at a position (scope paper, "Names", last paragraph, and "Read a line"; paper 02, note 7).
 -- Assumes nothing.
 use Prim.Native.Nat.{ℕ, zero, suc, _+_, _-_}
 use mathlib.Core.Path.{_≡_}
@@ -7,6 +7,7 @@ use mathlib.Core.Bool.{Bool, true, false}
 use lib.Dec.{leb, ltb, eqb}
 use lib.ListN.{length, take, drop}
 use Rattle.term.specs.Bytes.{pick}
+use Rattle.term.specs.Canonical.{canonical}
 use Rattle.ntriples.specs.declared.Span.{Span}
 use Rattle.ntriples.specs.declared.Line.{Line}
 use Rattle.ntriples.specs.declared.Line.the-variants.{End, Nothing, Triple, Refused}
@@ -80,8 +81,24 @@ valuesOf Nothing = record { refusal = 0; offset = 0; subject = span 0 0; predica
 valuesOf (Triple s p o) = record { refusal = 0; offset = 0; subject = s; predicate = p; object = o }
 valuesOf (Refused k) = record { refusal = 10; offset = k; subject = span 0 0; predicate = span 0 0; object = span 0 0 }
 
--- reading a line: the answer, and the position after
-unfoldable pub readOf : ℕ → List ℕ → ℕ → LineRead
-readOf limit text at =
+-- reading a line as it is spelled: the answer, and the position after
+unfoldable pub readSpelled : ℕ → List ℕ → ℕ → LineRead
+readSpelled limit text at =
     pick (leb (length text) at) record { line = End; next = at }
     record { line = answerOf at (lineOf limit at (firstLineOf (drop at text))); next = at + takenOf (drop at text) }
+
+-- a part of the text without the string ending
+abbrev pub shortPart : List ℕ → Span → Span
+shortPart text o = span (o .start) (o .start + length (canonical (bytesOf text o)))
+
+-- an answer with that part for the object: no subject and no predicate of a line is a literal
+unfoldable pub shortLine : List ℕ → Line → Line
+shortLine text End = End
+shortLine text Nothing = Nothing
+shortLine text (Triple s p o) = Triple s p (shortPart text o)
+shortLine text (Refused k) = Refused k
+
+-- reading a line: the object's part without the string ending; the position after the line and a refusal's offset by the line as spelled
+unfoldable pub readOf : ℕ → List ℕ → ℕ → LineRead
+readOf limit text at =
+    record { line = shortLine text (readSpelled limit text at .line); next = readSpelled limit text at .next }

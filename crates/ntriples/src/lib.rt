@@ -13,7 +13,7 @@ ghost use lib.ListN.{length};
 ghost use Rattle.term.specs.Grammar.{nameLimit};
 ghost use Rattle.ntriples.specs.Grammar.{white, commentByte};
 ghost use Rattle.ntriples.specs.Reader.{isDot, opens, Begin, Gap, After, Remark};
-ghost use Rattle.ntriples.specs.Text.{answerOf, readOf};
+ghost use Rattle.ntriples.specs.Text.{answerOf, readSpelled, readOf};
 ghost use Rattle.ntriples.specs.Productions.{Inline, OnLine, TermAt, Dark, Reached, RunEnd, onward, TermEnds, EarlierEnds, ObjectEnds, cutOf, crDropped, Seen, BlockSeen, Passed, EolAt};
 use term::Scan;
 
@@ -24,7 +24,8 @@ pub struct Span {
 }
 
 // What reading a line answers. End: the position is at or past the text's end. Nothing: a blank line or a comment line.
-// Triple: the parts of the subject, the predicate and the object. Refused: refusal 10, with its offset in the line.
+// Triple: the parts of the subject, the predicate and the object, without the string ending. Refused: refusal 10, with its
+// offset in the line.
 pub enum Line {
     End,
     Nothing,
@@ -431,10 +432,9 @@ fn drop_cr(text: &[u8], at: usize, lf: usize) -> usize
     lf
 }
 
-// Reads the line at the position `at` of the text. The position may stand anywhere, also inside a line, which is then read
-// from there. The next position is past the line and its EOL, after a refusal too; at or past the text's end it is `at`.
-pub fn read_line(text: &[u8], at: usize) -> LineRead
-    ensures { λ r. ⌜ r ≡ readOf nameLimit (now (text .entry)) at ⌝ }
+// The line at the position `at` of the text, with its parts as they are spelled.
+fn read_spelled(text: &[u8], at: usize) -> LineRead
+    ensures { λ r. ⌜ r ≡ readSpelled nameLimit (now (text .entry)) at ⌝ }
 {
     if at >= text.len() {
         let end = Line::End;
@@ -454,5 +454,36 @@ pub fn read_line(text: &[u8], at: usize) -> LineRead
     LineRead {
         line: line,
         next: next,
+    }
+}
+
+// Reads the line at the position `at` of the text. The position may stand anywhere, also inside a line, which is then read
+// from there. The next position is past the line and its EOL, after a refusal too; at or past the text's end it is `at`. The
+// object's part is answered without the string ending.
+pub fn read_line(text: &[u8], at: usize) -> LineRead
+    ensures { λ r. ⌜ r ≡ readOf nameLimit (now (text .entry)) at ⌝ }
+{
+    let read = read_spelled(text, at);
+    let line = read.line;
+    let next = read.next;
+    match line {
+        Line::End => read,
+        Line::Nothing => read,
+        Line::Refused(_) => read,
+        Line::Triple(s, p, o) => {
+            let start = o.start;
+            let end = o.end;
+            let spelled = &text[start..end];
+            let name = term::canonical(spelled);
+            let object = Span {
+                start: start,
+                end: start + name.len(),
+            };
+            let short = Line::Triple(s, p, object);
+            LineRead {
+                line: short,
+                next: next,
+            }
+        }
     }
 }

@@ -3,7 +3,7 @@
 // its name, the answer and the position after.
 //
 // The input and the expected output are those of `reference.py`, which follows the scope paper and knows nothing of this
-// library; the answers that READINGS.md gives as examples are written out there by hand.
+// library; the answers that docs/DECISIONS.md gives as examples are written out there by hand.
 use store::Refusal;
 use store::refusal_number;
 ghost use Prim.Native.Nat.{_≤_, _<_};

@@ -7,6 +7,7 @@ use native.Mathlib.Omega.{arith}
 use lib.ListN.{length, length-append, List·getD-append}
 use lib.Dec.{eqb, leb, ltb}
 use Rattle.term.specs.Scanner.{firstKindOf}
+use Rattle.term.specs.Canonical.{canonical}
 use Rattle.store.specs.declared.Triple.{Triple}
 use Rattle.store.specs.Triple.{known, within, permitted}
 use Rattle.store.specs.Model.{Entry, Model, Capacities, Call, intern, assert, retract, open′, next, wellFormed}
@@ -38,12 +39,12 @@ grown-mark l i b = record { longer = omega (arith, mark-length l i b); stays = �
 module _ (k : Capacities) (s : Model) where
   intern-keeps : (w : List ℕ) → ((internModel k s w) .0) .entries ≡ s .entries
   unfolding internModel
-  intern-keeps w = decide (wellFormed w) (λ e. rw e (go (lookupName w (s .names)))) (λ e. rw e)
+  intern-keeps w = decide (wellFormed w) (λ e. rw e (go (lookupName (canonical w) (s .names)))) (λ e. rw e)
     where
-      go : (t : ℕ) → ((internName k s w t) .0) .entries ≡ s .entries
+      go : (t : ℕ) → ((internName k s (canonical w) t) .0) .entries ≡ s .entries
       go zero =
           unfold internName in
-          (decide (ltb (length (s .names)) (k .resources) && leb (bytesOf (s .names ++ w ∷ [])) (k .text))
+          (decide (ltb (length (s .names)) (k .resources) && leb (bytesOf (s .names ++ canonical w ∷ [])) (k .text))
           (λ e. rw e) (λ e. rw e))
       go (suc i) = unfold internName in refl
 

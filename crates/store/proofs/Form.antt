@@ -1,20 +1,23 @@
--- What the store needs of well-formed names: no zero byte, a kind from 1 to 3 by the first byte, at most 255 bytes.
--- Assumes nothing.
+-- What the store needs of well-formed names: no zero byte, a kind from 1 to 3 by the first byte, at most 255 bytes; and what is left of
+-- them without the string ending. Assumes nothing.
 use mathlib.Core.Path.{_≡_, refl, sym, ap, _∙_}
-use mathlib.Core.Bool.{Bool, true, false}
+use mathlib.Core.Bool.{Bool, true, false, not}
 use mathlib.Core.List.{List, [], _∷_}
 use Prim.Native.Nat.{ℕ, zero, suc, _≤_, _<_}
 use native.Mathlib.Omega.{arith}
 use lib.ListN.{length}
 use lib.Dec.{eqb, leb, ltb}
-use borrow.Author.Tests.{leb-true, ltb-true, ltb-false}
+use borrow.Author.Tests.{leb-true, ltb-true, not-true}
 use Rattle.term.specs.Bytes.{pick, among, letter, alnum, iriByte, textByte, pairByte, firstByte, labelByte}
 use Rattle.term.specs.Scanner.{stepOf, runOf, wholeOf, firstKindOf, kindOf}
 use Rattle.term.specs.declared.Scan.{Scan}
 use Rattle.term.specs.declared.Scan.the-variants.{Start, IriOpen, Iri, Closed, Under, Colon, Label, Dot, Dots, Text}
 use Rattle.term.specs.declared.Scan.the-variants.{Escape, Quote, At, Tag, Hyphen, Group, Caret, Carets, Bad}
+use Rattle.term.specs.Canonical.{writesString, canonical}
+use Rattle.term.proofs.Shortened.{canonical-name, kept}
 use Rattle.store.specs.Model.{wellFormed}
-use Rattle.store.proofs.Tests.{decide}
+use Rattle.store.specs.Dictionary.{storable}
+use Rattle.store.proofs.Tests.{decide, and-l, and-r, and-of}
 
 -- no zero byte
 abbrev pub clean : List ℕ → Bool
@@ -93,3 +96,35 @@ kind-high (b ∷ r) =
 pub form-kindOf : (w : List ℕ) → wellFormed w ≡ true → kindOf 255 w ≡ firstKindOf w
 unfolding kindOf
 form-kindOf w e = rw (parts w e .short, parts w e .whole)
+
+-- ---- names without the string ending
+
+pub storable-formed : (w : List ℕ) → storable w ≡ true → wellFormed w ≡ true
+unfolding storable
+storable-formed w e = and-l (wellFormed w) _ e
+
+pub storable-plain : (w : List ℕ) → storable w ≡ true → writesString w ≡ false
+unfolding storable
+storable-plain w e = not-true (writesString w) (and-r (wellFormed w) (not (writesString w)) e)
+
+-- the step leaves such a name as it is
+pub storable-kept : (w : List ℕ) → storable w ≡ true → canonical w ≡ w
+storable-kept w e = kept w (storable-plain w e)
+
+kind-found : (w : List ℕ) → wellFormed w ≡ true → kindOf 255 w ≡ 0 → ⊥
+unfolding wellFormed
+kind-found w e z = omega (arith, ltb-true 0 0 (rw z at e))
+
+-- and what it leaves of a well-formed name is one
+pub canonical-storable : (w : List ℕ) → wellFormed w ≡ true → storable (canonical w) ≡ true
+unfolding storable wellFormed
+canonical-storable w e =
+    let c = canonical-name 255 w (kind-found w e) in
+    and-of (ltb 0 (kindOf 255 (canonical w))) (not (writesString (canonical w))) (ap (ltb 0) (c .kind) ∙ e) (ap not (c .ending))
+
+pub canonical-formed : (w : List ℕ) → wellFormed w ≡ true → wellFormed (canonical w) ≡ true
+canonical-formed w e = storable-formed (canonical w) (canonical-storable w e)
+
+-- the kind of the name as spelled is the first byte's of what is left
+pub canonical-kind : (w : List ℕ) → wellFormed w ≡ true → kindOf 255 w ≡ firstKindOf (canonical w)
+canonical-kind w e = sym (canonical-name 255 w (kind-found w e) .kind) ∙ form-kindOf (canonical w) (canonical-formed w e)

@@ -8,6 +8,7 @@ use native.Mathlib.Omega.{arith}
 use lib.ListN.{length}
 use lib.Seq.{sets, length-sets}
 use Rattle.term.specs.Scanner.{firstKindOf}
+use Rattle.term.specs.Canonical.{canonical}
 use Rattle.store.specs.declared.Counters.{Counters}
 use Rattle.store.specs.declared.Refusal.{Refusal}
 use Rattle.store.specs.declared.Refusal.the-variants.{Capacity, Malformed, Full, Damaged}
@@ -66,7 +67,7 @@ pub intern-writes : (c : Counters) (m : Tables) (w : List ℕ) → InternWrites 
 unfolding internOf
 intern-writes c m w =
     decide (fits c m)
-    (λ a. rw a (decide (wellFormed w) (λ b. rw b (intern-as-writes c m w (indexPlaceOf c m w)))
+    (λ a. rw a (decide (wellFormed w) (λ b. rw b (intern-as-writes c m (canonical w) (indexPlaceOf c m (canonical w))))
     (λ b. rw b (writes-nothing c m))))
     (λ a. rw a (writes-nothing c m))
 
@@ -75,6 +76,6 @@ pub intern-refused : (c : Counters) (m : Tables) (w : List ℕ) (q : Refusal) �
 unfolding internOf
 intern-refused c m w q =
     decide (fits c m)
-    (λ a. rw a (decide (wellFormed w) (λ b. rw b (intern-as-refused c m w (indexPlaceOf c m w) q))
+    (λ a. rw a (decide (wellFormed w) (λ b. rw b (intern-as-refused c m (canonical w) (indexPlaceOf c m (canonical w)) q))
     (λ b. rw b (λ e. refl))))
     (λ a. rw a (λ e. refl))

@@ -11,6 +11,7 @@ use lib.Seq.{getD-append-seam}
 use lib.Dec.{eqb, leb, ltb}
 use borrow.Author.Tests.{leb-true}
 use Rattle.term.specs.Scanner.{firstKindOf}
+use Rattle.term.specs.Canonical.{canonical}
 use Rattle.store.specs.declared.Counters.{Counters}
 use Rattle.store.specs.declared.Position.the-variants.{Subject, Predicate, Object}
 use Rattle.store.specs.declared.Triple.{Triple}
@@ -97,12 +98,12 @@ module _ (s : Model) (D : Tidy s) where
 
   tidy-call : (k : Capacities) (a : Call) → Tidy ((callModel k s a) .0)
   unfolding callModel internModel assertModel retractModel openModel nextModel turn
-  tidy-call k (intern w) = decide (wellFormed w) (λ e. rw e (go (lookupName w (s .names)))) (λ e. rw e D)
+  tidy-call k (intern w) = decide (wellFormed w) (λ e. rw e (go (lookupName (canonical w) (s .names)))) (λ e. rw e D)
     where
-      go : (t : ℕ) → Tidy ((internName k s w t) .0)
+      go : (t : ℕ) → Tidy ((internName k s (canonical w) t) .0)
       go zero = unfold internName in
-          (decide (ltb (length (s .names)) (k .resources) && leb (bytesOf (s .names ++ w ∷ [])) (k .text))
-          (λ e. rw e (tidy-name w)) (λ e. rw e D))
+          (decide (ltb (length (s .names)) (k .resources) && leb (bytesOf (s .names ++ canonical w ∷ [])) (k .text))
+          (λ e. rw e (tidy-name (canonical w))) (λ e. rw e D))
       go (suc i) = unfold internName in D
   tidy-call k (assert f x) =
       decide (known (length (s .names)) x)

@@ -10,7 +10,10 @@ use lib.ListN.{length, getD, take}
 use lib.Seq.{sets, length-sets, take-append-le, take-at}
 use lib.Dec.{eqb, leb, ltb}
 use borrow.Author.Tests.{leb-true, ltb-true, lt-ltb}
+use Rattle.term.specs.Bytes.{eqBytes}
 use Rattle.term.specs.Scanner.{firstKindOf}
+use Rattle.term.specs.Canonical.{canonical}
+use Rattle.term.proofs.Booleans.{eqBytes-is, eqBytes-refl}
 use Rattle.store.specs.declared.Counters.{Counters}
 use Rattle.store.specs.declared.Interned.{Interned}
 use Rattle.store.specs.declared.IndexPlace.{IndexPlace}
@@ -18,18 +21,18 @@ use Rattle.store.specs.declared.IndexPlace.the-variants.{At, Before, Tor
 use Rattle.store.specs.Triple.{below, head0}
 use Rattle.store.specs.Tables.{Tables, word, resourceWords, resourceCapacity, textCapacity, offsetAt, kindAt}
 use Rattle.store.specs.Values.{Values, counted, internedValues}
-use Rattle.store.specs.Model.{Model, Capacities, wellFormed, eqBytes, lookupName, nameOf, bytesOf, totals}
+use Rattle.store.specs.Model.{Model, Capacities, wellFormed, lookupName, nameOf, bytesOf, totals}
 use Rattle.store.specs.Model.{withNames, internName, internModel}
-use Rattle.store.specs.Dictionary.{PlaceWithin}
+use Rattle.store.specs.Dictionary.{storable, PlaceWithin}
 use Rattle.store.specs.Dictionary.{compare, equal, isLess, Indexed, Named, nameAt, rank, placeAt, indexPlaceOf}
 use Rattle.store.specs.Dictionary.{roomFor, oneNameMore, freshRecord, insertAt, withName, internAs, internOf}
 use Rattle.store.specs.History.{Store, store, internedCounters}
 use Rattle.store.proofs.Tests.{decide, upto-one, and-l, and-r, and-of}
 use Rattle.store.proofs.Falling.{below-cong, head-le, head-passes, head-pos}
-use Rattle.store.proofs.Order.{compare-equal, eqBytes-is, eqBytes-refl}
+use Rattle.store.proofs.Order.{compare-equal}
 use Rattle.store.proofs.Words.{grow-length, grow-old, grow-new}
 use Rattle.store.proofs.Links.{grow-linked}
-use Rattle.store.proofs.Form.{form-clean}
+use Rattle.store.proofs.Form.{form-clean, storable-formed, canonical-storable}
 use Rattle.store.proofs.Text.{bytes-snoc, name-read, text-grows, name-old, name-new, length-snoc, snoc-all}
 use Rattle.store.proofs.Index.{insert-length, rank-le, at-rank-is, index-grows}
 use Rattle.store.proofs.Represented.{Agreeing, Same, same-cond, fits-agrees, totals-agree, good-grow}
@@ -42,7 +45,7 @@ module _ (ns : List (List ℕ)) (c : Counters) (m : Tables) (N : Named ns c m) w
   name-at y h q =
       let g : y - 1 < length ns = omega (arith, N .size) in
       rw (N .offsets y h q) (name-read ns (m .text) (c .text) (y - 1) (N .spelled) g
-      (form-clean (getD ns (y - 1) []) (N .well (y - 1) g)))
+      (form-clean (getD ns (y - 1) []) (storable-formed (getD ns (y - 1) []) (N .well (y - 1) g))))
 
   pub name-indexed : (i : ℕ) → i < c .resources → nameAt m (word (m .index) i) ≡ nameOf ns (word (m .index) i)
   name-indexed i h = name-at (word (m .index) i) (N .index .low i h) (N .index .high i h)
@@ -125,7 +128,7 @@ module _ (ns : List (List ℕ)) (c : Counters) (m : Tables) (N : Named ns c m) w
 
 -- ---- one name more
 
-module _ (ns : List (List ℕ)) (c : Counters) (m : Tables) (N : Named ns c m) (w : List ℕ) (wf : wellFormed w ≡ true)
+module _ (ns : List (List ℕ)) (c : Counters) (m : Tables) (N : Named ns c m) (w : List ℕ) (wf : storable w ≡ true)
     (e : lookupName w ns ≡ 0) (gr : c .resources < resourceCapacity m)
     (gb : c .text + length w + 1 ≤ textCapacity m) where
   abbrev kk′ : ℕ
@@ -141,7 +144,7 @@ module _ (ns : List (List ℕ)) (c : Counters) (m : Tables) (N : Named ns c m) (
         size = rw (length-snoc ns w) (ap suc (N .size));
         bytes = rw (bytes-snoc ns w, N .bytes);
         spelled = text-grows ns (m .text) w (c .text) (N .spelled) (omega arith);
-        well = snoc-all (λ n. wellFormed n ≡ true) ns w (N .well) wf;
+        well = snoc-all (λ n. storable n ≡ true) ns w (N .well) wf;
         offsets = upto-one _ (c .resources)
             (λ y h q. gw 6 y (omega arith) h q ∙ N .offsets y h q
             ∙ ap bytesOf (sym (take-append-le (y - 1) ns (w ∷ []) (omega (arith, N .size)))))
@@ -161,7 +164,7 @@ module _ (ns : List (List ℕ)) (c : Counters) (m : Tables) (N : Named ns c m) (
 abbrev pub interned : Store → Tables × Interned → Store × Values
 interned c a = (store (internedCounters (c .counters) (a .1)) (a .0) (c .cursors), internedValues (a .1))
 
-module _ (k : Capacities) (c : Store) (s : Model) (R : Agreeing k c s) (w : List ℕ) (wf : wellFormed w ≡ true) where
+module _ (k : Capacities) (c : Store) (s : Model) (R : Agreeing k c s) (w : List ℕ) (wf : storable w ≡ true) where
   abbrev n : Counters
   n = c .counters
 
@@ -231,5 +234,5 @@ unfolding internOf internModel
 intern-agrees k c s R w =
     rw (fits-agrees k c s R)
     (same-cond k (interned c) (wellFormed w) (wellFormed w) _ _ _ _ refl
-    (λ e. name-agrees k c s R w e (lookupName w (s .names)) refl)
+    (λ e. name-agrees k c s R (canonical w) (canonical-storable w e) (lookupName (canonical w) (s .names)) refl)
     (λ e. (refl, R)))

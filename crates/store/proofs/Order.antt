@@ -2,15 +2,16 @@
 -- Assumes nothing.
 use mathlib.Core.Path.{_≡_, refl, sym, ap, ap₂, _∙_}
 use mathlib.Core.Logic.{_≢_}
-use mathlib.Core.Bool.{Bool, true, false, cond, _&&_, false≢true}
+use mathlib.Core.Bool.{Bool, true, cond, _&&_}
 use mathlib.Core.List.{List, [], _∷_}
 use Prim.Native.Nat.{ℕ, zero, suc, _≤_, _<_}
 use native.Mathlib.Omega.{arith}
-use lib.Dec.{eqb, leb, ltb}
-use borrow.Author.Tests.{eqb-true, eq-eqb, ltb-true, ltb-false, lt-ltb, le-ltb}
-use Rattle.store.specs.Model.{eqBytes}
+use lib.Dec.{leb, ltb}
+use borrow.Author.Tests.{ltb-true, ltb-false, lt-ltb, le-ltb}
+use Rattle.term.specs.Bytes.{eqBytes}
+use Rattle.term.proofs.Booleans.{eqBytes-refl}
 use Rattle.store.specs.Dictionary.{Ordering, less, equal, more, compare, isLess}
-use Rattle.store.proofs.Tests.{decide, three, and-l, and-r, and-of}
+use Rattle.store.proofs.Tests.{three}
 
 abbrev pub flip : Ordering → Ordering
 flip less = more
@@ -85,23 +86,6 @@ pub is-less : (o : Ordering) → isLess o ≡ true → o ≡ less
 is-less less e = refl
 is-less equal e = cc
 is-less more e = cc
-
--- ---- the same bytes
-
-pub eqBytes-is : (a b : List ℕ) → eqBytes a b ≡ true → a ≡ b
-unfolding eqBytes
-eqBytes-is [] [] e = refl
-eqBytes-is [] (y ∷ ys) e = absurd (false≢true e)
-eqBytes-is (x ∷ xs) [] e = absurd (false≢true e)
-eqBytes-is (x ∷ xs) (y ∷ ys) e = ap₂ _∷_ (eqb-true x y (and-l (eqb x y) _ e)) (eqBytes-is xs ys (and-r (eqb x y) _ e))
-
-pub eqBytes-refl : (a : List ℕ) → eqBytes a a ≡ true
-unfolding eqBytes
-eqBytes-refl [] = refl
-eqBytes-refl (x ∷ xs) = and-of _ _ (eq-eqb x x refl) (eqBytes-refl xs)
-
-pub eqBytes-not : (a b : List ℕ) → a ≢ b → eqBytes a b ≡ false
-eqBytes-not a b h = decide (eqBytes a b) (λ e. absurd (h (eqBytes-is a b e))) (λ e. e)
 
 -- equal in the order exactly where the bytes are
 pub eqBytes-compare : (a b : List ℕ) → compare a b ≡ equal → eqBytes a b ≡ true

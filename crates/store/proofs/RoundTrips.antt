@@ -12,6 +12,10 @@ use lib.ListN.{length, getD, take, drop}
 use lib.Seq.{getD-drop, drop-drop, take-append-seam}
 use lib.Dec.{eqb, leb, ltb}
 use borrow.Author.Tests.{eq-eqb, ne-eqb, leb-true, ltb-true, lt-ltb, le-leb}
+use Rattle.term.specs.Bytes.{eqBytes}
+use Rattle.term.specs.Grammar.{nameLimit}
+use Rattle.term.specs.Canonical.{writesString, canonical}
+use Rattle.term.proofs.Booleans.{eqBytes-refl, eqBytes-not}
 use Rattle.store.specs.declared.Counters.{Counters}
 use Rattle.store.specs.declared.ResourceId.{ResourceId}
 use Rattle.store.specs.declared.Refusal.the-variants.{Capacity, Malformed, UnknownNumber, Damaged}
@@ -20,17 +24,15 @@ use Rattle.store.specs.declared.NameRead.the-variants.{Span, Refused as 
 use Rattle.store.specs.declared.Lookup.{Lookup}
 use Rattle.store.specs.declared.Lookup.the-variants.{Number, Absent, Refused as NotFound}
 use Rattle.store.specs.Triple.{below, head0}
-use Rattle.term.specs.Grammar.{nameLimit}
 use Rattle.store.specs.Tables.{Tables, fits, word, offsetAt}
-use Rattle.store.specs.Model.{wellFormed, eqBytes, lookupName, nameOf, bytesOf}
+use Rattle.store.specs.Model.{wellFormed, lookupName, nameOf, internModel}
 use Rattle.store.specs.Reading.{inRange, zeroFrom, spanTo, nameSpanOf}
-use Rattle.store.specs.Dictionary.{Named, joined, findOf, foundAs, indexPlaceOf}
+use Rattle.store.specs.Dictionary.{storable, Named, joined, findOf, internOf}
 use Rattle.store.specs.Soundness.{Sound}
-use Rattle.store.specs.Claims.{NamedAs, BothWays, RoundTrips}
+use Rattle.store.specs.Claims.{NamedAs, RoundTrips, SpellingsAgree}
 use Rattle.store.proofs.Tests.{decide, three, and-l, and-r, and-of}
 use Rattle.store.proofs.Falling.{head-unique}
-use Rattle.store.proofs.Order.{eqBytes-is, eqBytes-refl, eqBytes-not}
-use Rattle.store.proofs.Form.{clean, form-clean, form-short}
+use Rattle.store.proofs.Form.{clean, form-clean, form-short, storable-formed, storable-plain, storable-kept}
 use Rattle.store.proofs.Text.{text-at, bytes-take}
 use Rattle.store.proofs.Index.{names-distinct}
 use Rattle.store.proofs.NamesAgree.{place-listed, place-unlisted, listed}
@@ -84,9 +86,15 @@ module _ (c : Counters) (m : Tables) (S : Sound c m) where
   unfolding nameOf
   bytes-at y a b = rw (N .offsets y a b) (text-at ns (m .text) (c .text) (y - 1) (N .spelled) (omega (arith, N .size)))
 
-  name-formed : (y : ℕ) → 0 < y → y ≤ c .resources → wellFormed (nameOf ns y) ≡ true
+  pub name-storable : (y : ℕ) → 0 < y → y ≤ c .resources → storable (nameOf ns y) ≡ true
   unfolding nameOf
-  name-formed y a b = N .well (y - 1) (omega (arith, N .size))
+  name-storable y a b = N .well (y - 1) (omega (arith, N .size))
+
+  name-formed : (y : ℕ) → 0 < y → y ≤ c .resources → wellFormed (nameOf ns y) ≡ true
+  name-formed y a b = storable-formed (nameOf ns y) (name-storable y a b)
+
+  pub name-kept : (y : ℕ) → 0 < y → y ≤ c .resources → canonical (nameOf ns y) ≡ nameOf ns y
+  name-kept y a b = storable-kept (nameOf ns y) (name-storable y a b)
 
   name-ends : (y : ℕ) → 0 < y → y ≤ c .resources → offsetAt (m .resources) y + length (nameOf ns y) < c .text
   unfolding nameOf
@@ -135,45 +143,51 @@ module _ (c : Counters) (m : Tables) (S : Sound c m) where
           omega (arith, distinct-names (suc j) y (omega arith) (omega (arith, N .size)) a b (unfold nameOf in d))
 
   -- find, by the list
-  find-listed : (w : List ℕ) (i : ℕ) → wellFormed w ≡ true → lookupName w ns ≡ suc i
+  find-listed : (w : List ℕ) (i : ℕ) → wellFormed w ≡ true → lookupName (canonical w) ns ≡ suc i
       → findOf c m w ≡ Number (record { 0 = suc i })
   unfolding findOf
-  find-listed w i f e = rw (S .capacity, f, place-listed ns c m N w i e)
+  find-listed w i f e = rw (S .capacity, f, place-listed ns c m N (canonical w) i e)
 
-  find-unlisted : (w : List ℕ) → wellFormed w ≡ true → lookupName w ns ≡ 0 → findOf c m w ≡ Absent
+  find-unlisted : (w : List ℕ) → wellFormed w ≡ true → lookupName (canonical w) ns ≡ 0 → findOf c m w ≡ Absent
   unfolding findOf
-  find-unlisted w f e = rw (S .capacity, f, place-unlisted ns c m N w e)
+  find-unlisted w f e = rw (S .capacity, f, place-unlisted ns c m N (canonical w) e)
 
   find-malformed : (w : List ℕ) → wellFormed w ≡ false → findOf c m w ≡ NotFound Malformed
   unfolding findOf
   find-malformed w f = rw (S .capacity, f)
 
+  -- a listed name is found in either spelling
+  find-canonical : (w : List ℕ) (y : ResourceId) → wellFormed w ≡ true → 0 < y .0 → y .0 ≤ c .resources
+      → nameOf ns (y .0) ≡ canonical w → findOf c m w ≡ Number y
+  find-canonical w y f a b e =
+      let s : suc (y .0 - 1) ≡ y .0 = omega arith in
+      find-listed w (y .0 - 1) f (rw (← e) (lookup-name (y .0) a b) ∙ sym s) ∙ ap (λ (n : ℕ). Number (record { 0 = n })) s
+
   pub find-name : (y : ResourceId) → 0 < y .0 → y .0 ≤ c .resources → findOf c m (nameOf ns (y .0)) ≡ Number y
-  find-name y a b =
-      let e : suc (y .0 - 1) ≡ y .0 = omega arith in
-      find-listed (nameOf ns (y .0)) (y .0 - 1) (name-formed (y .0) a b) (lookup-name (y .0) a b ∙ sym e)
-      ∙ ap (λ (n : ℕ). Number (record { 0 = n })) e
+  find-name y a b = find-canonical (nameOf ns (y .0)) y (name-formed (y .0) a b) a b (sym (name-kept (y .0) a b))
 
   -- what find answers is the number of that name
-  number-is : (y z : ResourceId) → Number y ≡ Number z → y ≡ z
+  pub number-is : (y z : ResourceId) → Number y ≡ Number z → y ≡ z
   number-is y z e = cc
 
-  found-number : (w : List ℕ) (y : ResourceId) → findOf c m w ≡ Number y
-      → (0 < y .0) × (y .0 ≤ c .resources) × (nameOf ns (y .0) ≡ w)
-  found-number w y e =
-      decide (wellFormed w)
-      (λ f. go f (lookupName w ns) refl)
+  found-formed : (w : List ℕ) (y : ResourceId) → findOf c m w ≡ Number y → wellFormed w ≡ true
+  found-formed w y e =
+      decide (wellFormed w) (λ f. f)
       (λ f. let d = find-malformed w f in absurd (let z : _≡_ {A = ℕ} 0 1 = cc in omega arith))
+
+  found-number : (w : List ℕ) (y : ResourceId) → findOf c m w ≡ Number y
+      → (0 < y .0) × (y .0 ≤ c .resources) × (nameOf ns (y .0) ≡ canonical w)
+  found-number w y e = go (found-formed w y e) (lookupName (canonical w) ns) refl
     where
       name-of : (i : ℕ) → nameOf ns (suc i) ≡ getD ns i []
       name-of i = unfold nameOf in (let s : suc i - 1 ≡ i = omega arith in rw s)
 
-      go : wellFormed w ≡ true → (n : ℕ) → lookupName w ns ≡ n
-          → (0 < y .0) × (y .0 ≤ c .resources) × (nameOf ns (y .0) ≡ w)
+      go : wellFormed w ≡ true → (n : ℕ) → lookupName (canonical w) ns ≡ n
+          → (0 < y .0) × (y .0 ≤ c .resources) × (nameOf ns (y .0) ≡ canonical w)
       go f zero q = let d = find-unlisted w f q in absurd (let z : _≡_ {A = ℕ} 0 1 = cc in omega arith)
       go f (suc i) q =
           let d : y ≡ record { 0 = suc i } = number-is y (record { 0 = suc i }) (sym e ∙ find-listed w i f q) in
-          let l = listed ns c m N w i q in
+          let l = listed ns c m N (canonical w) i q in
           rw d (omega arith, omega (arith, l .0, N .size), name-of i ∙ l .1)
 
   -- a number with a name is in range
@@ -193,7 +207,7 @@ module _ (c : Counters) (m : Tables) (S : Sound c m) where
       bits : inRange (c .resources) (y .0) ≡ true → ltb 0 (y .0) && leb (y .0) (c .resources) ≡ true
       bits d = unfold inRange in d
 
-  named-is : (y : ResourceId) (w : List ℕ) → NamedAs c m y w
+  pub named-is : (y : ResourceId) (w : List ℕ) → NamedAs c m y w
       → (0 < y .0) × (y .0 ≤ c .resources) × (nameOf ns (y .0) ≡ w)
   named-is y w W =
       let r = in-range y (W .start) (W .size) (W .answer) in
@@ -204,12 +218,23 @@ module _ (c : Counters) (m : Tables) (S : Sound c m) where
 pub round-trips : RoundTrips
 round-trips c m S = record {
   there = λ y a b. (nameOf (S .names) (y .0), named-as c m S y a b, find-name c m S y a b);
-  back = λ w y e.
-      let f = found-number c m S w y e in
-      subst (NamedAs c m y) (f .2) (named-as c m S y (f .0) (f .1));
-  distinct = λ y z w A B.
+  back = λ w y. (
+    λ e.
+        let f = found-number c m S w y e in
+        (found-formed c m S w y e, subst (NamedAs c m y) (f .2) (named-as c m S y (f .0) (f .1))),
+    λ h. let a = named-is c m S y (canonical w) (h .1) in find-canonical c m S w y (h .0) (a .0) (a .1) (a .2),
+  );
+  plain = λ y w A.
       let a = named-is c m S y w A in
+      ap writesString (sym (a .2)) ∙ storable-plain _ (name-storable c m S (y .0) (a .0) (a .1));
+  distinct = λ y z v w A B e.
+      let a = named-is c m S y v A in
       let b = named-is c m S z w B in
       ap (λ (n : ℕ). record { 0 = n }) (distinct-names c m S (y .0) (z .0) (a .0) (a .1) (b .0) (b .1)
-      (a .2 ∙ sym (b .2)));
+      (sym (name-kept c m S (y .0) (a .0) (a .1)) ∙ ap canonical (a .2) ∙ e ∙ ap canonical (sym (b .2))
+      ∙ name-kept c m S (z .0) (b .0) (b .1)));
 }
+
+pub spellings-agree : SpellingsAgree
+unfolding findOf internOf internModel
+spellings-agree v w f g e = record { found = λ c m. rw (f, g, e); entered = λ c m. rw (f, g, e); listed = λ k s. rw (f, g, e) }

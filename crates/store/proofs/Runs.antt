@@ -5,18 +5,21 @@ use mathlib.Core.List.{List, [], _∷_, _++_, map}
 use Prim.Native.Nat.{ℕ}
 use lib.ListN.{replicate}
 use Rattle.term.specs.Scanner.{kindOf, firstKindOf, runOf, stepOf, wholeOf}
-use Rattle.term.specs.Bytes.{among, letter, alnum, iriByte, textByte, pairByte, firstByte, labelByte}
+use Rattle.term.specs.Canonical.{stringEnding, writesString, canonical}
+use Rattle.term.specs.Bytes.{among, letter, alnum, iriByte, textByte, pairByte, firstByte, labelByte, eqBytes}
 use Rattle.store.specs.declared.Triple.{Triple}
 use Rattle.store.specs.declared.Chain.{Chain}
 use Rattle.store.specs.declared.Chain.the-variants.{All, By}
 use Rattle.store.specs.declared.Position.the-variants.{Subject, Predicate, Object}
 use Rattle.store.specs.declared.Counters.{Counters}
+use Rattle.store.specs.declared.Refusal.the-variants.{Malformed}
+use Rattle.store.specs.declared.Lookup.the-variants.{Number as Found, Absent, Refused as NotFound}
 use Rattle.store.specs.Triple.{triple, known, within, same, agrees, permitted, below}
 use Rattle.store.specs.Tables.{Tables, tables, fits, termAt, nextAt, flagAt, tripleAt, firstAt, countAt, offsetAt}
 use Rattle.store.specs.Tables.{kindAt}
 use Rattle.store.specs.Values.{Values, refusedWith, numbered, counted, placed, stepped}
 use Rattle.store.specs.Model.{Call, intern, assert, retract, open′, next, byValue, lent, Capacities, freshModel}
-use Rattle.store.specs.Model.{wellFormed, eqBytes, lookupName, nameOf, bytesOf, internName, internModel, matches}
+use Rattle.store.specs.Model.{wellFormed, lookupName, nameOf, bytesOf, internName, internModel, matches}
 use Rattle.store.specs.Model.{lookup, mark, put, assertModel, strike, retractModel, onChain, holders, better}
 use Rattle.store.specs.Model.{pick}
 use Rattle.store.specs.Model.{pickModel, listing, openModel, take-off, takeFrom, turn, nextModel, callModel}
@@ -26,8 +29,8 @@ use Rattle.store.specs.Statement.{seek, locate, appendRecord, linkFirst,
 use Rattle.store.specs.Statement.{retracting, retractOf, assertLentOf, retractLentOf}
 use Rattle.store.specs.Scan.{cursorAt, openOf, chainOk, recordOk, cursorOk, walkFrom, nextOf}
 use Rattle.store.specs.Dictionary.{compare, nameAt, rank, placeAt, indexPlaceOf, roomFor, bring, insertAt}
-use Rattle.store.specs.Dictionary.{internAs, internOf}
-use Rattle.store.specs.History.{freshStore, capacitiesOf, callStore, storeReplies, storeAfter}
+use Rattle.store.specs.Dictionary.{findOf, internAs, internOf}
+use Rattle.store.specs.History.{Store, freshStore, capacitiesOf, callStore, storeReplies, storeAfter}
 
 -- ---- histories: each call beside its answer
 
@@ -59,6 +62,10 @@ b7 = 60 ∷ 98 ∷ 58 ∷ 55 ∷ 62 ∷ []
 litA : List ℕ
 litA = 34 ∷ 65 ∷ 34 ∷ []
 
+-- the same with the string ending
+longA : List ℕ
+longA = 34 ∷ 65 ∷ 34 ∷ stringEnding
+
 -- <a> <b> <c> <p> ""
 ia : List ℕ
 ia = 60 ∷ 97 ∷ 62 ∷ []
@@ -84,7 +91,9 @@ paper = (intern r21, counted 0 1 (tot 1 0 7))
     ∷ (intern r21, counted 0 1 (tot 3 0 23))
     ∷ (intern b7, counted 0 4 (tot 4 0 29))
     ∷ (intern litA, counted 0 5 (tot 5 0 33))
+    ∷ (intern longA, counted 0 5 (tot 5 0 33))
     ∷ (intern [], refusedWith 2)
+    ∷ (intern stringEnding, refusedWith 2)
     ∷ (assert byValue (triple 5 2 3), refusedWith 5)
     ∷ (assert byValue (triple 1 5 3), refusedWith 5)
     ∷ (assert lent (triple 6 1 1), refusedWith 4)
@@ -159,6 +168,13 @@ short = (intern ic, counted 0 1 (tot 1 0 4))
     ∷ (intern ic, counted 0 1 (tot 2 0 8))
     ∷ []
 
+-- Four bytes of text are room for `"A"`, however it is spelled.
+label : History
+label = (intern longA, counted 0 1 (tot 1 0 4))
+    ∷ (intern litA, counted 0 1 (tot 1 0 4))
+    ∷ (intern empty, refusedWith 3)
+    ∷ []
+
 -- No room at all.
 none-at-all : History
 none-at-all = (intern ia, refusedWith 3)
@@ -181,6 +197,9 @@ narrow = tables (replicate 37 7) (replicate 24 1) (replicate 5 2) (replicate 15 
 abbrev few : Tables
 few = tables (replicate 64 1) (replicate 70 1) (replicate 2 1) (replicate 100 1)
 
+abbrev scant : Tables
+scant = tables (replicate 64 1) (replicate 70 1) (replicate 2 1) (replicate 4 1)
+
 abbrev void : Tables
 void = tables [] [] [] []
 
@@ -198,19 +217,32 @@ nextsOf m h i =
     let stm = (storeAfter (freshStore m) (callsIn h)) .tables .statements in
     nextAt stm Subject i ∷ nextAt stm Predicate i ∷ nextAt stm Object i ∷ []
 
-lists-run : Lists wide paper × Lists narrow tight × Lists few short × Lists void none-at-all
-unfolding r21 trips b4 b7 litA ia ib ic ip empty paper tight short none-at-all kindOf firstKindOf runOf stepOf wholeOf
+lists-run : Lists wide paper × Lists narrow tight × Lists few short × Lists scant label × Lists void none-at-all
+unfolding r21 trips b4 b7 litA longA ia ib ic ip empty paper tight short label none-at-all writesString
+    canonical kindOf firstKindOf runOf stepOf wholeOf
     among letter alnum iriByte textByte pairByte firstByte labelByte known within same agrees permitted below wellFormed
     eqBytes lookupName nameOf bytesOf internName internModel matches lookup mark put assertModel strike retractModel
     onChain holders better pick pickModel listing openModel take-off takeFrom turn nextModel callModel modelReplies
-lists-run = (refl, refl, refl, refl)
+lists-run = (refl, refl, refl, refl, refl)
 
-stores-run : Stores wide paper × Stores narrow tight × Stores few short × Stores void none-at-all
+stores-run : Stores wide paper × Stores narrow tight × Stores few short × Stores scant label × Stores void none-at-all
     × (nextsOf wide paper 1 ≡ 1 ∷ 1 ∷ 0 ∷ [])
-unfolding r21 trips b4 b7 litA ia ib ic ip empty paper tight short none-at-all kindOf firstKindOf runOf stepOf wholeOf
+unfolding r21 trips b4 b7 litA longA ia ib ic ip empty paper tight short label none-at-all writesString
+    canonical kindOf firstKindOf runOf stepOf wholeOf
     among letter alnum iriByte textByte pairByte firstByte labelByte known within same agrees permitted below wellFormed
     eqBytes matches better pick fits termAt nextAt flagAt tripleAt firstAt countAt offsetAt kindAt entryAt pickChain
     pickable startOf linkOf sits visitable walk seek locate appendRecord linkFirst linkRecord kinded asserting assertOf
     retracting retractOf assertLentOf retractLentOf openOf chainOk recordOk cursorOk walkFrom nextOf compare nameAt rank
     placeAt indexPlaceOf roomFor bring insertAt internAs internOf callStore storeReplies storeAfter
-stores-run = (refl, refl, refl, refl, refl)
+stores-run = (refl, refl, refl, refl, refl, refl)
+
+-- Find in the store that holds "A" alone: in either spelling, a name that is not there, and the string ending by itself.
+abbrev held : Store
+held = storeAfter (freshStore scant) (callsIn label)
+
+finds-run : map (findOf (held .counters) (held .tables)) (litA ∷ longA ∷ empty ∷ stringEnding ∷ [])
+    ≡ Found (record { 0 = 1 }) ∷ Found (record { 0 = 1 }) ∷ Absent ∷ NotFound Malformed ∷ []
+unfolding litA longA empty label writesString canonical kindOf firstKindOf runOf stepOf wholeOf among letter alnum iriByte
+    textByte pairByte firstByte labelByte below wellFormed eqBytes fits offsetAt compare nameAt rank placeAt indexPlaceOf
+    findOf roomFor bring insertAt internAs internOf callStore storeAfter
+finds-run = refl

@@ -33,7 +33,7 @@ use Rattle.store.proofs.Words.{triple-of, triple-same, append-length, a
 use Rattle.store.proofs.Words.{append-term, append-flag, linked-length, linked-offset, linked-kind, flag-term}
 use Rattle.store.proofs.Words.{flag-same, flag-other, triple-at}
 use Rattle.store.proofs.Links.{append-linked, flag-linked}
-use Rattle.store.proofs.Form.{form-kind, kind-high}
+use Rattle.store.proofs.Form.{form-kind, kind-high, storable-formed}
 use Rattle.store.proofs.Text.{length-snoc}
 use Rattle.store.proofs.Represented.{Agreeing, Same, same-cond, fits-agrees, totals-agree, mark-agrees}
 use Rattle.store.proofs.Represented.{lookup-le, locate-agrees, mark-length, mark-same, mark-other, mark-spo}
@@ -205,7 +205,8 @@ module _ (k : Capacities) (c : Store) (s : Model) (R : Agreeing k c s) where
       let i : at p x - 1 < length (s .names) = omega (arith, R .named .size) in
       and-of _ _
       (lt-ltb 0 (kindAt (m .resources) (at p x)) (rw kind
-      (form-kind (getD (s .names) (at p x - 1) []) (R .named .well (at p x - 1) i))))
+      (form-kind (getD (s .names) (at p x - 1) [])
+      (storable-formed (getD (s .names) (at p x - 1) []) (R .named .well (at p x - 1) i)))))
       (le-leb (kindAt (m .resources) (at p x)) 3 (rw kind (kind-high (getD (s .names) (at p x - 1) [])))))
 
   pub permitted-agrees : (x : Triple) → known (n .resources) x ≡ true

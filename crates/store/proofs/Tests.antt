@@ -2,11 +2,12 @@
 -- nothing.
 use mathlib.Core.Path.{_≡_, refl, sym, ap, ap₂, _∙_}
 use mathlib.Core.Logic.{_≢_}
-use mathlib.Core.Bool.{Bool, true, false, cond, not, _&&_, _||_, false≢true, true≢false}
+use mathlib.Core.Bool.{Bool, true, false, cond, not, _&&_, _||_, true≢false}
 use Prim.Native.Nat.{ℕ, zero, suc, _≤_, _<_}
 use native.Mathlib.Omega.{arith}
 use lib.Dec.{eqb, leb, ltb}
 use borrow.Author.Tests.{eqb-true, eqb-false, eq-eqb, ne-eqb, leb-true, ltb-true, ltb-false, lt-ltb, le-leb, le-ltb}
+pub use Rattle.term.proofs.Booleans.{decide, and-l, and-r, and-of}
 use Rattle.store.specs.declared.Position.{Position}
 use Rattle.store.specs.declared.Position.the-variants.{Subject, Predicate, Object}
 use Rattle.store.specs.declared.Triple.{Triple}
@@ -14,11 +15,6 @@ use Rattle.store.specs.Triple.{at, triple, all3, known, within, same, pe
 use Rattle.store.specs.Tables.{off}
 -- Every law stands on this file, and so on the closed runs: a definition that changes an answer is refused there first.
 use Rattle.store.proofs.Runs as runs
-
--- a case split on a test, with the equation
-pub decide {ℓ} : {P : Type ℓ} (b : Bool) → (b ≡ true → P) → (b ≡ false → P) → P
-decide true y n = y refl
-decide false y n = n refl
 
 -- a case split on two numbers
 pub three {ℓ} : {P : Type ℓ} (x y : ℕ) → (x < y → P) → (x ≡ y → P) → (y < x → P) → P
@@ -28,17 +24,6 @@ three {P = P} x y a b c = go (ltb x y) (ltb y x) refl refl
     go true q e d = a (ltb-true x y e)
     go false true e d = c (ltb-true y x d)
     go false false e d = b (omega (arith, ltb-false x y e, ltb-false y x d))
-
-pub and-l : (a b : Bool) → a && b ≡ true → a ≡ true
-and-l true b e = refl
-and-l false b e = e
-
-pub and-r : (a b : Bool) → a && b ≡ true → b ≡ true
-and-r true b e = e
-and-r false b e = absurd (false≢true e)
-
-pub and-of : (a b : Bool) → a ≡ true → b ≡ true → a && b ≡ true
-and-of a b e d = rw (e, d)
 
 pub and-assoc : (a b c : Bool) → (a && b) && c ≡ a && (b && c)
 and-assoc true b c = refl

@@ -3,7 +3,7 @@ use mathlib.Core.List.{List, []}
 use Rattle.store.specs.Model.{freshModel}
 use Rattle.store.specs.History.{store, freshStore, capacitiesOf}
 use Rattle.store.specs.Claims.{listsOf, HistoriesAgree, HistoriesStaySound, SoundStoresAgree, FreshIsSound}
-use Rattle.store.specs.Claims.{RefusalsChangeNothing, Finds, EndsOrSpends, VisitsAddUp, RoundTrips, KnownMeans}
+use Rattle.store.specs.Claims.{RefusalsChangeNothing, Finds, EndsOrSpends, VisitsAddUp, RoundTrips, SpellingsAgree, KnownMeans}
 use Rattle.store.specs.Claims.{WithinMeans, SameMeans, MatchesMeans, PermittedMeans, BelowMeans, PicksLeast}
 use Rattle.store.specs.Claims.{RefusalsAreBare, NoneIsMissed, FirstIsHighest, ReadsOnWithBudget}
 use Rattle.store.proofs.Histories.{history-agrees, fresh-agrees}
@@ -57,6 +57,9 @@ visits-add-up = openings.visits-add-up
 
 pub round-trips : RoundTrips
 round-trips = trips.round-trips
+
+pub spellings-agree : SpellingsAgree
+spellings-agree = trips.spellings-agree
 
 -- ---- what stands on both sides
 

@@ -11,6 +11,7 @@ use lib.Seq.{getD-set-same, getD-set-other, drop-drop}
 use lib.Dec.{eqb, ltb, leb}
 use borrow.Author.Tests.{eqb-true, eqb-false}
 use Rattle.term.specs.Scanner.{firstKindOf}
+use Rattle.term.specs.Canonical.{canonical}
 use Rattle.store.specs.declared.Triple.{Triple}
 use Rattle.store.specs.Triple.{known, within, permitted}
 use Rattle.store.specs.Values.{Values, refusedWith}
@@ -56,7 +57,7 @@ name-alone k s w (suc i) = refl
 
 intern-alone : (k : Capacities) (s : Model) (w : List ℕ) → Alone s (internModel k s w)
 unfolding internModel
-intern-alone k s w = decide (wellFormed w) (λ e. rw e (name-alone k s w (lookupName w (s .names)))) (λ e. rw e)
+intern-alone k s w = decide (wellFormed w) (λ e. rw e (name-alone k s (canonical w) (lookupName (canonical w) (s .names)))) (λ e. rw e)
 
 put-alone : (k : Capacities) (s : Model) (x : Triple) (t : ℕ) → Alone s (put k s x t)
 unfolding put

@@ -7,6 +7,7 @@ use mathlib.Core.List.{List, [], _∷_, _++_, map, List·Memᴰ}
 use Prim.Native.Nat.{ℕ, zero, suc, _+_, _≤_, _<_}
 use lib.ListN.{length, take, drop}
 use lib.Dec.{eqb}
+use Rattle.term.specs.Canonical.{writesString, canonical}
 use Rattle.store.specs.declared.Counters.{Counters}
 use Rattle.store.specs.declared.Position.{Position}
 use Rattle.store.specs.declared.Chain.{Chain}
@@ -19,10 +20,10 @@ use Rattle.store.specs.Triple.{at, known, within, same, agrees, permitte
 use Rattle.store.specs.Tables.{Tables, off, freshCounters}
 use Rattle.store.specs.Values.{Values, refusedWith}
 use Rattle.store.specs.Model.{Entry, Model, Call, intern, assert, retract, open′, next, freshModel, totals, entry}
-use Rattle.store.specs.Model.{matches, holders, pick, cursorOf, modelReplies, modelAfter}
+use Rattle.store.specs.Model.{Capacities, wellFormed, internModel, matches, holders, pick, cursorOf, modelReplies, modelAfter}
 use Rattle.store.specs.Walk.{entryAt}
 use Rattle.store.specs.Reading.{nameSpanOf}
-use Rattle.store.specs.Dictionary.{nameAt, findOf}
+use Rattle.store.specs.Dictionary.{nameAt, findOf, internOf}
 use Rattle.store.specs.Soundness.{Sound}
 use Rattle.store.specs.History.{Store, store, freshStore, capacitiesOf, callStore, storeReplies, storeAfter}
 
@@ -215,14 +216,26 @@ pub record BothWays (c : Counters) (m : Tables) : Type 0 where
   -- number to name to number
   pub there : (y : ResourceId) → 0 < y .0 → y .0 ≤ c .resources
       → (w : List ℕ) × NamedAs c m y w × (findOf c m w ≡ Number y)
-  -- name to number to name
-  pub back : (w : List ℕ) (y : ResourceId) → findOf c m w ≡ Number y → NamedAs c m y w
-  -- distinct numbers have distinct names
-  pub distinct : (y z : ResourceId) (w : List ℕ) → NamedAs c m y w → NamedAs c m z w → y ≡ z
+  -- name to number to name: a well-formed name is found where it stands, without the string ending
+  pub back : (w : List ℕ) (y : ResourceId) → (findOf c m w ≡ Number y) ↔ ((wellFormed w ≡ true) × NamedAs c m y (canonical w))
+  -- no name has the string ending
+  pub plain : (y : ResourceId) (w : List ℕ) → NamedAs c m y w → writesString w ≡ false
+  -- distinct numbers have names that differ in more than that
+  pub distinct : (y z : ResourceId) (v w : List ℕ) → NamedAs c m y v → NamedAs c m z w → canonical v ≡ canonical w → y ≡ z
 
 -- On a sound store numbers and names go both ways.
 abbrev pub RoundTrips : Type 0
 RoundTrips = (c : Counters) (m : Tables) → Sound c m → BothWays c m
+
+-- v and w have one answer of find's definition and of enter's, on any tables, and one of the plain lists' enter
+pub record Alike (v w : List ℕ) : Type 0 where
+  pub found : (c : Counters) (m : Tables) → findOf c m v ≡ findOf c m w
+  pub entered : (c : Counters) (m : Tables) → internOf c m v ≡ internOf c m w
+  pub listed : (k : Capacities) (s : Model) → internModel k s v ≡ internModel k s w
+
+-- Well-formed names that differ in the string ending alone are one name.
+abbrev pub SpellingsAgree : Type 0
+SpellingsAgree = (v w : List ℕ) → wellFormed v ≡ true → wellFormed w ≡ true → canonical v ≡ canonical w → Alike v w
 
 -- ---- what stands on both sides of the claim
 

@@ -1,13 +1,15 @@
--- Names in the tables (paper 01, "Find a name", "Enter a name"): the text, the index in rising byte order, what find and intern answer
--- and write on a sound dictionary, and the bound that holds of them on any tables after refusals 1 and 2. Assumes nothing.
+-- Names in the tables (paper 01, "Find a name", "Enter a name"; 02, note 7): the text, the index in rising byte order, what find and intern
+-- answer and write on a sound dictionary, and the bound that holds of them on any tables after refusals 1 and 2. Assumes nothing.
 use mathlib.Core.Path.{_≡_}
-use mathlib.Core.Bool.{Bool, true, false, cond, _&&_}
+use mathlib.Core.Bool.{Bool, true, false, cond, not, _&&_}
 use mathlib.Core.List.{List, [], _∷_, _++_}
 use Prim.Native.Nat.{ℕ, zero, suc, _+_, _*_, _-_, _≤_, _<_}
 use lib.ListN.{length, getD, take, drop}
 use lib.Seq.{sets}
 use lib.Dec.{eqb, leb, ltb}
+use Rattle.term.specs.Bytes.{eqBytes}
 use Rattle.term.specs.Scanner.{firstKindOf}
+use Rattle.term.specs.Canonical.{writesString, canonical}
 use Rattle.store.specs.declared.Counters.{Counters}
 use Rattle.store.specs.declared.Refusal.{Refusal}
 use Rattle.store.specs.declared.Refusal.the-variants.{Capacity, Malformed, Full, Damaged}
@@ -19,7 +21,7 @@ use Rattle.store.specs.declared.Interned.{Interned}
 use Rattle.store.specs.declared.Interned.the-variants.{Number as Id, Refused as NotInterned}
 use Rattle.store.specs.Triple.{below}
 use Rattle.store.specs.Tables.{Tables, after, fits, resourceCapacity, textCapacity, resourceWords, offsetAt, kindAt, word}
-use Rattle.store.specs.Model.{wellFormed, eqBytes, nameOf, bytesOf}
+use Rattle.store.specs.Model.{wellFormed, nameOf, bytesOf}
 
 -- ---- the byte order of names: by the first byte that differs, a prefix first
 
@@ -51,12 +53,17 @@ pub record Indexed (name : ℕ → List ℕ) (idx : List ℕ) (r : ℕ) : Type 0
   pub high : (i : ℕ) → i < r → word idx i ≤ r
   pub rise : (i j : ℕ) → i < j → j < r → compare (name (word idx i)) (name (word idx j)) ≡ less
 
--- the names of a dictionary: R of them, well formed, B bytes long with their zeros, at the offsets and of the kinds the records say
+-- well formed and without the string ending
+unfoldable pub storable : List ℕ → Bool
+storable w = wellFormed w && not (writesString w)
+
+-- the names of a dictionary: R of them, well formed and without the string ending, B bytes long with their zeros, at the offsets and of the
+-- kinds the records say
 pub record Named (ns : List (List ℕ)) (c : Counters) (m : Tables) : Type 0 where
   pub size : c .resources ≡ length ns
   pub bytes : c .text ≡ bytesOf ns
   pub spelled : take (c .text) (m .text) ≡ joined ns
-  pub well : (i : ℕ) → i < length ns → wellFormed (getD ns i []) ≡ true
+  pub well : (i : ℕ) → i < length ns → storable (getD ns i []) ≡ true
   pub offsets : (y : ℕ) → 0 < y → y ≤ c .resources → offsetAt (m .resources) y ≡ bytesOf (take (y - 1) ns)
   pub kinds : (y : ℕ) → 0 < y → y ≤ c .resources → kindAt (m .resources) y ≡ firstKindOf (nameOf ns y)
   pub index : Indexed (nameOf ns) (m .index) (c .resources)
@@ -97,9 +104,10 @@ foundAs (At n k) = Number n
 foundAs (Before k) = Absent
 foundAs Torn = NotFound Damaged
 
--- Find on a sound dictionary: 1; 2; the number, or absent. On any tables `FindAnswer` says what holds.
+-- Find on a sound dictionary: 1; 2, by the name as spelled; by the name without the string ending, the number or absent. On any tables
+-- `FindAnswer` says what holds.
 unfoldable pub findOf : Counters → Tables → List ℕ → Lookup
-findOf c m w = cond (fits c m) (cond (wellFormed w) (foundAs (indexPlaceOf c m w)) (NotFound Malformed)) (NotFound Capacity)
+findOf c m w = cond (fits c m) (cond (wellFormed w) (foundAs (indexPlaceOf c m (canonical w))) (NotFound Malformed)) (NotFound Capacity)
 
 -- what holds of find's answer: exact on a sound dictionary; on any tables exact in 1 and 2, then within the bound
 pub record FindAnswer (c : Counters) (m : Tables) (w : List ℕ) (a : Lookup) : Type 0 where
@@ -149,10 +157,13 @@ internAs c m w (Before k) =
     cond (roomFor c m w) (withName c m w k, Id (record { 0 = suc (c .resources) }) (oneNameMore c w)) (m, NotInterned Full)
 internAs c m w Torn = (m, NotInterned Damaged)
 
--- Enter on a sound dictionary: 1; 2; already there; 3; new. On any tables `InternAnswer` says what holds.
+-- Enter on a sound dictionary: 1; 2, by the name as spelled; by the name without the string ending, already there; 3; new. On any tables
+-- `InternAnswer` says what holds.
 unfoldable pub internOf : Counters → Tables → List ℕ → Tables × Interned
 internOf c m w =
-    cond (fits c m) (cond (wellFormed w) (internAs c m w (indexPlaceOf c m w)) (m, NotInterned Malformed)) (m, NotInterned Capacity)
+    cond (fits c m)
+    (cond (wellFormed w) (internAs c m (canonical w) (indexPlaceOf c m (canonical w))) (m, NotInterned Malformed))
+    (m, NotInterned Capacity)
 
 -- only the index, the new record and the text past B are written
 pub record InternWrites (c : Counters) (m m′ : Tables) : Type 0 where
@@ -170,6 +181,7 @@ pub record InternAnswer (c : Counters) (m m′ : Tables) (w : List ℕ) (a : Int
   pub capacity : fits c m ≡ false → after m′ a ≡ after m (NotInterned Capacity)
   pub malformed : fits c m ≡ true → wellFormed w ≡ false → after m′ a ≡ after m (NotInterned Malformed)
   pub exact : (ns : List (List ℕ)) → Named ns c m → after m′ a ≡ internOf c m w
-  pub bounded : fits c m ≡ true → wellFormed w ≡ true → (x : IndexPlace) × (after m′ a ≡ internAs c m w x) × PlaceWithin (c .resources) x
+  pub bounded : fits c m ≡ true → wellFormed w ≡ true
+      → (x : IndexPlace) × (after m′ a ≡ internAs c m (canonical w) x) × PlaceWithin (c .resources) x
   pub writes : InternWrites c m m′
   pub refused : (q : Refusal) → a ≡ NotInterned q → m′ ≡ m

@@ -1,13 +1,15 @@
--- The plain lists (paper 01, "The plain lists"): what a reader has to believe of demand 3. Two lists under the same capacities, of
--- names and of triples with a mark, and what is left of each opening. Nothing here speaks of tables, links or counts.
+-- The plain lists (paper 01, "The plain lists"; 02, note 7): what a reader has to believe of demand 3. Two lists under the same capacities,
+-- of names and of triples with a mark, and what is left of each opening. Nothing here speaks of tables, links or counts.
 -- Assumes nothing.
 use mathlib.Core.Bool.{Bool, true, false, cond, not, _&&_, _||_}
 use mathlib.Core.List.{List, [], _∷_, _++_}
 use Prim.Native.Nat.{ℕ, zero, suc, _+_, _-_}
 use lib.ListN.{length, getD, set}
 use lib.Dec.{eqb, leb, ltb}
+use Rattle.term.specs.Bytes.{eqBytes}
 use Rattle.term.specs.Grammar.{nameLimit}
 use Rattle.term.specs.Scanner.{kindOf, firstKindOf}
+use Rattle.term.specs.Canonical.{canonical}
 use Rattle.store.specs.declared.Position.{Position}
 use Rattle.store.specs.declared.Position.the-variants.{Subject, Predicate, Object}
 use Rattle.store.specs.declared.Chain.{Chain}
@@ -61,12 +63,6 @@ pub data Call : Type 0 where
 unfoldable pub wellFormed : List ℕ → Bool
 wellFormed w = ltb 0 (kindOf nameLimit w)
 
-unfoldable pub eqBytes : List ℕ → List ℕ → Bool
-eqBytes [] [] = true
-eqBytes [] (y ∷ ys) = false
-eqBytes (x ∷ xs) [] = false
-eqBytes (x ∷ xs) (y ∷ ys) = eqb x y && eqBytes xs ys
-
 -- the position of a listed name, or 0
 unfoldable pub lookupName : List ℕ → List (List ℕ) → ℕ
 lookupName w ns = head0 (below (λ i. eqBytes (getD ns i []) w) (length ns))
@@ -98,9 +94,9 @@ internName k s w zero =
     (s, refusedWith 3)
 internName k s w (suc i) = (s, counted 0 (suc i) (totals s))
 
--- Enter: 2; a listed name answers its position; 3; else appended
+-- Enter: 2, by the name as spelled; then by the name without the string ending: its position if it is listed; 3; else it is appended
 unfoldable pub internModel : Capacities → Model → List ℕ → Model × Values
-internModel k s w = cond (wellFormed w) (internName k s w (lookupName w (s .names))) (s, refusedWith 2)
+internModel k s w = cond (wellFormed w) (internName k s (canonical w) (lookupName (canonical w) (s .names))) (s, refusedWith 2)
 
 -- ---- triples
 

@@ -1,5 +1,5 @@
--- Sound (paper 01, "Sound means"): one definition for find, intern, the check and both demands. Words past the counters do not matter.
--- Assumes nothing.
+-- Sound (paper 01, "Sound means"; 02, note 7): one definition for find, intern, the check and both demands. Words past the counters do
+-- not matter. Assumes nothing.
 use mathlib.Core.Path.{_≡_}
 use mathlib.Core.Logic.{_≢_}
 use mathlib.Core.Bool.{Bool, true}
@@ -38,6 +38,7 @@ pub record Sound (c : Counters) (m : Tables) : Type 0 where
   pub kinds : (i : ℕ) → i < c .statements → permitted (kindAt (m .resources)) (tripleAt (m .statements) i) ≡ true
   -- no triple twice, live or not
   pub once : (i j : ℕ) → i < j → j < c .statements → tripleAt (m .statements) i ≢ tripleAt (m .statements) j
-  -- the text is exactly R well-formed names with right offsets and kinds; the index is complete and rising, so they are distinct
+  -- the text is exactly R well-formed names without the string ending, with right offsets and kinds; the index is complete and rising, so
+  -- they are distinct
   pub names : List (List ℕ)
   pub named : Named names c m

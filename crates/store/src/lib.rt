@@ -71,7 +71,7 @@ pub struct ScanCursor {
 pub enum Refusal {
     // 1: a counter exceeds its capacity.
     Capacity,
-    // 2: a name is not well formed, or over 255 bytes.
+    // 2: a name is not well formed, or over 255 bytes as spelled.
     Malformed,
     // 3: no room for one more.
     Full,

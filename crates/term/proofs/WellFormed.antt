@@ -19,7 +19,7 @@ use Rattle.term.specs.declared.NameKind.the-variants.{Iri, Blank, Litera
 use Rattle.term.proofs.Names.{Accepts, never, bad, case, case-or-bad, name-forth, kinds}
 use Rattle.term.proofs.Turn.{no-zero}
 
-name-positive : {k : ℕ} {s : List ℕ} → g.Name k s → 1 ≤ k
+pub name-positive : {k : ℕ} {s : List ℕ} → g.Name k s → 1 ≤ k
 name-positive (g.Name.iri r) = omega arith
 name-positive (g.Name.blank r) = omega arith
 name-positive (g.Name.literal r) = omega arith
@@ -69,7 +69,7 @@ at-most-three limit s =
     (omega arith)
 
 -- what a kind is found of is accepted
-accepted : (limit : ℕ) (s : List ℕ) → (kindOf limit s ≡ 0 → ⊥) → Accepts Start s
+pub accepted : (limit : ℕ) (s : List ℕ) → (kindOf limit s ≡ 0 → ⊥) → Accepts Start s
 accepted limit s h = name-forth (kinds limit (kindOf limit s) s (positive (kindOf limit s) h) .0 refl .1)
 
 clean-run : (s : List ℕ) (q : Scan) → Accepts q s → clean s ≡ true

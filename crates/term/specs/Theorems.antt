@@ -1,15 +1,16 @@
--- What is proved of names (scope paper, "Names"): the statements. The proofs are in `proofs/Names.antt`,
--- `WellFormed.antt`, `Spellings.antt`, `Literals.antt` and `Halts.antt`. Assumes nothing.
+-- What is proved of names (scope paper, "Names"; paper 02, note 7): the statements. The proofs are in `proofs/Names.antt`,
+-- `WellFormed.antt`, `Spellings.antt`, `Literals.antt`, `Halts.antt` and `Shortened.antt`. Assumes nothing.
 use Prim.Native.Nat.{ℕ, _+_, _≤_}
 use mathlib.Core.Path.{_≡_}
 use mathlib.Core.List.{List, [], _∷_, _++_}
-use mathlib.Core.Bool.{true}
+use mathlib.Core.Bool.{true, false}
 use mathlib.Core.Logic.{_↔_}
 use lib.ListN.{length}
 use Rattle.term.specs.Bytes.{clean}
 use Rattle.term.specs.Grammar.{Iri, Blank, Suffix, Literal, Name, WellFormed, nameLimit}
 use Rattle.term.specs.Scanner.{runOf, wholeOf, firstKindOf, kindOf, haltOf, longestOf, numberOf, refusalOf}
 use Rattle.term.specs.Spelling.{SpelledIri, SpelledBlank, SpelledTag, Piece, AllAllowed, spelling, SpelledLiteral}
+use Rattle.term.specs.Canonical.{stringEnding, writesString, canonical}
 use Rattle.term.specs.Halting.{Begins, Breaks, LongestName}
 use Rattle.term.specs.declared.NameKind.{NameKind}
 use Rattle.term.specs.declared.Scan.the-variants.{Start, Dot}
@@ -87,3 +88,21 @@ WholeAtHalt = (s : List ℕ) → wholeOf (haltOf Start 0 s .state) ≡ true → 
 
 abbrev pub WholeBeforeDot : Type 0
 WholeBeforeDot = (s : List ℕ) → haltOf Start 0 s .state ≡ Dot → longestOf 0 0 Start s + 1 ≡ haltOf Start 0 s .at
+
+-- The step to one spelling takes the string ending off, and does nothing to bytes that do not end so.
+abbrev pub CanonicalDrops : Type 0
+CanonicalDrops = (x : List ℕ) → canonical (x ++ stringEnding) ≡ x
+
+abbrev pub CanonicalKeeps : Type 0
+CanonicalKeeps = (w : List ℕ) → ((x : List ℕ) → w ≡ x ++ stringEnding → ⊥) → canonical w ≡ w
+
+-- What it leaves of a name w: a name within the same limit, of the same kind, without the string ending, so that the step is done once.
+pub record Canonical (limit : ℕ) (w : List ℕ) : Type 0 where
+  pub kind : kindOf limit (canonical w) ≡ kindOf limit w
+  pub ending : writesString (canonical w) ≡ false
+  pub once : canonical (canonical w) ≡ canonical w
+  -- only a literal has that ending
+  pub other : (kindOf limit w ≡ 3 → ⊥) → canonical w ≡ w
+
+abbrev pub CanonicalName : Type 0
+CanonicalName = (limit : ℕ) (w : List ℕ) → (kindOf limit w ≡ 0 → ⊥) → Canonical limit w

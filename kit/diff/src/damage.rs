@@ -95,7 +95,8 @@ fn statement(random: &mut Random, lent: &mut Lent) {
     }
 }
 
-/// Other names: one changed, doubled or of no form, with every offset, kind and place in the index as its bytes have it.
+/// Other names: one changed, doubled, of no form or with the string ending, with every offset, kind and place in the index as its bytes
+/// have it. The text grows where they need it, and at times there is room for a name more.
 fn name(random: &mut Random, lent: &mut Lent) {
     let (r, b) = (lent.counters[0] as usize, lent.counters[2] as usize);
     if r == 0 || !lent.within_capacity() {
@@ -104,14 +105,24 @@ fn name(random: &mut Random, lent: &mut Lent) {
     let mut names: Vec<Vec<u8>> = lent.text[..b].split(|&byte| byte == 0).map(|name| name.to_vec()).collect();
     names.resize(r, vec![]);
     let which = random.below(r);
-    match random.below(3) {
+    match random.below(4) {
         0 => names[which] = names[random.below(r)].clone(),
         1 => names[which] = random.name(),
+        2 => {
+            // In a literal's place, where there is one, the statements keep their permitted kinds.
+            let literal = names.iter().position(|name| name.first() == Some(&b'"'));
+            names[literal.unwrap_or(which)] = random.label();
+        }
         _ => random.mutate(&mut names[which]),
     }
     let text: Vec<u8> = names.iter().flat_map(|name| name.iter().chain(&[0])).copied().collect();
     if text.len() > lent.text.len() {
-        return;
+        lent.text.resize(text.len() + random.below(6), 0);
+    }
+    if random.one_in(4) {
+        lent.text.resize(lent.text.len().max(text.len() + 60), 0);
+        lent.resources.resize(lent.resources.len() + RESOURCE_WORDS, 0);
+        lent.index.resize(lent.resources.len() / RESOURCE_WORDS, 0);
     }
     lent.counters[2] = text.len() as u32;
     lent.text[..text.len()].copy_from_slice(&text);

@@ -1,4 +1,4 @@
-//! The plain implementation against the paper's own examples and those of `docs/DECISIONS.md`, so that it is not right only by agreeing
+//! The plain implementation against the papers' own examples and those of `docs/DECISIONS.md`, so that it is not right only by agreeing
 //! with the library.
 
 use crate::names::{kind_of, read_line, Line};
@@ -192,6 +192,193 @@ fn lines() {
     assert_eq!(read_line(b"\r\n", 1), (Line::Nothing, 2));
     assert_eq!(read_line(b"\n", 9), (Line::End, 9));
     assert_eq!(read_line(b" <a> <b> <c> . \n", 0), (Line::Triple([(1, 3), (5, 3), (9, 3)]), 16));
+}
+
+/// The string ending as paper 02 spells it; with a capital letter, without its last byte, and its datatype as a name.
+const ENDING: &str = "^^<http://www.w3.org/2001/XMLSchema#string>";
+const CAPITAL: &str = "^^<http://www.w3.org/2001/XMLSchema#String>";
+const UNCLOSED: &str = "^^<http://www.w3.org/2001/XMLSchema#string";
+const DATATYPE: &str = "<http://www.w3.org/2001/XMLSchema#string>";
+
+/// A fresh store of two resources and so many bytes of text.
+fn fresh(text: usize) -> Lent {
+    Lent {
+        counters: vec![0; COUNTER_WORDS],
+        resources: vec![9; RESOURCE_WORDS * 2],
+        index: vec![9; 2],
+        text: vec![9; text],
+        ..Lent::default()
+    }
+}
+
+fn find(lent: &mut Lent, name: &str) -> (u32, Vec<u32>) {
+    call(lent, Call::Find { name: name.into() })
+}
+
+fn enter(lent: &mut Lent, name: &str) -> (u32, Vec<u32>) {
+    call(lent, Call::Enter { name: name.into() })
+}
+
+/// Decisions 21 and 123: a label with the string ending is the label without it. Room and B go by what is left.
+#[test]
+fn one_label_two_spellings() {
+    let spelled = format!("\"A\"{ENDING}");
+    assert_eq!((spelled.len(), kind_of(spelled.as_bytes())), (46, Some(3)));
+    for order in [[spelled.as_str(), "\"A\""], ["\"A\"", spelled.as_str()]] {
+        let mut lent = fresh(4);
+        assert_eq!(find(&mut lent, order[0]), (0, vec![0]));
+        assert_eq!(enter(&mut lent, order[0]), (0, vec![1]));
+        assert_eq!((&lent.counters[..], &lent.text[..]), (&[1, 0, 4][..], &b"\"A\"\0"[..]));
+        assert_eq!((&lent.resources[..RESOURCE_WORDS], lent.index[0]), (&[0, 0, 0, 0, 0, 0, 0, 3][..], 1));
+        for name in order {
+            assert_eq!(find(&mut lent, name), (0, vec![1]));
+            assert_eq!(enter(&mut lent, name), (0, vec![1]));
+        }
+        assert_eq!(call(&mut lent, Call::Name { number: 1 }), (0, vec![0, 3]));
+        assert_eq!(call(&mut lent, Call::Check), (0, vec![1]));
+        assert_eq!(enter(&mut lent, &format!("\"\"{ENDING}")).0, 3);
+    }
+    let mut lent = fresh(3);
+    assert_eq!(enter(&mut lent, &spelled).0, 3);
+    assert_eq!(enter(&mut lent, &format!("\"\"{ENDING}")), (0, vec![1]));
+    assert_eq!((&lent.counters[..], &lent.text[..]), (&[1, 0, 3][..], &b"\"\"\0"[..]));
+    assert_eq!(find(&mut lent, "\"\""), (0, vec![1]));
+}
+
+/// Decision 123: the 255 bytes are those of the name as spelled, so 212 are the most that are left, and a longer literal has one spelling.
+#[test]
+fn an_ending_within_255_bytes() {
+    let [longest, beyond] = [210, 211].map(|inner| format!("\"{}\"{ENDING}", "A".repeat(inner)));
+    assert_eq!([longest.len(), beyond.len()], [255, 256]);
+    assert_eq!([&longest, &beyond].map(|name| kind_of(name.as_bytes())), [Some(3), None]);
+    let mut lent = fresh(213);
+    assert_eq!(find(&mut lent, &beyond).0, 2);
+    assert_eq!(enter(&mut lent, &beyond).0, 2);
+    assert_eq!(enter(&mut lent, &longest), (0, vec![1]));
+    assert_eq!(lent.counters, [1, 0, 213]);
+    assert_eq!(find(&mut lent, &format!("\"{}\"", "A".repeat(210))), (0, vec![1]));
+    let mut lent = fresh(212);
+    assert_eq!(enter(&mut lent, &longest).0, 3);
+    let mut lent = fresh(214);
+    assert_eq!(enter(&mut lent, &format!("\"{}\"", "A".repeat(211))), (0, vec![1]));
+    assert_eq!(lent.counters, [1, 0, 214]);
+    assert_eq!([find(&mut lent, &beyond).0, enter(&mut lent, &beyond).0], [2, 2]);
+}
+
+/// Decision 123: names that keep all their bytes, and bytes that are no name.
+#[test]
+fn no_string_ending() {
+    let kept = [
+        (format!("\"A\"{CAPITAL}"), 46),
+        (format!("\"{ENDING}\""), 45),
+        (format!("\"A{ENDING}\""), 46),
+        (DATATYPE.to_string(), 41),
+        ("\"A\"@en".to_string(), 6),
+    ];
+    for (name, length) in &kept {
+        let mut lent = fresh(length + 5);
+        assert_eq!(enter(&mut lent, "\"A\""), (0, vec![1]));
+        assert_eq!(find(&mut lent, name), (0, vec![0]), "{name}");
+        assert_eq!(enter(&mut lent, name), (0, vec![2]), "{name}");
+        assert_eq!(lent.counters, [2, 0, 4 + *length as u32 + 1], "{name}");
+        assert_eq!(&lent.text[4..4 + length], name.as_bytes());
+        assert_eq!(find(&mut lent, &format!("\"A\"{ENDING}")), (0, vec![1]), "{name}");
+        assert_eq!(call(&mut lent, Call::Check), (0, vec![1]), "{name}");
+    }
+    let none = [
+        format!("\"A\"{UNCLOSED}"),
+        format!("\"A\"{ENDING}@en"),
+        format!("\"A\"@en{ENDING}"),
+        format!("\"A\"{ENDING}{ENDING}"),
+        format!("\"A{ENDING}"),
+        format!("\"A\\\"{ENDING}"),
+        format!("<a>{ENDING}"),
+        ENDING.to_string(),
+    ];
+    for name in &none {
+        assert_eq!(kind_of(name.as_bytes()), None, "{name}");
+        assert_eq!(find(&mut fresh(64), name).0, 2, "{name}");
+        assert_eq!(enter(&mut fresh(64), name).0, 2, "{name}");
+    }
+}
+
+/// Decision 124: the object's part is without the string ending; the dot, the position after the line and the offset of a fault are as
+/// spelled.
+#[test]
+fn lines_with_the_ending() {
+    let object = |tail: &str| read_line(format!("<a><b>{tail}").as_bytes(), 0);
+    let part = |length: usize, after: usize| (Line::Triple([(0, 3), (3, 3), (6, length)]), after);
+    let broken = |offset: usize, after: usize| (Line::Broken { offset }, after);
+    assert_eq!(object(&format!("\"A\"{ENDING}.")), part(3, 53));
+    assert_eq!(object(&format!("\"\"{ENDING} . # c\r\n<a>")), part(2, 59));
+    assert_eq!(object(&format!("\"{}\"{ENDING}.", "A".repeat(210))), part(212, 262));
+    assert_eq!(object(&format!("\"{}\"{ENDING}.", "A".repeat(211))), broken(261, 263));
+    assert_eq!(object(&format!("\"A\"{CAPITAL}.")), part(46, 53));
+    assert_eq!(object(&format!("\"{ENDING}\".")), part(45, 52));
+    assert_eq!(object(&format!("{DATATYPE}.")), part(41, 48));
+    assert_eq!(object("\"A\"@en."), part(6, 13));
+    assert_eq!(object(&format!("\"A\"{ENDING}@en.")), broken(52, 56));
+    assert_eq!(object(&format!("\"A\"{ENDING}{ENDING}.")), broken(52, 96));
+    assert_eq!(object(&format!("\"A\" {ENDING}.")), broken(10, 54));
+    assert_eq!(object(&format!("\"A\"{ENDING}")), broken(52, 52));
+    assert_eq!(object(&format!("\"A\"{UNCLOSED}.")), broken(52, 52));
+    let second = format!("#\n<a> <b> \"A\"{ENDING}\t.\n");
+    assert_eq!(read_line(second.as_bytes(), 2), (Line::Triple([(2, 3), (6, 3), (10, 3)]), 59));
+}
+
+/// One literal as the text has it, and room for so many bytes more.
+fn holding(name: &str, room: usize) -> Lent {
+    let mut lent = fresh(name.len() + 1 + room);
+    lent.counters = vec![1, 0, name.len() as u32 + 1];
+    lent.resources[..RESOURCE_WORDS].copy_from_slice(&[0, 0, 0, 0, 0, 0, 0, 3]);
+    lent.index[0] = 1;
+    lent.text[..name.len()].copy_from_slice(name.as_bytes());
+    lent.text[name.len()] = 0;
+    lent
+}
+
+/// Decision 125: a table that holds a name with the string ending is not sound, and find and enter are bounded there, also on other names.
+#[test]
+fn a_table_with_the_ending() {
+    for (name, sound) in [
+        (format!("\"A\"{ENDING}"), 0),
+        (format!("\"\"{ENDING}"), 0),
+        ("\"A\"".to_string(), 1),
+        (format!("\"A\"{CAPITAL}"), 1),
+        (format!("\"{ENDING}\""), 1),
+    ] {
+        assert_eq!(call(&mut holding(&name, 0), Call::Check), (0, vec![sound]), "{name}");
+    }
+    let stored = format!("\"A\"{ENDING}");
+    for name in [&stored, "\"A\"", "<b>"] {
+        for asked in [Call::Find { name: name.into() }, Call::Enter { name: name.into() }] {
+            let mut lent = holding(&stored, 64);
+            lent.reply = vec![0];
+            assert_eq!(asked.make(&mut lent), Expected::Bounded, "{asked:?}");
+        }
+    }
+    assert_eq!(call(&mut holding(&stored, 64), Call::Name { number: 1 }), (0, vec![0, 46]));
+    assert_eq!(find(&mut holding(&stored, 64), &format!("{stored}@en")).0, 2);
+
+    // Entering `"B"` with the ending there: by what is left of it there is room for it or none.
+    let asked = Call::Enter { name: format!("\"B\"{ENDING}").into() };
+    for (room, result, answer, text_bytes, kept) in [
+        (4, 0, 2, 51, true),
+        (4, 0, 2, 94, false),
+        (4, 0, 1, 47, true),
+        (4, 9, 0, 47, true),
+        (4, 3, 0, 47, false),
+        (3, 3, 0, 47, true),
+        (3, 0, 2, 51, false),
+        (64, 0, 2, 94, false),
+    ] {
+        let mut before = holding(&stored, room);
+        before.reply = vec![9];
+        let mut after = before.clone();
+        after.reply = vec![answer];
+        after.counters = vec![if answer == 2 { 2 } else { 1 }, 0, text_bytes];
+        assert_eq!(asked.bounds_kept(&before, result, &after).is_ok(), kept, "{room} {result} {answer} {text_bytes}");
+    }
 }
 
 /// Every choice of one live statement a pattern, the first pattern's deciding first, higher numbers first, that gives each variable one

@@ -1,7 +1,8 @@
 //! The limits of 65,535 records and 1,048,576 bytes of text: every function at them and one beyond, on tables that have room for more
-//! and hold what would be sound there, so that a limit that is not kept shows in the answer.
+//! and hold what would be sound there, so that a limit that is not kept shows in the answer. And the room for a literal with the string
+//! ending, which is that for what is left of it.
 
-use crate::names::MAX_NAME;
+use crate::names::{MAX_NAME, STRING_ENDING};
 use crate::plain::{
     resource_at, statement_at, Call, Lent, COUNT, COUNTER_WORDS, FIRST, FIRST_VARIABLE, FLAG, LONGEST_REPLY, MAX_RECORDS, MAX_TEXT,
     NEXT, OFFSET, QUERY_CURSOR_WORDS, RESOURCE_WORDS, SCAN_CURSOR_WORDS, STATEMENT_WORDS,
@@ -87,7 +88,44 @@ impl Run {
         let mut beyond = long(all_text - 1);
         beyond.extend([127, 128]);
         self.every_function(store(&beyond, 300), LONG)?;
-        self.window()
+        self.window()?;
+        self.endings()
+    }
+
+    /// Labels with the string ending, where what is left of them, three bytes or as many as may be, lacks a byte of room, then just fits:
+    /// up to the limit of the text, and up to a text's end. Then names that are close to such a label and keep their bytes.
+    fn endings(&mut self) -> Result<(), Difference> {
+        let quoted = |left: usize| format!("\"{}\"", "A".repeat(left - 2)).into_bytes();
+        let spelled = |left: usize| [&quoted(left), STRING_ENDING].concat();
+        for left in [3, MAX_NAME - STRING_ENDING.len()] {
+            let names = [spelled(left), quoted(left), spelled(left), spelled(left + 1)];
+            for room in [left, left + 1] {
+                let mut lengths = vec![MAX_NAME; MAX_TEXT / (MAX_NAME + 1) - 1];
+                lengths.push(MAX_NAME - room);
+                self.found_and_entered(store(&lengths, 300), &names)?;
+                let mut short = store(&[SHORT; 300], 300);
+                short.text.truncate(short.counters[2] as usize + room);
+                self.found_and_entered(short, &names)?;
+            }
+        }
+        let capital = b"\"A\"^^<http://www.w3.org/2001/XMLSchema#String>".to_vec();
+        let between_quotes = [b"\"", STRING_ENDING, b"\""].concat();
+        for close in [capital, between_quotes, STRING_ENDING[2..].to_vec()] {
+            self.found_and_entered(store(&[SHORT; 300], 300), &[close, spelled(3), quoted(3)])?;
+        }
+        Ok(())
+    }
+
+    fn found_and_entered(&mut self, mut lent: Lent, names: &[Vec<u8>]) -> Result<(), Difference> {
+        let lent = &mut lent;
+        for name in names {
+            self.compare(&Call::Find { name: name.clone() }, lent)?;
+            self.compare(&Call::Enter { name: name.clone() }, lent)?;
+        }
+        for name in names {
+            self.compare(&Call::Find { name: name.clone() }, lent)?;
+        }
+        self.compare(&Call::Check, lent)
     }
 
     /// The window of a name: its zero is the 256th byte from the offset, then the 257th.

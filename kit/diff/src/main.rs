@@ -1,5 +1,5 @@
 //! The differential test: random calls through the C interface against the plain implementation in `plain.rs` and `names.rs`, which is
-//! written from paper 01 and `docs/DECISIONS.md` alone.
+//! written from paper 01, what paper 02 says of the same label typed two ways, and `docs/DECISIONS.md` alone.
 //!
 //!     diff SEED CALLS SECONDS
 //!
@@ -7,7 +7,8 @@
 //! counters and every byte of the tables must be what the paper says; where find and enter meet a dictionary that is not sound, what
 //! the paper leaves open is bounded. The first difference is told with the seed, the call's number and both answers, and ends the run
 //! with status 1. A run that made fewer calls than it was to make, and fewer than a million, has failed too. At the end stands how many
-//! calls of each kind had each result; a run of 300,000 calls or more must have met them all.
+//! calls of each kind had each result, and how many met the string ending in which way; a run of 300,000 calls or more must have met all
+//! of these.
 
 mod damage;
 #[cfg(test)]
@@ -35,7 +36,7 @@ const MIDDLE: usize = 300;
 /// A run that is to make so many calls or more has failed with fewer, also where its time is over.
 const LEAST: u64 = 1_000_000;
 
-/// Calls after which every result must have been met.
+/// Calls after which every result, and everything of the string ending, must have been met.
 const ENOUGH: u64 = 300_000;
 
 struct Run {
@@ -88,7 +89,7 @@ impl Run {
                 *lent = after;
             }
         }
-        self.tally.count(call, result, lent, expected == Expected::Bounded);
+        self.tally.count(call, result, &before, lent, expected == Expected::Bounded);
         Ok(())
     }
 
@@ -102,7 +103,7 @@ impl Run {
                 resources: vec![0; RESOURCE_WORDS * random.from_to(20, 60) + 5],
                 statements: vec![0; STATEMENT_WORDS * random.from_to(60, 300) + 5],
                 index: vec![0; 60],
-                text: vec![0; 800],
+                text: vec![0; random.from_to(400, 3000)],
                 ..Lent::default()
             };
         }
@@ -120,8 +121,8 @@ impl Run {
         if random.one_in(4) {
             lent.statements.resize(STATEMENT_WORDS * random.from_to(7, 12), 0);
         }
-        if random.one_in(40) {
-            lent.text.resize(600, 0);
+        if random.one_in(6) {
+            lent.text.resize(random.of(&[100, 220, 300, 600]), 0);
         }
         if random.one_in(8) {
             lent.counters.extend([7, 8]);

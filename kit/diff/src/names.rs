@@ -1,7 +1,11 @@
-//! Names and lines, plainly: paper 01, "Names" and "Read a line". A line is read by following every reading of it at once, byte by byte,
-//! so that the first byte that continues no line is the one after which no reading is left.
+//! Names and lines, plainly: paper 01, "Names" and "Read a line", and paper 02 on the same label typed two ways. A line is read by
+//! following every reading of it at once, byte by byte, so that the first byte that continues no line is the one after which no reading
+//! is left.
 
 pub const MAX_NAME: usize = 255;
+
+/// The string ending: xsd:string, which a literal without tag and datatype has too, written out after the quotes.
+pub const STRING_ENDING: &[u8] = b"^^<http://www.w3.org/2001/XMLSchema#string>";
 
 fn iri_byte(b: u8) -> bool {
     (33..=126).contains(&b) && !b"<>\"{}|^\\`".contains(&b)
@@ -28,20 +32,25 @@ fn is_tag(s: &[u8]) -> bool {
     })
 }
 
-fn is_literal(s: &[u8]) -> bool {
+/// Bytes that begin as a literal does, taken apart: the quotes with what they hold, and what follows.
+pub fn quoted_and_suffix(s: &[u8]) -> Option<(&[u8], &[u8])> {
     if s.first() != Some(&b'"') {
-        return false;
+        return None;
     }
     let mut at = 1;
     loop {
         match s.get(at) {
-            Some(b'"') => break,
+            Some(b'"') => return Some(s.split_at(at + 1)),
             Some(b'\\') if matches!(s.get(at + 1), Some(b'"' | b'\\' | b'n' | b'r')) => at += 2,
             Some(&b) if (32..=126).contains(&b) && b != b'\\' => at += 1,
-            _ => return false,
+            _ => return None,
         }
     }
-    match &s[at + 1..] {
+}
+
+fn is_literal(s: &[u8]) -> bool {
+    let Some((_, suffix)) = quoted_and_suffix(s) else { return false };
+    match suffix {
         [] => true,
         [b'@', tag @ ..] => is_tag(tag),
         [b'^', b'^', iri @ ..] => is_iri(iri),
@@ -60,7 +69,20 @@ pub fn kind_of(name: &[u8]) -> Option<u32> {
     }
 }
 
-/// What a line reader answers. Parts are start and length in the text.
+/// A well-formed name as it is compared and stored: without the string ending.
+pub fn without_ending(name: &[u8]) -> &[u8] {
+    match quoted_and_suffix(name) {
+        Some((quoted, STRING_ENDING)) => quoted,
+        _ => name,
+    }
+}
+
+/// Whether a well-formed name is spelled with the string ending.
+pub fn has_ending(name: &[u8]) -> bool {
+    without_ending(name).len() < name.len()
+}
+
+/// What a line reader answers. Parts are start and length in the text, the object's without the string ending.
 #[derive(Debug, PartialEq)]
 pub enum Line {
     End,
@@ -203,7 +225,10 @@ pub fn read_line(text: &[u8], position: usize) -> (Line, usize) {
     match readings.iter().find(|reading| reading.whole()) {
         None => (Line::Broken { offset: end - position }, after),
         Some(reading) => match reading.parts[..] {
-            [subject, predicate, object] => (Line::Triple([subject, predicate, object]), after),
+            [subject, predicate, (start, spelled)] => {
+                let object = without_ending(&text[start..start + spelled]);
+                (Line::Triple([subject, predicate, (start, object.len())]), after)
+            }
             _ => (Line::Nothing, after),
         },
     }

@@ -1,8 +1,9 @@
-//! The store, plainly: paper 01, "Tables and counters" and "Operations and refusals", as read in `docs/DECISIONS.md`. Nothing here is
-//! meant to be fast. Every operation works on what is lent, as the library's does, so that the two can be compared byte by byte.
+//! The store, plainly: paper 01, "Tables and counters" and "Operations and refusals", and paper 02 on the same label typed two ways, as
+//! read in `docs/DECISIONS.md`. Nothing here is meant to be fast. Every operation works on what is lent, as the library's does, so that
+//! the two can be compared byte by byte.
 //! Refusals are the `Err` of a `Result`, by their number.
 
-use crate::names::{kind_of, read_line, Line, MAX_NAME};
+use crate::names::{has_ending, kind_of, read_line, without_ending, Line, MAX_NAME};
 
 pub const MAX_RECORDS: usize = 65_535;
 pub const MAX_TEXT: usize = 1_048_576;
@@ -114,6 +115,11 @@ impl Lent {
             && self.b() as usize <= self.text_capacity()
     }
 
+    /// The text up to B, or to its end.
+    pub fn used_text(&self) -> &[u8] {
+        &self.text[..self.text.len().min(self.b() as usize)]
+    }
+
     // Words of record n, for a place 0 subject, 1 predicate, 2 object.
     fn resource_word(&self, n: u32, word: usize) -> u32 {
         self.resources[resource_at(n) + word]
@@ -162,8 +168,22 @@ impl Lent {
         self.within_capacity() && self.names().is_some() && self.statements_sound() && self.chains_sound()
     }
 
+    /// Whether names that have the string ending are all that keeps the store from being sound.
+    pub fn sound_but_for_endings(&self) -> bool {
+        self.within_capacity()
+            && self.names().is_none()
+            && self.spelled_names().is_some()
+            && self.statements_sound()
+            && self.chains_sound()
+    }
+
     /// The names in resource order, if text, offsets, kinds and index are sound. Counters must be within capacity.
     pub fn names(&self) -> Option<Vec<&[u8]>> {
+        self.spelled_names().filter(|names| !names.iter().any(|name| has_ending(name)))
+    }
+
+    /// The same, whether or not some of them have the string ending.
+    fn spelled_names(&self) -> Option<Vec<&[u8]>> {
         let used = &self.text[..self.b() as usize];
         let mut names = vec![];
         let mut at = 0;
@@ -279,6 +299,7 @@ impl Lent {
     fn find(&self, name: &[u8]) -> Result<u32, u32> {
         self.capacity()?;
         kind_of(name).ok_or(2u32)?;
+        let name = without_ending(name);
         let names = self.names().expect("a sound dictionary");
         Ok(names.iter().position(|&n| n == name).map_or(0, |k| k as u32 + 1))
     }
@@ -293,6 +314,7 @@ impl Lent {
         if found != 0 {
             return Ok(found);
         }
+        let name = without_ending(name);
         if !self.room_for_name(name.len()) {
             return Err(3);
         }
@@ -686,10 +708,12 @@ impl Call {
     }
 
     /// What holds of find and enter where the dictionary is not sound: 9, or a number up to R; absent is 0 in find, and in enter 3 or
-    /// R + 1, by the room there is. Only an answer of R + 1 writes: the index, record R + 1, text from B on, and the counters.
+    /// R + 1, by the room there is for the name without the string ending. Only an answer of R + 1 writes: the index, record R + 1, text
+    /// from B on, and the counters.
     pub fn bounds_kept(&self, before: &Lent, result: u32, after: &Lent) -> Result<(), String> {
         let (Call::Find { name } | Call::Enter { name }) = self else { return Err("only find and enter are bounded".into()) };
         let entering = matches!(self, Call::Enter { .. });
+        let name = without_ending(name);
         let room = before.room_for_name(name.len());
         let mut expected = before.clone();
         let answer = after.reply[0];

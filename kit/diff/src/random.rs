@@ -1,6 +1,6 @@
 //! Random numbers from a seed (splitmix64), and the random values that calls are made of.
 
-use crate::names::MAX_NAME;
+use crate::names::{quoted_and_suffix, MAX_NAME, STRING_ENDING};
 use crate::plain::{Lent, FIRST_VARIABLE, MAX_PATTERNS, PLACES, RESOURCE_WORDS, STATEMENT_WORDS, VARIABLES};
 
 pub struct Random {
@@ -173,12 +173,75 @@ impl Random {
         if self.one_in(60) {
             return self.name();
         }
+        if self.one_in(6) {
+            return self.label_of(lent);
+        }
         if lent.resources.len() / RESOURCE_WORDS > NAMES.len() && !self.one_in(4) {
             let k = self.below(20);
-            return self.of(&["<n#>", "<n#>", "<p#>", "<p#>", "_:n#", "\"#\""]).replace('#', &k.to_string()).into_bytes();
+            let mut name = self.of(&["<n#>", "<n#>", "<p#>", "<p#>", "_:n#", "\"#\""]).replace('#', &k.to_string()).into_bytes();
+            if name[0] == b'"' && self.one_in(2) {
+                name.extend_from_slice(STRING_ENDING);
+            }
+            return name;
         }
         let kinds = if self.one_in(3) { NAMES.len() } else { 6 };
         NAMES[self.below(kinds)].as_bytes().to_vec()
+    }
+
+    /// A label, without the string ending or with it, or something close to that.
+    pub fn label(&mut self) -> Vec<u8> {
+        // With the ending, 210 bytes between the quotes make a name of 255.
+        let inner = match self.below(5) {
+            0 => "a".repeat(self.of(&[208, 209, 210, 210, 210, 211, 211, 212])),
+            _ => self.of(&["", "", "a", "a", "a", "b", "\\\\", "^^<a>"]).to_string(),
+        };
+        self.spelling(format!("\"{inner}\"").as_bytes())
+    }
+
+    fn spelling(&mut self, quoted: &[u8]) -> Vec<u8> {
+        match self.below(8) {
+            0..=2 => quoted.to_vec(),
+            3..=5 => [quoted, STRING_ENDING].concat(),
+            _ => self.near_ending(quoted),
+        }
+    }
+
+    /// A label, often one of a store's literals as it stands there or in another spelling.
+    fn label_of(&mut self, lent: &Lent) -> Vec<u8> {
+        let literals: Vec<&[u8]> = lent.used_text().split(|&byte| byte == 0).filter(|name| name.first() == Some(&b'"')).collect();
+        if literals.is_empty() || self.one_in(2) {
+            return self.label();
+        }
+        let literal = self.of(&literals);
+        match quoted_and_suffix(literal) {
+            Some((quoted, _)) if !self.one_in(4) => self.spelling(quoted),
+            _ => literal.to_vec(),
+        }
+    }
+
+    /// What is close to a literal with the string ending: names that keep all their bytes, and bytes that are no name.
+    fn near_ending(&mut self, quoted: &[u8]) -> Vec<u8> {
+        let unclosed = &quoted[..quoted.len() - 1];
+        let (open, datatype) = (&STRING_ENDING[..STRING_ENDING.len() - 1], &STRING_ENDING[2..]);
+        match self.below(14) {
+            0 => [quoted, b"^^<http://www.w3.org/2001/XMLSchema#String>"].concat(),
+            1 => [unclosed, STRING_ENDING, b"\""].concat(),
+            2 => [unclosed, STRING_ENDING].concat(),
+            3 => [unclosed, b"\\\"", STRING_ENDING].concat(),
+            4 => [quoted, open, self.of(&["", "s>", "/>"]).as_bytes()].concat(),
+            5 => [quoted, STRING_ENDING, self.of(&["@en", ">", " ", "^^<a>", "s"]).as_bytes()].concat(),
+            6 => [quoted, STRING_ENDING, STRING_ENDING].concat(),
+            7 => [self.of(&["", "<a>", "_:a", "\"a\"@en", "\"a\"^^<a>"]).as_bytes(), STRING_ENDING].concat(),
+            8 => datatype.to_vec(),
+            // Shorter than the ending, and the same from the last byte back.
+            9 => [b"<", &datatype[self.from_to(1, datatype.len() - 2)..]].concat(),
+            10 => [quoted, self.of(&["^^<a", "^^<a:", "^^<", "^", "^<"]).as_bytes(), &datatype[1..]].concat(),
+            _ => {
+                let mut ending = STRING_ENDING.to_vec();
+                ending[self.below(STRING_ENDING.len())] = self.of(b"gGs/#:.w<>^2");
+                [quoted, &ending].concat()
+            }
+        }
     }
 
     fn bytes(&mut self, length: usize, alphabet: &[u8]) -> Vec<u8> {
@@ -196,14 +259,15 @@ impl Random {
     /// A name, mostly well formed, of any kind and of lengths around the limit too.
     pub fn name(&mut self) -> Vec<u8> {
         let length = self.inner_length();
-        let mut name = match self.below(8) {
+        let mut name = match self.below(9) {
             0..=2 => [b"<".to_vec(), self.bytes(length.max(1), b"ab/#:._-~!"), b">".to_vec()].concat(),
             3 | 4 => {
                 let dots = self.one_in(2);
                 let label = self.bytes(length, if dots { b"a0_-." } else { b"aZ9_-" });
                 [b"_:a".to_vec(), label].concat()
             }
-            _ => self.literal(length),
+            5..=7 => self.literal(length),
+            _ => self.label(),
         };
         if self.one_in(4) {
             self.mutate(&mut name);
@@ -218,14 +282,17 @@ impl Random {
     }
 
     fn literal(&mut self, length: usize) -> Vec<u8> {
+        let tails = ["", "", "", "@en", "@en-GB", "@a-1-b", "^^<t>", "^^<a:b#c>", "@", "@en-", "@1", "^^", "^<t>", "^^<>"];
+        let tail = if self.one_in(5) { STRING_ENDING } else { self.of(&tails).as_bytes() };
+        // About the limit it is the whole name, as it is spelled, that lies there.
+        let length = if length > MAX_NAME / 2 { length - tail.len() } else { length };
         let mut name = vec![b'"'];
         while name.len() < length + 1 {
             let pair = self.of(&["a", "b", " ", "#", "<", ">", ".", "\\\"", "\\\\", "\\n", "\\r", "@", "^"]);
             name.extend_from_slice(pair.as_bytes());
         }
         name.push(b'"');
-        let tail = self.of(&["", "", "", "@en", "@en-GB", "@a-1-b", "^^<t>", "^^<a:b#c>", "@", "@en-", "@1", "^^", "^<t>", "^^<>"]);
-        name.extend_from_slice(tail.as_bytes());
+        name.extend_from_slice(tail);
         name
     }
 
@@ -269,6 +336,7 @@ impl Random {
             let name = match self.below(10) {
                 0 => self.name(),
                 1..=4 if place == 2 => self.name(),
+                5..=7 if place == 2 => self.label(),
                 1 | 2 if place == 0 => {
                     let length = self.inner_length();
                     [b"_:a".to_vec(), self.bytes(length, b"ab.")].concat()

@@ -1,13 +1,18 @@
-//! How many calls of each kind had each result.
+//! How many calls of each kind had each result, and how many met the string ending in which way.
 
+use crate::names::{quoted_and_suffix, MAX_NAME, STRING_ENDING};
 use crate::plain::{Call, Lent};
 use std::collections::BTreeMap;
 use std::fmt;
 
-/// Calls by function and result; where the paper only bounds the answer, apart from the others.
+type Counts = BTreeMap<(&'static str, String), u64>;
+
+/// Calls by function and result; where the paper only bounds the answer, apart from the others. Then those that meet the string ending, by
+/// function and how.
 #[derive(Default)]
 pub struct Tally {
-    calls: BTreeMap<(&'static str, String), u64>,
+    calls: Counts,
+    endings: Counts,
 }
 
 /// Every function with the results that the paper gives it. Find and enter may answer 9, and need not.
@@ -25,6 +30,35 @@ const RESULTS: [(&str, &[&str]); 13] = [
     ("lt_scan_next", &["found", "ended", "spent", "refused 1", "refused 6", "refused 7", "refused 9", "refused 100"]),
     ("lt_query_open", &["answered", "refused 1", "refused 8", "refused 100"]),
     ("lt_query_next", &["found", "ended", "spent", "refused 1", "refused 6", "refused 7", "refused 8", "refused 9", "refused 100"]),
+];
+
+/// Well formed with the string ending, but for its length.
+const TOO_LONG: &str = "over 255 bytes as spelled";
+
+/// How the string ending is to be met: a name or an object that has it, by the answer, and what is close to one. "Full" is no room for
+/// what is left of the name; "no room as spelled" is room for that alone.
+const ENDINGS: [(&str, &[&str]); 6] = [
+    ("lt_name_kind", &["kind 3", TOO_LONG, "close: kind 1", "close: kind 3", "close: refused 2"]),
+    ("lt_read_line", &["triple", "dot at once", "255 bytes", TOO_LONG, "close: triple", "close: refused 10"]),
+    ("lt_check", &["not sound for it alone", "close: sound"]),
+    ("lt_find", &["a number", "0", "bounded", TOO_LONG, "close: a number", "close: 0", "close: refused 2"]),
+    (
+        "lt_enter",
+        &[
+            "known",
+            "known and full",
+            "new",
+            "new, no room as spelled",
+            "new, 255 bytes",
+            "refused 3",
+            "bounded",
+            "bounded new",
+            TOO_LONG,
+            "close: a number",
+            "close: refused 2",
+        ],
+    ),
+    ("lt_name", &["answered"]),
 ];
 
 fn function(call: &Call) -> &'static str {
@@ -62,35 +96,132 @@ fn label(call: &Call, result: u32, lent: &Lent) -> String {
     .to_string()
 }
 
+/// Whether bytes hold a part of the string ending that no other name here has.
+fn close(bytes: &[u8]) -> bool {
+    const PART: &[u8] = b"XMLSchema";
+    bytes.windows(PART.len()).any(|window| window == PART)
+}
+
+/// How a call meets the string ending, if it is refused neither 1 nor 100.
+fn met(call: &Call, result: u32, before: &Lent, after: &Lent, bounded: bool) -> Vec<String> {
+    let own = label(call, result, after);
+    let entered = matches!(call, Call::Enter { .. }) && result == 0;
+    let met = match call {
+        Call::NameKind { name } | Call::Find { name } | Call::Enter { name } => match quoted_and_suffix(name) {
+            Some((_, STRING_ENDING)) if name.len() > MAX_NAME => vec![TOO_LONG],
+            Some((quoted, STRING_ENDING)) if entered => met_entering(quoted, name, before, after, bounded),
+            Some((_, STRING_ENDING)) => vec![if bounded { "bounded" } else { own.as_str() }],
+            _ if close(name) && !bounded => return vec![format!("close: {own}")],
+            _ => vec![],
+        },
+        Call::ReadLine { line_text, .. } if result == 0 => met_in_triple(line_text, &after.line_reply),
+        Call::ReadLine { line_text, at } => met_in_broken_line(line_text, *at, &after.line_reply),
+        Call::Check if close(after.used_text()) => match after.reply[0] {
+            0 if after.sound_but_for_endings() => vec!["not sound for it alone"],
+            0 => vec![],
+            _ => vec!["close: sound"],
+        },
+        Call::Name { .. } if result == 0 => {
+            let [start, length] = [0, 1].map(|word| after.reply[word] as usize);
+            let held = after.text[start..start + length].ends_with(STRING_ENDING);
+            if held {
+                vec!["answered"]
+            } else {
+                vec![]
+            }
+        }
+        _ => vec![],
+    };
+    met.into_iter().map(String::from).collect()
+}
+
+/// A name with the string ending was given a number.
+fn met_entering(quoted: &[u8], name: &[u8], before: &Lent, after: &Lent, bounded: bool) -> Vec<&'static str> {
+    let new = after.reply[0] > before.r();
+    let all = [
+        ("bounded", bounded),
+        ("bounded new", bounded && new),
+        ("new", !bounded && new),
+        ("new, no room as spelled", !bounded && new && !before.room_for_name(name.len())),
+        ("new, 255 bytes", !bounded && new && name.len() == MAX_NAME),
+        ("known", !bounded && !new),
+        ("known and full", !bounded && !new && !before.room_for_name(quoted.len())),
+    ];
+    all.into_iter().filter(|(_, met)| *met).map(|(label, _)| label).collect()
+}
+
+/// A line was read, and perhaps a triple. The string ending follows the object's part.
+fn met_in_triple(text: &[u8], reply: &[u64]) -> Vec<&'static str> {
+    if reply[0] != 2 {
+        return vec![];
+    }
+    let [start, length] = [6, 7].map(|word| reply[word] as usize);
+    let (object, rest) = text[start..].split_at(length);
+    match rest.strip_prefix(STRING_ENDING) {
+        Some(rest) => {
+            let at_once = rest.first() == Some(&b'.');
+            let longest = length + STRING_ENDING.len() == MAX_NAME;
+            let all = [("triple", true), ("dot at once", at_once), ("255 bytes", longest)];
+            all.into_iter().filter(|(_, met)| *met).map(|(label, _)| label).collect()
+        }
+        None if close(object) => vec!["close: triple"],
+        None => vec![],
+    }
+}
+
+/// A line was refused. Where it was for the length of a term, that began 255 bytes before.
+fn met_in_broken_line(text: &[u8], at: usize, reply: &[u64]) -> Vec<&'static str> {
+    let [after, offset] = [1, 2].map(|word| reply[word] as usize);
+    let term = offset.checked_sub(MAX_NAME).and_then(|start| quoted_and_suffix(&text[at + start..after]));
+    match term {
+        Some((quoted, suffix)) if suffix.starts_with(STRING_ENDING) && quoted.len() + STRING_ENDING.len() > MAX_NAME => {
+            vec![TOO_LONG]
+        }
+        _ if close(&text[at..after]) => vec!["close: refused 10"],
+        _ => vec![],
+    }
+}
+
 impl Tally {
-    /// Counts a call by its result and what it left in the lent memory.
-    pub fn count(&mut self, call: &Call, result: u32, lent: &Lent, bounded: bool) {
-        let label = label(call, result, lent);
-        *self.calls.entry((function(call), label)).or_default() += 1;
+    /// Counts a call by its result, what it was lent and what it left.
+    pub fn count(&mut self, call: &Call, result: u32, before: &Lent, after: &Lent, bounded: bool) {
+        let one_more = |counts: &mut Counts, label| *counts.entry((function(call), label)).or_default() += 1;
+        one_more(&mut self.calls, label(call, result, after));
         if bounded {
-            *self.calls.entry((function(call), "bounded".to_string())).or_default() += 1;
+            one_more(&mut self.calls, "bounded".to_string());
+        }
+        if result != 1 && result != 100 {
+            met(call, result, before, after, bounded).into_iter().for_each(|label| one_more(&mut self.endings, label));
         }
     }
 
-    /// The results that did not occur.
+    /// What did not occur.
     pub fn missing(&self) -> Vec<String> {
-        let met = |function, result: &str| self.calls.contains_key(&(function, result.to_string()));
-        let all = RESULTS.iter().flat_map(|(function, results)| results.iter().map(move |result| (*function, *result)));
-        all.filter(|&(function, result)| !met(function, result)).map(|(function, result)| format!("{function} {result}")).collect()
+        let results = RESULTS.iter().map(|row| (row, &self.calls, ""));
+        let endings = ENDINGS.iter().map(|row| (row, &self.endings, "with the string ending "));
+        let mut missing = vec![];
+        for (&(function, labels), counts, with) in results.chain(endings) {
+            let absent = labels.iter().filter(|label| !counts.contains_key(&(function, label.to_string())));
+            missing.extend(absent.map(|label| format!("{function} {with}{label}")));
+        }
+        missing
     }
+}
+
+/// A line for each function, with its counts.
+fn table(f: &mut fmt::Formatter<'_>, rows: &[(&'static str, &[&str])], counts: &Counts) -> fmt::Result {
+    for (function, _) in rows {
+        let of_it = counts.iter().filter(|((name, _), _)| name == function);
+        let of_it: Vec<String> = of_it.map(|((_, label), count)| format!("{label}: {count}")).collect();
+        writeln!(f, "{function:14} {}", of_it.join(", "))?;
+    }
+    Ok(())
 }
 
 impl fmt::Display for Tally {
     fn fmt(&self, f: &mut fmt::Formatter<'_>) -> fmt::Result {
-        for (function, _) in RESULTS {
-            let of_it: Vec<String> = self
-                .calls
-                .iter()
-                .filter(|((name, _), _)| *name == function)
-                .map(|((_, result), count)| format!("{result}: {count}"))
-                .collect();
-            writeln!(f, "{function:14} {}", of_it.join(", "))?;
-        }
-        Ok(())
+        table(f, &RESULTS, &self.calls)?;
+        writeln!(f, "with the string ending, or close to it:")?;
+        table(f, &ENDINGS, &self.endings)
     }
 }

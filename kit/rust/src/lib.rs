@@ -3,6 +3,9 @@
 //! does not outlive its text. Refusals are values of [`Error`], slices that are too short among them. Cursors are plain arrays, which the
 //! caller may keep while the store changes.
 //!
+//! A literal that has the string ending, `^^<http://www.w3.org/2001/XMLSchema#string>`, is the literal without it: entering, finding and
+//! reading a line drop it. The 255 bytes that a name may have are those of the name as spelled.
+//!
 //! `include/lemontiller.h` has the layout of the tables and what each refusal means.
 
 use std::fmt;
@@ -229,7 +232,7 @@ fn number_or_any(place: Option<ResourceId>) -> u32 {
     }
 }
 
-/// The kind of a name, or [`Error::Malformed`].
+/// The kind of a name, which goes by the name as spelled, or [`Error::Malformed`].
 pub fn name_kind(name: &[u8]) -> Result<Kind, Error> {
     let mut reply = [0u32; 1];
     // SAFETY: both slices are whole and live, and they are two.
@@ -253,7 +256,7 @@ pub struct Lines<'t> {
 pub enum Line<'t> {
     /// A blank line or a comment.
     Nothing,
-    /// Subject, predicate, object.
+    /// Subject, predicate, object, the last without the string ending.
     Triple([&'t [u8]; 3]),
 }
 
@@ -357,19 +360,20 @@ impl<'a> Store<'a> {
         Counters { resources: self.counters[0], statements: self.counters[1], text: self.counters[2] }
     }
 
-    /// Whether every word of the store is as entering, asserting and retracting leave it.
+    /// Whether every word of the store is as entering, asserting and retracting leave it. So no name in it has the string ending.
     pub fn is_sound(&self) -> bool {
         let mut reply = [0u32; 1];
         reading!(lt_check, self, reply.as_mut_ptr(), reply.len()).is_ok() && reply[0] == 1
     }
 
+    /// The number of a name, or none. A literal is sought without the string ending.
     pub fn find(&self, name: &[u8]) -> Result<Option<ResourceId>, Error> {
         let mut reply = [0u32; 1];
         reading!(lt_find, self, name.as_ptr(), name.len(), reply.as_mut_ptr(), reply.len())?;
         Ok(resource(reply[0]))
     }
 
-    /// Finds a name, or gives it the next number.
+    /// Finds a name, or gives it the next number. A literal is stored without the string ending, and takes no more room than that.
     pub fn enter(&mut self, name: &[u8]) -> Result<ResourceId, Error> {
         let mut reply = [0u32; 1];
         writing!(lt_enter, self, name.as_ptr(), name.len(), reply.as_mut_ptr(), reply.len())?;

@@ -201,6 +201,31 @@ fn lines_are_parts_of_the_text() {
 }
 
 #[test]
+fn a_label_typed_two_ways_is_one() {
+    let spelled = b"\"A\"^^<http://www.w3.org/2001/XMLSchema#string>";
+    with_bay(|store, [relay, trips, _, _]| {
+        let label = store.enter(spelled).unwrap();
+        assert_eq!(store.enter(b"\"A\""), Ok(label));
+        assert_eq!((store.find(spelled), store.find(b"\"A\"")), (Ok(Some(label)), Ok(Some(label))));
+        assert_eq!(store.name(label), Ok(&b"\"A\""[..]));
+        assert_eq!(store.counters(), Counters { resources: 5, statements: 2, text: 7 + 10 + 6 + 6 + 4 });
+        assert_eq!(store.assert(relay, trips, label), Ok(Asserted::New(StatementId(3))));
+        assert!(store.is_sound());
+    });
+    let text = b"<a> <b> \"A\"^^<http://www.w3.org/2001/XMLSchema#string>.\n<a> <b> \"A\" .\n";
+    let triple = Some(Ok(Line::Triple([b"<a>", b"<b>", b"\"A\""])));
+    let mut lines = Lines::new(text);
+    assert_eq!((lines.next(), lines.next()), (triple, triple));
+    assert_eq!((lines.next(), lines.position()), (None, text.len()));
+    assert_eq!(name_kind(spelled), Ok(Kind::Literal));
+
+    let (mut counters, mut resources, mut index, mut held) = ([1, 0, 47], [0, 0, 0, 0, 0, 0, 0, 3], [1], [0; 47]);
+    held[..46].copy_from_slice(spelled);
+    let store = Store::new(&mut counters, &mut resources, &mut [], &mut index, &mut held).unwrap();
+    assert!(!store.is_sound());
+}
+
+#[test]
 fn every_refusal_has_its_number_and_text() {
     let mut texts = Vec::new();
     for number in (1..=10).chain([100]) {

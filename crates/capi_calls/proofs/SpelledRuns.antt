@@ -1,0 +1,73 @@
+-- Closed runs of the calls with "A" in both spellings, without and with the string ending, on a store that has room for this name alone.
+-- Assumes nothing.
+use mathlib.Core.Path.{_≡_, refl}
+use mathlib.Core.List.{List, [], _∷_, _++_}
+use Prim.Native.Nat.{ℕ}
+use lib.ListN.{replicate}
+use Rattle.term.specs.Bytes.{among, iriByte, textByte, pairByte, firstByte, labelByte, letter, alnum, eqBytes}
+use Rattle.term.specs.Scanner.{stepOf, runOf, wholeOf, isBad, firstKindOf, kindOf}
+use Rattle.term.specs.Canonical.{stringEnding, writesString, canonical}
+use Rattle.store.specs.Triple.{below}
+use Rattle.store.specs.Tables.{Tables, tables, fits, offsetAt}
+use Rattle.store.specs.Model.{wellFormed}
+use Rattle.store.specs.Dictionary.{compare, nameAt, rank, placeAt, indexPlaceOf, findOf, roomFor, bring, insertAt, internAs, internOf}
+use Rattle.ntriples.specs.Grammar.{white, commentByte}
+use Rattle.ntriples.specs.Reader.{permitted, isDot, opens, dotted, afterOf, enterOf, gapOf, goesOnOf, leaveOf, advanceOf, placeOf}
+use Rattle.ntriples.specs.Reader.{endOf, lineOf}
+use Rattle.ntriples.specs.Text.{untilLf, hasLf, dropCr, firstLineOf, takenOf, answerOf, readSpelled, shortLine, readOf}
+use Rattle.capi_calls.specs.Words.{lent, done, countersOf}
+use Rattle.capi_calls.specs.Calls.{kindCall, findAs, enterAs, lineCall}
+
+abbrev plainA : List ℕ
+plainA = 34 ∷ 65 ∷ 34 ∷ []
+
+abbrev longA : List ℕ
+longA = plainA ++ stringEnding
+
+-- no name yet, and "A" entered; the words past the counters' three keep their values
+abbrev none : List ℕ
+none = 0 ∷ 0 ∷ 0 ∷ 77 ∷ []
+
+abbrev one : List ℕ
+one = 1 ∷ 0 ∷ 4 ∷ 77 ∷ []
+
+abbrev empty : Tables
+empty = tables (replicate 8 9) [] (9 ∷ []) (replicate 4 9)
+
+abbrev holding : Tables
+holding = tables (0 ∷ 0 ∷ 0 ∷ 0 ∷ 0 ∷ 0 ∷ 0 ∷ 3 ∷ []) [] (1 ∷ []) (34 ∷ 65 ∷ 34 ∷ 0 ∷ [])
+
+abbrev finds : List ℕ → ℕ × List ℕ
+finds w = findAs one (5 ∷ 66 ∷ []) (findOf (countersOf one) holding w)
+
+-- the tables, the result, the counters and the reply
+abbrev enters : List ℕ → Tables → List ℕ → Tables × (ℕ × (List ℕ × List ℕ))
+enters cw m w = let a = internOf (countersOf cw) m w in (a .0, enterAs cw (5 ∷ 66 ∷ []) (a .1))
+
+abbrev entered : Tables × (ℕ × (List ℕ × List ℕ))
+entered = (holding, (0, (one, 1 ∷ 66 ∷ [])))
+
+-- the kind, by the name as spelled
+kinds-either : kindCall plainA (5 ∷ 66 ∷ []) ∷ kindCall longA (5 ∷ 66 ∷ []) ∷ [] ≡ done 0 (3 ∷ 66 ∷ []) ∷ done 0 (3 ∷ 66 ∷ []) ∷ []
+unfolding among iriByte textByte pairByte firstByte labelByte letter alnum stepOf runOf wholeOf firstKindOf kindOf kindCall
+kinds-either = refl
+
+finds-either : finds plainA ∷ finds longA ∷ [] ≡ done 0 (1 ∷ 66 ∷ []) ∷ done 0 (1 ∷ 66 ∷ []) ∷ []
+unfolding among iriByte textByte pairByte firstByte labelByte letter alnum eqBytes stepOf runOf wholeOf firstKindOf kindOf writesString
+    canonical below fits offsetAt wellFormed compare nameAt rank placeAt indexPlaceOf findOf lent findAs
+finds-either = refl
+
+-- the first time and again, in each order of the spellings
+enters-either : enters none empty plainA ∷ enters none empty longA ∷ enters one holding plainA ∷ enters one holding longA ∷ []
+    ≡ entered ∷ entered ∷ entered ∷ entered ∷ []
+unfolding among iriByte textByte pairByte firstByte labelByte letter alnum eqBytes stepOf runOf wholeOf firstKindOf kindOf writesString
+    canonical below fits offsetAt wellFormed compare nameAt rank placeAt indexPlaceOf roomFor bring insertAt internAs internOf lent enterAs
+enters-either = refl
+
+-- <a><b>, then "A" with the ending, and the dot at once: the object has three bytes, and the line ends at byte 53
+reads-line : lineCall (60 ∷ 97 ∷ 62 ∷ 60 ∷ 98 ∷ 62 ∷ (longA ++ 46 ∷ [])) 0 (replicate 9 5)
+    ≡ done 0 (2 ∷ 53 ∷ 0 ∷ 3 ∷ 3 ∷ 3 ∷ 6 ∷ 3 ∷ 5 ∷ [])
+unfolding readOf readSpelled shortLine eqBytes writesString canonical answerOf firstLineOf takenOf untilLf hasLf
+    dropCr lineOf placeOf endOf advanceOf leaveOf goesOnOf gapOf enterOf afterOf dotted opens isDot isBad permitted
+    commentByte white stepOf wholeOf firstKindOf among iriByte textByte pairByte firstByte labelByte letter alnum lineCall
+reads-line = refl
