@@ -11,10 +11,10 @@ use Rattle.term.specs.Bytes.{among, letter, alnum, iriByte, textByte, pairByte,
 use Rattle.term.specs.Scanner.{kindOf, firstKindOf, runOf, stepOf, wholeOf}
 use Rattle.term.specs.Canonical.{writesString, canonical}
 use Rattle.store.specs.Triple.{known, within, same, agrees, permitted, below}
-use Rattle.store.specs.Tables.{fits, termAt, nextAt, flagAt, tripleAt, firstAt, countAt, offsetAt, kindAt}
+use Rattle.store.specs.Tables.{fits, termAt, nextAt, flagAt, tripleAt, firstAt, countAt, offsetAt, kindAt, liveAt}
 use Rattle.store.specs.Model.{wellFormed, matches, better, pick}
 use Rattle.store.specs.Walk.{entryAt, pickChain, pickable, startOf, linkOf, sits, visitable, walk as walkChain}
-use Rattle.store.specs.Statement.{seek, locate, appendRecord, linkFirst, linkRecord, kinded, asserting, assertOf, retracting, retractOf}
+use Rattle.store.specs.Statement.{seek, countable, locate, tallyAt, tally, counting, appendRecord, linkFirst, linkRecord, kinded, asserting, assertOf, retracting, retractOf}
 use Rattle.store.specs.Scan.{openOf, chainOk, recordOk, cursorOk, walkFrom, nextOf}
 use Rattle.store.specs.Dictionary.{compare, nameAt, rank, placeAt, indexPlaceOf, roomFor, bring, insertAt, internAs, internOf}
 use Rattle.store.specs.History.{Store, callStore, storeAfter}
@@ -55,8 +55,8 @@ agreed s (r ∷ rows) e = (
 test : agree sample markedRows ≡ true
 unfolding r21 trips b4 b7 sampleLoad sampleTables sample readOn solveOn answer markedRows eqNumbers agree writesString canonical kindOf
     firstKindOf runOf stepOf wholeOf among letter alnum iriByte textByte pairByte firstByte labelByte known within same agrees permitted
-    below fits termAt nextAt flagAt tripleAt firstAt countAt offsetAt kindAt wellFormed eqBytes matches better pick entryAt pickChain
-    pickable startOf linkOf sits visitable walkChain seek locate appendRecord linkFirst linkRecord kinded asserting assertOf retracting
+    below fits termAt nextAt flagAt tripleAt firstAt countAt offsetAt kindAt liveAt wellFormed eqBytes matches better pick entryAt pickChain
+    pickable startOf linkOf sits visitable walkChain seek countable locate tallyAt tally counting appendRecord linkFirst linkRecord kinded asserting assertOf retracting
     retractOf openOf chainOk recordOk cursorOk walkFrom nextOf compare nameAt rank placeAt indexPlaceOf roomFor bring insertAt internAs
     internOf callStore storeAfter patternsOf wordOk allOk wordsOk valueOf under bind match recordAt past struck intact anyStruck pruned
     settle remains nextPattern binds asked enteredOk placeOk enter hit tried visit walk begun resume answerOf levelsOf insideOf placeAs

@@ -29,7 +29,7 @@ use Rattle.store.specs.Tables.{Tables, fits, termAt, kindAt, flagAt, statementC
 use Rattle.store.specs.Model.{Call, intern, assert, retract, open′, next, byValue, lent, wellFormed}
 use Rattle.store.specs.Walk.{sits}
 use Rattle.store.specs.Scan.{chainOk, recordOk}
-use Rattle.store.specs.Statement.{locate, kinded, withFlag, asserting, assertOf, retracting, retractOf, countersAfter}
+use Rattle.store.specs.Statement.{locate, kinded, withFlag, counting, asserting, assertOf, retracting, retractOf, countersAfter}
 use Rattle.store.specs.Statement.{assertLentOf, retractLentOf}
 use Rattle.store.specs.Dictionary.{indexPlaceOf, roomFor, internAs, internOf}
 use Rattle.store.specs.History.{Store, internedCounters, callStore, storeAfter}
@@ -139,8 +139,8 @@ Keeps c m c′ m′ = Kept (c .resources) (c .statements) (m .statements) (c′ 
 keeps-same : (c : Counters) (m : Tables) → Keeps c m c m
 keeps-same c m = record { resources = omega arith; records = omega arith; terms = λ p i h. refl }
 
-flag-keeps : (c : Counters) (m : Tables) (i v : ℕ) → Keeps c m c (withFlag m i v)
-flag-keeps c m i v =
+flag-keeps : (f : ℕ → ℕ) (v : ℕ) (c : Counters) (m : Tables) (x : Triple) (i : ℕ) → Keeps c m c (withFlag f v m x i)
+flag-keeps f v c m x i =
     record { resources = omega arith; records = omega arith; terms = λ p j h. flag-term (m .statements) i v p j }
 
 module _ (c : Counters) (m : Tables) where
@@ -159,7 +159,7 @@ module _ (c : Counters) (m : Tables) where
       })
       (keeps-same c m)
   asserting-keeps x (suc i) =
-      cond-all AssertKeeps (eqb (flagAt (m .statements) i) 1) _ _ (flag-keeps c m i 0) (keeps-same c m)
+      cond-all AssertKeeps (eqb (flagAt (m .statements) i) 1) _ _ (flag-keeps suc 0 c m x i) (keeps-same c m)
 
   assert-keeps : (x : Triple) → AssertKeeps (assertOf c m x)
   unfolding assertOf
@@ -178,11 +178,12 @@ module _ (c : Counters) (m : Tables) where
   abbrev RetractKeeps : Tables × Retracted → Type 0
   RetractKeeps a = Keeps c m c (a .0)
 
-  retracting-keeps : (n : ℕ) → RetractKeeps (retracting m n)
+  retracting-keeps : (x : Triple) (n : ℕ) → RetractKeeps (retracting m x n)
   unfolding retracting
-  retracting-keeps zero = keeps-same c m
-  retracting-keeps (suc i) =
-      cond-all RetractKeeps (eqb (flagAt (m .statements) i) 1) _ _ (keeps-same c m) (flag-keeps c m i 1)
+  retracting-keeps x zero = keeps-same c m
+  retracting-keeps x (suc i) =
+      cond-all RetractKeeps (eqb (flagAt (m .statements) i) 1) _ _ (keeps-same c m)
+      (cond-all RetractKeeps (counting (m .resources) x) _ _ (flag-keeps (λ n. n - 1) 1 c m x i) (keeps-same c m))
 
   retract-keeps : (x : Triple) → RetractKeeps (retractOf c m x)
   unfolding retractOf
@@ -191,9 +192,9 @@ module _ (c : Counters) (m : Tables) where
       (cond-all RetractKeeps (known (c .resources) x) _ _ (walked (locate c m x)) (keeps-same c m))
       (keeps-same c m)
     where
-      walked : (o : Option ℕ) → RetractKeeps (elim o [ none ↦ (m, NotRetracted Damaged) | some n ↦ retracting m n ])
+      walked : (o : Option ℕ) → RetractKeeps (elim o [ none ↦ (m, NotRetracted Damaged) | some n ↦ retracting m x n ])
       walked none = keeps-same c m
-      walked (some n) = retracting-keeps n
+      walked (some n) = retracting-keeps x n
 
   abbrev InternKeeps : Tables × Interned → Type 0
   InternKeeps a = Keeps c m (internedCounters c (a .1)) (a .0)

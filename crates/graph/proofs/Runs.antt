@@ -40,9 +40,9 @@ store r t res stm = record {
       tables res stm (replicate r 0) [];
 }
 
--- a resource record: firsts, counts, offset, kind
+-- a resource record: firsts, counts, offset, kind, live counts, which no query looks at
 abbrev rr : ℕ → ℕ → ℕ → ℕ → ℕ → ℕ → List ℕ → List ℕ
-rr a b c d e f rest = a ∷ b ∷ c ∷ d ∷ e ∷ f ∷ 0 ∷ 1 ∷ rest
+rr a b c d e f rest = a ∷ b ∷ c ∷ d ∷ e ∷ f ∷ 0 ∷ 1 ∷ 99 ∷ 99 ∷ 99 ∷ rest
 
 -- a statement record: resources, nexts, flag
 abbrev sr : ℕ → ℕ → ℕ → ℕ → ℕ → ℕ → ℕ → List ℕ → List ℕ

@@ -16,7 +16,7 @@ use Rattle.store.specs.declared.Retracted.the-variants.{Number as Struck
 use Rattle.store.specs.declared.Retracted.the-variants.{Refused as NotRetracted}
 use Rattle.store.specs.Triple.{known, permitted}
 use Rattle.store.specs.Tables.{Tables, fits, statementCapacity, flagAt, kindAt}
-use Rattle.store.specs.Statement.{locate, kinded, asserting, assertOf, retracting, retractOf}
+use Rattle.store.specs.Statement.{locate, kinded, asserting, assertOf, counting, retracting, retractOf}
 use Rattle.store.proofs.Tests.{decide}
 
 pub option-cases : {A : Type 0} {P : Type 0} (o : Option A) → (o ≡ none → P) → ((a : A) → o ≡ some a → P) → P
@@ -50,7 +50,7 @@ module _ (c : Counters) (m : Tables) (x : Triple) where
       unfolding retractOf
       retract-damaged f = rw (retractOf, a, b, f)
 
-      pub retract-located : (n : ℕ) → locate c m x ≡ some n → retractOf c m x ≡ retracting m n
+      pub retract-located : (n : ℕ) → locate c m x ≡ some n → retractOf c m x ≡ retracting m x n
       unfolding retractOf
       retract-located n f = rw (retractOf, a, b, f)
 
@@ -84,10 +84,13 @@ asserting-quiet c m x zero q =
 asserting-quiet c m x (suc i) q =
     decide (eqb (flagAt (m .statements) i) 1) (λ e. rw e (λ h. cc)) (λ e. rw e (λ h. refl))
 
-retracting-quiet : (m : Tables) (n : ℕ) → QuietRetract m (retracting m n)
+retracting-quiet : (m : Tables) (x : Triple) (n : ℕ) → QuietRetract m (retracting m x n)
 unfolding retracting
-retracting-quiet m zero q = λ h. refl
-retracting-quiet m (suc i) q = decide (eqb (flagAt (m .statements) i) 1) (λ e. rw e (λ h. refl)) (λ e. rw e (λ h. cc))
+retracting-quiet m x zero q = λ h. refl
+retracting-quiet m x (suc i) q =
+    decide (eqb (flagAt (m .statements) i) 1)
+    (λ e. rw e (λ h. refl))
+    (λ e. rw e (decide (counting (m .resources) x) (λ d. rw d (λ h. cc)) (λ d. rw d (λ h. refl))))
 
 pub assert-refused : (c : Counters) (m : Tables) (x : Triple) (q : Refusal) → (assertOf c m x) .1 ≡ NotAsserted q
     → (assertOf c m x) .0 ≡ m
@@ -111,6 +114,6 @@ retract-refused c m x =
     (λ a. decide (known (c .resources) x)
     (λ b. option-cases (locate c m x)
     (λ f. rw (retract-damaged c m x a b f) (λ q h. refl))
-    (λ n f. rw (retract-located c m x a b n f) (retracting-quiet m n)))
+    (λ n f. rw (retract-located c m x a b n f) (retracting-quiet m x n)))
     (λ b. rw (retract-unknown c m x a b) (λ q h. refl)))
     (λ a. rw (retract-capacity c m x a) (λ q h. refl))

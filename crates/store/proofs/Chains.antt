@@ -15,12 +15,13 @@ use Rattle.store.specs.declared.Chain.{Chain}
 use Rattle.store.specs.declared.Chain.the-variants.{All, By}
 use Rattle.store.specs.declared.Triple.{Triple}
 use Rattle.store.specs.Triple.{at, all3, known, below, head0}
-use Rattle.store.specs.Tables.{termAt, nextAt, flagAt, tripleAt, firstAt, countAt}
+use Rattle.store.specs.Tables.{termAt, nextAt, flagAt, tripleAt, firstAt, countAt, liveAt}
 use Rattle.store.specs.Model.{onChain, take-off}
 use Rattle.store.specs.Walk.{pickChain, pickable, startOf, linkOf, sits, visitable, walk}
-use Rattle.store.specs.Soundness.{holding, Linked}
-use Rattle.store.proofs.Tests.{decide, and-of, all3-of, known-of}
-use Rattle.store.proofs.Falling.{below-cong, head-le, head-all, length-le}
+use Rattle.store.specs.Statement.{countable}
+use Rattle.store.specs.Soundness.{holding, living, Linked}
+use Rattle.store.proofs.Tests.{decide, and-r, and-of, all3-of, known-low, known-high, known-of}
+use Rattle.store.proofs.Falling.{below-cong, head-le, head-all, length-le, length-narrower}
 use Rattle.store.proofs.Walks.{Links, Fine, asStep, walk-chain}
 use Rattle.store.proofs.Words.{triple-at}
 use Rattle.store.proofs.Picking.{Bound, pick-bound}
@@ -58,6 +59,10 @@ module _ (r t : ℕ) (res stm : List ℕ) (L : Linked r t res stm) where
       known-of r (tripleAt stm i)
       (λ p. rw (triple-at stm p i) (L .low p i h)) (λ p. rw (triple-at stm p i) (L .high p i h))
 
+  living-holding : (p : Position) (y i : ℕ) → living stm p y i ≡ true → holding stm p y i ≡ true
+  unfolding living
+  living-holding p y i e = and-r (eqb (flagAt stm i) 0) _ e
+
   -- the next of a record on a chain is the chain's next
   pub chain-links : (ch : Chain) (x : Triple) → Links (onWords stm ch x) (linkOf stm ch) t
   unfolding linkOf onChain
@@ -90,6 +95,17 @@ module _ (r t : ℕ) (res stm : List ℕ) (L : Linked r t res stm) where
   walk-linked ch x hit n b h =
       walk-chain (onWords stm ch x) (linkOf stm ch) (visitable r stm ch x) hit n b
       (λ i q. chain-links ch x i (omega arith)) (λ i q. chain-fine ch x i (omega arith))
+
+  -- no live count is above its count
+  pub countable-linked : (x : Triple) → known r x ≡ true → countable res x ≡ true
+  unfolding countable
+  countable-linked x e =
+      all3-of (λ p. leb (liveAt res p (at p x)) (countAt res p (at p x))) (λ p.
+      rw (
+        L .live p (at p x) (known-low r x e p) (known-high r x e p),
+        L .count p (at p x) (known-low r x e p) (known-high r x e p),
+      )
+      (le-leb _ _ (length-narrower (living stm p (at p x)) (holding stm p (at p x)) t (λ i. living-holding p (at p x) i))))
 
   -- the pick is never refused 9
   pub pickable-linked : (x : Triple) → ((p : Position) → at p x ≤ r) → pickable t res x ≡ true

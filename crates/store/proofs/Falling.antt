@@ -98,6 +98,32 @@ unfolding below
 length-le f zero = omega arith
 length-le f (suc n) = decide (f n) (λ e. rw e (omega (arith, length-le f n))) (λ e. rw e (omega (arith, length-le f n)))
 
+-- fewer pass the narrower test
+pub length-narrower : (f g : ℕ → Bool) (n : ℕ) → ((i : ℕ) → f i ≡ true → g i ≡ true)
+    → length (below f n) ≤ length (below g n)
+unfolding below
+length-narrower f g zero h = omega arith
+length-narrower f g (suc n) h =
+    decide (f n)
+    (λ e. rw (e, h n e) (omega (arith, length-narrower f g n h)))
+    (λ e. rw e (decide (g n) (λ d. rw d (omega (arith, length-narrower f g n h))) (λ d. rw d (length-narrower f g n h))))
+
+-- a test that changes at one entry, which failed before
+pub length-turn : (f g : ℕ → Bool) (n i : ℕ) → i < n → f i ≡ false → ((j : ℕ) → j ≢ i → g j ≡ f j)
+    → length (below g n) ≡ cond (g i) (suc (length (below f n))) (length (below f n))
+length-turn f g zero i h e q = absurd (omega arith)
+length-turn f g (suc n) i h e q =
+    decide (eqb i n)
+    (λ d. let z : i ≡ n = eqb-true i n d in
+    let o : below g n ≡ below f n = below-cong g f n (λ j l. q j (omega arith)) in
+    let e′ : f n ≡ false = rw (← z) e in
+    rw (length-suc g n, length-suc f n, e′, o, z))
+    (λ d. let ne : i ≢ n = eqb-false i n d in
+    let ih = length-turn f g n i (omega arith) e q in
+    let s : g n ≡ f n = q n (omega arith) in
+    rw (length-suc g n, length-suc f n, s, ih)
+    (decide (f n) (λ a. rw a (decide (g i) (λ b. rw b) (λ b. rw b))) (λ a. rw a)))
+
 pub all-pass : (f : ℕ → Bool) (n : ℕ) → ((i : ℕ) → i < n → f i ≡ true) → length (below f n) ≡ n
 unfolding below
 all-pass f zero h = refl

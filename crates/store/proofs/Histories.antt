@@ -63,6 +63,7 @@ fresh-agrees m = record {
     next = λ p i h. absurd (omega arith);
     first = λ p y h q. absurd (omega arith);
     count = λ p y h q. absurd (omega arith);
+    live = λ p y h q. absurd (omega arith);
   };
   reads = λ i h. absurd (omega arith);
   cursors = refl;

@@ -24,17 +24,18 @@ use Rattle.store.specs.Values.{Values}
 use Rattle.store.specs.Model.{Entry, Listing, Model, Capacities, entry, lookup, mark, onChain, holders, pick}
 use Rattle.store.specs.Model.{pickModel, cursorOf, noListing, totals, take-off}
 use Rattle.store.specs.Walk.{entryAt, pickChain, pickable, startOf, linkOf, visitable, walk, Step, foundIn}
-use Rattle.store.specs.Statement.{seek, locate}
+use Rattle.store.specs.Statement.{seek, countable, locate}
 use Rattle.store.specs.Scan.{chainOk}
 use Rattle.store.specs.Dictionary.{Named}
 use Rattle.store.specs.Soundness.{holding, Linked}
 use Rattle.store.specs.History.{Store}
 use Rattle.store.proofs.Tests.{decide, and-l, and-r, and-of, all3-at, known-high, same-at}
-use Rattle.store.proofs.Falling.{below-cong, head-le}
+use Rattle.store.proofs.Falling.{below-cong, head-le, head-passes}
+use Rattle.store.proofs.Words.{triple-at}
 use Rattle.store.proofs.Walks.{asStep, tookIn, found-as, hit-chain}
 use Rattle.store.proofs.Picking.{Bound, pick-cong}
 use Rattle.store.proofs.Chains.{onWords, pickChain-bound, chain-holding, chain-start, walk-linked}
-use Rattle.store.proofs.Chains.{pickable-linked}
+use Rattle.store.proofs.Chains.{pickable-linked, countable-linked}
 
 -- the test of a chain, over the plain list
 abbrev pub onList : List Entry → Chain → Triple → ℕ → Bool
@@ -78,10 +79,11 @@ same-cond k f false b′ x y x′ y′ e h g = rw (← e) (g refl)
 -- ---- what the definitions come to
 
 pub located : (c : Counters) (m : Tables) (x : Triple) (z : Step) → pickable (c .statements) (m .resources) x ≡ true
+    → countable (m .resources) x ≡ true
     → seek c m x ≡ some z
     → locate c m x ≡ some (foundIn z)
 unfolding locate
-located c m x z a b = rw (locate, a, b)
+located c m x z a d b = rw (locate, a, d, b)
 
 pub same-on : (ch : Chain) (x t : Triple) → same x t ≡ true → onChain ch x t ≡ true
 unfolding same onChain
@@ -158,12 +160,19 @@ module _ (k : Capacities) (c : Store) (s : Model) (R : Agreeing k c s) where
       → locate (c .counters) (c .tables) x ≡ some (lookup x (s .entries))
   locate-agrees x e =
       let h = known-high r x e in
-      located (c .counters) (c .tables) x _ (pickable-linked _ _ _ _ (R .linked) x h) (seek-takes x h)
+      located (c .counters) (c .tables) x _ (pickable-linked _ _ _ _ (R .linked) x h) (countable-linked _ _ _ _ (R .linked) x e)
+      (seek-takes x h)
       ∙ ap some
       (found-as (take-off (λ i. same x (tripleAt stm i)) t (below (onWords stm (pickChain res x) x) t))
       ∙ hit-chain (onWords stm (pickChain res x) x) (λ i. same x (tripleAt stm i)) t t (omega arith)
       (λ i q. same-on (pickChain res x) x (tripleAt stm i))
       ∙ lookup-agrees x)
+
+  -- the entry found holds the triple
+  pub found-holds : (x : Triple) (i : ℕ) → lookup x (s .entries) ≡ suc i → (p : Position) → termAt stm p i ≡ at p x
+  found-holds x i e p =
+      sym (triple-at stm p i)
+      ∙ same-at x (tripleAt stm i) (head-passes (λ i. same x (tripleAt stm i)) t i (lookup-agrees x ∙ e)) p
 
 -- ---- marks
 

@@ -3,20 +3,21 @@
 use mathlib.Core.Path.{_≡_, refl}
 use mathlib.Core.List.{List, [], _∷_, _++_, map}
 use Prim.Native.Nat.{ℕ}
-use lib.ListN.{replicate}
+use lib.ListN.{replicate, set}
 use Rattle.term.specs.Scanner.{kindOf, firstKindOf, runOf, stepOf, wholeOf}
 use Rattle.term.specs.Canonical.{stringEnding, writesString, canonical}
 use Rattle.term.specs.Bytes.{among, letter, alnum, iriByte, textByte, pairByte, firstByte, labelByte, eqBytes}
 use Rattle.store.specs.declared.Triple.{Triple}
 use Rattle.store.specs.declared.Chain.{Chain}
 use Rattle.store.specs.declared.Chain.the-variants.{All, By}
+use Rattle.store.specs.declared.Position.{Position}
 use Rattle.store.specs.declared.Position.the-variants.{Subject, Predicate, Object}
 use Rattle.store.specs.declared.Counters.{Counters}
 use Rattle.store.specs.declared.Refusal.the-variants.{Malformed}
 use Rattle.store.specs.declared.Lookup.the-variants.{Number as Found, Absent, Refused as NotFound}
 use Rattle.store.specs.Triple.{triple, known, within, same, agrees, permitted, below}
 use Rattle.store.specs.Tables.{Tables, tables, fits, termAt, nextAt, flagAt, tripleAt, firstAt, countAt, offsetAt}
-use Rattle.store.specs.Tables.{kindAt}
+use Rattle.store.specs.Tables.{kindAt, liveAt}
 use Rattle.store.specs.Values.{Values, refusedWith, numbered, counted, placed, stepped}
 use Rattle.store.specs.Model.{Call, intern, assert, retract, open′, next, byValue, lent, Capacities, freshModel}
 use Rattle.store.specs.Model.{wellFormed, lookupName, nameOf, bytesOf, internName, internModel, matches}
@@ -25,12 +26,12 @@ use Rattle.store.specs.Model.{pick}
 use Rattle.store.specs.Model.{pickModel, listing, openModel, take-off, takeFrom, turn, nextModel, callModel}
 use Rattle.store.specs.Model.{modelReplies}
 use Rattle.store.specs.Walk.{entryAt, pickChain, pickable, startOf, linkOf, sits, visitable, walk}
-use Rattle.store.specs.Statement.{seek, locate, appendRecord, linkFirst, linkRecord, kinded, asserting, assertOf}
-use Rattle.store.specs.Statement.{retracting, retractOf, assertLentOf, retractLentOf}
+use Rattle.store.specs.Statement.{seek, countable, locate, tallyAt, tally, appendRecord, linkFirst, linkRecord, kinded, asserting}
+use Rattle.store.specs.Statement.{assertOf, counting, retracting, retractOf, assertLentOf, retractLentOf}
 use Rattle.store.specs.Scan.{cursorAt, openOf, chainOk, recordOk, cursorOk, walkFrom, nextOf}
 use Rattle.store.specs.Dictionary.{compare, nameAt, rank, placeAt, indexPlaceOf, roomFor, bring, insertAt}
 use Rattle.store.specs.Dictionary.{findOf, internAs, internOf}
-use Rattle.store.specs.History.{Store, freshStore, capacitiesOf, callStore, storeReplies, storeAfter}
+use Rattle.store.specs.History.{Store, store, freshStore, capacitiesOf, callStore, storeReplies, storeAfter}
 
 -- ---- histories: each call beside its answer
 
@@ -175,6 +176,13 @@ label = (intern longA, counted 0 1 (tot 1 0 4))
     ∷ (intern empty, refusedWith 3)
     ∷ []
 
+-- One statement, for tables whose live counts are then changed by hand.
+single : History
+single = (intern ia, counted 0 1 (tot 1 0 4))
+    ∷ (intern ip, counted 0 2 (tot 2 0 8))
+    ∷ (assert byValue (triple 1 2 1), counted 1 1 (tot 2 1 8))
+    ∷ []
+
 -- No room at all.
 none-at-all : History
 none-at-all = (intern ia, refusedWith 3)
@@ -189,16 +197,16 @@ none-at-all = (intern ia, refusedWith 3)
 -- ---- tables that hold anything
 
 abbrev wide : Tables
-wide = tables (replicate 64 7) (replicate 70 9) (replicate 8 3) (replicate 100 1)
+wide = tables (replicate 88 7) (replicate 70 9) (replicate 8 3) (replicate 100 1)
 
 abbrev narrow : Tables
-narrow = tables (replicate 37 7) (replicate 24 1) (replicate 5 2) (replicate 15 0)
+narrow = tables (replicate 50 7) (replicate 24 1) (replicate 5 2) (replicate 15 0)
 
 abbrev few : Tables
-few = tables (replicate 64 1) (replicate 70 1) (replicate 2 1) (replicate 100 1)
+few = tables (replicate 88 1) (replicate 70 1) (replicate 2 1) (replicate 100 1)
 
 abbrev scant : Tables
-scant = tables (replicate 64 1) (replicate 70 1) (replicate 2 1) (replicate 4 1)
+scant = tables (replicate 22 1) (replicate 70 1) (replicate 2 1) (replicate 4 1)
 
 abbrev void : Tables
 void = tables [] [] [] []
@@ -217,6 +225,20 @@ nextsOf m h i =
     let stm = (storeAfter (freshStore m) (callsIn h)) .tables .statements in
     nextAt stm Subject i ∷ nextAt stm Predicate i ∷ nextAt stm Object i ∷ []
 
+-- a resource's count and live count at a position
+abbrev countsOf : Tables → History → Position → ℕ → List ℕ
+countsOf m h p y =
+    let res = (storeAfter (freshStore m) (callsIn h)) .tables .resources in countAt res p y ∷ liveAt res p y ∷ []
+
+-- after the one statement, word i of the resource table holds v
+abbrev changed : ℕ → ℕ → Store
+changed i v =
+    let s = storeAfter (freshStore wide) (callsIn single) in
+    store (s .counters) (tables (set (s .tables .resources) i v) (s .tables .statements) (s .tables .index) (s .tables .text)) []
+
+abbrev one : Triple
+one = triple 1 2 1
+
 lists-run : Lists wide paper × Lists narrow tight × Lists few short × Lists scant label × Lists void none-at-all
 unfolding r21 trips b4 b7 litA longA ia ib ic ip empty paper tight short label none-at-all writesString
     canonical kindOf firstKindOf runOf stepOf wholeOf
@@ -230,8 +252,8 @@ stores-run : Stores wide paper × Stores narrow tight × Stores few short × Sto
 unfolding r21 trips b4 b7 litA longA ia ib ic ip empty paper tight short label none-at-all writesString
     canonical kindOf firstKindOf runOf stepOf wholeOf
     among letter alnum iriByte textByte pairByte firstByte labelByte known within same agrees permitted below wellFormed
-    eqBytes matches better pick fits termAt nextAt flagAt tripleAt firstAt countAt offsetAt kindAt entryAt pickChain
-    pickable startOf linkOf sits visitable walk seek locate appendRecord linkFirst linkRecord kinded asserting assertOf
+    eqBytes matches better pick fits termAt nextAt flagAt tripleAt firstAt countAt offsetAt kindAt liveAt entryAt pickChain
+    pickable startOf linkOf sits visitable walk seek countable locate tallyAt tally counting appendRecord linkFirst linkRecord kinded asserting assertOf
     retracting retractOf assertLentOf retractLentOf openOf chainOk recordOk cursorOk walkFrom nextOf compare nameAt rank
     placeAt indexPlaceOf roomFor bring insertAt internAs internOf callStore storeReplies storeAfter
 stores-run = (refl, refl, refl, refl, refl, refl)
@@ -246,3 +268,21 @@ unfolding litA longA empty label writesString canonical kindOf firstKindOf runOf
     textByte pairByte firstByte labelByte below wellFormed eqBytes fits offsetAt compare nameAt rank placeAt indexPlaceOf
     findOf roomFor bring insertAt internAs internOf callStore storeAfter
 finds-run = refl
+
+-- live counts: statement 2 of the paper's example is retracted at the end, and so resource 1 is the subject of two
+-- records, one live; a live count above its count is refused 9 by assert and retract, also where it is already there,
+-- and not by a listing; a live count of 0 is refused 9 by retract alone
+live-run : (countsOf wide paper Subject 1 ≡ 2 ∷ 1 ∷ []) × (countsOf wide paper Predicate 2 ≡ 2 ∷ 1 ∷ [])
+    × (countsOf wide paper Object 3 ≡ 1 ∷ 1 ∷ []) × (countsOf wide paper Object 4 ≡ 1 ∷ 0 ∷ [])
+    × (storeReplies (changed 20 2) (assert byValue one ∷ retract lent one ∷ open′ (triple 0 2 0) ∷ [])
+    ≡ refusedWith 9 ∷ refusedWith 9 ∷ placed (cursorAt (triple 0 2 0) (By Predicate) 1) ∷ [])
+    × (storeReplies (changed 10 0) (assert lent one ∷ retract byValue one ∷ [])
+    ≡ counted 2 1 (tot 2 1 8) ∷ refusedWith 9 ∷ [])
+unfolding r21 trips b4 b7 litA longA ia ib ic ip empty paper single writesString canonical kindOf firstKindOf runOf stepOf wholeOf
+    among letter alnum iriByte textByte pairByte firstByte labelByte known within same agrees permitted below wellFormed
+    eqBytes matches better pick fits termAt nextAt flagAt tripleAt firstAt countAt offsetAt kindAt liveAt entryAt
+    pickChain pickable startOf linkOf sits visitable walk seek countable locate tallyAt tally counting appendRecord
+    linkFirst linkRecord kinded asserting assertOf retracting retractOf assertLentOf retractLentOf openOf chainOk
+    recordOk cursorOk walkFrom nextOf compare nameAt rank placeAt indexPlaceOf roomFor bring insertAt internAs internOf
+    callStore storeReplies storeAfter
+live-run = (refl, refl, refl, refl, refl, refl)

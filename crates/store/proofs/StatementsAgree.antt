@@ -9,35 +9,38 @@ use native.Mathlib.Omega.{arith}
 use lib.ListN.{length, getD, set, length-set, length-append, List·getD-append}
 use lib.Seq.{getD-append-seam}
 use lib.Dec.{eqb, leb, ltb}
-use borrow.Author.Tests.{eqb-true, eqb-false, ltb-true, lt-ltb, le-leb}
+use borrow.Author.Tests.{eq-eqb, eqb-true, eqb-false, ltb-true, lt-ltb, le-leb}
 use Rattle.term.specs.Scanner.{firstKindOf}
 use Rattle.store.specs.declared.Counters.{Counters}
 use Rattle.store.specs.declared.Position.{Position}
 use Rattle.store.specs.declared.Position.the-variants.{Subject, Predicate, Object}
 use Rattle.store.specs.declared.Triple.{Triple}
 use Rattle.store.specs.declared.Asserted.{Asserted}
+use Rattle.store.specs.declared.Refusal.the-variants.{Damaged}
 use Rattle.store.specs.declared.Retracted.{Retracted}
+use Rattle.store.specs.declared.Retracted.the-variants.{Number as Struck, Refused as NotRetracted}
 use Rattle.store.specs.Triple.{at, all3, known, permitted}
 use Rattle.store.specs.Tables.{Tables, statementCapacity, statementWords, resourceWords, termAt, flagAt, tripleAt}
-use Rattle.store.specs.Tables.{offsetAt, kindAt}
-use Rattle.store.specs.Values.{Values, counted, assertedValues, retractedValues}
+use Rattle.store.specs.Tables.{offsetAt, kindAt, liveAt}
+use Rattle.store.specs.Values.{Values, numbered, counted, assertedValues, retractedValues}
 use Rattle.store.specs.Model.{Entry, Model, Capacities, entry, lookup, mark, nameOf, totals, withEntries, put}
 use Rattle.store.specs.Model.{assertModel, strike, retractModel}
 use Rattle.store.specs.Walk.{entryAt}
-use Rattle.store.specs.Statement.{withFlag, appendRecord, linkRecord, appended, kinded, oneStatementMore}
-use Rattle.store.specs.Statement.{asserting, assertOf, retracting, retractOf, countersAfter}
+use Rattle.store.specs.Statement.{tally, withFlag, counting, appendRecord, linkRecord, appended, kinded, oneStatementMore}
+use Rattle.store.specs.Statement.{struckOut, asserting, assertOf, retracting, retractOf, countersAfter}
 use Rattle.store.specs.Dictionary.{Named}
+use Rattle.store.specs.Soundness.{Linked}
 use Rattle.store.specs.History.{Store, store}
 use Rattle.store.proofs.Tests.{decide, upto, and-of, all3-of, known-low, known-high}
 use Rattle.store.proofs.Words.{triple-of, triple-same, append-length, append-term-old, append-flag-old}
 use Rattle.store.proofs.Words.{append-term, append-flag, linked-length, linked-offset, linked-kind, flag-term}
-use Rattle.store.proofs.Words.{flag-same, flag-other, triple-at}
-use Rattle.store.proofs.Links.{append-linked, flag-linked}
+use Rattle.store.proofs.Words.{flag-same, flag-other, triple-at, tally-length, tally-offset, tally-kind}
+use Rattle.store.proofs.Links.{append-linked, one-less-live, revived-linked, struck-linked}
 use Rattle.store.proofs.Form.{form-kind, kind-high, storable-formed}
 use Rattle.store.proofs.Text.{length-snoc}
 use Rattle.store.proofs.Represented.{Agreeing, Same, same-cond, fits-agrees, totals-agree, mark-agrees}
 use Rattle.store.proofs.Represented.{lookup-le, locate-agrees, mark-length, mark-same, mark-other, mark-spo}
-use Rattle.store.proofs.Represented.{good-grow}
+use Rattle.store.proofs.Represented.{good-grow, found-holds}
 
 -- an entry by its words
 pub entry-of : (stm : List ℕ) (i : ℕ) (x : Triple) (b : Bool) → ((p : Position) → termAt stm p i ≡ at p x)
@@ -85,31 +88,37 @@ module _ (k : Capacities) (c : Store) (s : Model) (R : Agreeing k c s) where
       (sym (entry-same (m .statements) _ j (λ p. flag-term (m .statements) i v p j)
       (flag-other (m .statements) i v j (eqb-false j i d)))))
 
-  flag-agrees : (i v : ℕ) (b : Bool) → i < n .statements → v ≤ 1 → eqb v 1 ≡ b
-      → Agreeing k (store n (withFlag m i v) (c .cursors)) (withEntries s (mark (s .entries) i b))
-  flag-agrees i v b h g e = record {
-    named = record {
-      size = R .named .size;
-      bytes = R .named .bytes;
-      spelled = R .named .spelled;
-      well = R .named .well;
-      offsets = R .named .offsets;
-      kinds = R .named .kinds;
-      index = R .named .index;
-    };
-    size = R .size ∙ sym (mark-length (s .entries) i b);
-    linked = flag-linked (m .statements) i v (n .resources) (n .statements) (m .resources) h g (R .linked);
-    reads = λ j q. flag-entry i j v b h e q;
-    cursors = R .cursors;
-    good = λ j. good-grow (length (s .names)) (length (s .names)) (s .entries) (mark (s .entries) i b) _ (omega arith)
-        (omega (arith, mark-length (s .entries) i b)) (λ j q. mark-spo (s .entries) i j b q) (R .good j);
-    room-resources = R .room-resources;
-    room-statements = rw length-set (R .room-statements);
-    room-text = R .room-text;
-    in-resources = R .in-resources;
-    in-statements = R .in-statements;
-    in-text = R .in-text;
-  }
+  flag-agrees : (f : ℕ → ℕ) (x : Triple) (i v : ℕ) (b : Bool) → i < n .statements → eqb v 1 ≡ b
+      → known (n .resources) x ≡ true
+      → Linked (n .resources) (n .statements) (tally f x (m .resources)) (set (m .statements) (statementWords * i + 6) v)
+      → Agreeing k (store n (withFlag f v m x i) (c .cursors)) (withEntries s (mark (s .entries) i b))
+  flag-agrees f x i v b h e kn L =
+      let pos = known-low (n .resources) x kn in
+      let room : (p : Position) → resourceWords * at p x ≤ length (m .resources) =
+      (λ p. omega (arith, known-high (n .resources) x kn p, R .linked .fit-resources)) in
+      record {
+        named = record {
+          size = R .named .size;
+          bytes = R .named .bytes;
+          spelled = R .named .spelled;
+          well = R .named .well;
+          offsets = λ y l q. tally-offset f x (m .resources) pos room y l ∙ R .named .offsets y l q;
+          kinds = λ y l q. tally-kind f x (m .resources) pos room y l ∙ R .named .kinds y l q;
+          index = R .named .index;
+        };
+        size = R .size ∙ sym (mark-length (s .entries) i b);
+        linked = L;
+        reads = λ j q. flag-entry i j v b h e q;
+        cursors = R .cursors;
+        good = λ j. good-grow (length (s .names)) (length (s .names)) (s .entries) (mark (s .entries) i b) _ (omega arith)
+            (omega (arith, mark-length (s .entries) i b)) (λ j q. mark-spo (s .entries) i j b q) (R .good j);
+        room-resources = rw (tally-length f x (m .resources)) (R .room-resources);
+        room-statements = rw length-set (R .room-statements);
+        room-text = R .room-text;
+        in-resources = R .in-resources;
+        in-statements = R .in-statements;
+        in-text = R .in-text;
+      }
 
   -- ---- a new record
 
@@ -172,26 +181,61 @@ module _ (k : Capacities) (c : Store) (s : Model) (R : Agreeing k c s) where
         (totals (withEntries s (s .entries ++ record { spo = x; retracted = false } ∷ [])))
     new-values z = ap₂ (counted 1) (z .size) (totals-agree k _ _ z)
 
-    put-agrees : (i : ℕ) → i ≤ n .statements → Same k (asserted c (asserting n m x i)) (put k s x i)
+    put-agrees : (i : ℕ) → i ≤ n .statements → lookup x (s .entries) ≡ i → Same k (asserted c (asserting n m x i)) (put k s x i)
     unfolding asserting put
-    put-agrees zero g =
+    put-agrees zero g z =
         same-cond k (asserted c) (ltb (n .statements) (statementCapacity m)) _ _ _ _ _
         (ap₂ ltb (R .size) (sym (R .room-statements)))
         (λ d. let l = ltb-true (n .statements) (statementCapacity m) d in
         let z = append-agrees l (omega arith) in
         (new-values z, z))
         (λ d. (refl, R))
-    put-agrees (suc i) g =
+    put-agrees (suc i) g z =
         same-cond k (asserted c) _ _ _ _ _ _ (mark-agrees k c s R i g)
-        (λ d. (ap (counted 3 (suc i)) (totals-agree k c s R), flag-agrees i 0 false g (omega arith) refl))
+        (λ d. (
+          ap (counted 3 (suc i)) (totals-agree k c s R),
+          flag-agrees suc x i 0 false g refl e
+              (revived-linked (n .resources) (n .statements) x (m .resources) (m .statements) i g (R .linked)
+              (found-holds k c s R x i z) (eqb-true (flagAt (m .statements) i) 1 d)),
+        ))
         (λ d. (ap (counted 2 (suc i)) (totals-agree k c s R), R))
 
-  strike-agrees : (i : ℕ) → i ≤ n .statements → Same k (retracted′ c (retracting m i)) (strike s i)
+  -- a record found live is counted at each position
+  module _ (x : Triple) (e : known (n .resources) x ≡ true) (i : ℕ) (g : i < n .statements)
+      (z : lookup x (s .entries) ≡ suc i) (d : eqb (flagAt (m .statements) i) 1 ≡ false) where
+    is-live : flagAt (m .statements) i ≡ 0
+    is-live = omega (arith, R .linked .flag i g, eqb-false (flagAt (m .statements) i) 1 d)
+
+    counting-agrees : counting (m .resources) x ≡ true
+    unfolding counting
+    counting-agrees =
+        all3-of (λ p. ltb 0 (liveAt (m .resources) p (at p x))) (λ p.
+        lt-ltb 0 (liveAt (m .resources) p (at p x)) (rw (
+          R .linked .live p (at p x) (known-low (n .resources) x e p) (known-high (n .resources) x e p),
+          one-less-live (n .resources) (n .statements) x (m .resources) (m .statements) i g (R .linked)
+              (found-holds k c s R x i z) is-live p (at p x),
+          eq-eqb (at p x) (at p x) refl,
+        )
+        (omega arith)))
+
+    strike-live : Same k
+        (retracted′ c (cond (counting (m .resources) x) (struckOut m x i, Struck (record { 0 = suc i })) (m, NotRetracted Damaged)))
+        (withEntries s (mark (s .entries) i true), numbered (suc i))
+    strike-live =
+        rw counting-agrees (
+          refl,
+          flag-agrees (λ n. n - 1) x i 1 true g refl e
+              (struck-linked (n .resources) (n .statements) x (m .resources) (m .statements) i g (R .linked)
+              (found-holds k c s R x i z) is-live),
+        )
+
+  strike-agrees : (x : Triple) → known (n .resources) x ≡ true → (i : ℕ) → i ≤ n .statements → lookup x (s .entries) ≡ i
+      → Same k (retracted′ c (retracting m x i)) (strike s i)
   unfolding retracting strike
-  strike-agrees zero g = (refl, R)
-  strike-agrees (suc i) g =
+  strike-agrees x e zero g z = (refl, R)
+  strike-agrees x e (suc i) g z =
       same-cond k (retracted′ c) _ _ _ _ _ _ (mark-agrees k c s R i g) (λ d. (refl, R))
-      (λ d. (refl, flag-agrees i 1 true g (omega arith) refl))
+      (λ d. strike-live x e i g z d)
 
   -- ---- kinds
 
@@ -229,7 +273,7 @@ module _ (k : Capacities) (c : Store) (s : Model) (R : Agreeing k c s) where
       (ap (λ (z : ℕ). known z x) (R .named .size))
       (λ e. rw (kinded-agrees x e)
       (same-cond k (asserted c) (permitted (kindAt (m .resources)) x) _ _ _ _ _ (permitted-agrees x e)
-      (λ d. rw (assertOf, locate-agrees k c s R x e) (put-agrees x e (lookup x (s .entries)) (lookup-le k c s R x)))
+      (λ d. rw (assertOf, locate-agrees k c s R x e) (put-agrees x e (lookup x (s .entries)) (lookup-le k c s R x) refl))
       (λ d. (refl, R))))
       (λ e. (refl, R)))
 
@@ -239,5 +283,5 @@ module _ (k : Capacities) (c : Store) (s : Model) (R : Agreeing k c s) where
       rw (fits-agrees k c s R)
       (same-cond k (retracted′ c) (known (n .resources) x) (known (length (s .names)) x) _ _ _ _
       (ap (λ (z : ℕ). known z x) (R .named .size))
-      (λ e. rw (retractOf, locate-agrees k c s R x e) (strike-agrees (lookup x (s .entries)) (lookup-le k c s R x)))
+      (λ e. rw (retractOf, locate-agrees k c s R x e) (strike-agrees x e (lookup x (s .entries)) (lookup-le k c s R x) refl))
       (λ e. (refl, R)))

@@ -1,5 +1,6 @@
 -- Words of the tables after a store: what was written is read back, every other word stays, for a position in general.
--- One new statement record, its links in three resource records, one flag, one new resource record. Assumes nothing.
+-- One new statement record, its links in three resource records, one flag, three live counts, one new resource record.
+-- Assumes nothing.
 use mathlib.Core.Path.{_≡_, refl, sym, ap, _∙_}
 use mathlib.Core.Logic.{_≢_}
 use mathlib.Core.Bool.{Bool, true, false, cond}
@@ -16,8 +17,8 @@ use Rattle.store.specs.declared.Position.the-variants.{Subject, Predicat
 use Rattle.store.specs.declared.Triple.{Triple}
 use Rattle.store.specs.Triple.{at, triple}
 use Rattle.store.specs.Tables.{word, off, statementWords, resourceWords, termAt, nextAt, flagAt, tripleAt}
-use Rattle.store.specs.Tables.{firstAt, countAt, offsetAt, kindAt}
-use Rattle.store.specs.Statement.{recordWords, appendRecord, linkFirst, linkRecord}
+use Rattle.store.specs.Tables.{firstAt, countAt, offsetAt, kindAt, liveAt}
+use Rattle.store.specs.Statement.{recordWords, appendRecord, linkFirst, linkRecord, tallyAt, tally}
 use Rattle.store.specs.Dictionary.{freshRecord}
 use Rattle.store.proofs.Tests.{decide, off-lt}
 
@@ -73,8 +74,8 @@ module _ (t : ℕ) (x : Triple) (res stm : List ℕ) where
   unfolding appendRecord
   append-word-after k h = getD-sets-after (recordWords x res) stm (statementWords * t) k 0 (omega arith)
 
-  append-old : (i k : ℕ) → i < t → k < 7 → word (appendRecord t x res stm) (7 * i + k) ≡ word stm (7 * i + k)
-  append-old i k h q = append-word-before (7 * i + k) (omega arith)
+  append-old : (i k : ℕ) → i < t → k < statementWords → word (appendRecord t x res stm) (statementWords * i + k) ≡ word stm (statementWords * i + k)
+  append-old i k h q = append-word-before (statementWords * i + k) (omega arith)
 
   pub append-term-old : (p : Position) (i : ℕ) → i < t → termAt (appendRecord t x res stm) p i ≡ termAt stm p i
   unfolding termAt
@@ -89,9 +90,9 @@ module _ (t : ℕ) (x : Triple) (res stm : List ℕ) where
   append-flag-old i h = append-old i 6 h (omega arith)
 
   module _ (room : statementWords * suc t ≤ length stm) where
-    append-new : (k : ℕ) → k < 7 → word (appendRecord t x res stm) (7 * t + k) ≡ word (recordWords x res) k
+    append-new : (k : ℕ) → k < statementWords → word (appendRecord t x res stm) (statementWords * t + k) ≡ word (recordWords x res) k
     unfolding appendRecord
-    append-new k h = getD-sets-in (recordWords x res) stm (7 * t) k 0 (omega arith) (omega arith)
+    append-new k h = getD-sets-in (recordWords x res) stm (statementWords * t) k 0 (omega arith) (omega arith)
 
     pub append-term : (p : Position) → termAt (appendRecord t x res stm) p t ≡ at p x
     unfolding termAt
@@ -116,35 +117,53 @@ module _ (q : Position) (t y : ℕ) (res : List ℕ) where
   unfolding linkFirst
   link-length = simp length-set
 
-  -- any word but the two
+  -- any word but the three
   pub link-skip : (k : ℕ) → k ≢ resourceWords * (y - 1) + off q → k ≢ resourceWords * (y - 1) + (3 + off q)
+      → k ≢ resourceWords * (y - 1) + (8 + off q)
       → word (linkFirst q t y res) k ≡ word res k
   unfolding linkFirst
-  link-skip k h g = rw (getD-set-other, getD-set-other)
+  link-skip k h g l = rw (getD-set-other, getD-set-other, getD-set-other)
 
 module _ (q : Position) (t y : ℕ) (res : List ℕ) (pos : 0 < y) (room : resourceWords * y ≤ length res) where
   pub link-first-same : firstAt (linkFirst q t y res) q y ≡ suc t
   unfolding linkFirst firstAt
   link-first-same =
-      let a : 8 * (y - 1) + off q < length res = omega (arith, off-lt q) in
-      let n : 8 * (y - 1) + off q ≢ 8 * (y - 1) + (3 + off q) = omega arith in
-      rw (getD-set-other, getD-set-same)
+      let a : resourceWords * (y - 1) + off q < length res = omega (arith, off-lt q) in
+      let n : resourceWords * (y - 1) + off q ≢ resourceWords * (y - 1) + (3 + off q) = omega arith in
+      let l : resourceWords * (y - 1) + off q ≢ resourceWords * (y - 1) + (8 + off q) = omega arith in
+      rw (getD-set-other, getD-set-other, getD-set-same)
 
   pub link-count-same : countAt (linkFirst q t y res) q y ≡ suc (countAt res q y)
   unfolding linkFirst countAt
   link-count-same =
-      let a : 8 * (y - 1) + (3 + off q) < length (set res (8 * (y - 1) + off q) (suc t)) =
+      let a : resourceWords * (y - 1) + (3 + off q) < length (set res (resourceWords * (y - 1) + off q) (suc t)) =
       rw length-set (omega (arith, off-lt q)) in
+      let l : resourceWords * (y - 1) + (3 + off q) ≢ resourceWords * (y - 1) + (8 + off q) = omega arith in
+      rw (getD-set-other, getD-set-same)
+
+  pub link-live-same : liveAt (linkFirst q t y res) q y ≡ suc (liveAt res q y)
+  unfolding linkFirst liveAt
+  link-live-same =
+      let a : resourceWords * (y - 1) + (8 + off q)
+      < length (set (set res (resourceWords * (y - 1) + off q) (suc t)) (resourceWords * (y - 1) + (3 + off q))
+      (suc (countAt res q y))) = rw (length-set, length-set) (omega (arith, off-lt q)) in
       rw getD-set-same
 
   -- another resource
   link-first-else : (z : ℕ) → 0 < z → y ≢ z → firstAt (linkFirst q t y res) q z ≡ firstAt res q z
   unfolding firstAt
-  link-first-else z h n = link-skip q t y res _ (omega (arith, off-lt q)) (omega (arith, off-lt q))
+  link-first-else z h n =
+      link-skip q t y res _ (omega (arith, off-lt q)) (omega (arith, off-lt q)) (omega (arith, off-lt q))
 
   link-count-else : (z : ℕ) → 0 < z → y ≢ z → countAt (linkFirst q t y res) q z ≡ countAt res q z
   unfolding countAt
-  link-count-else z h n = link-skip q t y res _ (omega (arith, off-lt q)) (omega (arith, off-lt q))
+  link-count-else z h n =
+      link-skip q t y res _ (omega (arith, off-lt q)) (omega (arith, off-lt q)) (omega (arith, off-lt q))
+
+  link-live-else : (z : ℕ) → 0 < z → y ≢ z → liveAt (linkFirst q t y res) q z ≡ liveAt res q z
+  unfolding liveAt
+  link-live-else z h n =
+      link-skip q t y res _ (omega (arith, off-lt q)) (omega (arith, off-lt q)) (omega (arith, off-lt q))
 
   -- another position
   pub link-first-other : (p : Position) (z : ℕ) → 0 < z → off p ≢ off q
@@ -152,12 +171,21 @@ module _ (q : Position) (t y : ℕ) (res : List ℕ) (pos : 0 < y) (room : resou
   unfolding firstAt
   link-first-other p z h n =
       link-skip q t y res _ (omega (arith, off-lt q, off-lt p)) (omega (arith, off-lt q, off-lt p))
+      (omega (arith, off-lt q, off-lt p))
 
   pub link-count-other : (p : Position) (z : ℕ) → 0 < z → off p ≢ off q
       → countAt (linkFirst q t y res) p z ≡ countAt res p z
   unfolding countAt
   link-count-other p z h n =
       link-skip q t y res _ (omega (arith, off-lt q, off-lt p)) (omega (arith, off-lt q, off-lt p))
+      (omega (arith, off-lt q, off-lt p))
+
+  pub link-live-other : (p : Position) (z : ℕ) → 0 < z → off p ≢ off q
+      → liveAt (linkFirst q t y res) p z ≡ liveAt res p z
+  unfolding liveAt
+  link-live-other p z h n =
+      link-skip q t y res _ (omega (arith, off-lt q, off-lt p)) (omega (arith, off-lt q, off-lt p))
+      (omega (arith, off-lt q, off-lt p))
 
   pub link-first : (z : ℕ) → 0 < z → firstAt (linkFirst q t y res) q z ≡ cond (eqb y z) (suc t) (firstAt res q z)
   link-first z h =
@@ -169,6 +197,12 @@ module _ (q : Position) (t y : ℕ) (res : List ℕ) (pos : 0 < y) (room : resou
   link-count z h =
       decide (eqb y z) (λ e. rw (e, ← eqb-true y z e) link-count-same)
       (λ e. rw e (link-count-else z h (eqb-false y z e)))
+
+  pub link-live : (z : ℕ) → 0 < z → liveAt (linkFirst q t y res) q z
+      ≡ cond (eqb y z) (suc (liveAt res q z)) (liveAt res q z)
+  link-live z h =
+      decide (eqb y z) (λ e. rw (e, ← eqb-true y z e) link-live-same)
+      (λ e. rw e (link-live-else z h (eqb-false y z e)))
 
 -- ---- the resource table after a new statement record's three links
 
@@ -241,16 +275,41 @@ module _ (t : ℕ) (x : Triple) (res : List ℕ) (pos : (p : Position) → 0 < a
         link-count-other Subject t (x .subject .0) res (pos Subject) (room Subject) Object y h (omega arith),
       )
 
+  pub linked-live : (p : Position) (y : ℕ) → 0 < y
+      → liveAt (linkRecord t x res) p y ≡ cond (eqb (at p x) y) (suc (liveAt res p y)) (liveAt res p y)
+  unfolding linkRecord
+  linked-live Subject y h =
+      rw (
+        link-live-other Object t (x .object .0) two (pos Object) (room-two Object) Subject y h (omega arith),
+        link-live-other Predicate t (x .predicate .0) one (pos Predicate) (room-one Predicate) Subject y h
+            (omega arith),
+        link-live Subject t (x .subject .0) res (pos Subject) (room Subject) y h,
+      )
+  linked-live Predicate y h =
+      rw (
+        link-live-other Object t (x .object .0) two (pos Object) (room-two Object) Predicate y h (omega arith),
+        link-live Predicate t (x .predicate .0) one (pos Predicate) (room-one Predicate) y h,
+        link-live-other Subject t (x .subject .0) res (pos Subject) (room Subject) Predicate y h (omega arith),
+      )
+  linked-live Object y h =
+      rw (
+        link-live Object t (x .object .0) two (pos Object) (room-two Object) y h,
+        link-live-other Predicate t (x .predicate .0) one (pos Predicate) (room-one Predicate) Object y h
+            (omega arith),
+        link-live-other Subject t (x .subject .0) res (pos Subject) (room Subject) Object y h (omega arith),
+      )
+
   -- offset and kind stay
   linked-tail : (k y : ℕ) → 6 ≤ k → k < 8 → 0 < y
-      → word (linkRecord t x res) (8 * (y - 1) + k) ≡ word res (8 * (y - 1) + k)
+      → word (linkRecord t x res) (resourceWords * (y - 1) + k) ≡ word res (resourceWords * (y - 1) + k)
   unfolding linkRecord
   linked-tail k y a b h =
-      link-skip Object t (x .object .0) two (8 * (y - 1) + k) (omega (arith, pos Object)) (omega (arith, pos Object))
-      ∙ link-skip Predicate t (x .predicate .0) one (8 * (y - 1) + k) (omega (arith, pos Predicate))
-      (omega (arith, pos Predicate))
-      ∙ link-skip Subject t (x .subject .0) res (8 * (y - 1) + k) (omega (arith, pos Subject))
-      (omega (arith, pos Subject))
+      link-skip Object t (x .object .0) two (resourceWords * (y - 1) + k) (omega (arith, pos Object))
+      (omega (arith, pos Object)) (omega (arith, pos Object))
+      ∙ link-skip Predicate t (x .predicate .0) one (resourceWords * (y - 1) + k) (omega (arith, pos Predicate))
+      (omega (arith, pos Predicate)) (omega (arith, pos Predicate))
+      ∙ link-skip Subject t (x .subject .0) res (resourceWords * (y - 1) + k) (omega (arith, pos Subject))
+      (omega (arith, pos Subject)) (omega (arith, pos Subject))
 
   pub linked-offset : (y : ℕ) → 0 < y → offsetAt (linkRecord t x res) y ≡ offsetAt res y
   unfolding offsetAt
@@ -260,14 +319,120 @@ module _ (t : ℕ) (x : Triple) (res : List ℕ) (pos : (p : Position) → 0 < a
   unfolding kindAt
   linked-kind y h = linked-tail 7 y (omega arith) (omega arith) h
 
+-- ---- the resource table after a change of one live count, then of three
+
+module _ (f : ℕ → ℕ) (q : Position) (y : ℕ) (res : List ℕ) where
+  pub tallyAt-length : length (tallyAt f q y res) ≡ length res
+  unfolding tallyAt
+  tallyAt-length = simp length-set
+
+  pub tallyAt-skip : (k : ℕ) → k ≢ resourceWords * (y - 1) + (8 + off q) → word (tallyAt f q y res) k ≡ word res k
+  unfolding tallyAt
+  tallyAt-skip k h = rw getD-set-other
+
+module _ (f : ℕ → ℕ) (q : Position) (y : ℕ) (res : List ℕ) (pos : 0 < y) (room : resourceWords * y ≤ length res) where
+  tallyAt-same : liveAt (tallyAt f q y res) q y ≡ f (liveAt res q y)
+  unfolding tallyAt liveAt
+  tallyAt-same = getD-set-same res (resourceWords * (y - 1) + (8 + off q)) _ 0 (omega (arith, off-lt q))
+
+  tallyAt-else : (z : ℕ) → 0 < z → y ≢ z → liveAt (tallyAt f q y res) q z ≡ liveAt res q z
+  unfolding liveAt
+  tallyAt-else z h n = tallyAt-skip f q y res _ (omega (arith, off-lt q))
+
+  pub tallyAt-other : (p : Position) (z : ℕ) → 0 < z → off p ≢ off q → liveAt (tallyAt f q y res) p z ≡ liveAt res p z
+  unfolding liveAt
+  tallyAt-other p z h n = tallyAt-skip f q y res _ (omega (arith, off-lt q, off-lt p))
+
+  pub tallyAt-live : (z : ℕ) → 0 < z → liveAt (tallyAt f q y res) q z
+      ≡ cond (eqb y z) (f (liveAt res q z)) (liveAt res q z)
+  tallyAt-live z h =
+      decide (eqb y z) (λ e. rw (e, ← eqb-true y z e) tallyAt-same)
+      (λ e. rw e (tallyAt-else z h (eqb-false y z e)))
+
+module _ (f : ℕ → ℕ) (x : Triple) (res : List ℕ) where
+  abbrev tally-one : List ℕ
+  tally-one = tallyAt f Subject (x .subject .0) res
+
+  abbrev tally-two : List ℕ
+  tally-two = tallyAt f Predicate (x .predicate .0) tally-one
+
+  pub tally-length : length (tally f x res) ≡ length res
+  unfolding tally
+  tally-length =
+      tallyAt-length f Object (x .object .0) tally-two ∙ tallyAt-length f Predicate (x .predicate .0) tally-one
+      ∙ tallyAt-length f Subject (x .subject .0) res
+
+  -- the first eight words of a record stay
+  tally-skip : (k y : ℕ) → k < 8 → ((p : Position) → 0 < at p x) → 0 < y
+      → word (tally f x res) (resourceWords * (y - 1) + k) ≡ word res (resourceWords * (y - 1) + k)
+  unfolding tally
+  tally-skip k y b pos h =
+      tallyAt-skip f Object (x .object .0) tally-two (resourceWords * (y - 1) + k) (omega (arith, pos Object))
+      ∙ tallyAt-skip f Predicate (x .predicate .0) tally-one (resourceWords * (y - 1) + k) (omega (arith, pos Predicate))
+      ∙ tallyAt-skip f Subject (x .subject .0) res (resourceWords * (y - 1) + k) (omega (arith, pos Subject))
+
+module _ (f : ℕ → ℕ) (x : Triple) (res : List ℕ) (pos : (p : Position) → 0 < at p x)
+    (room : (p : Position) → resourceWords * at p x ≤ length res) where
+  abbrev after-one : List ℕ
+  after-one = tally-one f x res
+
+  abbrev after-two : List ℕ
+  after-two = tally-two f x res
+
+  room-after-one : (p : Position) → resourceWords * at p x ≤ length after-one
+  room-after-one p = rw (tallyAt-length f Subject (x .subject .0) res) (room p)
+
+  room-after-two : (p : Position) → resourceWords * at p x ≤ length after-two
+  room-after-two p = rw (tallyAt-length f Predicate (x .predicate .0) after-one) (room-after-one p)
+
+  pub tally-live : (p : Position) (y : ℕ) → 0 < y
+      → liveAt (tally f x res) p y ≡ cond (eqb (at p x) y) (f (liveAt res p y)) (liveAt res p y)
+  unfolding tally
+  tally-live Subject y h =
+      rw (
+        tallyAt-other f Object (x .object .0) after-two (pos Object) (room-after-two Object) Subject y h (omega arith),
+        tallyAt-other f Predicate (x .predicate .0) after-one (pos Predicate) (room-after-one Predicate) Subject y h
+            (omega arith),
+        tallyAt-live f Subject (x .subject .0) res (pos Subject) (room Subject) y h,
+      )
+  tally-live Predicate y h =
+      rw (
+        tallyAt-other f Object (x .object .0) after-two (pos Object) (room-after-two Object) Predicate y h (omega arith),
+        tallyAt-live f Predicate (x .predicate .0) after-one (pos Predicate) (room-after-one Predicate) y h,
+        tallyAt-other f Subject (x .subject .0) res (pos Subject) (room Subject) Predicate y h (omega arith),
+      )
+  tally-live Object y h =
+      rw (
+        tallyAt-live f Object (x .object .0) after-two (pos Object) (room-after-two Object) y h,
+        tallyAt-other f Predicate (x .predicate .0) after-one (pos Predicate) (room-after-one Predicate) Object y h
+            (omega arith),
+        tallyAt-other f Subject (x .subject .0) res (pos Subject) (room Subject) Object y h (omega arith),
+      )
+
+  pub tally-first : (p : Position) (y : ℕ) → 0 < y → firstAt (tally f x res) p y ≡ firstAt res p y
+  unfolding firstAt
+  tally-first p y h = tally-skip f x res (off p) y (omega (arith, off-lt p)) pos h
+
+  pub tally-count : (p : Position) (y : ℕ) → 0 < y → countAt (tally f x res) p y ≡ countAt res p y
+  unfolding countAt
+  tally-count p y h = tally-skip f x res (3 + off p) y (omega (arith, off-lt p)) pos h
+
+  pub tally-offset : (y : ℕ) → 0 < y → offsetAt (tally f x res) y ≡ offsetAt res y
+  unfolding offsetAt
+  tally-offset y h = tally-skip f x res 6 y (omega arith) pos h
+
+  pub tally-kind : (y : ℕ) → 0 < y → kindAt (tally f x res) y ≡ kindAt res y
+  unfolding kindAt
+  tally-kind y h = tally-skip f x res 7 y (omega arith) pos h
+
 -- ---- the flag of entry i
 
 module _ (stm : List ℕ) (i v : ℕ) where
   abbrev flagged : List ℕ
   flagged = set stm (statementWords * i + 6) v
 
-  flag-skip : (k j : ℕ) → k < 6 → word flagged (7 * j + k) ≡ word stm (7 * j + k)
-  flag-skip k j h = getD-set-other stm (7 * i + 6) (7 * j + k) v 0 (omega arith)
+  flag-skip : (k j : ℕ) → k < 6 → word flagged (statementWords * j + k) ≡ word stm (statementWords * j + k)
+  flag-skip k j h = getD-set-other stm (statementWords * i + 6) (statementWords * j + k) v 0 (omega arith)
 
   pub flag-term : (p : Position) (j : ℕ) → termAt flagged p j ≡ termAt stm p j
   unfolding termAt
@@ -279,13 +444,13 @@ module _ (stm : List ℕ) (i v : ℕ) where
 
   pub flag-same : statementWords * suc i ≤ length stm → flagAt flagged i ≡ v
   unfolding flagAt
-  flag-same h = getD-set-same stm (7 * i + 6) v 0 (omega arith)
+  flag-same h = getD-set-same stm (statementWords * i + 6) v 0 (omega arith)
 
   pub flag-other : (j : ℕ) → j ≢ i → flagAt flagged j ≡ flagAt stm j
   unfolding flagAt
-  flag-other j h = getD-set-other stm (7 * i + 6) (7 * j + 6) v 0 (omega arith)
+  flag-other j h = getD-set-other stm (statementWords * i + 6) (statementWords * j + 6) v 0 (omega arith)
 
--- ---- a new resource record, of zeros, an offset and a kind
+-- ---- a new resource record: zeros, an offset and a kind, zeros
 
 pub zero-first : (o d : ℕ) (p : Position) → word (freshRecord o d) (off p) ≡ 0
 zero-first o d Subject = refl
@@ -296,6 +461,11 @@ pub zero-count : (o d : ℕ) (p : Position) → word (freshRecord o d) (3 + off 
 zero-count o d Subject = refl
 zero-count o d Predicate = refl
 zero-count o d Object = refl
+
+pub zero-live : (o d : ℕ) (p : Position) → word (freshRecord o d) (8 + off p) ≡ 0
+zero-live o d Subject = refl
+zero-live o d Predicate = refl
+zero-live o d Object = refl
 
 module _ (r : ℕ) (res : List ℕ) (o d : ℕ) where
   abbrev grown : List ℕ
@@ -311,13 +481,13 @@ module _ (r : ℕ) (res : List ℕ) (o d : ℕ) where
   grow-after k h = getD-sets-after (freshRecord o d) res (resourceWords * r) k 0 (omega arith)
 
   -- a word of the resource y in 1..r
-  pub grow-old : (k y : ℕ) → k < 8 → 0 < y → y ≤ r
+  pub grow-old : (k y : ℕ) → k < resourceWords → 0 < y → y ≤ r
       → word grown (resourceWords * (y - 1) + k) ≡ word res (resourceWords * (y - 1) + k)
-  grow-old k y h a b = grow-before (8 * (y - 1) + k) (omega arith)
+  grow-old k y h a b = grow-before (resourceWords * (y - 1) + k) (omega arith)
 
   -- a word of the new one
-  pub grow-new : resourceWords * suc r ≤ length res → (k : ℕ) → k < 8
+  pub grow-new : resourceWords * suc r ≤ length res → (k : ℕ) → k < resourceWords
       → word grown (resourceWords * (suc r - 1) + k) ≡ word (freshRecord o d) k
   grow-new room k h =
-      let e : 8 * (suc r - 1) + k ≡ 8 * r + k = omega arith in
-      rw e (getD-sets-in (freshRecord o d) res (8 * r) k 0 (omega arith) (omega arith))
+      let e : resourceWords * (suc r - 1) + k ≡ resourceWords * r + k = omega arith in
+      rw e (getD-sets-in (freshRecord o d) res (resourceWords * r) k 0 (omega arith) (omega arith))

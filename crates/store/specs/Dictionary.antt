@@ -125,9 +125,9 @@ roomFor c m w = ltb (c .resources) (resourceCapacity m) && leb (c .text + length
 abbrev pub oneNameMore : Counters → List ℕ → Counters
 oneNameMore c w = record { resources = suc (c .resources); statements = c .statements; text = c .text + length w + 1 }
 
--- the eight words of a new record: no statements, its offset, its kind
+-- the eleven words of a new record: no statements, its offset, its kind, no live ones
 abbrev pub freshRecord : ℕ → ℕ → List ℕ
-freshRecord o k = 0 ∷ 0 ∷ 0 ∷ 0 ∷ 0 ∷ 0 ∷ o ∷ k ∷ []
+freshRecord o k = 0 ∷ 0 ∷ 0 ∷ 0 ∷ 0 ∷ 0 ∷ o ∷ k ∷ 0 ∷ 0 ∷ 0 ∷ []
 
 -- v put in front of a list's first n words, the word after them dropped
 unfoldable pub bring : ℕ → ℕ → List ℕ → List ℕ

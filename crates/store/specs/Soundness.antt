@@ -2,7 +2,7 @@
 -- not matter. Assumes nothing.
 use mathlib.Core.Path.{_≡_}
 use mathlib.Core.Logic.{_≢_}
-use mathlib.Core.Bool.{Bool, true}
+use mathlib.Core.Bool.{Bool, true, _&&_}
 use mathlib.Core.List.{List}
 use Prim.Native.Nat.{ℕ, _*_, _≤_, _<_}
 use lib.ListN.{length}
@@ -10,15 +10,19 @@ use lib.Dec.{eqb}
 use Rattle.store.specs.declared.Counters.{Counters}
 use Rattle.store.specs.declared.Position.{Position}
 use Rattle.store.specs.Triple.{permitted, below, head0}
-use Rattle.store.specs.Tables.{Tables, fits, resourceWords, statementWords, termAt, nextAt, flagAt, tripleAt, firstAt, countAt, kindAt}
+use Rattle.store.specs.Tables.{Tables, fits, resourceWords, statementWords, termAt, nextAt, flagAt, tripleAt, firstAt, countAt, kindAt, liveAt}
 use Rattle.store.specs.Dictionary.{Named}
 
 -- entry i holds the resource y at a position
 unfoldable pub holding : List ℕ → Position → ℕ → ℕ → Bool
 holding stm p y i = eqb (termAt stm p i) y
 
+-- and is live
+unfoldable pub living : List ℕ → Position → ℕ → ℕ → Bool
+living stm p y i = eqb (flagAt stm i) 0 && holding stm p y i
+
 -- The chains, for a position in general: resources in 1..R, flags 0 or 1; a record's next is the highest earlier record with its
--- resource there, a resource's first the highest of all, its count their number, live or not.
+-- resource there, a resource's first the highest of all, its count their number, live or not, its live count that of the live ones.
 pub record Linked (r t : ℕ) (res stm : List ℕ) : Type 0 where
   pub fit-resources : resourceWords * r ≤ length res
   pub fit-statements : statementWords * t ≤ length stm
@@ -28,11 +32,12 @@ pub record Linked (r t : ℕ) (res stm : List ℕ) : Type 0 where
   pub next : (p : Position) (i : ℕ) → i < t → nextAt stm p i ≡ head0 (below (holding stm p (termAt stm p i)) i)
   pub first : (p : Position) (y : ℕ) → 0 < y → y ≤ r → firstAt res p y ≡ head0 (below (holding stm p y) t)
   pub count : (p : Position) (y : ℕ) → 0 < y → y ≤ r → countAt res p y ≡ length (below (holding stm p y) t)
+  pub live : (p : Position) (y : ℕ) → 0 < y → y ≤ r → liveAt res p y ≡ length (below (living stm p y) t)
 
 pub record Sound (c : Counters) (m : Tables) : Type 0 where
   -- counters within capacity
   pub capacity : fits c m ≡ true
-  -- statement resources in 1..R, flag 0 or 1; every first, next and count
+  -- statement resources in 1..R, flag 0 or 1; every first, next, count and live count
   pub linked : Linked (c .resources) (c .statements) (m .resources) (m .statements)
   -- permitted kinds
   pub kinds : (i : ℕ) → i < c .statements → permitted (kindAt (m .resources)) (tripleAt (m .statements) i) ≡ true

@@ -18,7 +18,7 @@ use Rattle.store.specs.declared.Asserted.the-variants.{New, Already, Rev
 use Rattle.store.specs.declared.Retracted.{Retracted}
 use Rattle.store.specs.declared.Retracted.the-variants.{Number as Struck, Absent as NotLive, Refused as NotRetracted}
 use Rattle.store.specs.Triple.{at, all3, known, same, permitted}
-use Rattle.store.specs.Tables.{Tables, fits, statementCapacity, statementWords, resourceWords, off, tripleAt, flagAt, firstAt, countAt, kindAt}
+use Rattle.store.specs.Tables.{Tables, fits, statementCapacity, statementWords, resourceWords, off, tripleAt, flagAt, firstAt, countAt, kindAt, liveAt}
 use Rattle.store.specs.Walk.{pickChain, pickable, startOf, linkOf, visitable, walk, Step, foundIn}
 
 -- ---- the record with the triple, by the chain that a scan would take
@@ -30,14 +30,41 @@ seek c m x =
     walk (linkOf (m .statements) ch) (visitable (c .resources) (m .statements) ch x) (λ i. same x (tripleAt (m .statements) i)) (c .statements)
     (startOf (c .statements) (m .resources) ch x)
 
+-- no live count of the triple's resources is above its count; a scan does not look at live counts
+unfoldable pub countable : List ℕ → Triple → Bool
+countable res x = all3 (λ p. leb (liveAt res p (at p x)) (countAt res p (at p x)))
+
 -- its number, or 0; none is refusal 9, at the pick or on the walk
 unfoldable pub locate : Counters → Tables → Triple → Option ℕ
-locate c m x = cond (pickable (c .statements) (m .resources) x) (elim (seek c m x) [ none ↦ none | some s ↦ some (foundIn s) ]) none
+locate c m x =
+    cond (pickable (c .statements) (m .resources) x && countable (m .resources) x)
+    (elim (seek c m x) [ none ↦ none | some s ↦ some (foundIn s) ])
+    none
 
 -- ---- what is written
 
-abbrev pub withFlag : Tables → ℕ → ℕ → Tables
-withFlag m i f = record { resources = m .resources; statements = set (m .statements) (statementWords * i + 6) f; index = m .index; text = m .text }
+-- at one position of the resource y the live count becomes f of what it was
+unfoldable pub tallyAt : (ℕ → ℕ) → Position → ℕ → List ℕ → List ℕ
+tallyAt f p y res = set res (resourceWords * (y - 1) + (8 + off p)) (f (liveAt res p y))
+
+unfoldable pub tally : (ℕ → ℕ) → Triple → List ℕ → List ℕ
+tally f x res = tallyAt f Object (x .object .0) (tallyAt f Predicate (x .predicate .0) (tallyAt f Subject (x .subject .0) res))
+
+-- entry i, which holds the triple, gets the flag v, and its three live counts change by f
+abbrev pub withFlag : (ℕ → ℕ) → ℕ → Tables → Triple → ℕ → Tables
+withFlag f v m x i = record {
+  resources = tally f x (m .resources);
+  statements = set (m .statements) (statementWords * i + 6) v;
+  index = m .index;
+  text = m .text;
+}
+
+-- made live again: three live counts one up; struck out: three live counts one down
+abbrev pub madeLive : Tables → Triple → ℕ → Tables
+madeLive m x i = withFlag suc 0 m x i
+
+abbrev pub struckOut : Tables → Triple → ℕ → Tables
+struckOut m x i = withFlag (λ n. n - 1) 1 m x i
 
 -- the seven words of a new record: its nexts are the old firsts
 abbrev pub recordWords : Triple → List ℕ → List ℕ
@@ -48,10 +75,11 @@ recordWords x res =
 unfoldable pub appendRecord : ℕ → Triple → List ℕ → List ℕ → List ℕ
 appendRecord t x res stm = sets stm (statementWords * t) (recordWords x res)
 
--- at one position of the resource y the new record is the first, and one more holds it
+-- at one position of the resource y the new record is the first, and one more holds it, live
 unfoldable pub linkFirst : Position → ℕ → ℕ → List ℕ → List ℕ
 linkFirst p t y res =
-    set (set res (resourceWords * (y - 1) + off p) (suc t)) (resourceWords * (y - 1) + (3 + off p)) (suc (countAt res p y))
+    set (set (set res (resourceWords * (y - 1) + off p) (suc t)) (resourceWords * (y - 1) + (3 + off p)) (suc (countAt res p y)))
+    (resourceWords * (y - 1) + (8 + off p)) (suc (liveAt res p y))
 
 unfoldable pub linkRecord : ℕ → Triple → List ℕ → List ℕ
 linkRecord t x res = linkFirst Object t (x .object .0) (linkFirst Predicate t (x .predicate .0) (linkFirst Subject t (x .subject .0) res))
@@ -80,7 +108,7 @@ asserting c m x zero =
     (appended (c .statements) m x, New (record { 0 = suc (c .statements) }) (oneStatementMore c))
     (m, NotAsserted Full)
 asserting c m x (suc i) =
-    cond (eqb (flagAt (m .statements) i) 1) (withFlag m i 0, Revived (record { 0 = suc i }) c) (m, Already (record { 0 = suc i }) c)
+    cond (eqb (flagAt (m .statements) i) 1) (madeLive m x i, Revived (record { 0 = suc i }) c) (m, Already (record { 0 = suc i }) c)
 
 -- Assert: 1; 4; 9 if a kind is outside 1..3; 5; 9; then by the record found
 unfoldable pub assertOf : Counters → Tables → Triple → Tables × Asserted
@@ -97,17 +125,24 @@ assertOf c m x =
 
 -- ---- retract
 
--- by the record found, or 0
-unfoldable pub retracting : Tables → ℕ → Tables × Retracted
-retracting m zero = (m, NotLive)
-retracting m (suc i) = cond (eqb (flagAt (m .statements) i) 1) (m, NotLive) (withFlag m i 1, Struck (record { 0 = suc i }))
+-- a live record is there to be counted at each position
+unfoldable pub counting : List ℕ → Triple → Bool
+counting res x = all3 (λ p. ltb 0 (liveAt res p (at p x)))
+
+-- by the record found, or 0; 9 where it is live and a live count of its resources is 0
+unfoldable pub retracting : Tables → Triple → ℕ → Tables × Retracted
+retracting m x zero = (m, NotLive)
+retracting m x (suc i) =
+    cond (eqb (flagAt (m .statements) i) 1)
+    (m, NotLive)
+    (cond (counting (m .resources) x) (struckOut m x i, Struck (record { 0 = suc i })) (m, NotRetracted Damaged))
 
 -- Retract: 1; 4; 9; then by the record found
 unfoldable pub retractOf : Counters → Tables → Triple → Tables × Retracted
 retractOf c m x =
     cond (fits c m)
     (cond (known (c .resources) x)
-    (elim (locate c m x) [ none ↦ (m, NotRetracted Damaged) | some n ↦ retracting m n ])
+    (elim (locate c m x) [ none ↦ (m, NotRetracted Damaged) | some n ↦ retracting m x n ])
     (m, NotRetracted UnknownNumber))
     (m, NotRetracted Capacity)
 

@@ -22,9 +22,9 @@ maxStatements = 65535
 abbrev pub maxText : ℕ
 maxText = 1048576
 
--- a resource record: first statement as subject, predicate, object; count as each; text offset; kind
+-- a resource record: first statement as subject, predicate, object; count as each; text offset; kind; live count as each
 abbrev pub resourceWords : ℕ
-resourceWords = 8
+resourceWords = 11
 
 -- a statement record: subject, predicate, object; next statement for each; flag
 abbrev pub statementWords : ℕ
@@ -68,7 +68,8 @@ flagAt stm i = word stm (statementWords * i + 6)
 unfoldable pub tripleAt : List ℕ → ℕ → Triple
 tripleAt stm i = triple (termAt stm Subject i) (termAt stm Predicate i) (termAt stm Object i)
 
--- the resource y: its first statement at a position, how many hold it there, its name's offset in the text, its kind
+-- the resource y: its first statement at a position, how many hold it there, its name's offset in the text, its kind, how many live
+-- ones hold it there
 unfoldable pub firstAt : List ℕ → Position → ℕ → ℕ
 firstAt res p y = word res (resourceWords * (y - 1) + off p)
 
@@ -80,6 +81,9 @@ offsetAt res y = word res (resourceWords * (y - 1) + 6)
 
 unfoldable pub kindAt : List ℕ → ℕ → ℕ
 kindAt res y = word res (resourceWords * (y - 1) + 7)
+
+unfoldable pub liveAt : List ℕ → Position → ℕ → ℕ
+liveAt res p y = word res (resourceWords * (y - 1) + (8 + off p))
 
 -- ---- capacities and refusal 1
 
