@@ -7,7 +7,7 @@ use store::Triple;
 ghost use mathlib.Core.Path.{_≡_};
 ghost use Prim.Native.Nat.{ℕ, _-_, _<_, _≤_, min};
 ghost use lib.ListN.{length};
-ghost use Rattle.store.specs.Tables.{off, termAt, nextAt, flagAt, tripleAt, firstAt, countAt, offsetAt, kindAt};
+ghost use Rattle.store.specs.Tables.{off, termAt, nextAt, flagAt, tripleAt, firstAt, countAt, offsetAt, kindAt, liveAt};
 ghost use Rattle.store.specs.Reading.{zeroFrom, spanTo};
 ghost use Rattle.table.specs.Held.{StatementHeld, ResourceHeld};
 
@@ -70,12 +70,21 @@ pub fn first_at(resources: &[u32], y: u32, p: Position) -> u32
     resources[i]
 }
 
-// How many statements hold resource y at a position.
+// How many statements hold resource y at a position, live or not.
 pub fn count_at(resources: &[u32], y: u32, p: Position) -> u32
     requires { ⌜ ResourceHeld (now resources) y ⌝ }
     ensures { λ r. ⌜ r ≡ countAt (now (resources .entry)) p y ⌝ }
 {
     let i = crate::RESOURCE_WORDS * (y as usize - 1) + (crate::COUNT + offset(p));
+    resources[i]
+}
+
+// How many live statements hold resource y at a position.
+pub fn live_at(resources: &[u32], y: u32, p: Position) -> u32
+    requires { ⌜ ResourceHeld (now resources) y ⌝ }
+    ensures { λ r. ⌜ r ≡ liveAt (now (resources .entry)) p y ⌝ }
+{
+    let i = crate::RESOURCE_WORDS * (y as usize - 1) + (crate::LIVE + offset(p));
     resources[i]
 }
 

@@ -1,11 +1,11 @@
 // The four lent tables: capacities, the words of their records, and the two operations that only read them.
 //
-// | table      | record | words                                                                           |
-// |------------|--------|---------------------------------------------------------------------------------|
-// | resources  | 8      | first statement as subject, predicate, object; count as each; text offset; kind |
-// | statements | 7      | subject, predicate, object; next statement for each; flag, 1 if retracted       |
-// | index      | 1      | a resource's number, in rising byte order of name                               |
-// | text       | bytes  | names in resource order, each closed by a zero byte                             |
+// | table      | record | words                                                                                               |
+// |------------|--------|-----------------------------------------------------------------------------------------------------|
+// | resources  | 11     | first statement as subject, predicate, object; count as each; text offset; kind; live count as each |
+// | statements | 7      | subject, predicate, object; next statement for each; flag, 1 if retracted                           |
+// | index      | 1      | a resource's number, in rising byte order of name                                                   |
+// | text       | bytes  | names in resource order, each closed by a zero byte                                                 |
 //
 // Records are numbered from 1. A record's words are read and written through `inner`, for a position in general.
 use store::Counters;
@@ -23,16 +23,18 @@ ghost use Rattle.table.specs.Part.{partOf};
 
 pub mod inner;
 
-pub const RESOURCE_WORDS: usize = 8;
+pub const RESOURCE_WORDS: usize = 11;
 
 pub const STATEMENT_WORDS: usize = 7;
 
-// Words of a resource record after the three firsts: the three counts, the name's offset, its kind.
+// Words of a resource record after the three firsts: the three counts, the name's offset, its kind, the three live counts.
 pub const COUNT: usize = 3;
 
 pub const OFFSET: usize = 6;
 
 pub const KIND: usize = 7;
+
+pub const LIVE: usize = 8;
 
 // Words of a statement record after the three resources: the three nexts, the flag.
 pub const NEXT: usize = 3;
