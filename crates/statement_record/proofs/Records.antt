@@ -5,40 +5,86 @@ use mathlib.Core.List.{List}
 use mathlib.Core.Bool.{Bool, true, false}
 use Prim.Native.Nat.{ℕ, zero, suc, _+_, _-_, _*_, _≤_, _<_, _/_, min}
 use native.Mathlib.Omega.{arith}
-use lib.ListN.{length, set, length-set}
-use lib.Seq.{getD-set-other}
+use lib.ListN.{length}
 use lib.Dec.{ltb}
+use Rattle.store.specs.Triple.{at, all3}
 use borrow.Author.Tests.{ltb-true, ltb-false, lt-ltb, le-ltb, eq-eqb, ne-eqb}
 use Rattle.store.specs.declared.Position.{Position}
+use Rattle.store.specs.declared.Position.the-variants.{Subject, Predicate, Object}
 use Rattle.store.specs.declared.Counters.{Counters}
 use Rattle.store.specs.declared.Triple.{Triple}
-use Rattle.store.specs.declared.Refusal.the-variants.{Full}
+use Rattle.store.specs.declared.Refusal.the-variants.{Full, Damaged}
 use Rattle.store.specs.declared.Asserted.the-variants.{New, Already, Revived, Refused as NotAsserted}
-use Rattle.store.specs.declared.Retracted.the-variants.{Number as Struck, Absent as NotLive}
-use Rattle.store.specs.Tables.{Tables, tables, after, statementCapacity, statementWords, flagAt, off, countAt, resourceWords, maxStatements}
-use Rattle.store.specs.Statement.{linkFirst, linkRecord, appendRecord, oneStatementMore, asserting, retracting}
-use Rattle.store.proofs.Tests.{off-lt}
-use Rattle.statement_record.specs.Records.{flagged, Linkable}
+use Rattle.store.specs.declared.Retracted.the-variants.{Number as Struck, Absent as NotLive, Refused as NotRetracted}
+use Rattle.store.specs.Tables.{Tables, tables, after, statementCapacity, statementWords, flagAt, off, liveAt, maxStatements}
+use Rattle.store.specs.Statement.{linkFirst, linkRecord, appendRecord, oneStatementMore, asserting, tallyAt, tally, counting, retracting}
+use Rattle.store.proofs.Tests.{decide, all3-at}
+use Rattle.store.proofs.Words.{link-length, link-count-other, link-live-other, tallyAt-length, tallyAt-other}
+use Rattle.table.specs.Held.{ResourceHeld, TripleHeld}
+use Rattle.statement_record.specs.Records.{flagged, moved, Movable, Linkable, Appendable, Tallyable, AllTallyable}
 
-module _ (p : Position) (t y : ℕ) (res : List ℕ) where
-  pub link-length : length (linkFirst p t y res) ≡ length res
-  unfolding linkFirst
-  link-length = simp length-set
+-- ---- a store at one position leaves what another asks
 
-  -- the count at another position stays
-  pub link-count : (q : Position) (z : ℕ) → (off q ≡ off p → ⊥) → countAt (linkFirst p t y res) q z ≡ countAt res q z
-  unfolding linkFirst countAt
-  link-count q z h =
-      let a = off-lt p in
-      let b = off-lt q in
-      getD-set-other (set res (resourceWords * (y - 1) + off p) (suc t)) (resourceWords * (y - 1) + (3 + off p)) (resourceWords * (z - 1) + (3 + off q)) _ 0 (λ e. h (omega arith))
-      ∙ getD-set-other res (resourceWords * (y - 1) + off p) (resourceWords * (z - 1) + (3 + off q)) (suc t) 0 (λ e. omega arith)
-
+module _ (p : Position) (t y : ℕ) (res : List ℕ) (d : ResourceHeld res y) where
   pub link-keeps : (q : Position) (z : ℕ) → (off q ≡ off p → ⊥) → Linkable res q z → Linkable (linkFirst p t y res) q z
   link-keeps q z h l = record {
-    resource-in = record { from-one = l .resource-in .from-one; whole = rw link-length (l .resource-in .whole) };
-    grows = rw (link-count q z h) (l .grows);
+    resource-in = record { from-one = l .resource-in .from-one; whole = rw (link-length p t y res) (l .resource-in .whole) };
+    grows = rw (link-count-other p t y res (d .from-one) (d .whole) q z (l .resource-in .from-one) h) (l .grows);
+    live-grows = rw (link-live-other p t y res (d .from-one) (d .whole) q z (l .resource-in .from-one) h) (l .live-grows);
   }
+
+module _ (up : Bool) (p : Position) (y : ℕ) (res : List ℕ) (d : ResourceHeld res y) where
+  pub tally-keeps : (q : Position) (z : ℕ) → (off q ≡ off p → ⊥) → Tallyable up res q z → Tallyable up (tallyAt (moved up) p y res) q z
+  tally-keeps q z h l = record {
+    resource-in = record { from-one = l .resource-in .from-one; whole = rw (tallyAt-length (moved up) p y res) (l .resource-in .whole) };
+    movable = rw (tallyAt-other (moved up) p y res (d .from-one) (d .whole) q z (l .resource-in .from-one) h) (l .movable);
+  }
+
+-- ---- the three live counts
+
+pub moved-up : (up : Bool) (n : ℕ) → up ≡ true → n + 1 ≡ moved up n
+moved-up up n e = rw e (omega arith)
+
+pub moved-down : (up : Bool) (n : ℕ) → up ≡ false → n - 1 ≡ moved up n
+moved-down up n e = rw e
+
+pub movable-up : (up : Bool) (n : ℕ) → up ≡ true → Movable up n → n ≤ maxStatements
+movable-up up n e h = rw e at h
+
+pub movable-down : (up : Bool) (n : ℕ) → up ≡ false → Movable up n → 1 ≤ n
+movable-down up n e h = rw e at h
+
+-- one of them is 0
+pub counting-none : (res : List ℕ) (x : Triple) (p : Position) → liveAt res p (at p x) ≡ 0 → counting res x ≡ false
+unfolding counting
+counting-none res x p e =
+    decide (all3 (λ p. ltb 0 (liveAt res p (at p x))))
+    (λ d. absurd (let q = ltb-true 0 (liveAt res p (at p x)) (all3-at (λ p. ltb 0 (liveAt res p (at p x))) d p) in omega arith))
+    (λ d. d)
+
+-- the last decides where the others are not 0
+pub counting-last : (res : List ℕ) (x : Triple) (n : ℕ) → (liveAt res Subject (at Subject x) ≡ 0 → ⊥)
+    → (liveAt res Predicate (at Predicate x) ≡ 0 → ⊥) → n ≡ liveAt res Object (at Object x) → ltb 0 n ≡ counting res x
+unfolding counting
+counting-last res x n a b e =
+    rw (
+      lt-ltb 0 (liveAt res Subject (at Subject x)) (omega arith),
+      lt-ltb 0 (liveAt res Predicate (at Predicate x)) (omega arith),
+      e,
+    )
+
+-- where a new record can be linked, they can grow
+pub grows-all : (c : Counters) (res : List ℕ) (x : Triple) → Appendable c res x → AllTallyable true res x
+grows-all c res x a = record { each = λ p. record { resource-in = a .each p .resource-in; movable = a .each p .live-grows } }
+
+-- where none is 0, they can fall
+pub falls-all : (res : List ℕ) (x : Triple) → TripleHeld res x → counting res x ≡ true → AllTallyable false res x
+unfolding counting
+falls-all res x d e = record {
+  each = λ p. record { resource-in = d .each p; movable = let q = ltb-true 0 (liveAt res p (at p x)) (all3-at (λ p. ltb 0 (liveAt res p (at p x))) e p) in omega arith };
+}
+
+-- ---- room
 
 -- where the limit is not reached, the table's records decide
 pub short : (t k : ℕ) → t < maxStatements → ltb t k ≡ ltb t (min k maxStatements)
@@ -54,34 +100,44 @@ module _ (res stm index text : List ℕ) where
   abbrev m : Tables
   m = tables res stm index text
 
-  -- the tables with another flag of record n
-  abbrev reflagged : ℕ → ℕ → Tables
-  reflagged n f = tables res (flagged stm (n - 1) f) index text
+  -- the tables with another flag of record n, and the triple's live counts moved
+  abbrev reflagged : Bool → ℕ → Triple → ℕ → Tables
+  reflagged up f x n = tables (tally (moved up) x res) (flagged stm (n - 1) f) index text
 
-  pub revived : (c : Counters) (x : Triple) (n : ℕ) → 1 ≤ n → flagAt stm (n - 1) ≡ 1 → after (reflagged n 0) (Revived (record { 0 = n }) c) ≡ asserting c m x n
+  pub revived : (c : Counters) (x : Triple) (n : ℕ) → 1 ≤ n → flagAt stm (n - 1) ≡ 1
+      → after (reflagged true 0 x n) (Revived (record { 0 = n }) c) ≡ asserting c m x n
   unfolding asserting
   revived c x zero h e = absurd (omega arith)
   revived c x (suc i) h e = let d : suc i - 1 ≡ i = omega arith in rw (d, eq-eqb (flagAt stm i) 1 (rw d at e))
 
-  pub already : (c : Counters) (x : Triple) (n : ℕ) → 1 ≤ n → (flagAt stm (n - 1) ≡ 1 → ⊥) → after m (Already (record { 0 = n }) c) ≡ asserting c m x n
+  pub already : (c : Counters) (x : Triple) (n : ℕ) → 1 ≤ n → (flagAt stm (n - 1) ≡ 1 → ⊥)
+      → after m (Already (record { 0 = n }) c) ≡ asserting c m x n
   unfolding asserting
   already c x zero h f = absurd (omega arith)
   already c x (suc i) h f = let d : suc i - 1 ≡ i = omega arith in rw (ne-eqb (flagAt stm i) 1 (λ e. f (rw d e)))
 
-  pub struck-none : (n : ℕ) → n ≡ 0 → after m NotLive ≡ retracting m n
+  pub struck-none : (x : Triple) (n : ℕ) → n ≡ 0 → after m NotLive ≡ retracting m x n
   unfolding retracting
-  struck-none zero e = refl
-  struck-none (suc i) e = absurd (omega arith)
+  struck-none x zero e = refl
+  struck-none x (suc i) e = absurd (omega arith)
 
-  pub struck-before : (n : ℕ) → (n ≡ 0 → ⊥) → flagAt stm (n - 1) ≡ 1 → after m NotLive ≡ retracting m n
+  pub struck-before : (x : Triple) (n : ℕ) → (n ≡ 0 → ⊥) → flagAt stm (n - 1) ≡ 1 → after m NotLive ≡ retracting m x n
   unfolding retracting
-  struck-before zero h e = absurd (h refl)
-  struck-before (suc i) h e = let d : suc i - 1 ≡ i = omega arith in rw (eq-eqb (flagAt stm i) 1 (rw d at e))
+  struck-before x zero h e = absurd (h refl)
+  struck-before x (suc i) h e = let d : suc i - 1 ≡ i = omega arith in rw (eq-eqb (flagAt stm i) 1 (rw d at e))
 
-  pub struck-now : (n : ℕ) → (n ≡ 0 → ⊥) → (flagAt stm (n - 1) ≡ 1 → ⊥) → after (reflagged n 1) (Struck (record { 0 = n })) ≡ retracting m n
+  -- live, and one of the live counts is 0
+  pub struck-torn : (x : Triple) (n : ℕ) → (n ≡ 0 → ⊥) → (flagAt stm (n - 1) ≡ 1 → ⊥) → counting res x ≡ false
+      → after m (NotRetracted Damaged) ≡ retracting m x n
   unfolding retracting
-  struck-now zero h f = absurd (h refl)
-  struck-now (suc i) h f = let d : suc i - 1 ≡ i = omega arith in rw (d, ne-eqb (flagAt stm i) 1 (λ e. f (rw d e)))
+  struck-torn x zero h f g = absurd (h refl)
+  struck-torn x (suc i) h f g = let d : suc i - 1 ≡ i = omega arith in rw (ne-eqb (flagAt stm i) 1 (λ e. f (rw d e)), g)
+
+  pub struck-now : (x : Triple) (n : ℕ) → (n ≡ 0 → ⊥) → (flagAt stm (n - 1) ≡ 1 → ⊥) → counting res x ≡ true
+      → after (reflagged false 1 x n) (Struck (record { 0 = n })) ≡ retracting m x n
+  unfolding retracting
+  struck-now x zero h f g = absurd (h refl)
+  struck-now x (suc i) h f g = let d : suc i - 1 ≡ i = omega arith in rw (d, ne-eqb (flagAt stm i) 1 (λ e. f (rw d e)), g)
 
   -- no room for one more
   pub full : (c : Counters) (x : Triple) → ltb (c .statements) (statementCapacity m) ≡ false → after m (NotAsserted Full) ≡ asserting c m x 0

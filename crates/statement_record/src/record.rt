@@ -1,7 +1,8 @@
-// Stores: a new record at the head of its three chains, and a record's flag (paper 01, "Tables and counters").
+// Stores: a new record at the head of its three chains, a record's flag and the live counts that go with it (paper 01,
+// "Tables and counters"; 02, note 5).
 //
-// Everything that a store needs is read before it. A new record's nexts are the old firsts; each position is linked by
-// the same function.
+// Everything that a store needs is read before it. A new record's nexts are the old firsts; each position is linked, and
+// each live count moved, by the same function.
 use store::Asserted;
 use store::Counters;
 use store::Position;
@@ -11,21 +12,24 @@ use store::StatementId;
 use store::Triple;
 use table::COUNT;
 use table::FLAG;
+use table::LIVE;
 use table::NEXT;
 use table::RESOURCE_WORDS;
 use table::STATEMENT_WORDS;
 use table::inner::count_at;
 use table::inner::first_at;
 use table::inner::flag_at;
+use table::inner::live_at;
 use table::inner::offset;
 ghost use mathlib.Core.Path.{_≡_};
 ghost use Prim.Native.Nat.{ℕ, suc, _-_, _*_, _/_, _≤_, min};
 ghost use lib.ListN.{length};
 ghost use lib.Dec.{ltb};
 ghost use Rattle.store.specs.Tables.{statementWords, maxStatements};
-ghost use Rattle.store.specs.Statement.{appendRecord, linkFirst, linkRecord};
+ghost use Rattle.store.specs.Statement.{appendRecord, linkFirst, linkRecord, tallyAt, tally, counting};
 ghost use Rattle.table.specs.Held.{StatementHeld, TripleHeld};
-ghost use Rattle.statement_record.specs.Records.{flagged, Linkable, Appendable, Appended, Revived, Struck};
+ghost use Rattle.statement_record.specs.Records.{flagged, moved, Movable, Tallyable, AllTallyable};
+ghost use Rattle.statement_record.specs.Records.{Linkable, Appendable, Appended, Revived, Struck};
 
 // The flag of record n.
 pub fn set_flag(statements: &mut [u32], n: u32, flag: u32)
@@ -34,6 +38,54 @@ pub fn set_flag(statements: &mut [u32], n: u32, flag: u32)
 {
     let i = STATEMENT_WORDS * (n as usize - 1) + FLAG;
     statements[i] = flag;
+}
+
+// A live count with one more, or with one less.
+pub fn moved(n: u32, up: bool) -> u32
+    requires { ⌜ Movable up n ⌝ }
+    ensures { λ r. ⌜ r ≡ moved up n ⌝ }
+{
+    if up {
+        return n + 1;
+    }
+    n - 1
+}
+
+// The live count of resource y at a position, one up or one down.
+pub fn tally_at(resources: &mut [u32], p: Position, y: u32, up: bool)
+    requires { ⌜ Tallyable up (now resources) p y ⌝ }
+    ensures { λ _. ⌜ now (resources .exit) ≡ tallyAt (moved up) p y (now (resources .entry)) ⌝ }
+{
+    let live = live_at(resources, y, p);
+    let i = RESOURCE_WORDS * (y as usize - 1) + (LIVE + offset(p));
+    resources[i] = moved(live, up);
+}
+
+// The three live counts of a triple, one up or one down.
+pub fn tally(resources: &mut [u32], x: Triple, up: bool)
+    requires { ⌜ AllTallyable up (now resources) x ⌝ }
+    ensures { λ _. ⌜ now (resources .exit) ≡ tally (moved up) x (now (resources .entry)) ⌝ }
+{
+    tally_at(resources, Position::Subject, x.subject.0, up);
+    tally_at(resources, Position::Predicate, x.predicate.0, up);
+    tally_at(resources, Position::Object, x.object.0, up);
+}
+
+// Whether none of a triple's three live counts is 0, as must be where its record is live.
+pub fn counting(resources: &[u32], x: Triple) -> bool
+    requires { ⌜ TripleHeld (now resources) x ⌝ }
+    ensures { λ b. ⌜ b ≡ counting (now (resources .entry)) x ⌝ }
+{
+    let s = live_at(resources, x.subject.0, Position::Subject);
+    if s == 0 {
+        return false;
+    }
+    let p = live_at(resources, x.predicate.0, Position::Predicate);
+    if p == 0 {
+        return false;
+    }
+    let o = live_at(resources, x.object.0, Position::Object);
+    0 < o
 }
 
 // The seven words of record t + 1.
@@ -54,15 +106,17 @@ pub fn write_record(resources: &[u32], statements: &mut [u32], t: u32, x: Triple
     statements[i + FLAG] = 0;
 }
 
-// Record t + 1 as the first with resource y at a position, which one more holds.
+// Record t + 1 as the first with resource y at a position, which one more holds, live.
 pub fn link_first(resources: &mut [u32], p: Position, t: u32, y: u32)
     requires { ⌜ Linkable (now resources) p y × (t ≤ maxStatements) ⌝ }
     ensures { λ _. ⌜ now (resources .exit) ≡ linkFirst p t y (now (resources .entry)) ⌝ }
 {
     let count = count_at(resources, y, p);
+    let live = live_at(resources, y, p);
     let i = RESOURCE_WORDS * (y as usize - 1) + offset(p);
     resources[i] = t + 1;
     resources[i + COUNT] = count + 1;
+    resources[i + LIVE] = live + 1;
 }
 
 // Record t + 1 at the head of its three chains.
@@ -103,22 +157,32 @@ pub fn append(c: Counters, resources: &mut [u32], statements: &mut [u32], x: Tri
     Asserted::New(StatementId(n), d)
 }
 
-// The triple's own record n: live already, or made live.
-pub fn revive(c: Counters, statements: &mut [u32], n: StatementId) -> Asserted
-    requires { ⌜ StatementHeld (now statements) (n .0) ⌝ }
-    ensures { λ r. ⌜ Revived c (n .0) (now (statements .entry)) (now (statements .exit)) r ⌝ }
+// The triple's own record n: live already, or made live and counted as such.
+pub fn revive(
+    c: Counters,
+    resources: &mut [u32],
+    statements: &mut [u32],
+    n: StatementId,
+    x: Triple,
+) -> Asserted
+    requires { ⌜ StatementHeld (now statements) (n .0) × Appendable c (now resources) x ⌝ }
+    ensures { λ r. ⌜ Revived c x (n .0) (now (resources .entry)) (now (resources .exit))
+        (now (statements .entry)) (now (statements .exit)) r ⌝ }
 {
     if flag_at(statements, n.0) == 1 {
         set_flag(statements, n.0, 0);
+        tally(resources, x, true);
         return Asserted::Revived(n, c);
     }
     Asserted::Already(n, c)
 }
 
-// The record n is retracted if it is live; 0 stands for no record.
-pub fn strike(statements: &mut [u32], n: StatementId) -> Retracted
-    requires { ⌜ statementWords * n .0 ≤ length (now statements) ⌝ }
-    ensures { λ r. ⌜ Struck (n .0) (now (statements .entry)) (now (statements .exit)) r ⌝ }
+// The triple's own record n is retracted if it is live, and no longer counted as such; 0 stands for no record. 9 where a
+// live count of its resources is 0.
+pub fn strike(resources: &mut [u32], statements: &mut [u32], n: StatementId, x: Triple) -> Retracted
+    requires { ⌜ TripleHeld (now resources) x × (statementWords * n .0 ≤ length (now statements)) ⌝ }
+    ensures { λ r. ⌜ Struck x (n .0) (now (resources .entry)) (now (resources .exit))
+        (now (statements .entry)) (now (statements .exit)) r ⌝ }
 {
     if n.0 == 0 {
         return Retracted::Absent;
@@ -126,6 +190,10 @@ pub fn strike(statements: &mut [u32], n: StatementId) -> Retracted
     if flag_at(statements, n.0) == 1 {
         return Retracted::Absent;
     }
+    if !counting(resources, x) {
+        return Retracted::Refused(Refusal::Damaged);
+    }
     set_flag(statements, n.0, 1);
+    tally(resources, x, false);
     Retracted::Number(n)
 }

@@ -10,10 +10,14 @@ use Rattle.statement_record.proofs.record.link_first.Tie as tie
 use Rattle.statement_record.proofs.record.link_first.Reads as reads
 use Rattle.statement_record.proofs.record.link_first.Lts as lts
 use Rattle.table.proofs.inner.count_at.Reads as count-at-reads
+use Rattle.table.proofs.inner.live_at.Reads as live-at-reads
 use Rattle.table.proofs.inner.offset.Reads as offset-reads
 
 count-at-requires : tie.Need-count-at-requires
 count-at-requires c κs = search needs
+
+live-at-requires : tie.Need-live-at-requires
+live-at-requires c κs = search needs
 
 sub-i : tie.Need-sub-i
 sub-i c = search needs
@@ -48,25 +52,41 @@ mul-resources-2 c = search needs
 slice-write-resources-2 : tie.Need-slice-write-resources-2
 slice-write-resources-2 c = simp length-set (omega arith)
 
+add-resources-4 : tie.Need-add-resources-4
+add-resources-4 c = search needs
+
+add-resources-5 : tie.Need-add-resources-5
+add-resources-5 c = search needs
+
+mul-resources-3 : tie.Need-mul-resources-3
+mul-resources-3 c = search needs
+
+slice-write-resources-3 : tie.Need-slice-write-resources-3
+slice-write-resources-3 c = simp length-set (omega arith)
+
 same-length : tie.Need-same-length
 same-length c = search needs
 
 returns : tie.Need-returns
 unfolding linkFirst
 returns c =
-    let a = c .before .before .before .before .args in
+    let a = c .before .before .before .before .before .before .args in
+    let i = resourceWords * (a .y - 1) in
     let o = c .offset .result in
-    let n = c .before .count-at .result in
+    let n = c .before .before .before .count-at .result in
+    let l = c .before .live-at .result in
     let e1 : a .t + 1 ≡ suc (a .t) = omega arith in
     let e2 : n + 1 ≡ suc n = omega arith in
-    let e3 : resourceWords * (a .y - 1) + o + 3 ≡ resourceWords * (a .y - 1) + (3 + o) = omega arith in
+    let e3 : l + 1 ≡ suc l = omega arith in
+    let e4 : i + o + 3 ≡ i + (3 + o) = omega arith in
+    let e5 : i + o + 8 ≡ i + (8 + o) = omega arith in
     cc
 
 pub link-first-spec : {M : Type 1} → statement M
 link-first-spec =
     tie.close
-    (tie.spec
-    count-at-requires
+    (tie.spec count-at-requires
+    live-at-requires
     sub-i
     mul-i
     offset-requires
@@ -78,5 +98,9 @@ link-first-spec =
     add-resources-3
     mul-resources-2
     slice-write-resources-2
+    add-resources-4
+    add-resources-5
+    mul-resources-3
+    slice-write-resources-3
     same-length
     returns)

@@ -1,8 +1,8 @@
-use Rattle.store.specs.Statement.{linkRecord}
 use denote.Ref.{now}
 use native.Mathlib.Omega.{arith}
-use Rattle.statement_record.proofs.Records.{link-keeps}
 use Rattle.store.specs.declared.Position.the-variants.{Subject, Predicate, Object}
+use Rattle.store.specs.Statement.{linkRecord}
+use Rattle.statement_record.proofs.Records.{link-keeps}
 use borrow.Author.Needs.{needs}
 use Rattle.statement_record.proofs.record.link_record.Statement.{statement}
 use Rattle.statement_record.proofs.record.link_record.Tie as tie
@@ -14,13 +14,13 @@ link-first-requires : tie.Need-link-first-requires
 link-first-requires c κs = (c .before .before .pre .each Subject, c .before .before .pre .few)
 
 link-first-requires-2 : tie.Need-link-first-requires-2
-link-first-requires-2 c κs = let a = c .before .before .before .before .before .before .args in (rw (c .before .before .before .link-first .ensures) (link-keeps Subject (a .c .statements) (a .x .subject .0) (now (a .resources)) Predicate (a .x .predicate .0) (λ e. omega arith) (c .before .before .before .before .before .before .pre .each Predicate)), c .before .before .before .before .before .before .pre .few)
+link-first-requires-2 c κs = let a = c .before .before .before .before .before .before .args in let e = c .before .before .before .before .before .before .pre .each in
+    (rw (c .before .before .before .link-first .ensures) (link-keeps Subject (a .c .statements) (a .x .subject .0) (now (a .resources)) (e Subject .resource-in) Predicate (a .x .predicate .0) (λ e. omega arith) (e Predicate)), c .before .before .before .before .before .before .pre .few)
 
 link-first-requires-3 : tie.Need-link-first-requires-3
-link-first-requires-3 c κs =
-    let a = c .before .before .before .before .before .before .before .before .before .before .args in let r = now (a .resources) in let t = a .c .statements in
-    let k = link-keeps Subject t (a .x .subject .0) r Object (a .x .object .0) (λ e. omega arith) (c .before .before .before .before .before .before .before .before .before .before .pre .each Object) in
-    (rw (c .before .before .before .link-first2 .ensures, c .before .before .before .before .before .before .before .link-first .ensures) (link-keeps Predicate t (a .x .predicate .0) _ Object (a .x .object .0) (λ e. omega arith) k), c .before .before .before .before .before .before .before .before .before .before .pre .few)
+link-first-requires-3 c κs = let a = c .before .before .before .before .before .before .before .before .before .before .args in let t = a .c .statements in let e = c .before .before .before .before .before .before .before .before .before .before .pre .each in
+    let k = link-keeps Subject t (a .x .subject .0) (now (a .resources)) (e Subject .resource-in) in
+    (rw (c .before .before .before .link-first2 .ensures, c .before .before .before .before .before .before .before .link-first .ensures) (link-keeps Predicate t (a .x .predicate .0) _ (k Predicate (a .x .predicate .0) (λ e. omega arith) (e Predicate) .resource-in) Object (a .x .object .0) (λ e. omega arith) (k Object (a .x .object .0) (λ e. omega arith) (e Object))), c .before .before .before .before .before .before .before .before .before .before .pre .few)
 
 same-length : tie.Need-same-length
 same-length c = search needs
@@ -32,4 +32,8 @@ returns c = cc
 pub link-record-spec : {M : Type 1} → statement M
 link-record-spec =
     tie.close
-    (tie.spec link-first-requires link-first-requires-2 link-first-requires-3 same-length returns)
+    (tie.spec link-first-requires
+    link-first-requires-2
+    link-first-requires-3
+    same-length
+    returns)

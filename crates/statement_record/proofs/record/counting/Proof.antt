@@ -1,0 +1,39 @@
+use denote.Ref.{now}
+use mathlib.Core.Path.{sym, _∙_}
+use Rattle.store.specs.declared.Position.the-variants.{Subject, Predicate, Object}
+use Rattle.statement_record.proofs.Records.{counting-none, counting-last}
+use borrow.Author.Needs.{needs}
+use Rattle.statement_record.proofs.record.counting.Statement.{statement}
+use Rattle.statement_record.proofs.record.counting.Tie as tie
+use Rattle.statement_record.proofs.record.counting.Reads as reads
+use Rattle.statement_record.proofs.record.counting.Lts as lts
+use Rattle.table.proofs.inner.live_at.Reads as live-at-reads
+
+live-at-requires : tie.Need-live-at-requires
+live-at-requires c κs = c .before .pre .each Subject
+
+returns : tie.Need-returns
+returns c = let a = c .before .before .before .args in sym (counting-none (now (a .resources)) (a .x) Subject (sym (c .before .live-at .ensures) ∙ c .if1 .taken))
+
+live-at-requires-2 : tie.Need-live-at-requires-2
+live-at-requires-2 c κs = c .before .before .before .pre .each Predicate
+
+returns-2 : tie.Need-returns-2
+returns-2 c = let a = c .before .before .before .before .before .args in sym (counting-none (now (a .resources)) (a .x) Predicate (sym (c .before .live-at2 .ensures) ∙ c .if2 .taken))
+
+live-at-requires-3 : tie.Need-live-at-requires-3
+live-at-requires-3 c κs = c .before .before .before .before .before .pre .each Object
+
+returns-3 : tie.Need-returns-3
+returns-3 c = let a = c .before .before .before .before .before .before .args in
+    counting-last (now (a .resources)) (a .x) (c .live-at3 .result) (λ e. c .before .before .before .if1 .left (c .before .before .before .before .live-at .ensures ∙ e)) (λ e. c .before .if2 .left (c .before .before .live-at2 .ensures ∙ e)) (c .live-at3 .ensures)
+
+pub counting-spec : {M : Type 1} → statement M
+counting-spec =
+    tie.close
+    (tie.spec live-at-requires
+    returns
+    live-at-requires-2
+    returns-2
+    live-at-requires-3
+    returns-3)
