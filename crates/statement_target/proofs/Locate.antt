@@ -1,20 +1,22 @@
 -- Laws of locating a triple's record: a known triple lies in its table; by the walk that code makes; the record lies within T, and so do
--- the counts of its resources. Assumes nothing.
+-- the counts and live counts of its resources. Assumes nothing.
 use mathlib.Core.Path.{_≡_, refl, sym, ap, _∙_}
-use mathlib.Core.Bool.{Bool, true, false, cond}
+use mathlib.Core.Bool.{Bool, true, false, cond, _&&_}
 use mathlib.Core.List.{List, []}
 use mathlib.Core.Option.{Option, none, some}
 use Prim.Native.Nat.{ℕ, _≤_}
 use native.Mathlib.Omega.{arith}
+use lib.Dec.{leb}
+use borrow.Author.Tests.{leb-true}
 use Rattle.store.specs.declared.Counters.{Counters}
 use Rattle.store.specs.declared.Position.{Position}
 use Rattle.store.specs.declared.Chain.{Chain}
 use Rattle.store.specs.declared.Triple.{Triple}
 use Rattle.store.specs.Triple.{at, known, same}
-use Rattle.store.specs.Tables.{Tables, tables, fits, countAt, tripleAt}
+use Rattle.store.specs.Tables.{Tables, tables, fits, countAt, liveAt, tripleAt}
 use Rattle.store.specs.Walk.{pickChain, pickable, startOf, linkOf, visitable, walk, Step, foundIn}
-use Rattle.store.specs.Statement.{seek, locate}
-use Rattle.store.proofs.Tests.{known-low, known-high}
+use Rattle.store.specs.Statement.{seek, countable, locate}
+use Rattle.store.proofs.Tests.{and-l, and-r, all3-at, known-low, known-high}
 use Rattle.table.specs.Held.{TripleHeld}
 use Rattle.table.proofs.Capacity.{fits-room}
 use Rattle.chain.specs.Chains.{PatternHeld}
@@ -27,11 +29,14 @@ use Rattle.chain_walk.proofs.Walks.{numberIn, walk-within, falling}
 -- ---- a known triple, where the counters are within capacity
 
 module _ (c : Counters) (m : Tables) (e : fits c m ≡ true) (x : Triple) (d : known (c .resources) x ≡ true) where
-  pub known-pattern : PatternHeld (m .resources) x
-  known-pattern = held (m .resources) (c .resources) x (fits-room c m e .in-resources) (known-high (c .resources) x d)
-
   pub known-held : TripleHeld (m .resources) x
-  known-held = record { each = λ p. record { from-one = known-low (c .resources) x d p; whole = known-pattern .each p } }
+  known-held =
+      let h = held (m .resources) (c .resources) x (fits-room c m e .in-resources) (known-high (c .resources) x d) in
+      record { each = λ p. record { from-one = known-low (c .resources) x d p; whole = h .each p } }
+
+-- a triple in the table is a pattern in it
+pub held-pattern : (res : List ℕ) (x : Triple) → TripleHeld res x → PatternHeld res x
+held-pattern res x d = record { each = λ p. d .each p .whole }
 
 -- ---- the record located
 
@@ -40,8 +45,12 @@ abbrev pub located : Option Step → Option ℕ
 located none = none
 located (some s) = some (foundIn s)
 
+-- firsts and counts are within T, live counts within the counts
+abbrev pub ready : ℕ → List ℕ → Triple → Bool
+ready t res x = pickable t res x && countable res x
+
 module _ (c : Counters) (m : Tables) (x : Triple) where
-  pub locate-torn : pickable (c .statements) (m .resources) x ≡ false → locate c m x ≡ none
+  pub locate-torn : ready (c .statements) (m .resources) x ≡ false → locate c m x ≡ none
   unfolding locate
   locate-torn e = rw e
 
@@ -49,29 +58,40 @@ module _ (c : Counters) (m : Tables) (x : Triple) where
   opened none = refl
   opened (some s) = refl
 
-  locate-seek : pickable (c .statements) (m .resources) x ≡ true → locate c m x ≡ located (seek c m x)
+  locate-seek : ready (c .statements) (m .resources) x ≡ true → locate c m x ≡ located (seek c m x)
   unfolding locate
   locate-seek e = rw e (opened (seek c m x))
 
   -- the walk that code makes, from the chain picked and its first record
-  pub locate-walk : (a : Walked) (ch : Chain) (n : ℕ) → pickable (c .statements) (m .resources) x ≡ true
+  pub locate-walk : (a : Walked) (ch : Chain) (n : ℕ) → ready (c .statements) (m .resources) x ≡ true
       → ch ≡ pickChain (m .resources) x → n ≡ startOf (c .statements) (m .resources) ch x
       → stepOf a ≡ walk (linkOf (m .statements) ch) (visitable (c .resources) (m .statements) ch x) (hits Same (m .statements) x) (c .statements) n
       → locate c m x ≡ located (stepOf a)
   unfolding seek hits
   locate-walk a ch n p d e w = let s : stepOf a ≡ seek c m x = w ∙ rw (e, d) in locate-seek p ∙ ap located (sym s)
 
-  pub locate-pickable : (n : ℕ) → locate c m x ≡ some n → pickable (c .statements) (m .resources) x ≡ true
+  locate-ready : (n : ℕ) → locate c m x ≡ some n → ready (c .statements) (m .resources) x ≡ true
   unfolding locate
-  locate-pickable n e = shape (pickable (c .statements) (m .resources) x) _ e
+  locate-ready n e = shape (ready (c .statements) (m .resources) x) _ e
     where
       shape : (b : Bool) (o : Option ℕ) → cond b o none ≡ some n → b ≡ true
       shape true o e = refl
       shape false o e = let z : _≡_ {A = ℕ} 0 1 = cc in absurd (omega arith)
 
+  locate-pickable : (n : ℕ) → locate c m x ≡ some n → pickable (c .statements) (m .resources) x ≡ true
+  locate-pickable n e = and-l (pickable (c .statements) (m .resources) x) (countable (m .resources) x) (locate-ready n e)
+
   -- the count of a bound position's resource is within T
   pub locate-count : (n : ℕ) → locate c m x ≡ some n → (p : Position) → 1 ≤ at p x → countAt (m .resources) p (at p x) ≤ c .statements
   locate-count n e = count-within (c .statements) (m .resources) x (locate-pickable n e)
+
+  -- and the live count within the count
+  pub locate-live : (n : ℕ) → locate c m x ≡ some n → (p : Position) → liveAt (m .resources) p (at p x) ≤ countAt (m .resources) p (at p x)
+  unfolding countable
+  locate-live n e p =
+      leb-true (liveAt (m .resources) p (at p x)) (countAt (m .resources) p (at p x))
+      (all3-at (λ q. leb (liveAt (m .resources) q (at q x)) (countAt (m .resources) q (at q x)))
+      (and-r (pickable (c .statements) (m .resources) x) _ (locate-ready n e)) p)
 
   pub locate-within : (n : ℕ) → locate c m x ≡ some n → n ≤ c .statements
   unfolding seek
@@ -80,7 +100,7 @@ module _ (c : Counters) (m : Tables) (x : Triple) where
       let ch = pickChain (m .resources) x in
       let s = start-within (c .statements) (m .resources) x p ch (pick-bound (m .resources) x) in
       let w = walk-within (linkOf (m .statements) ch) (visitable (c .resources) (m .statements) ch x) (λ i. same x (tripleAt (m .statements) i)) (falling (c .resources) (m .statements) ch x) (c .statements) (startOf (c .statements) (m .resources) ch x) in
-      let d = number (seek c m x) (sym (locate-seek p) ∙ e) in
+      let d = number (seek c m x) (sym (locate-seek (locate-ready n e)) ∙ e) in
       omega arith
     where
       number : (s : Option Step) → located s ≡ some n → numberIn s ≡ n

@@ -1,5 +1,5 @@
 // What assert and retract find before anything is written: the record with the triple, or a refusal (paper 01,
-// "Assert", "Retract").
+// "Assert", "Retract"; 02, note 5).
 use chain::pick::pick_chain;
 use chain::pick::pickable;
 use chain::pick::start_of;
@@ -7,22 +7,27 @@ use chain_walk::walk::Sought;
 use chain_walk::walk::Walked;
 use chain_walk::walk::walk;
 use store::Counters;
+use store::Position;
 use store::Refusal;
 use store::StatementId;
 use store::Triple;
 use table::fits;
 use table::in_range;
+use table::inner::count_at;
 use table::inner::kind_at;
+use table::inner::live_at;
 use table::known;
 ghost use mathlib.Core.Path.{_≡_};
+ghost use mathlib.Core.Bool.{_&&_};
 ghost use mathlib.Core.List.{[]};
 ghost use Prim.Native.Nat.{ℕ, _*_, _≤_};
 ghost use lib.ListN.{length};
+ghost use lib.Dec.{leb};
 ghost use Rattle.store.specs.Triple.{permitted};
-ghost use Rattle.store.specs.Tables.{tables, statementWords, kindAt};
-ghost use Rattle.store.specs.Statement.{locate, kinded};
-ghost use Rattle.table.specs.Held.{TripleHeld};
-ghost use Rattle.chain.specs.Chains.{PatternHeld};
+ghost use Rattle.store.specs.Tables.{tables, statementWords, countAt, kindAt, liveAt};
+ghost use Rattle.store.specs.Walk.{pickable};
+ghost use Rattle.store.specs.Statement.{countable, locate, kinded};
+ghost use Rattle.table.specs.Held.{ResourceHeld, TripleHeld};
 ghost use Rattle.statement_target.specs.Targets.{locatedAs, assertTarget, retractTarget};
 
 // Kinds of names: an IRI is 1, a literal 3, a blank node between them.
@@ -36,12 +41,48 @@ pub enum Located {
     At(StatementId),
 }
 
+// Whether the live count of resource y at a position is at most its count.
+pub fn countable_at(resources: &[u32], y: u32, p: Position) -> bool
+    requires { ⌜ ResourceHeld (now resources) y ⌝ }
+    ensures { λ b. ⌜ b ≡ leb (liveAt (now (resources .entry)) p y) (countAt (now (resources .entry)) p y) ⌝ }
+{
+    let live = live_at(resources, y, p);
+    let count = count_at(resources, y, p);
+    live <= count
+}
+
+// Whether no live count of a triple's resources is above its count.
+pub fn countable(resources: &[u32], x: Triple) -> bool
+    requires { ⌜ TripleHeld (now resources) x ⌝ }
+    ensures { λ b. ⌜ b ≡ countable (now (resources .entry)) x ⌝ }
+{
+    if !countable_at(resources, x.subject.0, Position::Subject) {
+        return false;
+    }
+    if !countable_at(resources, x.predicate.0, Position::Predicate) {
+        return false;
+    }
+    countable_at(resources, x.object.0, Position::Object)
+}
+
+// Whether the walk may begin: firsts and counts are within T, live counts within the counts. Where not, assert and
+// retract refuse 9; a scan asks for the former alone.
+pub fn ready(t: u32, resources: &[u32], x: Triple) -> bool
+    requires { ⌜ TripleHeld (now resources) x ⌝ }
+    ensures { λ b. ⌜ b ≡ (pickable t (now (resources .entry)) x && countable (now (resources .entry)) x) ⌝ }
+{
+    if !pickable(t, resources, x) {
+        return false;
+    }
+    countable(resources, x)
+}
+
 // The record with a triple, by the chain that a scan would take, retracted or not. T visits reach every record.
 pub fn locate(c: Counters, resources: &[u32], statements: &[u32], x: Triple) -> Located
-    requires { ⌜ PatternHeld (now resources) x × (statementWords * c .statements ≤ length (now statements)) ⌝ }
+    requires { ⌜ TripleHeld (now resources) x × (statementWords * c .statements ≤ length (now statements)) ⌝ }
     ensures { λ r. ⌜ r ≡ locatedAs (locate c (tables (now (resources .entry)) (now (statements .entry)) [] []) x) ⌝ }
 {
-    if !pickable(c.statements, resources, x) {
+    if !ready(c.statements, resources, x) {
         return Located::Refused(Refusal::Damaged);
     }
     let chain = pick_chain(resources, x);

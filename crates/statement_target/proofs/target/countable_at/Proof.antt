@@ -1,0 +1,23 @@
+use borrow.Author.Needs.{needs}
+use Rattle.statement_target.proofs.target.countable_at.Statement.{statement}
+use Rattle.statement_target.proofs.target.countable_at.Tie as tie
+use Rattle.statement_target.proofs.target.countable_at.Reads as reads
+use Rattle.statement_target.proofs.target.countable_at.Lts as lts
+use Rattle.table.proofs.inner.live_at.Reads as live-at-reads
+use Rattle.table.proofs.inner.count_at.Reads as count-at-reads
+
+live-at-requires : tie.Need-live-at-requires
+live-at-requires c κs = search needs
+
+count-at-requires : tie.Need-count-at-requires
+count-at-requires c κs = search needs
+
+returns : tie.Need-returns
+returns c = cc
+
+pub countable-at-spec : {M : Type 1} → statement M
+countable-at-spec =
+    tie.close
+    (tie.spec live-at-requires
+    count-at-requires
+    returns)
