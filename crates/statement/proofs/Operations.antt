@@ -23,7 +23,7 @@ use Rattle.statement_record.specs.Records.{Appendable}
 use Rattle.statement_target.specs.declared.target.Located.{Located}
 use Rattle.statement_target.specs.declared.target.Located.the-variants.{Refused, At}
 use Rattle.statement_target.specs.Targets.{locatedAs, assertTarget, retractTarget}
-use Rattle.statement_target.proofs.Locate.{known-held, locate-count, locate-within}
+use Rattle.statement_target.proofs.Locate.{known-held, locate-count, locate-live, locate-within}
 
 -- ---- counters within capacity
 
@@ -40,6 +40,11 @@ module _ (c : Counters) (m : Tables) (e : fits c m ≡ true) where
       resource-in = known-held c m e x d .each p;
       grows =
           let h = locate-count c m x n l p (known-held c m e x d .each p .from-one) in
+          let f = fits-room c m e .few-statements in
+          omega arith;
+      live-grows =
+          let h = locate-count c m x n l p (known-held c m e x d .each p .from-one) in
+          let g = locate-live c m x n l p in
           let f = fits-room c m e .few-statements in
           omega arith;
     };
@@ -87,14 +92,14 @@ module _ (c : Counters) (m : Tables) (x : Triple) where
 
   abbrev retractBy : Located → Tables × Retracted
   retractBy (Refused e) = (m, NotRetracted e)
-  retractBy (At n) = retracting m (n .0)
+  retractBy (At n) = retracting m x (n .0)
 
   retract-by : retractOf c m x ≡ retractBy (retractTarget c m x)
   unfolding retractOf retractTarget
   retract-by = by (fits c m) (known (c .resources) x) (locate c m x)
     where
       by : (a b : Bool) (o : Option ℕ)
-          → cond a (cond b (elim o [ none ↦ (m, NotRetracted Damaged) | some n ↦ retracting m n ]) (m, NotRetracted UnknownNumber)) (m, NotRetracted Capacity)
+          → cond a (cond b (elim o [ none ↦ (m, NotRetracted Damaged) | some n ↦ retracting m x n ]) (m, NotRetracted UnknownNumber)) (m, NotRetracted Capacity)
           ≡ retractBy (cond a (cond b (locatedAs o) (Refused UnknownNumber)) (Refused Capacity))
       by false b o = refl
       by true false o = refl
@@ -104,15 +109,15 @@ module _ (c : Counters) (m : Tables) (x : Triple) where
   pub retract-refused : (r : Refusal) → retractTarget c m x ≡ Refused r → (m, NotRetracted r) ≡ retractOf c m x
   retract-refused r e = sym (retract-by ∙ ap retractBy e)
 
-  pub retract-at : (n : StatementId) → retractTarget c m x ≡ At n → retracting m (n .0) ≡ retractOf c m x
+  pub retract-at : (n : StatementId) → retractTarget c m x ≡ At n → retracting m x (n .0) ≡ retractOf c m x
   retract-at n e = sym (retract-by ∙ ap retractBy e)
 
-  pub retract-found : (n : StatementId) → retractTarget c m x ≡ At n → (fits c m ≡ true) × (locate c m x ≡ some (n .0))
+  pub retract-found : (n : StatementId) → retractTarget c m x ≡ At n → (fits c m ≡ true) × (known (c .resources) x ≡ true) × (locate c m x ≡ some (n .0))
   unfolding retractTarget
   retract-found n e = shape (fits c m) (known (c .resources) x) (locate c m x) e
     where
-      shape : (a b : Bool) (o : Option ℕ) → cond a (cond b (locatedAs o) (Refused UnknownNumber)) (Refused Capacity) ≡ At n → (a ≡ true) × (o ≡ some (n .0))
+      shape : (a b : Bool) (o : Option ℕ) → cond a (cond b (locatedAs o) (Refused UnknownNumber)) (Refused Capacity) ≡ At n → (a ≡ true) × (b ≡ true) × (o ≡ some (n .0))
       shape false b o e = let z : _≡_ {A = ℕ} 0 1 = cc in absurd (omega arith)
       shape true false o e = let z : _≡_ {A = ℕ} 0 1 = cc in absurd (omega arith)
       shape true true none e = let z : _≡_ {A = ℕ} 0 1 = cc in absurd (omega arith)
-      shape true true (some k) e = (refl, cc)
+      shape true true (some k) e = (refl, refl, cc)

@@ -17,5 +17,5 @@ kept c m a = record { counters = c; lent = m; reply = a }
 pub record AssertedLent (c c′ : Counters) (res res′ stm stm′ index text : List ℕ) (x : Triple) (r : Asserted) : Type 0 where
   pub exact : kept c′ (tables res′ stm′ index text) r ≡ assertLentOf c (tables res stm index text) x
 
-pub record RetractedLent (c c′ : Counters) (res stm stm′ index text : List ℕ) (x : Triple) (r : Retracted) : Type 0 where
-  pub exact : kept c′ (tables res stm′ index text) r ≡ retractLentOf c (tables res stm index text) x
+pub record RetractedLent (c c′ : Counters) (res res′ stm stm′ index text : List ℕ) (x : Triple) (r : Retracted) : Type 0 where
+  pub exact : kept c′ (tables res′ stm′ index text) r ≡ retractLentOf c (tables res stm index text) x

@@ -1,4 +1,4 @@
-// Statements (paper 01, "Assert", "Retract").
+// Statements (paper 01, "Assert", "Retract"; 02, note 5).
 //
 // Each operation takes the counters and all four tables and answers on any words in them: what it answers and what it
 // writes is its definition in `store`. `statement_target` finds the record, `statement_record` writes. Refusals are
@@ -37,7 +37,7 @@ pub fn assert(
             if n.0 == 0 {
                 return append(c, resources, statements, x);
             }
-            revive(c, statements, n)
+            revive(c, resources, statements, n, x)
         }
     }
 }
@@ -45,18 +45,18 @@ pub fn assert(
 // Retract: the number of the statement that was live until now, if there was one.
 pub fn retract(
     c: Counters,
-    resources: &[u32],
+    resources: &mut [u32],
     statements: &mut [u32],
     index: &[u32],
     text: &[u8],
     x: Triple,
 ) -> Retracted
-    ensures { λ r. ⌜ after (tables (now (resources .entry)) (now (statements .exit)) (now (index .entry)) (now (text .entry))) r
+    ensures { λ r. ⌜ after (tables (now (resources .exit)) (now (statements .exit)) (now (index .entry)) (now (text .entry))) r
         ≡ retractOf c (tables (now (resources .entry)) (now (statements .entry)) (now (index .entry)) (now (text .entry))) x ⌝ }
 {
     match retract_target(c, resources, statements, index, text, x) {
         Located::Refused(e) => Retracted::Refused(e),
-        Located::At(n) => strike(statements, n),
+        Located::At(n) => strike(resources, statements, n, x),
     }
 }
 
@@ -122,13 +122,13 @@ struct RetractKept {
 
 fn retract_kept(
     c: Counters,
-    resources: &[u32],
+    resources: &mut [u32],
     statements: &mut [u32],
     index: &[u32],
     text: &[u8],
     x: Triple,
 ) -> RetractKept
-    ensures { λ r. ⌜ RetractedLent c (r .counters) (now (resources .entry))
+    ensures { λ r. ⌜ RetractedLent c (r .counters) (now (resources .entry)) (now (resources .exit))
         (now (statements .entry)) (now (statements .exit)) (now (index .entry)) (now (text .entry)) x (r .reply) ⌝ }
 {
     let reply = retract(c, resources, statements, index, text, x);
@@ -141,13 +141,13 @@ fn retract_kept(
 // Retract on counters that the caller keeps and lends.
 pub fn retract_lent(
     c: &mut Counters,
-    resources: &[u32],
+    resources: &mut [u32],
     statements: &mut [u32],
     index: &[u32],
     text: &[u8],
     x: Triple,
 ) -> Retracted
-    ensures { λ r. ⌜ RetractedLent (now (c .entry)) (now (c .exit)) (now (resources .entry))
+    ensures { λ r. ⌜ RetractedLent (now (c .entry)) (now (c .exit)) (now (resources .entry)) (now (resources .exit))
         (now (statements .entry)) (now (statements .exit)) (now (index .entry)) (now (text .entry)) x r ⌝ }
 {
     let k = *c;

@@ -42,15 +42,16 @@ returns c =
     let a = c .before .before .before .before .before .before .before .before .before .before .before .before .before .before .before .before .before .before .before .args in
     let m = tables (now (a .resources)) (now (a .statements)) (now (a .index)) (now (a .text)) in
     let n = c .before .before .before .before .before .before .before .before .before .before .n .given .0 .0 in
-    c .before .before .before .before .append .ensures .leaves (now (a .index)) (now (a .text)) ∙ ap (λ (k : ℕ). asserting (a .c) m (a .x) k) (sym (c .before .before .before .before .before .before .before .if1 .taken)) ∙ assert-at (a .c) m (a .x) n (sym (c .before .before .before .before .before .before .before .before .before .before .before .before .assert-target .ensures) ∙ c .before .before .before .before .before .before .before .before .before .before .n .given .1)
+    c .before .before .before .before .append .ensures .leaves (now (a .index)) (now (a .text)) ∙ ap (λ (k : ℕ). asserting (a .c) m (a .x) k) (sym (c .before .before .before .before .before .before .before .if1 .taken))
+    ∙ assert-at (a .c) m (a .x) n (sym (c .before .before .before .before .before .before .before .before .before .before .before .before .assert-target .ensures) ∙ c .before .before .before .before .before .before .before .before .before .before .n .given .1)
 
 revive-requires : tie.Need-revive-requires
 revive-requires c κs =
-    let a = c .before .before .before .before .before .before .before .before .before .before .before .before .before .args in
+    let a = c .before .before .before .before .before .before .before .before .before .before .before .before .before .before .args in
     let m = tables (now (a .resources)) (now (a .statements)) (now (a .index)) (now (a .text)) in
-    let n = c .before .before .before .before .n .given .0 .0 in
-    let f = assert-found (a .c) m (a .x) n (sym (c .before .before .before .before .before .before .assert-target .ensures) ∙ c .before .before .before .before .n .given .1) in
-    record { from-one = omega arith; whole = located-in (a .c) m (f .0) (a .x) (n .0) (f .2) }
+    let n = c .before .before .before .before .before .n .given .0 .0 in
+    let f = assert-found (a .c) m (a .x) n (sym (c .before .before .before .before .before .before .before .assert-target .ensures) ∙ c .before .before .before .before .before .n .given .1) in
+    (record { from-one = omega arith; whole = located-in (a .c) m (f .0) (a .x) (n .0) (f .2) }, appendable (a .c) m (f .0) (a .x) (n .0) (f .1) (f .2))
 
 same-length-3 : tie.Need-same-length-3
 same-length-3 c = search needs
@@ -59,8 +60,10 @@ same-length-4 : tie.Need-same-length-4
 same-length-4 c = search needs
 
 returns-2 : tie.Need-returns-2
-returns-2 c = let a = c .before .before .before .before .before .before .before .before .before .before .args in
-    let m = tables (now (a .resources)) (now (a .statements)) (now (a .index)) (now (a .text)) in assert-refused (a .c) m (a .x) (c .before .e .given .0 .0) (sym (c .before .before .before .assert-target .ensures) ∙ c .before .e .given .1)
+returns-2 c =
+    let a = c .before .before .before .before .before .before .before .before .before .before .args in
+    let m = tables (now (a .resources)) (now (a .statements)) (now (a .index)) (now (a .text)) in
+    assert-refused (a .c) m (a .x) (c .before .e .given .0 .0) (sym (c .before .before .before .assert-target .ensures) ∙ c .before .e .given .1)
 
 same-length-5 : tie.Need-same-length-5
 same-length-5 c = search needs
@@ -70,16 +73,15 @@ same-length-6 c = search needs
 
 returns-3 : tie.Need-returns-3
 returns-3 c =
-    let a = c .before .before .before .before .before .before .before .before .before .before .before .before .before .before .before .before .args in
+    let a = c .before .before .before .before .before .before .before .before .before .before .before .before .before .before .before .before .before .before .before .args in
     let m = tables (now (a .resources)) (now (a .statements)) (now (a .index)) (now (a .text)) in
-    let n = c .before .before .before .before .before .before .before .n .given .0 .0 in
-    c .before .before .revive .ensures .leaves (a .x) (now (a .resources)) (now (a .index)) (now (a .text)) ∙ assert-at (a .c) m (a .x) n (sym (c .before .before .before .before .before .before .before .before .before .assert-target .ensures) ∙ c .before .before .before .before .before .before .before .n .given .1)
+    let n = c .before .before .before .before .before .before .before .before .before .before .n .given .0 .0 in
+    c .before .before .before .before .revive .ensures .leaves (now (a .index)) (now (a .text)) ∙ assert-at (a .c) m (a .x) n (sym (c .before .before .before .before .before .before .before .before .before .before .before .before .assert-target .ensures) ∙ c .before .before .before .before .before .before .before .before .before .before .n .given .1)
 
 pub assert-spec : {M : Type 1} → statement M
 assert-spec =
     tie.close
-    (tie.spec
-    assert-target-requires
+    (tie.spec assert-target-requires
     enum-known-e
     enum-known-n
     append-requires

@@ -1,5 +1,6 @@
 use mathlib.Core.Path.{sym, _∙_}
 use denote.Ref.{now}
+use Rattle.statement_target.proofs.Locate.{known-held}
 use Rattle.statement.proofs.Operations.{located-in, retract-refused, retract-at, retract-found}
 use Rattle.store.specs.Tables.{tables}
 use borrow.Author.Needs.{needs}
@@ -21,38 +22,47 @@ enum-known-n c = search needs
 
 strike-requires : tie.Need-strike-requires
 strike-requires c κs =
-    let a = c .before .before .before .before .before .before .before .before .before .before .args in
+    let a = c .before .before .before .before .before .before .before .before .before .before .before .before .args in
     let m = tables (now (a .resources)) (now (a .statements)) (now (a .index)) (now (a .text)) in
-    let n = c .before .before .n .given .0 .0 in
-    let f = retract-found (a .c) m (a .x) n (sym (c .before .before .before .before .retract-target .ensures) ∙ c .before .before .n .given .1) in
-    located-in (a .c) m (f .0) (a .x) (n .0) (f .1)
+    let n = c .before .before .before .n .given .0 .0 in
+    let f = retract-found (a .c) m (a .x) n (sym (c .before .before .before .before .before .retract-target .ensures) ∙ c .before .before .before .n .given .1) in
+    (known-held (a .c) m (f .0) (a .x) (f .1), located-in (a .c) m (f .0) (a .x) (n .0) (f .2))
 
 same-length : tie.Need-same-length
 same-length c = search needs
 
-returns : tie.Need-returns
-returns c = let a = c .before .before .before .before .before .before .before .before .before .args in
-    let m = tables (now (a .resources)) (now (a .statements)) (now (a .index)) (now (a .text)) in retract-refused (a .c) m (a .x) (c .before .e .given .0 .0) (sym (c .before .before .before .retract-target .ensures) ∙ c .before .e .given .1)
-
 same-length-2 : tie.Need-same-length-2
 same-length-2 c = search needs
 
+returns : tie.Need-returns
+returns c =
+    let a = c .before .before .before .before .before .before .before .before .before .before .args in
+    let m = tables (now (a .resources)) (now (a .statements)) (now (a .index)) (now (a .text)) in
+    retract-refused (a .c) m (a .x) (c .before .e .given .0 .0) (sym (c .before .before .before .retract-target .ensures) ∙ c .before .e .given .1)
+
+same-length-3 : tie.Need-same-length-3
+same-length-3 c = search needs
+
+same-length-4 : tie.Need-same-length-4
+same-length-4 c = search needs
+
 returns-2 : tie.Need-returns-2
 returns-2 c =
-    let a = c .before .before .before .before .before .before .before .before .before .before .before .before .before .args in
+    let a = c .before .before .before .before .before .before .before .before .before .before .before .before .before .before .before .before .before .args in
     let m = tables (now (a .resources)) (now (a .statements)) (now (a .index)) (now (a .text)) in
-    let n = c .before .before .before .before .before .n .given .0 .0 in
-    c .before .before .strike .ensures .leaves (now (a .resources)) (now (a .index)) (now (a .text)) ∙ retract-at (a .c) m (a .x) n (sym (c .before .before .before .before .before .before .before .retract-target .ensures) ∙ c .before .before .before .before .before .n .given .1)
+    let n = c .before .before .before .before .before .before .before .before .n .given .0 .0 in
+    c .before .before .before .before .strike .ensures .leaves (now (a .index)) (now (a .text)) ∙ retract-at (a .c) m (a .x) n (sym (c .before .before .before .before .before .before .before .before .before .before .retract-target .ensures) ∙ c .before .before .before .before .before .before .before .before .n .given .1)
 
 pub retract-spec : {M : Type 1} → statement M
 retract-spec =
     tie.close
-    (tie.spec
-    retract-target-requires
+    (tie.spec retract-target-requires
     enum-known-e
     enum-known-n
     strike-requires
     same-length
-    returns
     same-length-2
+    returns
+    same-length-3
+    same-length-4
     returns-2)

@@ -14,10 +14,19 @@ retract-requires c κs = search needs
 same-length : tie.Need-same-length
 same-length c = search needs
 
+same-length-2 : tie.Need-same-length-2
+same-length-2 c = search needs
+
 returns : tie.Need-returns
 returns c =
-    let a = c .before .before .before .before .before .before .before .before .args in
-    record { exact = retract-kept (a .c) (tables (now (a .resources)) (now (a .statements)) (now (a .index)) (now (a .text))) _ (a .x) (c .before .before .retract .result) (c .before .before .retract .ensures) }
+    let a = c .before .before .before .before .before .before .before .before .before .before .before .args in
+    let m = tables (now (a .resources)) (now (a .statements)) (now (a .index)) (now (a .text)) in
+    record { exact = retract-kept (a .c) m _ (a .x) (c .before .before .before .before .retract .result) (c .before .before .before .before .retract .ensures) }
 
 pub retract-kept-spec : {M : Type 1} → statement M
-retract-kept-spec = tie.close (tie.spec retract-requires same-length returns)
+retract-kept-spec =
+    tie.close
+    (tie.spec retract-requires
+    same-length
+    same-length-2
+    returns)
