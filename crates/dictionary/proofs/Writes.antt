@@ -5,8 +5,9 @@ use Prim.Native.Nat.{ℕ, suc, zero, _+_, _-_, _*_, _<_, _≤_}
 use native.Mathlib.Omega.{arith}
 use native.Mathlib.Numerals.{add-one}
 use native.Mathlib.Nat.{add-zero, add-suc, suc-add}
-use lib.ListN.{length, take, drop, getD, set, List·getD-append, drop-of-length-le, length-take, length-drop}
-use lib.Seq.{sets, split-at, set-at, length-take-le, take-suc, drop-cons, getD-take, take-all}
+use lib.ListN.{length, take, drop, getD, set, replicate, length-replicate, replicate-append-replicate, List·getD-append, drop-of-length-le, length-take, length-drop}
+use lib.Seq.{sets, set-comm, set-set, split-at, set-at, length-take-le, take-suc, drop-cons, getD-take, take-all}
+use Rattle.store.specs.Tables.{resourceWords}
 use Rattle.store.specs.Dictionary.{freshRecord, bring, insertAt}
 
 -- ---- a run of stores
@@ -29,19 +30,29 @@ name-end t l w b i e h g =
     let n : i ≡ length w = omega arith in
     rw (sets-snoc w l b 0, e, take-all i w g, n)
 
--- the eight stores of a record
-pub record-stores : (l : List ℕ) (i o k : ℕ)
-    → set (set (set (set (set (set (set (set l i 0) (i + 1) 0) (i + 2) 0) (i + 3) 0) (i + 4) 0) (i + 5) 0) (i + 6) o) (i + 7) k
-    ≡ sets l i (freshRecord o k)
-record-stores l i o k =
-    let e1 : i + 1 ≡ suc i = omega arith in
-    let e2 : i + 2 ≡ suc (suc i) = omega arith in
-    let e3 : i + 3 ≡ suc (suc (suc i)) = omega arith in
-    let e4 : i + 4 ≡ suc (suc (suc (suc i))) = omega arith in
-    let e5 : i + 5 ≡ suc (suc (suc (suc (suc i)))) = omega arith in
-    let e6 : i + 6 ≡ suc (suc (suc (suc (suc (suc i))))) = omega arith in
-    let e7 : i + 7 ≡ suc (suc (suc (suc (suc (suc (suc i)))))) = omega arith in
-    rw (e1, e2, e3, e4, e5, e6, e7)
+-- one zero more
+pub zero-turn : (t l : List ℕ) (b i : ℕ) → t ≡ sets l b (replicate i 0) → set t (b + i) 0 ≡ sets l b (replicate (i + 1) 0)
+zero-turn t l b i e = rw (e, ← replicate-append-replicate {A = ℕ} i 1 0, sets-snoc (replicate i 0) l b 0, length-replicate {A = ℕ} i 0)
+
+-- a store before a run, and one within it
+set-before : (vs l : List ℕ) (b j x : ℕ) → j < b → set (sets l b vs) j x ≡ sets (set l j x) b vs
+set-before [] l b j x h = refl
+set-before (v ∷ vs) l b j x h =
+    set-before vs (set l b v) (suc b) j x (omega arith) ∙ ap (λ (z : List ℕ). sets z (suc b) vs) (set-comm l b j v x (omega arith))
+
+set-within : (vs l : List ℕ) (b j x : ℕ) → j < length vs → set (sets l b vs) (b + j) x ≡ sets l b (set vs j x)
+set-within [] l b j x h = absurd (omega arith)
+set-within (v ∷ vs) l b zero x h =
+    rw (add-zero, set-before vs (set l b v) (suc b) b x (omega arith), set-set l b v x)
+set-within (v ∷ vs) l b (suc j) x h = rw (add-suc, ← suc-add) (set-within vs (set l b v) (suc b) j x (omega arith))
+
+-- offset and kind into a record of zeros
+pub record-end : (t l : List ℕ) (b i o k : ℕ) → t ≡ sets l b (replicate i 0) → i ≤ resourceWords → resourceWords ≤ i
+    → set (set t (b + 6) o) (b + 7) k ≡ sets l b (freshRecord o k)
+record-end t l b i o k e h g =
+    let n : i ≡ resourceWords = omega arith in
+    let z : List ℕ = replicate resourceWords 0 in
+    rw (e, n, set-within z l b 6 o (omega arith)) (set-within (set z 6 o) l b 7 k (omega arith))
 
 -- ---- the block move
 

@@ -15,27 +15,26 @@ pub fn one_name_more(c: Counters, name: &[u8]) -> Counters
     requires { ⌜ (length (now name) ≤ nameLimit) × (c .resources ≤ maxResources) × (c .text ≤ maxText) ⌝ }
     ensures { λ g. ⌜ g ≡ oneNameMore c (now (name .entry)) ⌝ }
 {
-    Counters {
-        resources: c.resources + 1,
-        statements: c.statements,
-        text: c.text + name.len() as u32 + 1,
-    }
+    let mut d = c;
+    d.resources = c.resources + 1;
+    d.text = c.text + name.len() as u32 + 1;
+    d
 }
 
-// The eight words of record r + 1: no statements yet, the name's offset, its kind.
+// The eleven words of record r + 1: the name's offset, its kind, and 0 elsewhere, for no statement holds it yet.
 pub fn write_record(resources: &mut [u32], r: u32, offset: u32, kind: u32)
     requires { ⌜ resourceWords * suc r ≤ length (now resources) ⌝ }
     ensures { λ _. ⌜ now (resources .exit) ≡ sets (now (resources .entry)) (resourceWords * r) (freshRecord offset kind) ⌝ }
 {
-    let i = table::RESOURCE_WORDS * r as usize;
-    resources[i] = 0;
-    resources[i + 1] = 0;
-    resources[i + 2] = 0;
-    resources[i + 3] = 0;
-    resources[i + 4] = 0;
-    resources[i + 5] = 0;
-    resources[i + 6] = offset;
-    resources[i + 7] = kind;
+    let start = table::RESOURCE_WORDS * r as usize;
+    let mut i = 0;
+    // The record's first i words are 0.
+    while i < table::RESOURCE_WORDS {
+        resources[start + i] = 0;
+        i += 1;
+    }
+    resources[start + table::OFFSET] = offset;
+    resources[start + table::KIND] = kind;
 }
 
 // The name's bytes from b on, closed by a zero byte.

@@ -5,17 +5,17 @@ use Rattle.dictionary.proofs.extend.one_name_more.Tie as tie
 use Rattle.dictionary.proofs.extend.one_name_more.Reads as reads
 use Rattle.dictionary.proofs.extend.one_name_more.Lts as lts
 
-add-t3 : tie.Need-add-t3
-add-t3 c = search needs
+add-d : tie.Need-add-d
+add-d c = search needs
 
-cast-t5 : tie.Need-cast-t5
-cast-t5 c = search needs
+cast-d : tie.Need-cast-d
+cast-d c = search needs
 
-add-t6 : tie.Need-add-t6
-add-t6 c = search needs
+add-d-2 : tie.Need-add-d-2
+add-d-2 c = search needs
 
-add-t7 : tie.Need-add-t7
-add-t7 c = search needs
+add-d-3 : tie.Need-add-d-3
+add-d-3 c = search needs
 
 returns : tie.Need-returns
 returns c =
@@ -23,4 +23,4 @@ returns c =
     rw (add-one (a .c .resources))
 
 pub one-name-more-spec : {M : Type 1} → statement M
-one-name-more-spec = tie.close (tie.spec add-t3 cast-t5 add-t6 add-t7 returns)
+one-name-more-spec = tie.close (tie.spec add-d cast-d add-d-2 add-d-3 returns)
