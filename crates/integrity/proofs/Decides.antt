@@ -7,13 +7,13 @@ use mathlib.Core.Option.{Option, none, some}
 use Prim.Native.Nat.{ℕ, suc, _+_, _-_, _*_, _≤_, _<_}
 use native.Mathlib.Omega.{arith}
 use lib.ListN.{length, take, length-take}
-use lib.Dec.{leb}
+use lib.Dec.{eqb, leb}
 use borrow.Author.Tests.{eqb-true, eq-eqb, leb-true, le-leb}
 use Rattle.store.specs.declared.Counters.{Counters}
 use Rattle.store.specs.declared.Position.{Position}
 use Rattle.store.specs.Triple.{at, all3, known, permitted}
 use Rattle.store.specs.Tables.{Tables, fits, freshCounters, resourceWords, statementWords}
-use Rattle.store.specs.Tables.{nextAt, flagAt, tripleAt, firstAt, countAt, kindAt}
+use Rattle.store.specs.Tables.{nextAt, flagAt, tripleAt, firstAt, countAt, kindAt, liveAt}
 use Rattle.store.specs.Model.{nameOf}
 use Rattle.store.specs.Dictionary.{Named, Indexed}
 use Rattle.store.specs.Soundness.{holding, Linked, Sound}
@@ -22,10 +22,10 @@ use Rattle.store.proofs.Theorems.{fresh-is-sound, histories-stay-sound}
 use Rattle.store.proofs.Tests.{and-l, and-r, and-of, all3-at, all3-of, known-low, known-high, known-of}
 use Rattle.store.proofs.Words.{triple-at}
 use Rattle.table.proofs.Capacity.{fits-room}
-use Rattle.integrity.specs.Tests.{allBelow, sumTo, chainLength, isCount}
+use Rattle.integrity.specs.Tests.{allBelow, sumTo, chainLength, chainLive, isCount}
 use Rattle.integrity.specs.Names.{namesOk}
 use Rattle.integrity.specs.Index.{indexOk}
-use Rattle.integrity.specs.Records.{recordOk, chainOk, chainsOk, alone, recordsOk}
+use Rattle.integrity.specs.Records.{recordOk, isLive, chainCounts, chainOk, chainsOk, alone, recordsOk}
 use Rattle.integrity.specs.Check.{checkOf}
 use Rattle.integrity.specs.Claims.{CheckDecides, FreshPasses, HistoriesPass}
 use Rattle.integrity.proofs.Ranges.{all-at, all-of}
@@ -130,28 +130,44 @@ module _ (r t : ℕ) (res stm : List ℕ) where
   unfolding chainOk
   chain-start p y e = leb-true (firstAt res p y) t (and-l _ _ e)
 
-  chain-counts : (p : Position) (y : ℕ) → chainOk t res stm p y ≡ true
+  chain-rest : (p : Position) (y : ℕ) → chainOk t res stm p y ≡ true
+      → isCount (chainLength (nextAt stm p) (holding stm p y) t (firstAt res p y)) (countAt res p y)
+      && eqb (chainLive (nextAt stm p) (isLive stm) t (firstAt res p y)) (liveAt res p y)
+      ≡ true
+  unfolding chainOk chainCounts
+  chain-rest p y e = and-r (leb (firstAt res p y) t) _ e
+
+  chain-length : (p : Position) (y : ℕ) → chainOk t res stm p y ≡ true
       → chainLength (nextAt stm p) (holding stm p y) t (firstAt res p y) ≡ some (countAt res p y)
-  unfolding chainOk
-  chain-counts p y e =
+  chain-length p y e =
       is-count (chainLength (nextAt stm p) (holding stm p y) t (firstAt res p y)) (countAt res p y)
-      (and-r (leb (firstAt res p y) t) _ e)
+      (and-l _ _ (chain-rest p y e))
+
+  chain-lives : (p : Position) (y : ℕ) → chainOk t res stm p y ≡ true
+      → chainLive (nextAt stm p) (isLive stm) t (firstAt res p y) ≡ liveAt res p y
+  chain-lives p y e =
+      eqb-true (chainLive (nextAt stm p) (isLive stm) t (firstAt res p y)) (liveAt res p y)
+      (and-r (isCount (chainLength (nextAt stm p) (holding stm p y) t (firstAt res p y)) (countAt res p y)) _
+      (chain-rest p y e))
 
   chains-cheap : (p : Position) → chainsOk r t res stm p ≡ true → Cheap r t res stm p
   unfolding chainsOk
   chains-cheap p e = record {
     start = λ y a b. chain-start p y (chain-each p e y a b);
-    chain = λ y a b. chain-counts p y (chain-each p e y a b);
+    chain = λ y a b. chain-length p y (chain-each p e y a b);
+    lives = λ y a b. chain-lives p y (chain-each p e y a b);
     total = eqb-true (sumTo (countAt res p) r) t (and-r (allBelow (λ i. chainOk t res stm p (suc i)) r) _ e);
   }
 
   cheap-chains : (p : Position) → Cheap r t res stm p → chainsOk r t res stm p ≡ true
-  unfolding chainsOk chainOk
+  unfolding chainsOk chainOk chainCounts
   cheap-chains p C =
       and-of _ _
       (all-of _ r (λ i h. and-of _ _
       (le-leb (firstAt res p (suc i)) t (C .start (suc i) (omega arith) (omega arith)))
-      (rw (C .chain (suc i) (omega arith) (omega arith)) (eq-eqb (countAt res p (suc i)) (countAt res p (suc i)) refl))))
+      (and-of (isCount (chainLength (nextAt stm p) (holding stm p (suc i)) t (firstAt res p (suc i))) (countAt res p (suc i))) _
+      (rw (C .chain (suc i) (omega arith) (omega arith)) (eq-eqb (countAt res p (suc i)) (countAt res p (suc i)) refl))
+      (eq-eqb _ (liveAt res p (suc i)) (C .lives (suc i) (omega arith) (omega arith))))))
       (eq-eqb (sumTo (countAt res p) r) t (C .total))
 
   -- ---- the three tests of the records together

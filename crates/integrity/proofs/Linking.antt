@@ -1,6 +1,7 @@
--- Links and counts by the cheap test: chains that fall, hold their resource and are as long as the count says, and
--- counts that add up to the number of records. Then first, next and count are exactly as the records say; and the other
--- way. The position is a parameter throughout. Assumes nothing.
+-- Links and counts by the cheap test: chains that fall, hold their resource, are as long as the count says and have as
+-- many live records as the live count says, and counts that add up to the number of records. Then first, next, count
+-- and live count are exactly as the records say; and the other way. The position is a parameter throughout. Assumes
+-- nothing.
 use mathlib.Core.Path.{_≡_, refl, sym, ap, _∙_}
 use mathlib.Core.Logic.{_≢_}
 use mathlib.Core.Bool.{Bool, true, false, _&&_, true≢false}
@@ -13,12 +14,13 @@ use lib.Dec.{eqb, leb}
 use borrow.Author.Tests.{eqb-true, eqb-false, eq-eqb, leb-true, le-leb}
 use Rattle.store.specs.declared.Position.{Position}
 use Rattle.store.specs.Triple.{below, head0}
-use Rattle.store.specs.Tables.{resourceWords, statementWords, termAt, nextAt, flagAt, firstAt, countAt}
-use Rattle.store.specs.Soundness.{holding, Linked}
+use Rattle.store.specs.Tables.{resourceWords, statementWords, termAt, nextAt, flagAt, firstAt, countAt, liveAt}
+use Rattle.store.specs.Soundness.{holding, living, Linked}
 use Rattle.store.proofs.Tests.{decide, and-l, and-r}
 use Rattle.store.proofs.Falling.{below-yes, below-no, head-le}
 use Rattle.store.proofs.Walks.{Links}
-use Rattle.integrity.specs.Tests.{sumTo, chainLength, oneMore}
+use Rattle.integrity.specs.Tests.{sumTo, chainLength, chainLive, oneMore}
+use Rattle.integrity.specs.Records.{isLive}
 use Rattle.integrity.proofs.Ranges.{sum-tight, sum-same, all-counted}
 
 -- ---- one chain
@@ -31,6 +33,11 @@ some-inj a b e = cc
 
 pub links-down : (f : ℕ → Bool) (next : ℕ → ℕ) (n : ℕ) → Links f next (suc n) → Links f next n
 links-down f next n h i l e = h i (omega arith) e
+
+pub live-zero : (next : ℕ → ℕ) (f : ℕ → Bool) (k : ℕ) → chainLive next f k 0 ≡ 0
+unfolding chainLive
+live-zero next f zero = refl
+live-zero next f (suc k) = refl
 
 -- what a walk that starts at a record says of it
 record Opened (next : ℕ → ℕ) (f : ℕ → Bool) (i c : ℕ) : Type 0 where
@@ -117,6 +124,20 @@ module _ (next : ℕ → ℕ) (f : ℕ → Bool) where
       rw (q, e, q, le-leb (head0 (below f n)) n (head-le f n), walked n k (omega arith) (links-down f next n l)))
       (λ q. rw q (walked n (suc k) (omega arith) (links-down f next n l)))
 
+  -- and the live ones on it are those that pass both tests
+  walked-live : (live : ℕ → Bool) (n k : ℕ) → n ≤ k → Links f next n
+      → chainLive next live k (head0 (below f n)) ≡ length (below (λ i. live i && f i) n)
+  unfolding below chainLive
+  walked-live live zero k h l = live-zero next live k
+  walked-live live (suc n) zero h l = absurd (omega arith)
+  walked-live live (suc n) (suc k) h l =
+      decide (f n)
+      (λ q. let ih = walked-live live n k (omega arith) (links-down f next n l) in
+      let e = l n (omega arith) q in
+      decide (live n) (λ d. rw (q, d, e, ih) (omega arith)) (λ d. rw (q, d, e, ih) (omega arith)))
+      (λ q. let ih = walked-live live n (suc k) (omega arith) (links-down f next n l) in
+      decide (live n) (λ d. rw (q, d) ih) (λ d. rw (q, d) ih))
+
 -- ---- the tables
 
 -- the cheap test of one position
@@ -124,6 +145,7 @@ pub record Cheap (r t : ℕ) (res stm : List ℕ) (p : Position) : Type 0 where
   pub start : (y : ℕ) → 0 < y → y ≤ r → firstAt res p y ≤ t
   pub chain : (y : ℕ) → 0 < y → y ≤ r
       → chainLength (nextAt stm p) (holding stm p y) t (firstAt res p y) ≡ some (countAt res p y)
+  pub lives : (y : ℕ) → 0 < y → y ≤ r → chainLive (nextAt stm p) (isLive stm) t (firstAt res p y) ≡ liveAt res p y
   pub total : sumTo (countAt res p) r ≡ t
 
 -- what the records' words say, one record at a time
@@ -133,6 +155,13 @@ pub record Ranged (r t : ℕ) (res stm : List ℕ) : Type 0 where
   pub low : (p : Position) (i : ℕ) → i < t → 0 < termAt stm p i
   pub high : (p : Position) (i : ℕ) → i < t → termAt stm p i ≤ r
   pub flag : (i : ℕ) → i < t → flagAt stm i ≤ 1
+
+-- the live ones of a resource's chain, from its head on
+lives-linked : (t : ℕ) (stm : List ℕ) (p : Position) (y n : ℕ) → n ≡ head0 (below (holding stm p y) t)
+    → Links (holding stm p y) (nextAt stm p) t
+    → chainLive (nextAt stm p) (isLive stm) t n ≡ length (below (living stm p y) t)
+unfolding living
+lives-linked t stm p y n e l = rw e (walked-live (nextAt stm p) (holding stm p y) (isLive stm) t t (omega arith) l)
 
 module _ (r t : ℕ) (res stm : List ℕ) (G : Ranged r t res stm) where
   counted : (p : Position) → sumTo (λ y. length (below (holding stm p y) t)) r ≡ t
@@ -165,6 +194,9 @@ module _ (r t : ℕ) (res stm : List ℕ) (G : Ranged r t res stm) where
         whole p (C p) (termAt stm p i) (G .low p i h) (G .high p i h) .1 i h (eq-eqb (termAt stm p i) (termAt stm p i) refl);
     first = λ p y a b. whole p (C p) y a b .0;
     count = λ p y a b. full p (C p) y a b;
+    live = λ p y a b.
+        let w = whole p (C p) y a b in
+        sym (C p .lives y a b) ∙ lives-linked t stm p y (firstAt res p y) (w .0) (w .1);
   }
 
 -- ---- and every table so linked passes
@@ -193,6 +225,9 @@ linked-cheap r t res stm L p = record {
   chain = λ y a b.
       rw (L .first p y a b, L .count p y a b)
       (walked (nextAt stm p) (holding stm p y) t t (omega arith) (linked-links r t res stm L p y));
+  lives = λ y a b.
+      rw (L .live p y a b)
+      (lives-linked t stm p y (firstAt res p y) (L .first p y a b) (linked-links r t res stm L p y));
   total =
       sum-same (countAt res p) (λ y. length (below (holding stm p y) t)) r (λ y a b. L .count p y a b)
       ∙ counted r t res stm (linked-ranged r t res stm L) p;

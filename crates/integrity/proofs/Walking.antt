@@ -8,15 +8,17 @@ use Prim.Native.Nat.{ℕ, zero, suc, _+_, _-_, _≤_, _<_}
 use native.Mathlib.Omega.{arith}
 use native.Mathlib.Numerals.{add-one}
 use lib.Dec.{eqb, leb}
+use mir.Val.{boolByte}
 use borrow.Author.Tests.{eq-eqb, ne-eqb, le-leb, lt-leb, lt-ltb, le-ltb}
 use Rattle.store.specs.declared.Position.{Position}
 use Rattle.store.specs.declared.Position.the-variants.{Subject, Predicate, Object}
 use Rattle.store.specs.declared.Triple.{Triple}
 use Rattle.store.specs.Triple.{at, same}
-use Rattle.store.specs.Tables.{termAt, nextAt, tripleAt, firstAt, countAt}
+use Rattle.store.specs.Tables.{termAt, nextAt, tripleAt, firstAt, countAt, liveAt}
 use Rattle.store.specs.Soundness.{holding}
-use Rattle.integrity.specs.Tests.{allBelow, sumTo, chainLength, oneMore, isCount, isSome}
-use Rattle.integrity.specs.Records.{chainOk, chainsOk, shorter, shortest, differs, aloneOn}
+use Rattle.integrity.specs.Tests.{allBelow, sumTo, chainLength, chainLive, oneMore, isCount, isSome}
+use Rattle.integrity.specs.Records.{isLive, chainCounts, chainOk, chainsOk, shorter, shortest, differs, aloneOn}
+use Rattle.integrity.proofs.Linking.{chain-zero, live-zero}
 use Rattle.integrity.proofs.Ranges.{all-none, all-more, all-fails, sum-none, sum-more}
 
 -- ---- a walk along a chain
@@ -33,14 +35,7 @@ plus-more : (c : ℕ) (o : Option ℕ) → plus c (oneMore o) ≡ plus (c + 1) o
 plus-more c none = refl
 plus-more c (some k) = let e : c + suc k ≡ c + 1 + k = omega arith in rw e
 
--- the whole walk's length s is the c records met and the walk from record n on
-abbrev pub Going : (ℕ → ℕ) → (ℕ → Bool) → Option ℕ → ℕ → ℕ → Type 0
-Going next f s c n = (g : ℕ) × (n ≤ g) × (s ≡ plus c (chainLength next f g n))
-
 module _ (next : ℕ → ℕ) (f : ℕ → Bool) where
-  pub walk-begin : (t n : ℕ) → n ≤ t → Going next f (chainLength next f t n) 0 n
-  walk-begin t n h = (t, h, sym (plus-zero (chainLength next f t n)))
-
   -- one record of the walk
   here : (g n : ℕ) → n ≤ g → (n ≡ 0 → ⊥)
       → (k : ℕ) × (g ≡ suc k)
@@ -51,45 +46,84 @@ module _ (next : ℕ → ℕ) (f : ℕ → Bool) where
   here zero (suc i) h z = absurd (omega arith)
   here (suc k) (suc i) h z = let e : suc i - 1 ≡ i = omega arith in (k, refl, rw e)
 
-  module _ (s : Option ℕ) (c n : ℕ) (G : Going next f s c n) where
-    pub walk-end : n ≡ 0 → s ≡ some c
-    walk-end z = G .2 ∙ stop (G .0) (rw z at (G .1))
-      where
-        at-zero : (g : ℕ) → chainLength next f g 0 ≡ some 0
-        at-zero zero = unfold chainLength in refl
-        at-zero (suc g) = unfold chainLength in refl
-
-        stop : (g : ℕ) → 0 ≤ g → plus c (chainLength next f g n) ≡ some c
-        stop g h = let q : c + 0 ≡ c = omega arith in rw (z, at-zero g, q)
-
-    pub walk-other : (n ≡ 0 → ⊥) → f (n - 1) ≡ false → s ≡ none
-    walk-other z e = let h = here (G .0) n (G .1) z in G .2 ∙ rw (h .2, e)
-
-    pub walk-climbs : (n ≡ 0 → ⊥) → f (n - 1) ≡ true → n ≤ next (n - 1) → s ≡ none
-    walk-climbs z e l =
-        let h = here (G .0) n (G .1) z in
-        G .2 ∙ rw (h .2, e, lt-leb (next (n - 1)) (n - 1) (omega arith))
-
-    pub walk-turn : (n ≡ 0 → ⊥) → f (n - 1) ≡ true → next (n - 1) < n → Going next f s (c + 1) (next (n - 1))
-    walk-turn z e l =
-        let h = here (G .0) n (G .1) z in (
-          h .0,
-          omega (arith, h .1, G .1),
-          G .2
-              ∙ rw (h .2, e, le-leb (next (n - 1)) (n - 1) (omega arith))
-              (plus-more c (chainLength next f (h .0) (next (n - 1)))),
-        )
+  live-here : (g k n a : ℕ) → g ≡ suc k → (n ≡ 0 → ⊥)
+      → a + chainLive next f g n ≡ a + cond (f (n - 1)) 1 0 + chainLive next f k (next (n - 1))
+  unfolding chainLive
+  live-here g k zero a q z = absurd (z refl)
+  live-here g k (suc i) a q z = let e : suc i - 1 ≡ i = omega arith in rw (q, e) (omega arith)
 
 -- ---- the chain of a resource
 
-module _ (stm : List ℕ) (p : Position) (y n : ℕ) where
-  pub holds : termAt stm p (n - 1) ≡ y → holding stm p y (n - 1) ≡ true
-  unfolding holding
-  holds e = eq-eqb (termAt stm p (n - 1)) y e
+-- a test as the number that the code adds
+byte-is : (b : Bool) → boolByte b ≡ cond b 1 0
+byte-is true = refl
+byte-is false = refl
 
-  pub lacks : (termAt stm p (n - 1) ≡ y → ⊥) → holding stm p y (n - 1) ≡ false
-  unfolding holding
-  lacks e = ne-eqb (termAt stm p (n - 1)) y e
+pub byte-le : (b : Bool) → boolByte b ≤ 1
+byte-le true = omega arith
+byte-le false = omega arith
+
+module _ (t : ℕ) (stm : List ℕ) (p : Position) (y first : ℕ) where
+  -- the records from `first` on are those met and the walk from record n on, its live ones those met and those from there
+  abbrev pub Along : ℕ → ℕ → ℕ → Type 0
+  Along met alive n =
+      (g : ℕ) × (n ≤ g)
+      × (chainLength (nextAt stm p) (holding stm p y) t first ≡ plus met (chainLength (nextAt stm p) (holding stm p y) g n))
+      × (chainLive (nextAt stm p) (isLive stm) t first ≡ alive + chainLive (nextAt stm p) (isLive stm) g n)
+
+  pub along-begin : first ≤ t → Along 0 0 first
+  along-begin h = (t, h, sym (plus-zero (chainLength (nextAt stm p) (holding stm p y) t first)), omega arith)
+
+  torn : (count live : ℕ) → chainLength (nextAt stm p) (holding stm p y) t first ≡ none
+      → chainCounts t stm p y first count live ≡ false
+  unfolding chainCounts
+  torn count live e = rw e
+
+  module _ (met alive n : ℕ) (A : Along met alive n) where
+    pub along-lacks : (count live : ℕ) → (n ≡ 0 → ⊥) → (termAt stm p (n - 1) ≡ y → ⊥)
+        → chainCounts t stm p y first count live ≡ false
+    unfolding holding
+    along-lacks count live z e =
+        let h = here (nextAt stm p) (holding stm p y) (A .0) n (A .1) z in
+        torn count live (A .2 ∙ rw (h .2, ne-eqb (termAt stm p (n - 1)) y e))
+
+    pub along-climbs : (count live : ℕ) → (n ≡ 0 → ⊥) → termAt stm p (n - 1) ≡ y → n ≤ nextAt stm p (n - 1)
+        → chainCounts t stm p y first count live ≡ false
+    unfolding holding
+    along-climbs count live z e l =
+        let h = here (nextAt stm p) (holding stm p y) (A .0) n (A .1) z in
+        torn count live
+        (A .2
+        ∙ rw (h .2, eq-eqb (termAt stm p (n - 1)) y e, lt-leb (nextAt stm p (n - 1)) (n - 1) (omega arith)))
+
+    pub along-turn : (n ≡ 0 → ⊥) → termAt stm p (n - 1) ≡ y → nextAt stm p (n - 1) < n
+        → Along (met + 1) (alive + boolByte (isLive stm (n - 1))) (nextAt stm p (n - 1))
+    unfolding holding
+    along-turn z e l =
+        let h = here (nextAt stm p) (holding stm p y) (A .0) n (A .1) z in
+        rw (byte-is (isLive stm (n - 1))) (
+          h .0,
+          omega (arith, h .1, A .1),
+          A .2
+              ∙ rw (h .2, eq-eqb (termAt stm p (n - 1)) y e, le-leb (nextAt stm p (n - 1)) (n - 1) (omega arith))
+              (plus-more met (chainLength (nextAt stm p) (holding stm p y) (h .0) (nextAt stm p (n - 1)))),
+          A .3 ∙ live-here (nextAt stm p) (isLive stm) (A .0) (h .0) n alive (h .1) z,
+        )
+
+    -- at the end, with as many records met as the count says, or not
+    met-all : n ≡ 0 → chainLength (nextAt stm p) (holding stm p y) t first ≡ some met
+    met-all z = let q : met + 0 ≡ met = omega arith in A .2 ∙ rw (z, chain-zero (nextAt stm p) (holding stm p y) (A .0), q)
+
+    alive-all : n ≡ 0 → chainLive (nextAt stm p) (isLive stm) t first ≡ alive
+    alive-all z = let q : alive + 0 ≡ alive = omega arith in A .3 ∙ rw (z, live-zero (nextAt stm p) (isLive stm) (A .0), q)
+
+    pub along-end : (count live : ℕ) → n ≡ 0 → met ≡ count → chainCounts t stm p y first count live ≡ eqb alive live
+    unfolding chainCounts
+    along-end count live z q = rw (met-all z, alive-all z, eq-eqb met count q)
+
+    pub along-off : (count live : ℕ) → n ≡ 0 → (met ≡ count → ⊥) → chainCounts t stm p y first count live ≡ eqb met count
+    unfolding chainCounts
+    along-off count live z q = rw (met-all z, ne-eqb met count q)
 
 module _ (t : ℕ) (res stm : List ℕ) (p : Position) (y : ℕ) where
   pub chain-over : t < firstAt res p y → chainOk t res stm p y ≡ false
@@ -97,7 +131,7 @@ module _ (t : ℕ) (res stm : List ℕ) (p : Position) (y : ℕ) where
   chain-over h = rw (lt-leb (firstAt res p y) t h)
 
   pub chain-within : firstAt res p y ≤ t
-      → chainOk t res stm p y ≡ isCount (chainLength (nextAt stm p) (holding stm p y) t (firstAt res p y)) (countAt res p y)
+      → chainOk t res stm p y ≡ chainCounts t stm p y (firstAt res p y) (countAt res p y) (liveAt res p y)
   unfolding chainOk
   chain-within h = rw (le-leb (firstAt res p y) t h)
 
@@ -168,11 +202,7 @@ module _ (stm : List ℕ) (p : Position) (x : Triple) (a : Bool) (n : ℕ) (h : 
   falls l = B .2 ∙ rw (le-leb m (n - 1) (omega arith))
 
   pub below-end : m ≡ 0 → a ≡ true
-  below-end z = falls (omega arith) ∙ rw z (stop (B .0))
-    where
-      stop : (g : ℕ) → isSome (chainLength (nextAt stm p) (differs stm x) g 0) ≡ true
-      stop zero = unfold chainLength in refl
-      stop (suc g) = unfold chainLength in refl
+  below-end z = falls (omega arith) ∙ rw (z, chain-zero (nextAt stm p) (differs stm x) (B .0))
 
   pub below-met : m < n → (m ≡ 0 → ⊥) → same x (tripleAt stm (m - 1)) ≡ true → a ≡ false
   unfolding differs

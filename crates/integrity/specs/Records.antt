@@ -1,5 +1,5 @@
--- The tests of the statement records (paper 01, "Sound means"): each by itself; the chains at a position, with their
--- counts; no triple twice. Assumes nothing.
+-- The tests of the statement records (paper 01, "Sound means"; 02, note 5): each by itself; the chains at a position,
+-- with their counts and live counts; no triple twice. Assumes nothing.
 use mathlib.Core.Bool.{Bool, cond, not, _&&_}
 use mathlib.Core.List.{List}
 use Prim.Native.Nat.{ℕ, suc}
@@ -8,9 +8,9 @@ use Rattle.store.specs.declared.Position.{Position}
 use Rattle.store.specs.declared.Position.the-variants.{Subject, Predicate, Object}
 use Rattle.store.specs.declared.Triple.{Triple}
 use Rattle.store.specs.Triple.{at, all3, known, same, permitted}
-use Rattle.store.specs.Tables.{nextAt, flagAt, tripleAt, firstAt, countAt, kindAt}
+use Rattle.store.specs.Tables.{nextAt, flagAt, tripleAt, firstAt, countAt, kindAt, liveAt}
 use Rattle.store.specs.Soundness.{holding}
-use Rattle.integrity.specs.Tests.{allBelow, sumTo, chainLength, isCount, isSome}
+use Rattle.integrity.specs.Tests.{allBelow, sumTo, chainLength, chainLive, isCount, isSome}
 
 -- ---- each record by itself: resources in 1..R, permitted kinds, flag 0 or 1
 
@@ -19,12 +19,19 @@ recordOk r res stm i = known r (tripleAt stm i) && (permitted (kindAt res) (trip
 
 -- ---- the chains at a position
 
--- resource y: its first is a record or 0, and its chain falls, holds it in every record and has as many as its count
--- says
+abbrev pub isLive : List ℕ → ℕ → Bool
+isLive stm i = eqb (flagAt stm i) 0
+
+-- the chain from record `first` on falls, holds y in every record, and has `count` records, `live` of them live
+unfoldable pub chainCounts : ℕ → List ℕ → Position → ℕ → ℕ → ℕ → ℕ → Bool
+chainCounts t stm p y first count live =
+    isCount (chainLength (nextAt stm p) (holding stm p y) t first) count
+    && eqb (chainLive (nextAt stm p) (isLive stm) t first) live
+
+-- resource y: its first is a record or 0, and its chain is as its count and its live count say
 unfoldable pub chainOk : ℕ → List ℕ → List ℕ → Position → ℕ → Bool
 chainOk t res stm p y =
-    leb (firstAt res p y) t
-    && isCount (chainLength (nextAt stm p) (holding stm p y) t (firstAt res p y)) (countAt res p y)
+    leb (firstAt res p y) t && chainCounts t stm p y (firstAt res p y) (countAt res p y) (liveAt res p y)
 
 -- every resource, and the counts add up to T: so every record is on the chain of its resource
 unfoldable pub chainsOk : ℕ → ℕ → List ℕ → List ℕ → Position → Bool

@@ -1,4 +1,5 @@
--- Tests and sums over a range of numbers, and the walk along a chain that counts its records. Assumes nothing.
+-- Tests and sums over a range of numbers, and the walk along a chain that counts its records and the live ones among
+-- them. Assumes nothing.
 use mathlib.Core.Bool.{Bool, true, false, cond, _&&_}
 use mathlib.Core.Option.{Option, none, some}
 use Prim.Native.Nat.{ℕ, zero, suc, _+_}
@@ -26,6 +27,12 @@ chainLength next f zero zero = some 0
 chainLength next f zero (suc i) = none
 chainLength next f (suc k) zero = some 0
 chainLength next f (suc k) (suc i) = cond (f i && leb (next i) i) (oneMore (chainLength next f k (next i))) none
+
+-- How many records of that walk pass f, where it has a length.
+unfoldable pub chainLive : (ℕ → ℕ) → (ℕ → Bool) → ℕ → ℕ → ℕ
+chainLive next f zero n = 0
+chainLive next f (suc k) zero = 0
+chainLive next f (suc k) (suc i) = cond (f i) 1 0 + chainLive next f k (next i)
 
 abbrev pub isCount : Option ℕ → ℕ → Bool
 isCount none n = false

@@ -1,24 +1,31 @@
 // The pass over the chains at one position: from each resource's first, by next, falling, with the resource in every
-// record, as many as its count says; and the counts add up to the number of records. So every record is on its chain
-// and nothing else is.
+// record, as many as its count says and as many live ones as its live count says; and the counts add up to the number
+// of records. So every record is on its chain and nothing else is, and the live ones met are all that the resource has
+// there.
 use store::Position;
 ghost use mathlib.Core.Path.{_≡_};
 ghost use Prim.Native.Nat.{_≤_};
 ghost use Rattle.store.specs.Triple.{all3};
-ghost use Rattle.store.specs.Tables.{nextAt};
-ghost use Rattle.store.specs.Soundness.{holding};
 ghost use Rattle.integrity.specs.Held.{ResourcesHeld, StatementsHeld};
-ghost use Rattle.integrity.specs.Tests.{chainLength, isCount};
-ghost use Rattle.integrity.specs.Records.{chainOk, chainsOk};
+ghost use Rattle.integrity.specs.Records.{chainCounts, chainOk, chainsOk};
 
-// Whether the chain from record `first` on falls, holds y in every record, and has `count` records.
-fn chain_counts(statements: &[u32], t: u32, p: Position, y: u32, first: u32, count: u32) -> bool
+// Whether the chain from record `first` on falls, holds y in every record, and has `count` records, `live` of them live.
+fn chain_counts(
+    statements: &[u32],
+    t: u32,
+    p: Position,
+    y: u32,
+    first: u32,
+    count: u32,
+    live: u32,
+) -> bool
     requires { ⌜ StatementsHeld (now statements) t ⌝ }
     requires { ⌜ first ≤ t ⌝ }
-    ensures { λ b. ⌜ b ≡ isCount (chainLength (nextAt (now (statements .entry)) p) (holding (now (statements .entry)) p y) t first) count ⌝ }
+    ensures { λ b. ⌜ b ≡ chainCounts t (now (statements .entry)) p y first count live ⌝ }
 {
     let mut n = first;
     let mut met: u32 = 0;
+    let mut alive: u32 = 0;
     while n != 0 {
         if table::inner::term_at(statements, n, p) != y {
             return false;
@@ -28,9 +35,10 @@ fn chain_counts(statements: &[u32], t: u32, p: Position, y: u32, first: u32, cou
             return false;
         }
         met += 1;
+        alive += (table::inner::flag_at(statements, n) == 0) as u32;
         n = m;
     }
-    met == count
+    met == count && alive == live
 }
 
 // Whether the chain of resource y is right.
@@ -45,7 +53,8 @@ fn chain_ok(resources: &[u32], statements: &[u32], r: u32, t: u32, p: Position, 
         return false;
     }
     let count = table::inner::count_at(resources, y, p);
-    chain_counts(statements, t, p, y, first, count)
+    let live = table::inner::live_at(resources, y, p);
+    chain_counts(statements, t, p, y, first, count, live)
 }
 
 // Whether the chains at a position are right, and hold every record between them.

@@ -3,9 +3,10 @@
 // Tested in this order, each part only where those before it hold: the counters are within capacity; the text is R
 // names without the string ending, with right offsets and kinds; the index holds 1..R in rising order of name; each
 // record has resources in 1..R, permitted kinds and a flag 0 or 1; the chains fall, hold their resource and have as many
-// records as the counts say, which add up to T; no triple stands twice. One pass over each table and over the chains at
-// each position, so linear in R + T + B, but for the last test: for each record it walks the shortest of its three
-// chains below it. Nothing is written, and no working memory is asked for.
+// records as the counts say, which add up to T, and as many live ones as the live counts say; no triple stands twice.
+// One pass over each table and over the chains at each position, so linear in R + T + B, but for the last test: for
+// each record it walks the shortest of its three chains below it. Nothing is written, and no working memory is asked
+// for.
 use store::Counters;
 ghost use mathlib.Core.Path.{_≡_};
 ghost use mathlib.Core.Bool.{true};
@@ -30,7 +31,7 @@ fn wide(x: u32) -> usize
     x as usize
 }
 
-// Whether the statement records, their chains and counts are right.
+// Whether the statement records, their chains, counts and live counts are right.
 fn records_ok(resources: &[u32], statements: &[u32], r: u32, t: u32) -> bool
     requires { ⌜ ResourcesHeld (now resources) r ⌝ }
     requires { ⌜ StatementsHeld (now statements) t ⌝ }
