@@ -181,7 +181,7 @@ pub extern "C" fn lt_read_line(text: &[u8], at: usize, reply: &mut [u64]) -> u32
 #[no_mangle]
 pub extern "C" fn lt_retract(
     counters: &[u32],
-    resources: &[u32],
+    resources: &mut [u32],
     statements: &mut [u32],
     index: &[u32],
     text: &[u8],
@@ -190,7 +190,7 @@ pub extern "C" fn lt_retract(
     object: u32,
     reply: &mut [u32],
 ) -> u32
-    ensures { λ r. ⌜ wrote r (tables (now (resources .entry)) (now (statements .exit)) (now (index .entry)) (now (text .entry))) (now (reply .exit)) ≡ retractCall (now (counters .entry)) (tables (now (resources .entry)) (now (statements .entry)) (now (index .entry)) (now (text .entry))) (triple subject predicate object) (now (reply .entry)) ⌝ }
+    ensures { λ r. ⌜ wrote r (tables (now (resources .exit)) (now (statements .exit)) (now (index .entry)) (now (text .entry))) (now (reply .exit)) ≡ retractCall (now (counters .entry)) (tables (now (resources .entry)) (now (statements .entry)) (now (index .entry)) (now (text .entry))) (triple subject predicate object) (now (reply .entry)) ⌝ }
 {
     if counters.len() < COUNTER_WORDS {
         return TOO_SHORT;

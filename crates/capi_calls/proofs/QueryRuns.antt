@@ -25,14 +25,17 @@ use Rattle.capi_calls.specs.QueryCalls.{queryOpenCall, queryNextCall}
 abbrev v : ℕ → ℕ
 v n = 2147483648 + n
 
+-- an IRI's record: firsts, counts; no query looks at its live counts
+abbrev resource : ℕ → ℕ → ℕ → ℕ → ℕ → ℕ → List ℕ → List ℕ
+resource a b c d e f rest = a ∷ b ∷ c ∷ d ∷ e ∷ f ∷ 0 ∷ 1 ∷ 99 ∷ 99 ∷ 99 ∷ rest
+
 -- 1 = (1,2,3), 2 = (1,2,4), as the loading program's example leaves them; no text is needed
 abbrev counters : List ℕ
 counters = 4 ∷ 2 ∷ 0 ∷ 77 ∷ []
 
 abbrev two : Tables
 two = tables
-    ((2 ∷ 0 ∷ 0 ∷ 2 ∷ 0 ∷ 0 ∷ 0 ∷ 1 ∷ 0 ∷ 2 ∷ 0 ∷ 0 ∷ 2 ∷ 0 ∷ 0 ∷ 1 ∷ [])
-    ++ (0 ∷ 0 ∷ 1 ∷ 0 ∷ 0 ∷ 1 ∷ 0 ∷ 1 ∷ 0 ∷ 0 ∷ 2 ∷ 0 ∷ 0 ∷ 1 ∷ 0 ∷ 1 ∷ []))
+    (resource 2 0 0 2 0 0 (resource 0 2 0 0 2 0 (resource 0 0 1 0 0 1 (resource 0 0 2 0 0 1 []))))
     (1 ∷ 2 ∷ 3 ∷ 0 ∷ 0 ∷ 0 ∷ 0 ∷ 1 ∷ 2 ∷ 4 ∷ 1 ∷ 1 ∷ 0 ∷ 0 ∷ []) (replicate 4 0) []
 
 -- what is known of 1

@@ -8,7 +8,7 @@ use Rattle.term.specs.Bytes.{among, iriByte, textByte, pairByte, firstByte, lab
 use Rattle.term.specs.Scanner.{stepOf, runOf, wholeOf, isBad, firstKindOf, kindOf}
 use Rattle.term.specs.Canonical.{stringEnding, writesString, canonical}
 use Rattle.store.specs.Triple.{below}
-use Rattle.store.specs.Tables.{Tables, tables, fits, offsetAt}
+use Rattle.store.specs.Tables.{Tables, tables, resourceWords, fits, offsetAt}
 use Rattle.store.specs.Model.{wellFormed}
 use Rattle.store.specs.Dictionary.{compare, nameAt, rank, placeAt, indexPlaceOf, findOf, roomFor, bring, insertAt, internAs, internOf}
 use Rattle.ntriples.specs.Grammar.{white, commentByte}
@@ -32,10 +32,10 @@ abbrev one : List ℕ
 one = 1 ∷ 0 ∷ 4 ∷ 77 ∷ []
 
 abbrev empty : Tables
-empty = tables (replicate 8 9) [] (9 ∷ []) (replicate 4 9)
+empty = tables (replicate resourceWords 9) [] (9 ∷ []) (replicate 4 9)
 
 abbrev holding : Tables
-holding = tables (0 ∷ 0 ∷ 0 ∷ 0 ∷ 0 ∷ 0 ∷ 0 ∷ 3 ∷ []) [] (1 ∷ []) (34 ∷ 65 ∷ 34 ∷ 0 ∷ [])
+holding = tables (0 ∷ 0 ∷ 0 ∷ 0 ∷ 0 ∷ 0 ∷ 0 ∷ 3 ∷ 0 ∷ 0 ∷ 0 ∷ []) [] (1 ∷ []) (34 ∷ 65 ∷ 34 ∷ 0 ∷ [])
 
 abbrev finds : List ℕ → ℕ × List ℕ
 finds w = findAs one (5 ∷ 66 ∷ []) (findOf (countersOf one) holding w)
