@@ -95,7 +95,7 @@ returns-3 c =
     let test = c .before .loop-test in
     sym
     (along-end (a .t) (now (a .statements)) (a .p) (a .y) (a .first) (l .met) (l .alive) (l .n) (l .inv .2)
-    (a .count) (a .live) (test .left) (c .if3 .taken))
+    (a .count) (a .live) (test .left) (omega arith))
 
 returns-4 : tie.Need-returns-4 Inv-loop μ-loop
 returns-4 c =
