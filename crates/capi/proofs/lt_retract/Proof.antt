@@ -3,9 +3,8 @@ use Rattle.capi.proofs.Writes.{retract-done}
 use Rattle.store.specs.Tables.{tables}
 use Rattle.capi_calls.specs.Words.{counterWords, lent}
 use Rattle.capi_calls.specs.Calls.{retractCall}
-use lib.ListN.{length, set, length-set}
-use borrow.Author.Tests.{lt-ltb, le-ltb, eq-eqb, ne-eqb}
-use mathlib.Core.Path.{_≡_, sym, ap, _∙_, refl}
+use lib.ListN.{length}
+use borrow.Author.Tests.{lt-ltb, le-ltb}
 use borrow.Author.Needs.{needs}
 use Rattle.capi.proofs.lt_retract.Statement.{statement}
 use Rattle.capi.proofs.lt_retract.Tie as tie
@@ -22,7 +21,8 @@ returns c = simp (lt-ltb (length (c .before .before .before .before .before .bef
 
 returns-2 : tie.Need-returns-2
 unfolding retractCall lent
-returns-2 c = simp (le-ltb (length (c .before .before .before .before .before .before .before .before .args .counters .now)) counterWords (c .before .if1 .left), lt-ltb (length (c .before .before .before .before .before .before .before .before .args .reply .now)) 1 (c .if2 .taken))
+returns-2 c = let a = c .before .before .before .before .before .before .before .before .args in
+    simp (le-ltb (length (a .counters .now)) counterWords (c .before .if1 .left), lt-ltb (length (a .reply .now)) 1 (c .if2 .taken))
 
 counters-of-requires : tie.Need-counters-of-requires
 counters-of-requires c κs = search needs
@@ -45,14 +45,19 @@ same-length c = search needs
 same-length-2 : tie.Need-same-length-2
 same-length-2 c = search needs
 
+same-length-3 : tie.Need-same-length-3
+same-length-3 c = search needs
+
 returns-3 : tie.Need-returns-3
-returns-3 c = retract-done (c .before .before .before .before .before .before .before .before .before .before .before .before .before .before .before .args .counters .now) (c .before .before .before .before .before .before .before .before .before .before .before .before .before .before .before .args .reply .now) (tables (c .before .before .before .before .before .before .before .before .before .before .before .before .before .before .before .args .resources .now) (c .before .before .before .before .before .before .before .before .before .before .before .before .before .before .before .args .statements .now) (c .before .before .before .before .before .before .before .before .before .before .before .before .before .before .before .args .index .now) (c .before .before .before .before .before .before .before .before .before .before .before .before .before .before .before .args .text .now)) (c .before .before .before .before .before .before .counters-of .ensures) (c .before .before .before .before .before .triple-of .ensures) (c .before .before .before .retract .ensures) (c .retract-answer .ensures) (c .before .before .before .before .before .before .before .before .if1 .left) (c .before .before .before .before .before .before .before .if2 .left)
+returns-3 c =
+    let a = c .before .before .before .before .before .before .before .before .before .before .before .before .before .before .before .before .before .before .args in
+    let m = tables (a .resources .now) (a .statements .now) (a .index .now) (a .text .now) in
+    retract-done (a .counters .now) (a .reply .now) m (c .before .before .before .before .before .before .before .before .before .counters-of .ensures) (c .before .before .before .before .before .before .before .before .triple-of .ensures) (c .before .before .before .before .before .retract .ensures) (c .retract-answer .ensures) (c .before .before .before .before .before .before .before .before .before .before .before .if1 .left) (c .before .before .before .before .before .before .before .before .before .before .if2 .left)
 
 pub lt-retract-spec : {M : Type 1} → statement M
 lt-retract-spec =
     tie.close
-    (tie.spec
-    returns
+    (tie.spec returns
     returns-2
     counters-of-requires
     triple-of-requires
@@ -61,4 +66,5 @@ lt-retract-spec =
     slice-write-reply
     same-length
     same-length-2
+    same-length-3
     returns-3)
