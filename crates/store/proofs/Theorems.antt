@@ -1,16 +1,18 @@
 -- Every claim of `specs/Claims.antt` with its proof: a declaration of each type. Assumes nothing.
 use mathlib.Core.List.{List, []}
 use Rattle.store.specs.Model.{freshModel}
-use Rattle.store.specs.History.{store, freshStore, capacitiesOf}
+use Rattle.store.specs.History.{store, freshStore, capacitiesOf, storeAfter}
 use Rattle.store.specs.Claims.{listsOf, HistoriesAgree, HistoriesStaySound, SoundStoresAgree, FreshIsSound}
 use Rattle.store.specs.Claims.{RefusalsChangeNothing, Finds, EndsOrSpends, VisitsAddUp, RoundTrips, SpellingsAgree, KnownMeans}
 use Rattle.store.specs.Claims.{WithinMeans, SameMeans, MatchesMeans, PermittedMeans, BelowMeans, PicksLeast}
 use Rattle.store.specs.Claims.{RefusalsAreBare, NoneIsMissed, FirstIsHighest, ReadsOnWithBudget}
+use Rattle.store.specs.Claims.{LiveCountsShown, LiveCountsAgree, LiveAboveCount, StruckWasCounted, ScansDoNotLook}
 use Rattle.store.proofs.Histories.{history-agrees, fresh-agrees}
 use Rattle.store.proofs.Kept.{tidy-history, tidy-fresh, agreeing-sound}
 use Rattle.store.proofs.Held.{agreeing-holds, sound-agrees, sound-tidy}
 use Rattle.store.proofs.Openings as openings
 use Rattle.store.proofs.Refusals as refusals
+use Rattle.store.proofs.LiveCounts as live
 use Rattle.store.proofs.RoundTrips as trips
 use Rattle.store.proofs.Pins as pins
 
@@ -52,6 +54,26 @@ ends-or-spends = openings.ends-or-spends
 
 pub visits-add-up : VisitsAddUp
 visits-add-up = openings.visits-add-up
+
+-- ---- live counts
+
+pub live-counts-shown : LiveCountsShown
+live-counts-shown = live.live-counts-shown
+
+pub live-counts-agree : LiveCountsAgree
+live-counts-agree m calls y a b =
+    let H = histories-stay-sound m calls in
+    let s = storeAfter (freshStore m) calls in
+    rw (← H .statements) (live.live-counts-shown (s .counters) (s .tables) (H .sound) y a b)
+
+pub live-above-count : LiveAboveCount
+live-above-count = live.live-above-count
+
+pub struck-was-counted : StruckWasCounted
+struck-was-counted = live.struck-was-counted
+
+pub scans-do-not-look : ScansDoNotLook
+scans-do-not-look = live.scans-do-not-look
 
 -- ---- numbers and names
 

@@ -2,9 +2,9 @@
 -- declaration of each. Assumes nothing.
 use mathlib.Core.Path.{_≡_}
 use mathlib.Core.Logic.{_≢_, _↔_}
-use mathlib.Core.Bool.{Bool, true, false, cond}
+use mathlib.Core.Bool.{Bool, true, false, cond, not, _&&_}
 use mathlib.Core.List.{List, [], _∷_, _++_, map, List·Memᴰ}
-use Prim.Native.Nat.{ℕ, zero, suc, _+_, _≤_, _<_}
+use Prim.Native.Nat.{ℕ, zero, suc, _+_, _-_, _*_, _≤_, _<_}
 use lib.ListN.{length, take, drop}
 use lib.Dec.{eqb}
 use Rattle.term.specs.Canonical.{writesString, canonical}
@@ -14,14 +14,21 @@ use Rattle.store.specs.declared.Chain.{Chain}
 use Rattle.store.specs.declared.Chain.the-variants.{All, By}
 use Rattle.store.specs.declared.Triple.{Triple}
 use Rattle.store.specs.declared.ResourceId.{ResourceId}
+use Rattle.store.specs.declared.StatementId.{StatementId}
+use Rattle.store.specs.declared.ScanCursor.{ScanCursor}
+use Rattle.store.specs.declared.Refusal.the-variants.{Damaged}
+use Rattle.store.specs.declared.Asserted.the-variants.{Refused as NotAsserted}
+use Rattle.store.specs.declared.Retracted.the-variants.{Number as Struck, Refused as NotRetracted}
 use Rattle.store.specs.declared.NameRead.the-variants.{Span}
 use Rattle.store.specs.declared.Lookup.the-variants.{Number}
 use Rattle.store.specs.Triple.{at, known, within, same, agrees, permitted, below, head0, prev}
-use Rattle.store.specs.Tables.{Tables, off, freshCounters}
+use Rattle.store.specs.Tables.{Tables, after, word, off, freshCounters, fits, countAt, kindAt, liveAt}
 use Rattle.store.specs.Values.{Values, refusedWith}
 use Rattle.store.specs.Model.{Entry, Model, Call, intern, assert, retract, open′, next, freshModel, totals, entry}
 use Rattle.store.specs.Model.{Capacities, wellFormed, internModel, matches, holders, pick, cursorOf, modelReplies, modelAfter}
 use Rattle.store.specs.Walk.{entryAt}
+use Rattle.store.specs.Statement.{kinded, assertOf, retractOf}
+use Rattle.store.specs.Scan.{openOf, nextOf}
 use Rattle.store.specs.Reading.{nameSpanOf}
 use Rattle.store.specs.Dictionary.{nameAt, findOf, internOf}
 use Rattle.store.specs.Soundness.{Sound}
@@ -202,6 +209,55 @@ pub data Shortest (x : Triple) (l : List Entry) (v : ℕ) : Type 0 where
 abbrev pub VisitsAddUp : Type 0
 VisitsAddUp = (o : Opening) → Accepted o → (b : ℕ) → (nextNow o b) .refusal ≡ 0 → (nextNow o b) .status ≡ 2
     → Shortest (o .pattern) (statementsIn (storeThen o)) (visitsSoFar o + (nextNow o b) .visits)
+
+-- ---- live counts
+
+-- how many of these statements are live and have the resource y, as subject, predicate or object by f
+unfoldable pub liveIn : (Triple → ℕ) → ℕ → List Entry → ℕ
+liveIn f y [] = 0
+liveIn f y (e ∷ l) = cond (not (e .retracted) && eqb (f (e .spo)) y) 1 0 + liveIn f y l
+
+-- the three words after the kind of resource y, by their place in the table
+pub record ShowsLive (res : List ℕ) (y : ℕ) (l : List Entry) : Type 0 where
+  pub subject : word res (11 * (y - 1) + 8) ≡ liveIn (λ t. t .subject .0) y l
+  pub predicate : word res (11 * (y - 1) + 9) ≡ liveIn (λ t. t .predicate .0) y l
+  pub object : word res (11 * (y - 1) + 10) ≡ liveIn (λ t. t .object .0) y l
+
+-- On a sound store they say how many live statements have the resource there.
+abbrev pub LiveCountsShown : Type 0
+LiveCountsShown = (c : Counters) (m : Tables) → Sound c m → (y : ℕ) → 0 < y → y ≤ c .resources
+    → ShowsLive (m .resources) y (statementsIn (store c m []))
+
+-- After any list of calls they say how many of the plain list's entries that are not struck out have it there.
+abbrev pub LiveCountsAgree : Type 0
+LiveCountsAgree = (m : Tables) (calls : List Call) (y : ℕ) → 0 < y → y ≤ (storeAfter (freshStore m) calls) .counters .resources
+    → ShowsLive ((storeAfter (freshStore m) calls) .tables .resources) y (modelAfter (capacitiesOf m) freshModel calls .entries)
+
+-- On any tables a live count above its count, at any position of the triple, is refused 9 where nothing before it is.
+abbrev pub LiveAboveCount : Type 0
+LiveAboveCount = (c : Counters) (m : Tables) (x : Triple) (p : Position) → fits c m ≡ true → known (c .resources) x ≡ true
+    → countAt (m .resources) p (at p x) < liveAt (m .resources) p (at p x)
+    → (retractOf c m x ≡ after m (NotRetracted Damaged))
+    × (kinded (m .resources) x ≡ true → permitted (kindAt (m .resources)) x ≡ true
+    → assertOf c m x ≡ after m (NotAsserted Damaged))
+
+-- On any tables none of the three was 0 where a live statement was retracted.
+abbrev pub StruckWasCounted : Type 0
+StruckWasCounted = (c : Counters) (m : Tables) (x : Triple) (n : StatementId) → (retractOf c m x) .1 ≡ Struck n
+    → (p : Position) → 0 < liveAt (m .resources) p (at p x)
+
+-- tables that differ in live counts alone
+pub record SameButLive (m m′ : Tables) : Type 0 where
+  pub statements : m .statements ≡ m′ .statements
+  pub index : m .index ≡ m′ .index
+  pub text : m .text ≡ m′ .text
+  pub lengths : length (m .resources) ≡ length (m′ .resources)
+  pub words : (y k : ℕ) → k < 8 → word (m .resources) (11 * (y - 1) + k) ≡ word (m′ .resources) (11 * (y - 1) + k)
+
+-- A listing does not look at live counts, on any tables.
+abbrev pub ScansDoNotLook : Type 0
+ScansDoNotLook = (c : Counters) (m m′ : Tables) → SameButLive m m′
+    → ((x : Triple) → openOf c m x ≡ openOf c m′ x) × ((q : ScanCursor) (b : ℕ) → nextOf c m q b ≡ nextOf c m′ q b)
 
 -- ---- numbers and names
 
