@@ -5,7 +5,8 @@ use Prim.Native.Nat.{ℕ, suc, zero, _+_, _-_, _*_, _<_, _≤_}
 use native.Mathlib.Omega.{arith}
 use native.Mathlib.Numerals.{add-one}
 use native.Mathlib.Nat.{add-zero, add-suc, suc-add}
-use lib.ListN.{length, take, drop, getD, set, replicate, length-replicate, replicate-append-replicate, List·getD-append, drop-of-length-le, length-take, length-drop}
+use lib.ListN.{length, take, drop, getD, set, List·getD-append, drop-of-length-le, length-take, length-drop}
+use lib.ListN.{replicate, length-replicate, replicate-append-replicate}
 use lib.Seq.{sets, set-comm, set-set, split-at, set-at, length-take-le, take-suc, drop-cons, getD-take, take-all}
 use Rattle.store.specs.Tables.{resourceWords}
 use Rattle.store.specs.Dictionary.{freshRecord, bring, insertAt}
