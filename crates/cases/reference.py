@@ -13,7 +13,7 @@ PLACES = ["subject", "predicate", "object"]
 
 # The fields of a record, in order, and how many words each has.
 FIELDS = {
-    "resource": {"first": 3, "count": 3, "offset": 1, "kind": 1},
+    "resource": {"first": 3, "count": 3, "offset": 1, "kind": 1, "live": 3},
     "statement": {"triple": 3, "next": 3, "flag": 1},
 }
 
@@ -223,14 +223,27 @@ class Store:
             refuse(9)
         return triple, flag, self.after(chain, n)
 
+    # The words of the three resources at their places in the triple, by field.
+    def named(self, triple, field):
+        return [self.resource(y)[field][p] for p, y in enumerate(triple)]
+
+    # 9 also if a live count of the three resources is above its count.
     def locate(self, triple):
         chain, n = self.pick(triple)
+        if any(live > count for live, count in zip(self.named(triple, "live"), self.named(triple, "count"))):
+            refuse(9)
         while n:
             found, flag, after = self.visit(triple, chain, n)
             if found == triple:
                 return n, flag
             n = after
         return 0, 0
+
+    # The record with the triple is struck out (1) or made live (0), which the three live counts follow.
+    def mark(self, n, triple, flag):
+        self.statement(n)["flag"] = [flag]
+        for p, y in enumerate(triple):
+            self.resource(y)["live"][p] += -1 if flag else 1
 
     def do_assert(self, *triple):
         self.test_counters()
@@ -242,16 +255,18 @@ class Store:
             refuse(5)
         n, flag = self.locate(triple)
         R, T, B = self.counters
+        if n and flag == 0:
+            return "already", n, *self.counters
         if n:
-            self.statement(n)["flag"] = [0]
-            return "revived" if flag else "already", n, *self.counters
+            self.mark(n, triple, 0)
+            return "revived", n, *self.counters
         if T >= self.capacities()[1]:
             refuse(3)
-        firsts = [self.resource(y)["first"][p] for p, y in enumerate(triple)]
-        self.table["statement"][T] = {"triple": list(triple), "next": firsts, "flag": [0]}
+        self.table["statement"][T] = {"triple": list(triple), "next": self.named(triple, "first"), "flag": [0]}
         for p, y in enumerate(triple):
             self.resource(y)["first"][p] = T + 1
             self.resource(y)["count"][p] += 1
+            self.resource(y)["live"][p] += 1
         self.counters = (R, T + 1, B)
         return "new", T + 1, *self.counters
 
@@ -261,7 +276,9 @@ class Store:
         n, flag = self.locate(triple)
         if n == 0 or flag == 1:
             return 0
-        self.statement(n)["flag"] = [1]
+        if 0 in self.named(triple, "live"):
+            refuse(9)
+        self.mark(n, triple, 1)
         return n
 
     # ---- listings
@@ -456,11 +473,14 @@ class Store:
                 return False
         if len(set(triples)) != T:
             return False
-        # Each chain falls through the records that hold the resource in that place, and the count is their number.
+        # Each chain falls through the records that hold the resource in that place; the count is their number, the live count that of the
+        # live ones.
         for y in range(1, R + 1):
             for p in range(3):
                 chain = [n for n in range(T, 0, -1) if triples[n - 1][p] == y]
                 if self.resource(y)["count"][p] != len(chain):
+                    return False
+                if self.resource(y)["live"][p] != sum(self.statement(n)["flag"][0] == 0 for n in chain):
                     return False
                 if [self.resource(y)["first"][p]] + [self.statement(n)["next"][p] for n in chain] != chain + [0]:
                     return False

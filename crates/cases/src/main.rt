@@ -17,8 +17,8 @@
 // | question W ..               | the question's words, a variable as `?` and its number                                            |
 // | place HOW [DEPTH LEVEL ..]  | the place of the question: start, within or end, the levels entered, chain (-, s, p, o) and record of each |
 //
-// A field is `first`, `count`, `offset`, `kind` of a resource, `triple`, `next`, `flag` of a statement; a field of three words is followed by
-// three numbers, or by `subject`, `predicate` or `object` and one number. What is not told is 0.
+// A field is `first`, `count`, `offset`, `kind`, `live` of a resource, `triple`, `next`, `flag` of a statement; a field of three words is
+// followed by three numbers, or by `subject`, `predicate` or `object` and one number. What is not told is 0.
 //
 // A line that begins with a name and a colon is a case: it writes its number, its name and the answer, or `refused` and the paper's number.
 // The counters, and the place of the listing or of the question, are from then on what the answer says.

@@ -11,6 +11,7 @@ use store::Refusal;
 use table::COUNT;
 use table::FLAG;
 use table::KIND;
+use table::LIVE;
 use table::NEXT;
 use table::OFFSET;
 use table::RESOURCE_WORDS;
@@ -66,11 +67,13 @@ pub const TEXT_OFFSET: u32 = 28;
 
 pub const NAME_KIND: u32 = 29;
 
-pub const TRIPLE: u32 = 30;
+pub const LIVE_COUNTS: u32 = 30;
 
-pub const NEXTS: u32 = 31;
+pub const TRIPLE: u32 = 31;
 
-pub const RETRACTED: u32 = 32;
+pub const NEXTS: u32 = 32;
+
+pub const RETRACTED: u32 = 33;
 
 fn text(bytes: &[u8]) {
     io::write_all(STDOUT_FILENO, bytes);
@@ -79,7 +82,7 @@ fn text(bytes: &[u8]) {
 pub fn token(k: u32) {
     let words =
         b"new already revived found ended spent opened refused absent sound unsound visits solution place start within end \
-          none s p o - s p o part first count offset kind triple next flag";
+          none s p o - s p o part first count offset kind live triple next flag";
     text(b" ");
     text(script::word(words, k));
 }
@@ -216,6 +219,7 @@ fn resource(resources: &[u32], first: usize) {
     field(COUNTS, resources, first, COUNT, 3);
     field(TEXT_OFFSET, resources, first, OFFSET, 1);
     field(NAME_KIND, resources, first, KIND, 1);
+    field(LIVE_COUNTS, resources, first, LIVE, 3);
 }
 
 fn statement(statements: &[u32], first: usize) {

@@ -6,6 +6,7 @@ use crate::words;
 use table::COUNT;
 use table::FLAG;
 use table::KIND;
+use table::LIVE;
 use table::NEXT;
 use table::OFFSET;
 use table::RESOURCE_WORDS;
@@ -113,12 +114,12 @@ fn fields(line: &[u8], from: u32, table: &mut [u32], first: usize) {
 fn field(word: &[u8], table: &mut [u32], first: usize, at: usize) -> usize {
     let n = script::position(
         word,
-        b"subject predicate object first triple count next offset kind flag",
+        b"subject predicate object first triple count next offset kind flag live",
     );
     if n < 3 {
         return std::num::wrapping_add_usize(at, n as usize);
     }
-    if n < 10 {
+    if n < 11 {
         return std::num::wrapping_add_usize(first, group(n));
     }
     words::put(table, at, script::value(word));
@@ -133,6 +134,7 @@ fn group(n: u32) -> usize {
         7 => OFFSET,
         8 => KIND,
         9 => FLAG,
+        10 => LIVE,
         _ => 0,
     }
 }
