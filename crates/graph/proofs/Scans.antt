@@ -1,8 +1,8 @@
 -- A pattern scan read through on a sound store gives exactly the live triples that match, each once, and ends
--- (`ScanClaim`). Assumes nothing.
+-- (`ScanClaim`); of one resource at one position it finds as many as the live count says (`LiveCountClaim`). Assumes nothing.
 use mathlib.Core.Path.{_≡_, refl, sym, ap, _∙_}
 use mathlib.Core.Logic.{_≢_, _⊎_, inl, inr}
-use mathlib.Core.Bool.{Bool, true, false, not, _||_, true≢false, false≢true}
+use mathlib.Core.Bool.{Bool, true, false, not, _&&_, _||_, true≢false, false≢true}
 use mathlib.Core.List.{List, [], _∷_, _++_, map, List·Memᴰ, Memᴰ·append-left}
 use mathlib.Core.Option.{some}
 use Prim.Native.Nat.{ℕ, zero, suc, _+_, _-_, _≤_, _<_}
@@ -11,6 +11,7 @@ use lib.ListN.{length}
 use lib.Dec.{eqb}
 use borrow.Author.Tests.{eqb-true, eqb-false, eq-eqb, ne-eqb, ltb-true, le-leb}
 use Rattle.store.specs.declared.Position.{Position}
+use Rattle.store.specs.declared.Position.the-variants.{Subject, Predicate, Object}
 use Rattle.store.specs.declared.Chain.{Chain}
 use Rattle.store.specs.declared.Chain.the-variants.{All, By}
 use Rattle.store.specs.declared.Counters.{Counters}
@@ -26,18 +27,19 @@ use Rattle.store.specs.Model.{take-off}
 use Rattle.store.specs.Walk.{entryAt, pickChain}
 use Rattle.store.specs.Dictionary.{nameAt}
 use Rattle.store.specs.Scan.{openOf, cursorAt, chainOk, recordOk, cursorOk, walkFrom, scannedAs, nextOf}
-use Rattle.store.specs.Soundness.{Sound}
-use Rattle.store.proofs.Tests.{decide, and-l, and-r, and-of, all3-at, all3-of, within-high}
-use Rattle.store.proofs.Falling.{below-yes, below-no, below-nil, below-in, below-out, head-le, head-passes}
+use Rattle.store.specs.Soundness.{living, Sound}
+use Rattle.store.proofs.Tests.{decide, and-l, and-r, and-of, all3-at, all3-of, within-high, within-of}
+use Rattle.store.proofs.Falling.{below-cong, below-yes, below-no, below-nil, below-in, below-out, head-le, head-passes}
 use Rattle.store.proofs.Words.{triple-at}
 use Rattle.store.proofs.Walks.{asStep, take-hit, take-miss}
 use Rattle.store.proofs.Picking.{pick-ok}
+use Rattle.store.proofs.LiveCounts.{counted-is}
 use Rattle.store.proofs.Chains.{onWords, pickChain-bound, chain-sits, chain-start, pickable-linked, walk-linked}
 use Rattle.graph.specs.Order.{NoDuplicates}
 use Rattle.graph.specs.Meaning.{RdfTriple, termAt}
 use Rattle.graph.specs.Graph.{named, graphOf}
 use Rattle.graph.specs.Claims.{AllPositive, scanAfter, scanOn, scannedIn, NoScanRefused, scanEnded, namedAt}
-use Rattle.graph.specs.Claims.{Matches, ScanRead, ScanClaim}
+use Rattle.graph.specs.Claims.{Matches, ScanRead, ScanClaim, only, LiveCountClaim}
 use Rattle.graph.proofs.Names.{named-at, names-apart, live-graph}
 use Rattle.graph.proofs.Solutions.{mem-map, map-mem, map-once}
 
@@ -375,3 +377,47 @@ scan-reads c m S x known = (
   opens c m S x known,
   reads c m S x known,
 )
+
+-- ---- live counts
+
+and-true : (b : Bool) → b && true ≡ b
+and-true true = refl
+and-true false = refl
+
+-- a triple agrees with such a pattern exactly if it has the resource there
+agrees-only : (p : Position) (y : ℕ) (t : Triple) → 0 < y → agrees (only p y) t ≡ eqb (at p t) y
+unfolding agrees
+agrees-only Subject y t h = let n : y ≢ 0 = omega arith in rw (ne-eqb y 0 n) (and-true _)
+agrees-only Predicate y t h = let n : y ≢ 0 = omega arith in rw (ne-eqb y 0 n) (and-true _)
+agrees-only Object y t h = let n : y ≢ 0 = omega arith in rw (ne-eqb y 0 n)
+
+only-within : (p : Position) (y r : ℕ) → y ≤ r → within r (only p y) ≡ true
+only-within p y r h = within-of r (only p y) (λ q. low p q)
+  where
+    low : (p q : Position) → at q (only p y) ≤ r
+    low Subject Subject = h
+    low Subject Predicate = omega arith
+    low Subject Object = omega arith
+    low Predicate Subject = omega arith
+    low Predicate Predicate = h
+    low Predicate Object = omega arith
+    low Object Subject = omega arith
+    low Object Predicate = omega arith
+    low Object Object = h
+
+pub live-counts : LiveCountClaim
+unfolding matches
+live-counts c m S p y a b =
+    let x = only p y in
+    let k = only-within p y (c .resources) b in
+    let L = S .linked in
+    let same : below (hit c m S x k) (c .statements) ≡ below (living (m .statements) p y) (c .statements) =
+    below-cong _ _ (c .statements) (λ i h.
+    ap (λ (z : Bool). not (entryAt (m .statements) i .retracted) && z) (agrees-only p y (entryAt (m .statements) i .spo) a)
+    ∙ counted-is (m .statements) p y i (L .flag i h)) in (
+      here c m S x k (picked c m S x k) (picked-ok c m S x k) (c .statements),
+      opens c m S x k,
+      λ bs g e.
+          let T = told c m S x k (picked c m S x k) (picked-ok c m S x k) bs (c .statements) (omega arith) g in
+          ap (λ (z : List ℕ). length z) (T .all e ∙ same) ∙ sym (L .live p y a b),
+    )

@@ -1,6 +1,6 @@
 -- Every claim of `specs/Claims.antt` with its proof: a declaration of each type. Assumes nothing.
 use Rattle.graph.specs.Claims.{GraphClaim, WordsClaim, ReadingClaim, NextClaim, KeptClaim, BudgetClaim, SplitClaim}
-use Rattle.graph.specs.Claims.{ScanClaim}
+use Rattle.graph.specs.Claims.{ScanClaim, LiveCountClaim}
 use Rattle.graph.specs.Claims.{WriteClaim, LoadClaim}
 use Rattle.graph.proofs.Names as names
 use Rattle.graph.proofs.Accepted as accepted
@@ -33,6 +33,9 @@ budgets-add = onwards.budgets-add
 
 pub scan-reads : ScanClaim
 scan-reads = scans.scan-reads
+
+pub live-counts : LiveCountClaim
+live-counts = scans.live-counts
 
 pub graph-writes : WriteClaim
 graph-writes = writes.writes

@@ -1,7 +1,7 @@
 -- The claims of demand 2 (paper 01) as types, each with soundness as its only hypothesis on the tables: the live
 -- statements are an RDF graph; a query read through gives exactly the solution mappings of SPARQL 1.1; a call from
 -- any accepted cursor answers from the solutions that hold; budgets add up; a pattern scan read through gives exactly
--- the live triples that match. Assumes nothing.
+-- the live triples that match, and a live count says how many; what each write does to the graph. Assumes nothing.
 use mathlib.Core.Path.{_≡_}
 use mathlib.Core.Logic.{_⊎_, _↔_, _≢_}
 use mathlib.Core.Bool.{Bool, true, false, cond}
@@ -11,6 +11,7 @@ use lib.ListN.{length}
 use lib.Dec.{eqb}
 use Rattle.term.specs.Canonical.{canonical}
 use Rattle.store.specs.declared.Position.{Position}
+use Rattle.store.specs.declared.Position.the-variants.{Subject, Predicate, Object}
 use Rattle.store.specs.declared.Counters.{Counters}
 use Rattle.store.specs.declared.Triple.{Triple}
 use Rattle.store.specs.declared.ScanCursor.{ScanCursor}
@@ -20,7 +21,7 @@ use Rattle.store.specs.declared.Scanned.{Scanned}
 use Rattle.store.specs.declared.Scanned.the-variants.{Found as ScanFound, Ended as ScanEnded, Spent as ScanSpent}
 use Rattle.store.specs.declared.Scanned.the-variants.{Refused as NotScanned}
 use Rattle.store.specs.Triple.{at, triple, within, prev}
-use Rattle.store.specs.Tables.{Tables, tripleAt}
+use Rattle.store.specs.Tables.{Tables, tripleAt, liveAt}
 use Rattle.store.specs.Values.{Values}
 use Rattle.store.specs.Model.{Call, Form, byValue, intern, assert, retract}
 use Rattle.store.specs.Dictionary.{nameAt}
@@ -268,7 +269,23 @@ abbrev pub ScanClaim : Type 0
 ScanClaim = (c : Counters) (m : Tables) → Sound c m → (x : Triple) → within (c .resources) x ≡ true
     → (q : ScanCursor) × (openOf c m x ≡ Cursor q) × ((bs : List ℕ) → AllPositive bs → ScanRead c m x q bs)
 
--- ---- 6. Entering leaves the graph, asserting adds exactly its triple, retracting takes exactly it away.
+-- ---- 6. A live count says without a walk what a walk would find.
+
+-- the pattern with the resource y at one position, any at the others
+abbrev pub only : Position → ℕ → Triple
+only Subject y = triple y 0 0
+only Predicate y = triple 0 y 0
+only Object y = triple 0 0 y
+
+-- A resource's live count at a position is the number of statements that a scan of it there finds, read to its end: as many as the
+-- triples of the graph that have its name there, each of which is found once (`ScanClaim`).
+abbrev pub LiveCountClaim : Type 0
+LiveCountClaim = (c : Counters) (m : Tables) → Sound c m → (p : Position) (y : ℕ) → 0 < y → y ≤ c .resources
+    → (q : ScanCursor) × (openOf c m (only p y) ≡ Cursor q)
+    × ((bs : List ℕ) → AllPositive bs → scanEnded (scanOn c m q bs) ≡ true
+    → length (scannedIn (scanOn c m q bs)) ≡ liveAt (m .resources) p y)
+
+-- ---- 7. Entering leaves the graph, asserting adds exactly its triple, retracting takes exactly it away.
 
 abbrev pub SoundStore : Store → Type 0
 SoundStore s = Sound (s .counters) (s .tables)

@@ -47,7 +47,7 @@ liveIn-snoc f y [] e = omega arith
 liveIn-snoc f y (d ∷ l) e = omega (arith, liveIn-snoc f y l e)
 
 -- an entry is counted exactly if it is live and holds the resource
-counted-is : (stm : List ℕ) (p : Position) (y i : ℕ) → flagAt stm i ≤ 1
+pub counted-is : (stm : List ℕ) (p : Position) (y i : ℕ) → flagAt stm i ≤ 1
     → not (entryAt stm i .retracted) && eqb (at p (entryAt stm i .spo)) y ≡ living stm p y i
 unfolding entryAt living holding
 counted-is stm p y i h =
