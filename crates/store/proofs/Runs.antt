@@ -2,22 +2,21 @@
 -- and over the tables. They pin what stands on both sides of the claim about histories. Assumes nothing.
 use mathlib.Core.Path.{_≡_, refl}
 use mathlib.Core.List.{List, [], _∷_, _++_, map}
-use Prim.Native.Nat.{ℕ}
-use lib.ListN.{replicate, set}
+use Prim.Native.Nat.{ℕ, _*_}
+use lib.ListN.{replicate, set, take}
 use Rattle.term.specs.Scanner.{kindOf, firstKindOf, runOf, stepOf, wholeOf}
 use Rattle.term.specs.Canonical.{stringEnding, writesString, canonical}
 use Rattle.term.specs.Bytes.{among, letter, alnum, iriByte, textByte, pairByte, firstByte, labelByte, eqBytes}
 use Rattle.store.specs.declared.Triple.{Triple}
 use Rattle.store.specs.declared.Chain.{Chain}
 use Rattle.store.specs.declared.Chain.the-variants.{All, By}
-use Rattle.store.specs.declared.Position.{Position}
 use Rattle.store.specs.declared.Position.the-variants.{Subject, Predicate, Object}
 use Rattle.store.specs.declared.Counters.{Counters}
 use Rattle.store.specs.declared.Refusal.the-variants.{Malformed}
 use Rattle.store.specs.declared.Lookup.the-variants.{Number as Found, Absent, Refused as NotFound}
 use Rattle.store.specs.Triple.{triple, known, within, same, agrees, permitted, below}
 use Rattle.store.specs.Tables.{Tables, tables, fits, termAt, nextAt, flagAt, tripleAt, firstAt, countAt, offsetAt}
-use Rattle.store.specs.Tables.{kindAt, liveAt}
+use Rattle.store.specs.Tables.{kindAt, liveAt, resourceWords}
 use Rattle.store.specs.Values.{Values, refusedWith, numbered, counted, placed, stepped}
 use Rattle.store.specs.Model.{Call, intern, assert, retract, open′, next, byValue, lent, Capacities, freshModel}
 use Rattle.store.specs.Model.{wellFormed, lookupName, nameOf, bytesOf, internName, internModel, matches}
@@ -225,10 +224,17 @@ nextsOf m h i =
     let stm = (storeAfter (freshStore m) (callsIn h)) .tables .statements in
     nextAt stm Subject i ∷ nextAt stm Predicate i ∷ nextAt stm Object i ∷ []
 
--- a resource's count and live count at a position
-abbrev countsOf : Tables → History → Position → ℕ → List ℕ
-countsOf m h p y =
-    let res = (storeAfter (freshStore m) (callsIn h)) .tables .resources in countAt res p y ∷ liveAt res p y ∷ []
+-- the paper's lines loaded
+loading : List Call
+loading = intern r21 ∷ intern trips ∷ intern b4 ∷ assert byValue (triple 1 2 3) ∷ intern b7 ∷ assert byValue (triple 1 2 4) ∷ []
+
+-- the records of the four resources, all their words, after the lines and further calls
+abbrev recordsAfter : List Call → List ℕ
+recordsAfter calls = take (4 * resourceWords) ((storeAfter (freshStore wide) (loading ++ calls)) .tables .resources)
+
+-- firsts, counts, offset and kind of a resource that the paper's lines name, and its live counts
+abbrev rr : ℕ → ℕ → ℕ → ℕ → ℕ → ℕ → ℕ → ℕ → ℕ → ℕ → List ℕ → List ℕ
+rr a b c d e f o s p q rest = a ∷ b ∷ c ∷ d ∷ e ∷ f ∷ o ∷ 1 ∷ s ∷ p ∷ q ∷ rest
 
 -- after the one statement, word i of the resource table holds v
 abbrev changed : ℕ → ℕ → Store
@@ -253,8 +259,8 @@ unfolding r21 trips b4 b7 litA longA ia ib ic ip empty paper tight short label n
     canonical kindOf firstKindOf runOf stepOf wholeOf
     among letter alnum iriByte textByte pairByte firstByte labelByte known within same agrees permitted below wellFormed
     eqBytes matches better pick fits termAt nextAt flagAt tripleAt firstAt countAt offsetAt kindAt liveAt entryAt pickChain
-    pickable startOf linkOf sits visitable walk seek countable locate tallyAt tally counting appendRecord linkFirst linkRecord kinded asserting assertOf
-    retracting retractOf assertLentOf retractLentOf openOf chainOk recordOk cursorOk walkFrom nextOf compare nameAt rank
+    pickable startOf linkOf sits visitable walk seek countable locate tallyAt tally counting appendRecord linkFirst linkRecord
+    kinded asserting assertOf retracting retractOf assertLentOf retractLentOf openOf chainOk recordOk cursorOk walkFrom nextOf compare nameAt rank
     placeAt indexPlaceOf roomFor bring insertAt internAs internOf callStore storeReplies storeAfter
 stores-run = (refl, refl, refl, refl, refl, refl)
 
@@ -269,20 +275,22 @@ unfolding litA longA empty label writesString canonical kindOf firstKindOf runOf
     findOf roomFor bring insertAt internAs internOf callStore storeAfter
 finds-run = refl
 
--- live counts: statement 2 of the paper's example is retracted at the end, and so resource 1 is the subject of two
--- records, one live; a live count above its count is refused 9 by assert and retract, also where it is already there,
--- and not by a listing; a live count of 0 is refused 9 by retract alone
-live-run : (countsOf wide paper Subject 1 ≡ 2 ∷ 1 ∷ []) × (countsOf wide paper Predicate 2 ≡ 2 ∷ 1 ∷ [])
-    × (countsOf wide paper Object 3 ≡ 1 ∷ 1 ∷ []) × (countsOf wide paper Object 4 ≡ 1 ∷ 0 ∷ [])
+-- Live counts: after the paper's lines, and once statement 1 is retracted. A live count above its count, here the predicate's, is
+-- refused 9 by assert and retract, also where the triple is already there, and not by a listing; a live count of 0, here the
+-- object's, is refused 9 by retract alone.
+live-run : (recordsAfter []
+    ≡ rr 2 0 0 2 0 0 0 2 0 0 (rr 0 2 0 0 2 0 7 0 2 0 (rr 0 0 1 0 0 1 17 0 0 1 (rr 0 0 2 0 0 1 23 0 0 1 []))))
+    × (recordsAfter (retract lent (triple 1 2 3) ∷ [])
+    ≡ rr 2 0 0 2 0 0 0 1 0 0 (rr 0 2 0 0 2 0 7 0 1 0 (rr 0 0 1 0 0 1 17 0 0 0 (rr 0 0 2 0 0 1 23 0 0 1 []))))
     × (storeReplies (changed 20 2) (assert byValue one ∷ retract lent one ∷ open′ (triple 0 2 0) ∷ [])
     ≡ refusedWith 9 ∷ refusedWith 9 ∷ placed (cursorAt (triple 0 2 0) (By Predicate) 1) ∷ [])
     × (storeReplies (changed 10 0) (assert lent one ∷ retract byValue one ∷ [])
     ≡ counted 2 1 (tot 2 1 8) ∷ refusedWith 9 ∷ [])
-unfolding r21 trips b4 b7 litA longA ia ib ic ip empty paper single writesString canonical kindOf firstKindOf runOf stepOf wholeOf
+unfolding r21 trips b4 b7 loading ia ip single writesString canonical kindOf firstKindOf runOf stepOf wholeOf
     among letter alnum iriByte textByte pairByte firstByte labelByte known within same agrees permitted below wellFormed
     eqBytes matches better pick fits termAt nextAt flagAt tripleAt firstAt countAt offsetAt kindAt liveAt entryAt
     pickChain pickable startOf linkOf sits visitable walk seek countable locate tallyAt tally counting appendRecord
     linkFirst linkRecord kinded asserting assertOf retracting retractOf assertLentOf retractLentOf openOf chainOk
     recordOk cursorOk walkFrom nextOf compare nameAt rank placeAt indexPlaceOf roomFor bring insertAt internAs internOf
     callStore storeReplies storeAfter
-live-run = (refl, refl, refl, refl, refl, refl)
+live-run = (refl, refl, refl, refl)
