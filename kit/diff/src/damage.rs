@@ -80,8 +80,8 @@ fn live_counts(random: &mut Random, lent: &mut Lent) {
         if place == here || several && random.one_in(2) {
             let (count, live) = (lent.count(triple[here], place), lent.live(triple[here], place));
             let word = match random.below(8) {
-                0..=2 => count.wrapping_add(1),
-                3 => 0,
+                0 | 1 => count.wrapping_add(1),
+                2 | 3 => 0,
                 4 => count.wrapping_sub(random.below(2) as u32),
                 5 => live.wrapping_add(1),
                 6 => live.wrapping_sub(1),

@@ -86,8 +86,8 @@ fn else_given(call: &Call, lent: &Lent, triple: [u32; 3], places: &[usize]) -> S
     }
 }
 
-/// How a call meets live counts, if it is refused neither 1 nor 100. `own` is its result.
-pub fn met(call: &Call, result: u32, own: &str, before: &Lent, after: &Lent) -> Vec<String> {
+/// How a call meets live counts, if it is refused neither 1 nor 100. `own` is its result in words.
+pub fn met(call: &Call, result: u32, own: &str, before: &Lent, after: &Lent, bounded: bool) -> Vec<String> {
     let looked_past = |bound: [u32; 3]| {
         let met = result == 0 && !above(before, bound).is_empty();
         met.then(|| format!("above: {own}")).into_iter().collect()
@@ -97,7 +97,7 @@ pub fn met(call: &Call, result: u32, own: &str, before: &Lent, after: &Lent) -> 
             let wrong: Vec<usize> = (0..PLACES).filter(|&place| !after.live_counts_sound(place)).collect();
             alone("not sound ", &wrong).into_iter().collect()
         }
-        Call::Enter { .. } if result == 0 && after.reply[0] > before.r() => {
+        Call::Enter { .. } if result == 0 && !bounded && after.reply[0] > before.r() => {
             let record = &before.resources[resource_at(after.reply[0])..][..RESOURCE_WORDS];
             let over = record[LIVE..].iter().any(|&word| word != 0);
             over.then(|| "new over other words".to_string()).into_iter().collect()
@@ -151,13 +151,13 @@ fn met_answered(call: &Call, triple: [u32; 3], own: &str, before: &Lent) -> Vec<
     let zero = !places(before, triple, |live, _| live == 0).is_empty();
     let at_its_count = !places(before, triple, |live, count| live == count).is_empty();
     let wrong = (0..PLACES).any(|place| before.live(triple[place], place) as usize != living(before, triple[place], place));
-    let retracting = matches!(call, Call::Retract { .. });
-    let absent = before.walk_to(triple) == Ok(0);
+    let not_live = matches!(call, Call::Retract { .. }) && own == "0";
+    let absent = not_live && before.walk_to(triple) == Ok(0);
     let all = [
         ("revived at its count".to_string(), own == "revived" && at_its_count),
         ("already with a 0".to_string(), own == "already" && zero),
-        ("absent with a 0".to_string(), retracting && own == "0" && zero && absent),
-        ("retracted with a 0".to_string(), retracting && own == "0" && zero && !absent),
+        ("absent with a 0".to_string(), not_live && zero && absent),
+        ("retracted with a 0".to_string(), not_live && zero && !absent),
         (format!("twice: {own}"), twice(triple, &[0, 1, 2])),
         (format!("wrong: {own}"), wrong),
     ];

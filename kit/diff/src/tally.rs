@@ -196,7 +196,8 @@ impl Tally {
         }
         if result != 1 && result != 100 {
             met(call, result, before, after, bounded).into_iter().for_each(|label| one_more(&mut self.endings, label));
-            live::met(call, result, &own, before, after).into_iter().for_each(|label| one_more(&mut self.live_counts, label));
+            let ways = live::met(call, result, &own, before, after, bounded);
+            ways.into_iter().for_each(|label| one_more(&mut self.live_counts, label));
         }
     }
 
