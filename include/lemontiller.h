@@ -7,12 +7,17 @@
  *
  * Every store function begins with the same five slices:
  *   counters    LT_COUNTER_WORDS words: resources R, statements T, text bytes B; all 0 for a fresh store, whose tables may hold anything
- *   resources   LT_RESOURCE_WORDS words a resource: first statement as subject, predicate, object; count as each; text offset; kind
+ *   resources   LT_RESOURCE_WORDS words a resource: first statement as subject, predicate, object; count as each; text offset; kind;
+ *               live count as subject, predicate, object
  *   statements  LT_STATEMENT_WORDS words a statement: subject, predicate, object; next statement for each; flag, 1 if retracted
  *   index       1 word a resource, in rising byte order of name
  *   text        bytes: the names, each closed by a zero byte
  * Resources and statements are numbered from 1; 0 is none. How much a store holds follows from the lengths lent: whole records (and for
  * resources index words too), up to the limits below.
+ *
+ * How many live statements have a resource at a position a screen reads straight from the table, without a walk, while no call writes it:
+ * for a number from 1 to R and an `lt_position` it is word `LT_RESOURCE_WORDS * (number - 1) + LT_RESOURCE_LIVE + position` of `resources`.
+ * On a sound store that is the number of live statements there; the counts before it include retracted ones.
  *
  * The string ending is `^^<http://www.w3.org/2001/XMLSchema#string>`, exactly these 43 bytes: a literal is the same with it and without it,
  * so `"A"` typed either way is one resource. It counts among the LT_MAX_NAME bytes of a name, and is then dropped: no name of a sound
@@ -60,7 +65,11 @@ enum {
 };
 
 /* Words of the lent counters and of one record. */
-enum { LT_COUNTER_WORDS = 3, LT_RESOURCE_WORDS = 8, LT_STATEMENT_WORDS = 7 };
+enum { LT_COUNTER_WORDS = 3, LT_RESOURCE_WORDS = 11, LT_STATEMENT_WORDS = 7 };
+
+/* Where the words of a resource's record begin. First, count and live count are three words each, in the order of `lt_position`. */
+enum { LT_RESOURCE_FIRST = 0, LT_RESOURCE_COUNT = 3, LT_RESOURCE_OFFSET = 6, LT_RESOURCE_KIND = 7, LT_RESOURCE_LIVE = 8 };
+enum lt_position { LT_SUBJECT = 0, LT_PREDICATE = 1, LT_OBJECT = 2 };
 
 /* Words of a scan's cursor: subject, predicate, object (0 for any), chain (an `lt_chain`), next statement or 0; and of a scan's reply. */
 enum { LT_CURSOR_WORDS = 5, LT_SCAN_REPLY_WORDS = 3 };
@@ -146,17 +155,17 @@ uint32_t lt_name(LT_STORE, uint32_t number, uint32_t *reply, size_t reply_len);
 uint32_t lt_statement(LT_STORE, uint32_t number, uint32_t *reply, size_t reply_len);
 
 /* Asserts a triple; a retracted one is revived and keeps its old number. LT_CAPACITY, LT_UNKNOWN_NUMBER, LT_DAMAGED for a kind,
- * LT_KIND_NOT_PERMITTED, LT_DAMAGED, LT_FULL. reply 2: an `lt_asserted`, the statement's number. Writes counters, resources,
- * statements. */
+ * LT_KIND_NOT_PERMITTED, LT_DAMAGED (also for a live count above its count), LT_FULL. reply 2: an `lt_asserted`, the statement's number.
+ * Writes counters, resources, statements. */
 uint32_t lt_assert(uint32_t *counters, size_t counters_len, uint32_t *resources, size_t resources_len, uint32_t *statements,
                    size_t statements_len, const uint32_t *index, size_t index_len, const uint8_t *text, size_t text_len,
                    uint32_t subject, uint32_t predicate, uint32_t object, uint32_t *reply, size_t reply_len);
 
-/* Retracts a triple. LT_CAPACITY, LT_UNKNOWN_NUMBER, LT_DAMAGED. reply 1: the number of the statement that was live until now, or 0.
- * Writes statements. */
-uint32_t lt_retract(const uint32_t *counters, size_t counters_len, const uint32_t *resources, size_t resources_len,
-                    uint32_t *statements, size_t statements_len, const uint32_t *index, size_t index_len, const uint8_t *text,
-                    size_t text_len, uint32_t subject, uint32_t predicate, uint32_t object, uint32_t *reply, size_t reply_len);
+/* Retracts a triple. LT_CAPACITY, LT_UNKNOWN_NUMBER, LT_DAMAGED (also for a live count above its count, or of 0 where the statement is
+ * live). reply 1: the number of the statement that was live until now, or 0. Writes resources, statements. */
+uint32_t lt_retract(const uint32_t *counters, size_t counters_len, uint32_t *resources, size_t resources_len, uint32_t *statements,
+                    size_t statements_len, const uint32_t *index, size_t index_len, const uint8_t *text, size_t text_len,
+                    uint32_t subject, uint32_t predicate, uint32_t object, uint32_t *reply, size_t reply_len);
 
 /* Opens a scan of the statements that match a pattern, 0 for any. LT_CAPACITY, LT_UNKNOWN_NUMBER, LT_DAMAGED. Writes the cursor,
  * LT_CURSOR_WORDS. */

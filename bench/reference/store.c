@@ -1,4 +1,4 @@
-/* Paper 01's tables in plain C.
+/* Paper 01's tables, with the live counts of paper 02, in plain C.
  *
  * By itself it tests only what an answer depends on: refusals 2, 3, 4 and 5. With -DREFUSALS it makes the tests of refusals 1, 6, 7 and 9
  * as well, by abort, so that what they cost can be told from what the language costs.
@@ -135,10 +135,11 @@ int store_next(const store *s, listing *l, uint32_t budget, uint32_t *found, uin
     return answer;
 }
 
-/* The first record with the triple, live or not, on the chain a listing would take. */
+/* The first record with the triple, live or not, on the chain a listing would take. Live counts are tested here, a listing does not look. */
 static uint32_t walk(const store *s, const uint32_t t[3])
 {
     listing l = pick(s, t[0], t[1], t[2]);
+    for (int p = 0; p < 3; p++) REFUSE(s->res[t[p]].live[p] > s->res[t[p]].count[p]);
     for (uint32_t n = l.next; n; n = follow(s, &l, n)) {
         const uint32_t *q = s->st[n].part;
         if (q[0] == t[0] && q[1] == t[1] && q[2] == t[2]) return n;
@@ -159,7 +160,12 @@ uint32_t store_assert(store *s, const uint32_t t[3])
     REFUSE(s->res[t[0]].kind - 1 > 2 || s->res[t[1]].kind - 1 > 2 || s->res[t[2]].kind - 1 > 2);
     if (s->res[t[0]].kind == 3 || s->res[t[1]].kind != 1) return 0;
     uint32_t n = walk(s, t);
-    if (n) { s->st[n].retracted = 0; return n; }
+    if (n) {
+        if (!s->st[n].retracted) return n;
+        s->st[n].retracted = 0;
+        for (int p = 0; p < 3; p++) s->res[t[p]].live[p]++;
+        return n;
+    }
     if (s->T == s->cap_T) return 0;
     n = ++s->T;
     for (int p = 0; p < 3; p++) {
@@ -168,6 +174,7 @@ uint32_t store_assert(store *s, const uint32_t t[3])
         s->st[n].next[p] = r->first[p];
         r->first[p] = n;
         r->count[p]++;
+        r->live[p]++;
     }
     s->st[n].retracted = 0;
     return n;
@@ -178,6 +185,8 @@ uint32_t store_retract(store *s, const uint32_t t[3])
     if (unknown(s, t)) return 0;
     uint32_t n = walk(s, t);
     if (!n || s->st[n].retracted) return 0;
+    for (int p = 0; p < 3; p++) REFUSE(s->res[t[p]].live[p] == 0);
     s->st[n].retracted = 1;
+    for (int p = 0; p < 3; p++) s->res[t[p]].live[p]--;
     return n;
 }

@@ -1,4 +1,4 @@
-/* Paper 01's chained store in plain C: what this structure can do at best. Nothing of it is proved. */
+/* Paper 01's chained store, with the live counts of paper 02, in plain C: what this structure can do at best. Nothing of it is proved. */
 #ifndef STORE_H
 #define STORE_H
 
@@ -8,7 +8,7 @@
 enum { MAX_RESOURCES = 65535, MAX_STATEMENTS = 65535, MAX_TEXT = 1048576 };
 
 /* The records' widths are these structs' sizes, so a word more is a member more. */
-typedef struct { uint32_t first[3], count[3], offset, kind; } resource;
+typedef struct { uint32_t first[3], count[3], offset, kind, live[3]; } resource;
 typedef struct { uint32_t part[3], next[3], retracted; } statement;
 
 typedef struct {

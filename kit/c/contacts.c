@@ -1,9 +1,10 @@
-/* A relay's contacts by name, and a question: what an embedder of the store does, in the order in which a test set does it.
+/* A relay's live count, its contacts by name, and a question: what an embedder of the store does, in the order in which a test set does it.
  *
  *     contacts FILE
  *
- * reads a file of N-Triples into tables of its own, lists what relay <r:21> trips, and asks which breakers are tripped by a relay that
- * trips <b:4>. Refused lines are told and passed over; any other refusal ends the program with status 1.
+ * reads a file of N-Triples into tables of its own, tells how many live statements relay <r:21> is the subject of, lists what it trips,
+ * and asks which breakers are tripped by a relay that trips <b:4>. Refused lines are told and passed over; any other refusal ends the
+ * program with status 1.
  */
 #include <stdio.h>
 #include <stdlib.h>
@@ -90,6 +91,13 @@ static void load(const uint8_t *input, size_t length)
     }
 }
 
+/* Tells how many live statements a relay is the subject of: a word of its record, so a screen may look as often as it draws. */
+static void tell_live(const char *relay)
+{
+    const uint32_t *record = resources + LT_RESOURCE_WORDS * (number_of(relay) - 1);
+    printf("live statements of %s: %u\n", relay, (unsigned)record[LT_RESOURCE_LIVE + LT_SUBJECT]);
+}
+
 /* Lists the objects of a relay's statements, the newest first. The cursor is plain words: it may be kept while the store changes. */
 static void list_contacts(const char *relay, const char *trips)
 {
@@ -151,6 +159,7 @@ int main(int argc, char **argv)
 
     load(input, length);
     printf("%u resources, %u statements\n", (unsigned)counters[0], (unsigned)counters[1]);
+    tell_live("<r:21>");
     list_contacts("<r:21>", "<p:trips>");
     ask_tripped_with("<b:4>", "<p:trips>");
 

@@ -1,20 +1,21 @@
 //! Damages to a store: words that are wrong by themselves, and statements and names that are wrong although every link to them is right.
 
 use crate::plain::{
-    resource_at, statement_at, Lent, COUNT, COUNTER_WORDS, FIRST, FLAG, NEXT, OFFSET, PLACES, RESOURCE_WORDS, STATEMENT_WORDS,
+    resource_at, statement_at, Lent, COUNT, COUNTER_WORDS, FIRST, FLAG, LIVE, NEXT, OFFSET, PLACES, RESOURCE_WORDS, STATEMENT_WORDS,
 };
 use crate::random::Random;
 
 /// Damages a store in one to three places, mostly in the words of its records.
 pub fn damage(random: &mut Random, lent: &mut Lent) {
     for _ in 0..random.from_to(1, 3) {
-        match random.below(20) {
+        match random.below(22) {
             0..=10 => word(random, lent),
             11 => index(random, lent),
             12 => text(random, lent),
             13 | 14 => counter(random, lent),
             15 => length(random, lent),
             16 | 17 => statement(random, lent),
+            18 | 19 => live_counts(random, lent),
             _ => name(random, lent),
         }
     }
@@ -67,7 +68,32 @@ fn length(random: &mut Random, lent: &mut Lent) {
     }
 }
 
-/// Another triple in a statement's place, perhaps one that is there already or of kinds that are not permitted, with every chain right.
+/// Live counts of one resource, often of one that a statement holds in that place: about their counts, about what they were, 0, or any
+/// word; at one place or at several.
+fn live_counts(random: &mut Random, lent: &mut Lent) {
+    let (triple, here) = (random.triple(lent), random.below(PLACES));
+    if !lent.within_capacity() || !lent.is_resource(triple[here]) {
+        return;
+    }
+    let several = random.one_in(3);
+    for place in 0..PLACES {
+        if place == here || several && random.one_in(2) {
+            let (count, live) = (lent.count(triple[here], place), lent.live(triple[here], place));
+            let word = match random.below(8) {
+                0 | 1 => count.wrapping_add(1),
+                2 | 3 => 0,
+                4 => count.wrapping_sub(random.below(2) as u32),
+                5 => live.wrapping_add(1),
+                6 => live.wrapping_sub(1),
+                _ => random.wild(&lent.counters),
+            };
+            lent.resources[resource_at(triple[here]) + LIVE + place] = word;
+        }
+    }
+}
+
+/// Another triple in a statement's place, perhaps one that is there already or of kinds that are not permitted, with every chain and
+/// count right.
 fn statement(random: &mut Random, lent: &mut Lent) {
     let (r, t) = (lent.r(), lent.t());
     if t == 0 || !lent.within_capacity() {
@@ -80,6 +106,7 @@ fn statement(random: &mut Random, lent: &mut Lent) {
         let record = resource_at(y);
         lent.resources[record + FIRST..][..PLACES].fill(0);
         lent.resources[record + COUNT..][..PLACES].fill(0);
+        lent.resources[record + LIVE..][..PLACES].fill(0);
     }
     for n in 1..=t {
         let at = statement_at(n);
@@ -90,6 +117,7 @@ fn statement(random: &mut Random, lent: &mut Lent) {
                 lent.statements[at + NEXT + place] = lent.resources[record + FIRST + place];
                 lent.resources[record + FIRST + place] = n;
                 lent.resources[record + COUNT + place] += 1;
+                lent.resources[record + LIVE + place] += (lent.flag(n) == 0) as u32;
             }
         }
     }

@@ -3,7 +3,8 @@
 
 use crate::names::{kind_of, read_line, Line};
 use crate::plain::{
-    statement_at, Call, Expected, Lent, COUNTER_WORDS, FLAG, MAX_PATTERNS, NEXT, PLACES, RESOURCE_WORDS, STATEMENT_WORDS, VARIABLES,
+    resource_at, statement_at, Call, Expected, Lent, COUNTER_WORDS, FLAG, KIND, LIVE, MAX_PATTERNS, NEXT, PLACES, RESOURCE_WORDS,
+    STATEMENT_WORDS, VARIABLES,
 };
 use crate::random::Random;
 
@@ -219,6 +220,13 @@ fn enter(lent: &mut Lent, name: &str) -> (u32, Vec<u32>) {
     call(lent, Call::Enter { name: name.into() })
 }
 
+/// The record of a literal whose name stands at the text's beginning and that no statement has.
+fn literal_record() -> [u32; RESOURCE_WORDS] {
+    let mut record = [0; RESOURCE_WORDS];
+    record[KIND] = 3;
+    record
+}
+
 /// Decisions 21 and 123: a label with the string ending is the label without it. Room and B go by what is left.
 #[test]
 fn one_label_two_spellings() {
@@ -229,7 +237,7 @@ fn one_label_two_spellings() {
         assert_eq!(find(&mut lent, order[0]), (0, vec![0]));
         assert_eq!(enter(&mut lent, order[0]), (0, vec![1]));
         assert_eq!((&lent.counters[..], &lent.text[..]), (&[1, 0, 4][..], &b"\"A\"\0"[..]));
-        assert_eq!((&lent.resources[..RESOURCE_WORDS], lent.index[0]), (&[0, 0, 0, 0, 0, 0, 0, 3][..], 1));
+        assert_eq!((&lent.resources[..RESOURCE_WORDS], lent.index[0]), (&literal_record()[..], 1));
         for name in order {
             assert_eq!(find(&mut lent, name), (0, vec![1]));
             assert_eq!(enter(&mut lent, name), (0, vec![1]));
@@ -330,7 +338,7 @@ fn lines_with_the_ending() {
 fn holding(name: &str, room: usize) -> Lent {
     let mut lent = fresh(name.len() + 1 + room);
     lent.counters = vec![1, 0, name.len() as u32 + 1];
-    lent.resources[..RESOURCE_WORDS].copy_from_slice(&[0, 0, 0, 0, 0, 0, 0, 3]);
+    lent.resources[..RESOURCE_WORDS].copy_from_slice(&literal_record());
     lent.index[0] = 1;
     lent.text[..name.len()].copy_from_slice(name.as_bytes());
     lent.text[name.len()] = 0;
@@ -379,6 +387,170 @@ fn a_table_with_the_ending() {
         after.counters = vec![if answer == 2 { 2 } else { 1 }, 0, text_bytes];
         assert_eq!(asked.bounds_kept(&before, result, &after).is_ok(), kept, "{room} {result} {answer} {text_bytes}");
     }
+}
+
+/// The live counts of the first resources, each as subject, predicate and object.
+fn live(lent: &Lent, resources: u32) -> Vec<[u32; PLACES]> {
+    (1..=resources).map(|number| [0, 1, 2].map(|place| lent.live(number, place))).collect()
+}
+
+fn set_live(lent: &mut Lent, number: u32, place: usize, live: u32) {
+    lent.resources[resource_at(number) + LIVE + place] = live;
+}
+
+/// A call that is refused 9 and leaves the tables as they were.
+fn damaged(lent: &mut Lent, asked: Call) {
+    let before = lent.clone();
+    assert_eq!(call(lent, asked.clone()).0, 9, "{asked:?}");
+    assert!(lent.counters == before.counters && lent.resources == before.resources && lent.statements == before.statements);
+}
+
+/// Paper 02, live counts: new and revived raise all three, already none, retracting lowers them; the counts of paper 01 stay.
+#[test]
+fn live_counts() {
+    let (retract, assert) = (Call::Retract { triple: [1, 2, 3] }, Call::Assert { triple: [1, 2, 3] });
+    let both = [[2, 0, 0], [0, 2, 0], [0, 0, 1], [0, 0, 1]];
+    let one = [[1, 0, 0], [0, 1, 0], [0, 0, 0], [0, 0, 1]];
+    let mut lent = bay();
+    assert_eq!(live(&lent, 4), both);
+    let history = [(&assert, vec![2, 1], both), (&retract, vec![1], one), (&retract, vec![0], one), (&assert, vec![3, 1], both)];
+    for (asked, answer, live_after) in history {
+        assert_eq!(call(&mut lent, asked.clone()), (0, answer));
+        assert_eq!(live(&lent, 4), live_after);
+        let counts: Vec<u32> = [(1, 0), (2, 1), (3, 2), (4, 2)].map(|(number, place)| lent.count(number, place)).to_vec();
+        assert_eq!((counts, call(&mut lent, Call::Check)), (vec![2, 2, 1, 1], (0, vec![1])));
+    }
+
+    // One resource at two places, then at all three: a count of each place.
+    let mut lent = store(&["<a>", "<b>"], &[[1, 2, 1], [1, 1, 1]]);
+    assert_eq!(live(&lent, 2), [[2, 1, 2], [0, 1, 0]]);
+    assert_eq!(call(&mut lent, Call::Retract { triple: [1, 2, 1] }), (0, vec![1]));
+    assert_eq!(live(&lent, 2), [[1, 1, 1], [0, 0, 0]]);
+    assert_eq!(call(&mut lent, Call::Retract { triple: [1, 1, 1] }), (0, vec![2]));
+    assert_eq!(live(&lent, 2), [[0; 3]; 2]);
+    assert_eq!(call(&mut lent, Call::Assert { triple: [1, 1, 1] }), (0, vec![3, 2]));
+    assert_eq!(live(&lent, 2), [[1, 1, 1], [0, 0, 0]]);
+    assert_eq!(call(&mut lent, Call::Check), (0, vec![1]));
+}
+
+/// Paper 02, live counts: a record has eleven words, and capacity goes by whole ones. Entering writes all of them.
+#[test]
+fn eleven_words() {
+    for (words, records) in [(0, 0), (8, 0), (10, 0), (11, 1), (16, 1), (21, 1), (22, 2)] {
+        let mut lent = fresh(64);
+        lent.resources = vec![9; words];
+        for (number, name) in [(1, "<a>"), (2, "<b>")] {
+            let answer = if number <= records { (0, vec![number]) } else { (3, vec![0]) };
+            assert_eq!(enter(&mut lent, name), answer, "{words} words");
+        }
+        assert_eq!(lent.counters[0], records);
+        if records == 2 {
+            assert_eq!(lent.resources, [0, 0, 0, 0, 0, 0, 0, 1, 0, 0, 0, 0, 0, 0, 0, 0, 0, 4, 1, 0, 0, 0]);
+        }
+        lent.counters[0] = records + 1;
+        assert_eq!(find(&mut lent, "<a>").0, 1, "{words} words");
+    }
+}
+
+/// Paper 02, live counts: a store is sound exactly if each is the number of live records, in each place.
+#[test]
+fn sound_live_counts() {
+    let mut right = bay();
+    assert_eq!(call(&mut right, Call::Retract { triple: [1, 2, 4] }), (0, vec![2]));
+    for number in 1..=4 {
+        for place in 0..PLACES {
+            let own = right.live(number, place);
+            for live in [own.wrapping_sub(1), own, own + 1, right.count(number, place)] {
+                let mut lent = right.clone();
+                set_live(&mut lent, number, place, live);
+                assert_eq!(call(&mut lent, Call::Check), (0, vec![(live == own) as u32]), "{number} {place} {live}");
+            }
+        }
+    }
+}
+
+/// Paper 02, live counts: one above its count is 9 in assert and retract, whatever would be answered, and nothing to a listing.
+#[test]
+fn live_above_its_count() {
+    let triples = [[1, 2, 3], [1, 2, 4], [1, 2, 2], [1, 2, 1]];
+    for place in 0..PLACES {
+        // Live, retracted, absent with room and without: no resource of the place is in order.
+        let mut lent = bay();
+        assert_eq!(call(&mut lent, Call::Retract { triple: [1, 2, 4] }), (0, vec![2]));
+        for number in 1..=4 {
+            let above = lent.count(number, place) + 1;
+            set_live(&mut lent, number, place, above);
+        }
+        for full in [false, true] {
+            if full {
+                lent.statements.truncate(STATEMENT_WORDS * 2);
+            }
+            for triple in triples {
+                damaged(&mut lent, Call::Assert { triple });
+                damaged(&mut lent, Call::Retract { triple });
+            }
+        }
+        // 1, 4, the 9 of a kind and 5 come before.
+        assert_eq!(call(&mut lent, Call::Assert { triple: [5, 2, 3] }).0, 4);
+        lent.resources[resource_at(1) + KIND] = 3;
+        assert_eq!(call(&mut lent, Call::Assert { triple: [1, 2, 3] }).0, 5);
+        damaged(&mut lent, Call::Retract { triple: [1, 2, 3] });
+        lent.resources[resource_at(1) + KIND] = 1;
+        assert_eq!(listed(&mut lent, [1, 2, 3]), (vec![1], 1));
+        assert_eq!(listed(&mut lent, [1, 2, 0]), (vec![1], 2));
+        lent.counters[1] = 3;
+        assert_eq!(call(&mut lent, Call::Assert { triple: [1, 2, 3] }).0, 1);
+
+        // Above elsewhere, or at another place of the same resource, it does not matter.
+        let mut lent = bay();
+        for number in 1..=4 {
+            for other in (0..PLACES).filter(|&other| triples[0][other] != number) {
+                set_live(&mut lent, number, other, u32::MAX);
+            }
+        }
+        assert_eq!(call(&mut lent, Call::Assert { triple: triples[0] }), (0, vec![2, 1]));
+        assert_eq!(call(&mut lent, Call::Retract { triple: triples[0] }), (0, vec![1]));
+        assert_eq!(call(&mut lent, Call::Assert { triple: triples[0] }), (0, vec![3, 1]));
+    }
+}
+
+/// Paper 02, live counts: one of 0 is 9 in retract where the record found is live, and there alone.
+#[test]
+fn live_0() {
+    for place in 0..PLACES {
+        let triple = [1, 2, 3];
+        let mut lent = bay();
+        set_live(&mut lent, triple[place], place, 0);
+        damaged(&mut lent, Call::Retract { triple });
+        assert_eq!(call(&mut lent, Call::Assert { triple }), (0, vec![2, 1]));
+        assert_eq!(call(&mut lent, Call::Retract { triple: [1, 2, 2] }), (0, vec![0]));
+
+        let mut lent = bay();
+        assert_eq!(call(&mut lent, Call::Retract { triple }), (0, vec![1]));
+        set_live(&mut lent, triple[place], place, 0);
+        assert_eq!(call(&mut lent, Call::Retract { triple }), (0, vec![0]));
+        assert_eq!(call(&mut lent, Call::Assert { triple }), (0, vec![3, 1]));
+        assert_eq!(lent.live(triple[place], place), 1);
+        assert_eq!(call(&mut lent, Call::Retract { triple }), (0, vec![1]));
+    }
+    // A chain of no count, walked all the same.
+    let mut lent = store(&["<a>"], &[[1, 1, 1]]);
+    lent.resources[..RESOURCE_WORDS].copy_from_slice(&[1, 1, 1, 0, 0, 0, 0, 1, 0, 0, 0]);
+    damaged(&mut lent, Call::Retract { triple: [1; 3] });
+    assert_eq!(call(&mut lent, Call::Assert { triple: [1; 3] }), (0, vec![2, 1]));
+}
+
+/// Decisions on live counts: reviving raises them also where they are at their counts; what comes after is refused.
+#[test]
+fn revived_past_its_count() {
+    let triple = [1, 1, 1];
+    let mut lent = store(&["<a>"], &[triple]);
+    lent.statements[statement_at(1) + FLAG] = 1;
+    assert_eq!(call(&mut lent, Call::Check), (0, vec![0]));
+    assert_eq!(call(&mut lent, Call::Assert { triple }), (0, vec![3, 1]));
+    assert_eq!(live(&lent, 1), [[2, 2, 2]]);
+    damaged(&mut lent, Call::Assert { triple });
+    damaged(&mut lent, Call::Retract { triple });
 }
 
 /// Every choice of one live statement a pattern, the first pattern's deciding first, higher numbers first, that gives each variable one

@@ -1,11 +1,11 @@
 //! The limits of 65,535 records and 1,048,576 bytes of text: every function at them and one beyond, on tables that have room for more
 //! and hold what would be sound there, so that a limit that is not kept shows in the answer. And the room for a literal with the string
-//! ending, which is that for what is left of it.
+//! ending, which is that for what is left of it; the live count of a chain of all statements; and resource tables about each whole record.
 
 use crate::names::{MAX_NAME, STRING_ENDING};
 use crate::plain::{
-    resource_at, statement_at, Call, Lent, COUNT, COUNTER_WORDS, FIRST, FIRST_VARIABLE, FLAG, LONGEST_REPLY, MAX_RECORDS, MAX_TEXT,
-    NEXT, OFFSET, QUERY_CURSOR_WORDS, RESOURCE_WORDS, SCAN_CURSOR_WORDS, STATEMENT_WORDS,
+    resource_at, statement_at, Call, Lent, COUNT, COUNTER_WORDS, FIRST, FIRST_VARIABLE, FLAG, LIVE, LONGEST_REPLY, MAX_RECORDS,
+    MAX_TEXT, NEXT, OFFSET, QUERY_CURSOR_WORDS, RESOURCE_WORDS, SCAN_CURSOR_WORDS, STATEMENT_WORDS,
 };
 use crate::{Difference, Run};
 
@@ -53,15 +53,16 @@ fn store(lengths: &[usize], statements: u32) -> Lent {
     names.sort();
     names.iter().enumerate().for_each(|(k, (_, n))| lent.index[k] = *n);
     for n in 1..=statements {
-        let at = statement_at(n);
+        let (at, retracted) = (statement_at(n), n % 5 == 1);
         for (place, number) in triple(n, resources).into_iter().enumerate() {
             let record = resource_at(number);
             lent.statements[at + place] = number;
             lent.statements[at + NEXT + place] = lent.resources[record + FIRST + place];
             lent.resources[record + FIRST + place] = n;
             lent.resources[record + COUNT + place] += 1;
+            lent.resources[record + LIVE + place] += !retracted as u32;
         }
-        lent.statements[at + FLAG] = (n % 5 == 1) as u32;
+        lent.statements[at + FLAG] = retracted as u32;
     }
     lent
 }
@@ -89,7 +90,9 @@ impl Run {
         beyond.extend([127, 128]);
         self.every_function(store(&beyond, 300), LONG)?;
         self.window()?;
-        self.endings()
+        self.endings()?;
+        self.live_counts()?;
+        self.resource_words()
     }
 
     /// Labels with the string ending, where what is left of them, three bytes or as many as may be, lacks a byte of room, then just fits:
@@ -126,6 +129,51 @@ impl Run {
             self.compare(&Call::Find { name: name.clone() }, lent)?;
         }
         self.compare(&Call::Check, lent)
+    }
+
+    /// The live count of the predicate, which all statements have: about its count, 0 and 1, and the highest. Statements 1 and 6 are
+    /// retracted, 2 and 3 live; there is room for one more.
+    fn live_counts(&mut self) -> Result<(), Difference> {
+        const AS_PREDICATE: usize = 1;
+        let whole = store(&[SHORT; 300], MAX_RECORDS as u32 - 1);
+        let r = whole.r();
+        let count = whole.count(PREDICATE, AS_PREDICATE);
+        for live in [count - 1, count, count + 1, 0, 1, u32::MAX] {
+            let lent = &mut whole.clone();
+            lent.resources[resource_at(PREDICATE) + LIVE + AS_PREDICATE] = live;
+            let assert = |n: u32| Call::Assert { triple: triple(n, r) };
+            let retract = |n: u32| Call::Retract { triple: triple(n, r) };
+            let absent = |object: u32| Call::Assert { triple: [1, PREDICATE, object] };
+            self.compare(&Call::Check, lent)?;
+            self.compare(&Call::ScanOpen { pattern: [0, PREDICATE, 0] }, lent)?;
+            self.compare(&Call::ScanNext { budget: u32::MAX }, lent)?;
+            lent.cursor[SCAN_CURSOR_WORDS - 1] = 6;
+            self.compare(&Call::ScanNext { budget: 1 }, lent)?;
+            // Of the two that are revived the second may bring it past its count; all after that is then refused.
+            for call in [assert(2), retract(1), retract(2), absent(r), assert(1), assert(6), assert(3), retract(3), absent(r - 1)] {
+                self.compare(&call, lent)?;
+            }
+        }
+        Ok(())
+    }
+
+    /// Resource tables from no word to three whole records: how many names they take, and that a record has words of its own.
+    fn resource_words(&mut self) -> Result<(), Difference> {
+        for words in 0..=3 * RESOURCE_WORDS {
+            let lent = &mut store(&[], 0);
+            lent.resources = vec![7; words];
+            for name in [b"<a>", b"<b>", b"<c>", b"<d>"] {
+                self.compare(&Call::Enter { name: name.to_vec() }, lent)?;
+            }
+            for triple in [[1, 1, 1], [1, 2, 1]] {
+                self.compare(&Call::Assert { triple }, lent)?;
+            }
+            self.compare(&Call::Retract { triple: [1, 1, 1] }, lent)?;
+            self.compare(&Call::Check, lent)?;
+            lent.counters[0] += 1;
+            self.compare(&Call::Name { number: 1 }, lent)?;
+        }
+        Ok(())
     }
 
     /// The window of a name: its zero is the 256th byte from the offset, then the 257th.

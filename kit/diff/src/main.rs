@@ -1,5 +1,5 @@
 //! The differential test: random calls through the C interface against the plain implementation in `plain.rs` and `names.rs`, which is
-//! written from paper 01, what paper 02 says of the same label typed two ways, and `docs/DECISIONS.md` alone.
+//! written from paper 01, what paper 02 says of live counts and of the same label typed two ways, and `docs/DECISIONS.md` alone.
 //!
 //!     diff SEED CALLS SECONDS
 //!
@@ -7,14 +7,15 @@
 //! counters and every byte of the tables must be what the paper says; where find and enter meet a dictionary that is not sound, what
 //! the paper leaves open is bounded. The first difference is told with the seed, the call's number and both answers, and ends the run
 //! with status 1. A run that made fewer calls than it was to make, and fewer than a million, has failed too. At the end stands how many
-//! calls of each kind had each result, and how many met the string ending in which way; a run of 300,000 calls or more must have met all
-//! of these.
+//! calls of each kind had each result, and how many met the string ending and live counts in which way; a run of 300,000 calls or more
+//! must have met all of these.
 
 mod damage;
 #[cfg(test)]
 mod examples;
 mod library;
 mod limits;
+mod live;
 mod names;
 mod plain;
 mod random;
@@ -36,7 +37,7 @@ const MIDDLE: usize = 300;
 /// A run that is to make so many calls or more has failed with fewer, also where its time is over.
 const LEAST: u64 = 1_000_000;
 
-/// Calls after which every result, and everything of the string ending, must have been met.
+/// Calls after which every result, and everything of the string ending and of live counts, must have been met.
 const ENOUGH: u64 = 300_000;
 
 struct Run {

@@ -1,6 +1,6 @@
-//! The store, plainly: paper 01, "Tables and counters" and "Operations and refusals", and paper 02 on the same label typed two ways, as
-//! read in `docs/DECISIONS.md`. Nothing here is meant to be fast. Every operation works on what is lent, as the library's does, so that
-//! the two can be compared byte by byte.
+//! The store, plainly: paper 01, "Tables and counters" and "Operations and refusals", and paper 02 on live counts and on the same label
+//! typed two ways, as read in `docs/DECISIONS.md`. Nothing here is meant to be fast. Every operation works on what is lent, as the
+//! library's does, so that the two can be compared byte by byte.
 //! Refusals are the `Err` of a `Result`, by their number.
 
 use crate::names::{has_ending, kind_of, read_line, without_ending, Line, MAX_NAME};
@@ -12,12 +12,13 @@ pub const VARIABLES: usize = 16;
 pub const FIRST_VARIABLE: u32 = 1 << 31;
 
 pub const COUNTER_WORDS: usize = 3;
-/// A resource's record: first as subject, predicate and object, count as each, offset, kind.
-pub const RESOURCE_WORDS: usize = 8;
+/// A resource's record: first as subject, predicate and object, count as each, offset, kind, live count as each.
+pub const RESOURCE_WORDS: usize = 11;
 pub const FIRST: usize = 0;
 pub const COUNT: usize = 3;
 pub const OFFSET: usize = 6;
 pub const KIND: usize = 7;
+pub const LIVE: usize = 8;
 /// A statement's record: subject, predicate, object, next on the chain of each, flag.
 pub const STATEMENT_WORDS: usize = 7;
 pub const NEXT: usize = 3;
@@ -127,8 +128,11 @@ impl Lent {
     fn first(&self, n: u32, place: usize) -> u32 {
         self.resource_word(n, FIRST + place)
     }
-    fn count(&self, n: u32, place: usize) -> u32 {
+    pub fn count(&self, n: u32, place: usize) -> u32 {
         self.resource_word(n, COUNT + place)
+    }
+    pub fn live(&self, n: u32, place: usize) -> u32 {
+        self.resource_word(n, LIVE + place)
     }
     fn offset(&self, n: u32) -> u32 {
         self.resource_word(n, OFFSET)
@@ -139,7 +143,7 @@ impl Lent {
     fn statement_word(&self, n: u32, word: usize) -> u32 {
         self.statements[statement_at(n) + word]
     }
-    fn member(&self, n: u32, place: usize) -> u32 {
+    pub fn member(&self, n: u32, place: usize) -> u32 {
         self.statement_word(n, place)
     }
     fn triple(&self, n: u32) -> [u32; 3] {
@@ -148,14 +152,14 @@ impl Lent {
     fn next(&self, n: u32, place: usize) -> u32 {
         self.statement_word(n, NEXT + place)
     }
-    fn flag(&self, n: u32) -> u32 {
+    pub fn flag(&self, n: u32) -> u32 {
         self.statement_word(n, FLAG)
     }
     fn set_flag(&mut self, n: u32, flag: u32) {
         self.statements[statement_at(n) + FLAG] = flag;
     }
 
-    fn is_resource(&self, number: u32) -> bool {
+    pub fn is_resource(&self, number: u32) -> bool {
         1 <= number && number <= self.r()
     }
     fn resources_known(&self, n: u32) -> bool {
@@ -165,6 +169,11 @@ impl Lent {
     // ---- soundness
 
     fn sound(&self) -> bool {
+        self.sound_but_for_live_counts() && (0..PLACES).all(|place| self.live_counts_sound(place))
+    }
+
+    /// Whether all is sound, live counts apart.
+    pub fn sound_but_for_live_counts(&self) -> bool {
         self.within_capacity() && self.names().is_some() && self.statements_sound() && self.chains_sound()
     }
 
@@ -175,6 +184,7 @@ impl Lent {
             && self.spelled_names().is_some()
             && self.statements_sound()
             && self.chains_sound()
+            && (0..PLACES).all(|place| self.live_counts_sound(place))
     }
 
     /// The names in resource order, if text, offsets, kinds and index are sound. Counters must be within capacity.
@@ -232,6 +242,13 @@ impl Lent {
             });
             nexts && (1..=self.r()).all(|number| chains[number as usize] == (self.first(number, place), self.count(number, place)))
         })
+    }
+
+    /// Whether every live count of a place is the number of live records that hold the resource there. Their resources must be known.
+    pub fn live_counts_sound(&self, place: usize) -> bool {
+        let mut live = vec![0; self.r() as usize + 1];
+        (1..=self.t()).filter(|&n| self.flag(n) == 0).for_each(|n| live[self.member(n, place) as usize] += 1);
+        (1..=self.r()).all(|number| live[number as usize] == self.live(number, place))
     }
 
     // ---- chains
@@ -358,9 +375,13 @@ impl Lent {
         Ok([subject, predicate, object, self.flag(number)])
     }
 
-    /// The first record with a triple on the chain that a listing of it would take, or 0.
-    fn walk_to(&self, triple: [u32; 3]) -> Result<u32, u32> {
+    /// The first record with a triple on the chain that a listing of it would take, or 0. Where firsts and counts are tested, so are the
+    /// live counts.
+    pub fn walk_to(&self, triple: [u32; 3]) -> Result<u32, u32> {
         let (chain, mut n) = self.pick(triple)?;
+        if (0..PLACES).any(|place| self.live(triple[place], place) > self.count(triple[place], place)) {
+            return Err(9);
+        }
         while n != 0 {
             self.visit(chain, triple, n)?;
             if self.triple(n) == triple {
@@ -369,6 +390,14 @@ impl Lent {
             n = self.after(chain, n);
         }
         Ok(n)
+    }
+
+    /// The three live counts of a triple, each made another by `change`.
+    fn change_live(&mut self, triple: [u32; 3], change: fn(u32) -> u32) {
+        for place in 0..PLACES {
+            let live = &mut self.resources[resource_at(triple[place]) + LIVE + place];
+            *live = change(*live);
+        }
     }
 
     fn assert(&mut self, triple: [u32; 3]) -> Result<(u32, u32), u32> {
@@ -384,10 +413,13 @@ impl Lent {
             return Err(5);
         }
         let n = self.walk_to(triple)?;
+        if n != 0 && self.flag(n) == 0 {
+            return Ok((ALREADY, n));
+        }
         if n != 0 {
-            let status = if self.flag(n) == 0 { ALREADY } else { REVIVED };
             self.set_flag(n, 0);
-            return Ok((status, n));
+            self.change_live(triple, |live| live + 1);
+            return Ok((REVIVED, n));
         }
         if self.t() as usize == self.statement_capacity() {
             return Err(3);
@@ -401,6 +433,7 @@ impl Lent {
             self.resources[at + FIRST + place] = n;
             self.resources[at + COUNT + place] += 1;
         }
+        self.change_live(triple, |live| live + 1);
         self.counters[1] = n;
         Ok((NEW, n))
     }
@@ -414,7 +447,11 @@ impl Lent {
         if n == 0 || self.flag(n) == 1 {
             return Ok(0);
         }
+        if (0..PLACES).any(|place| self.live(triple[place], place) == 0) {
+            return Err(9);
+        }
         self.set_flag(n, 1);
+        self.change_live(triple, |live| live - 1);
         Ok(n)
     }
 

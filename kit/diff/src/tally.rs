@@ -1,5 +1,6 @@
-//! How many calls of each kind had each result, and how many met the string ending in which way.
+//! How many calls of each kind had each result, and how many met the string ending and live counts in which way.
 
+use crate::live;
 use crate::names::{quoted_and_suffix, MAX_NAME, STRING_ENDING};
 use crate::plain::{Call, Lent};
 use std::collections::BTreeMap;
@@ -7,12 +8,13 @@ use std::fmt;
 
 type Counts = BTreeMap<(&'static str, String), u64>;
 
-/// Calls by function and result; where the paper only bounds the answer, apart from the others. Then those that meet the string ending, by
-/// function and how.
+/// Calls by function and result; where the paper only bounds the answer, apart from the others. Then those that meet the string ending, and
+/// those that meet live counts, by function and how.
 #[derive(Default)]
 pub struct Tally {
     calls: Counts,
     endings: Counts,
+    live_counts: Counts,
 }
 
 /// Every function with the results that the paper gives it. Find and enter may answer 9, and need not.
@@ -79,7 +81,8 @@ fn function(call: &Call) -> &'static str {
     }
 }
 
-fn label(call: &Call, result: u32, lent: &Lent) -> String {
+/// A call's result in words.
+pub fn label(call: &Call, result: u32, lent: &Lent) -> String {
     let number = |n: u32| if n == 0 { "0" } else { "a number" };
     if result != 0 {
         return format!("refused {result}");
@@ -186,12 +189,15 @@ impl Tally {
     /// Counts a call by its result, what it was lent and what it left.
     pub fn count(&mut self, call: &Call, result: u32, before: &Lent, after: &Lent, bounded: bool) {
         let one_more = |counts: &mut Counts, label| *counts.entry((function(call), label)).or_default() += 1;
-        one_more(&mut self.calls, label(call, result, after));
+        let own = label(call, result, after);
+        one_more(&mut self.calls, own.clone());
         if bounded {
             one_more(&mut self.calls, "bounded".to_string());
         }
         if result != 1 && result != 100 {
             met(call, result, before, after, bounded).into_iter().for_each(|label| one_more(&mut self.endings, label));
+            let ways = live::met(call, result, &own, before, after, bounded);
+            ways.into_iter().for_each(|label| one_more(&mut self.live_counts, label));
         }
     }
 
@@ -199,8 +205,9 @@ impl Tally {
     pub fn missing(&self) -> Vec<String> {
         let results = RESULTS.iter().map(|row| (row, &self.calls, ""));
         let endings = ENDINGS.iter().map(|row| (row, &self.endings, "with the string ending "));
+        let live_counts = live::WAYS.iter().map(|row| (row, &self.live_counts, "with a live count "));
         let mut missing = vec![];
-        for (&(function, labels), counts, with) in results.chain(endings) {
+        for (&(function, labels), counts, with) in results.chain(endings).chain(live_counts) {
             let absent = labels.iter().filter(|label| !counts.contains_key(&(function, label.to_string())));
             missing.extend(absent.map(|label| format!("{function} {with}{label}")));
         }
@@ -222,6 +229,8 @@ impl fmt::Display for Tally {
     fn fmt(&self, f: &mut fmt::Formatter<'_>) -> fmt::Result {
         table(f, &RESULTS, &self.calls)?;
         writeln!(f, "with the string ending, or close to it:")?;
-        table(f, &ENDINGS, &self.endings)
+        table(f, &ENDINGS, &self.endings)?;
+        writeln!(f, "with live counts:")?;
+        table(f, &live::WAYS, &self.live_counts)
     }
 }

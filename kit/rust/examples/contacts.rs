@@ -1,11 +1,12 @@
-//! A relay's contacts by name, and a question: the Rust twin of `kit/c/contacts.c`, with the same output.
+//! A relay's live count, its contacts by name, and a question: the Rust twin of `kit/c/contacts.c`, with the same output.
 //!
 //!     contacts FILE
 //!
-//! reads a file of N-Triples into tables of its own, lists what relay <r:21> trips, and asks which breakers are tripped by a relay that
-//! trips <b:4>. Refused lines are told and passed over; any other refusal ends the program with status 1.
+//! reads a file of N-Triples into tables of its own, tells how many live statements relay <r:21> is the subject of, lists what it trips,
+//! and asks which breakers are tripped by a relay that trips <b:4>. Refused lines are told and passed over; any other refusal ends the
+//! program with status 1.
 
-use lemontiller::{Error, Line, Lines, Outcome, Question, ResourceId, Store, Term};
+use lemontiller::{Error, Line, Lines, Outcome, Position, Question, ResourceId, Store, Term};
 use lemontiller::{COUNTER_WORDS, RESOURCE_WORDS, STATEMENT_WORDS};
 use std::{env, fs, process::ExitCode};
 
@@ -45,6 +46,13 @@ fn number_of(store: &Store, name: &str) -> Result<ResourceId, String> {
 
 fn name_of(store: &Store, id: ResourceId) -> Result<String, Error> {
     Ok(String::from_utf8_lossy(store.name(id)?).into_owned())
+}
+
+/// Tells how many live statements a relay is the subject of: a word of its record, so a screen may ask as often as it draws.
+fn tell_live(store: &Store, relay: &str) -> Result<(), String> {
+    let live = store.live(number_of(store, relay)?, Position::Subject).map_err(|error| error.to_string())?;
+    println!("live statements of {relay}: {live}");
+    Ok(())
 }
 
 /// Lists the objects of a relay's statements, the newest first, a few visits at a time. `store.scan` would give them all as an iterator.
@@ -96,6 +104,7 @@ fn run(path: &str) -> Result<(), String> {
 
     load(&mut store, &input);
     println!("{} resources, {} statements", store.counters().resources, store.counters().statements);
+    tell_live(&store, "<r:21>")?;
     list_contacts(&store, "<r:21>", "<p:trips>")?;
     ask_tripped_with(&store, "<b:4>", "<p:trips>")?;
 

@@ -29,7 +29,7 @@ store_functions! {
     lt_name(const const const const const; number: u32, reply: *mut u32, reply_len: usize);
     lt_statement(const const const const const; number: u32, reply: *mut u32, reply_len: usize);
     lt_assert(mut mut mut const const; subject: u32, predicate: u32, object: u32, reply: *mut u32, reply_len: usize);
-    lt_retract(const const mut const const; subject: u32, predicate: u32, object: u32, reply: *mut u32, reply_len: usize);
+    lt_retract(const mut mut const const; subject: u32, predicate: u32, object: u32, reply: *mut u32, reply_len: usize);
     lt_scan_open(const const const const const; subject: u32, predicate: u32, object: u32, cursor: *mut u32, cursor_len: usize);
     lt_scan_next(const const const const const; cursor: *mut u32, cursor_len: usize, budget: u32, reply: *mut u32, reply_len: usize);
     lt_query_open(const const const const const; words: *const u32, words_len: usize, cursor: *mut u32, cursor_len: usize);

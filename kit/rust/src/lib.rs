@@ -17,8 +17,11 @@ mod tests;
 
 /// Words of the counters, of a resource's record and of a statement's.
 pub const COUNTER_WORDS: usize = 3;
-pub const RESOURCE_WORDS: usize = 8;
+pub const RESOURCE_WORDS: usize = 11;
 pub const STATEMENT_WORDS: usize = 7;
+
+/// Where in a resource's record the live counts begin, in the order of [`Position`].
+const LIVE: usize = 8;
 
 /// The most patterns of a question, and its variables: 0 to 15.
 pub const MAX_PATTERNS: usize = 8;
@@ -122,6 +125,14 @@ pub enum Kind {
     Iri,
     Blank,
     Literal,
+}
+
+/// A place of a triple.
+#[derive(Clone, Copy, Debug, PartialEq, Eq)]
+pub enum Position {
+    Subject,
+    Predicate,
+    Object,
 }
 
 /// How much of the tables is in use.
@@ -385,6 +396,17 @@ impl<'a> Store<'a> {
         let mut reply = [0u32; 2];
         reading!(lt_name, self, id.0, reply.as_mut_ptr(), reply.len())?;
         Ok(&self.text[reply[0] as usize..][..reply[1] as usize])
+    }
+
+    /// How many live statements have a resource at a position, as its record says: nothing is walked. On a sound store it is their number;
+    /// on any other it is what the word holds.
+    pub fn live(&self, id: ResourceId, position: Position) -> Result<u32, Error> {
+        // Opening a question of no patterns tests the counters and nothing else.
+        self.query_open(&Question { words: vec![] })?;
+        if id.0 == 0 || id.0 > self.counters[0] {
+            return Err(Error::UnknownNumber);
+        }
+        Ok(self.resources[RESOURCE_WORDS * (id.0 as usize - 1) + LIVE + position as usize])
     }
 
     pub fn statement(&self, id: StatementId) -> Result<Statement, Error> {

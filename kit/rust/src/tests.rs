@@ -50,6 +50,65 @@ fn statements_live_and_die() {
     })
 }
 
+/// The live counts of a resource as subject, predicate and object.
+fn live(store: &Store, id: ResourceId) -> [u32; 3] {
+    [Position::Subject, Position::Predicate, Position::Object].map(|position| store.live(id, position).unwrap())
+}
+
+#[test]
+fn live_counts_follow_the_statements() {
+    with_bay(|store, [relay, trips, b4, b7]| {
+        let all = |store: &Store| [relay, trips, b4, b7].map(|id| live(store, id));
+        let both = [[2, 0, 0], [0, 2, 0], [0, 0, 1], [0, 0, 1]];
+        let one = [[1, 0, 0], [0, 1, 0], [0, 0, 0], [0, 0, 1]];
+        assert_eq!(all(store), both);
+        assert_eq!(store.assert(relay, trips, b4), Ok(Asserted::Already(StatementId(1))));
+        assert_eq!(all(store), both);
+        assert_eq!(store.retract(relay, trips, b4), Ok(Some(StatementId(1))));
+        assert_eq!(all(store), one);
+        assert_eq!(store.retract(relay, trips, b4), Ok(None));
+        assert_eq!(all(store), one);
+        assert_eq!(store.assert(relay, trips, b4), Ok(Asserted::Revived(StatementId(1))));
+        assert_eq!(all(store), both);
+
+        // The same resource at two positions, then at all three: each has a count of its own.
+        assert_eq!(store.assert(relay, trips, relay), Ok(Asserted::New(StatementId(3))));
+        assert_eq!((live(store, relay), live(store, trips)), ([3, 0, 1], [0, 3, 0]));
+        assert_eq!(store.assert(trips, trips, trips), Ok(Asserted::New(StatementId(4))));
+        assert_eq!(live(store, trips), [1, 4, 1]);
+        assert_eq!(store.retract(relay, trips, relay), Ok(Some(StatementId(3))));
+        assert_eq!((live(store, relay), live(store, trips)), ([2, 0, 0], [1, 3, 1]));
+        assert!(store.is_sound());
+    })
+}
+
+#[test]
+fn live_counts_of_any_tables() {
+    with_bay(|store, _| {
+        let entered = store.enter(b"\"A\"").unwrap();
+        assert_eq!(live(store, entered), [0; 3]);
+        for number in [0, 6, 7, u32::MAX] {
+            assert_eq!(store.live(ResourceId(number), Position::Subject), Err(Error::UnknownNumber));
+        }
+    });
+    // The word as it is, also where nothing else is right. One word less and the record is not there.
+    let mut resources: [u32; RESOURCE_WORDS] = std::array::from_fn(|word| u32::MAX - word as u32);
+    let (mut counters, mut index) = ([1, 0, 0], [0; 2]);
+    let store = Store::new(&mut counters, &mut resources, &mut [], &mut index, &mut []).unwrap();
+    assert_eq!(live(&store, ResourceId(1)), [8, 9, 10].map(|word| u32::MAX - word));
+    let short = &mut resources[..RESOURCE_WORDS - 1];
+    let store = Store::new(&mut counters, short, &mut [], &mut index, &mut []).unwrap();
+    for number in [0, 1, 2, u32::MAX] {
+        assert_eq!(store.live(ResourceId(number), Position::Object), Err(Error::Capacity));
+    }
+    // Of the counters each one is tested.
+    for over in [[2, 0, 0], [u32::MAX, 0, 0], [1, 1, 0], [1, 0, 1]] {
+        let mut counters = over;
+        let store = Store::new(&mut counters, &mut resources, &mut [], &mut index, &mut []).unwrap();
+        assert_eq!(store.live(ResourceId(1), Position::Subject), Err(Error::Capacity));
+    }
+}
+
 #[test]
 fn a_cursor_outlives_a_change() {
     with_bay(|store, [relay, trips, b4, _]| {
@@ -143,7 +202,7 @@ fn a_resource_is_not_a_variable() {
 
 #[test]
 fn damage_is_a_value_and_ends_an_iterator() {
-    let (mut counters, mut resources, mut statements) = ([1, 1, 4], [1, 1, 1, 1, 1, 1, 0, 1], [1, 1, 1, 0, 0, 0, 2]);
+    let (mut counters, mut resources, mut statements) = ([1, 1, 4], [1, 1, 1, 1, 1, 1, 0, 1, 1, 1, 1], [1, 1, 1, 0, 0, 0, 2]);
     let (mut index, mut text) = ([1], *b"<a>\0");
     let store = Store::new(&mut counters, &mut resources, &mut statements, &mut index, &mut text).unwrap();
     assert!(!store.is_sound());
@@ -219,7 +278,7 @@ fn a_label_typed_two_ways_is_one() {
     assert_eq!((lines.next(), lines.position()), (None, text.len()));
     assert_eq!(name_kind(spelled), Ok(Kind::Literal));
 
-    let (mut counters, mut resources, mut index, mut held) = ([1, 0, 47], [0, 0, 0, 0, 0, 0, 0, 3], [1], [0; 47]);
+    let (mut counters, mut resources, mut index, mut held) = ([1, 0, 47], [0, 0, 0, 0, 0, 0, 0, 3, 0, 0, 0], [1], [0; 47]);
     held[..46].copy_from_slice(spelled);
     let store = Store::new(&mut counters, &mut resources, &mut [], &mut index, &mut held).unwrap();
     assert!(!store.is_sound());
