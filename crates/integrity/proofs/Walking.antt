@@ -16,7 +16,7 @@ use Rattle.store.specs.declared.Triple.{Triple}
 use Rattle.store.specs.Triple.{at, same}
 use Rattle.store.specs.Tables.{termAt, nextAt, tripleAt, firstAt, countAt, liveAt}
 use Rattle.store.specs.Soundness.{holding}
-use Rattle.integrity.specs.Tests.{allBelow, sumTo, chainLength, chainLive, oneMore, isCount, isSome}
+use Rattle.integrity.specs.Tests.{allBelow, sumTo, chainLength, chainLive, oneMore, isSome}
 use Rattle.integrity.specs.Records.{isLive, chainCounts, chainOk, chainsOk, shorter, shortest, differs, aloneOn}
 use Rattle.integrity.proofs.Linking.{chain-zero, live-zero}
 use Rattle.integrity.proofs.Ranges.{all-none, all-more, all-fails, sum-none, sum-more}

@@ -16,7 +16,7 @@ use Rattle.store.specs.Tables.{off, statementWords, resourceWords, termA
 use Rattle.store.specs.Statement.{appendRecord, linkRecord, tally}
 use Rattle.store.specs.Dictionary.{freshRecord}
 use Rattle.store.specs.Soundness.{holding, living, Linked}
-use Rattle.store.proofs.Tests.{decide, and-r, off-lt, upto}
+use Rattle.store.proofs.Tests.{decide, off-lt, upto}
 use Rattle.store.proofs.Falling.{below-cong, below-none, head-suc, length-suc, length-turn}
 use Rattle.store.proofs.Words.{append-length, append-term-old, append-next-old, append-flag-old, append-term}
 use Rattle.store.proofs.Words.{append-next, append-flag, linked-length, linked-first, linked-count, flag-term}

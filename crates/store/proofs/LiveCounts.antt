@@ -1,11 +1,11 @@
 -- The live counts: what the three words after a resource's kind say, what assert and retract refuse for them, and that a listing does
 -- not look at them. Assumes nothing.
-use mathlib.Core.Path.{_≡_, refl, sym, ap, _∙_}
+use mathlib.Core.Path.{_≡_, refl, _∙_}
 use mathlib.Core.Logic.{_≢_}
-use mathlib.Core.Bool.{Bool, true, false, cond, not, _&&_, true≢false, false≢true}
+use mathlib.Core.Bool.{true, false, cond, not, _&&_, true≢false, false≢true}
 use mathlib.Core.List.{List, [], _∷_, _++_}
-use mathlib.Core.Option.{Option, none, some}
-use Prim.Native.Nat.{ℕ, zero, suc, _+_, _-_, _*_, _≤_, _<_}
+use mathlib.Core.Option.{none}
+use Prim.Native.Nat.{ℕ, zero, suc, _+_, _-_, _≤_, _<_}
 use native.Mathlib.Omega.{arith}
 use lib.ListN.{length}
 use lib.Dec.{eqb, leb, ltb}
@@ -17,19 +17,15 @@ use Rattle.store.specs.declared.Chain.{Chain}
 use Rattle.store.specs.declared.Chain.the-variants.{All, By}
 use Rattle.store.specs.declared.Triple.{Triple}
 use Rattle.store.specs.declared.StatementId.{StatementId}
-use Rattle.store.specs.declared.ScanCursor.{ScanCursor}
-use Rattle.store.specs.declared.Refusal.the-variants.{Damaged}
-use Rattle.store.specs.declared.Retracted.{Retracted}
 use Rattle.store.specs.declared.Retracted.the-variants.{Number as Struck}
-use Rattle.store.specs.Triple.{at, all3, known, permitted, below}
-use Rattle.store.specs.Tables.{Tables, off, fits, termAt, flagAt, tripleAt, firstAt, countAt, kindAt, liveAt}
-use Rattle.store.specs.Model.{Entry, better, pick}
+use Rattle.store.specs.Triple.{at, all3, known, below}
+use Rattle.store.specs.Tables.{Tables, off, fits, flagAt, firstAt, countAt, liveAt}
+use Rattle.store.specs.Model.{Entry}
 use Rattle.store.specs.Walk.{entryAt, pickChain, pickable, startOf}
-use Rattle.store.specs.Statement.{countable, locate, kinded, assertOf, counting, retracting, retractOf}
+use Rattle.store.specs.Statement.{countable, locate, counting, retracting, retractOf}
 use Rattle.store.specs.Scan.{openOf, cursorOk, walkFrom, nextOf}
-use Rattle.store.specs.Soundness.{holding, living, Sound}
-use Rattle.store.specs.History.{store}
-use Rattle.store.specs.Claims.{entriesUpTo, liveIn, ShowsLive, LiveCountsShown, LiveAboveCount, StruckWasCounted}
+use Rattle.store.specs.Soundness.{holding, living}
+use Rattle.store.specs.Claims.{entriesUpTo, liveIn, LiveCountsShown, LiveAboveCount, StruckWasCounted}
 use Rattle.store.specs.Claims.{SameButLive, ScansDoNotLook}
 use Rattle.store.proofs.Tests.{decide, and-r, all3-at, off-lt}
 use Rattle.store.proofs.Falling.{length-suc}

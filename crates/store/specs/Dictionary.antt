@@ -1,4 +1,4 @@
--- Names in the tables (paper 01, "Find a name", "Enter a name"; 02, note 7): the text, the index in rising byte order, what find and intern
+-- Names in the tables (paper 01, "Find a name", "Enter a name"; 02, notes 5 and 7): the text, the index in rising byte order, what find and intern
 -- answer and write on a sound dictionary, and the bound that holds of them on any tables after refusals 1 and 2. Assumes nothing.
 use mathlib.Core.Path.{_≡_}
 use mathlib.Core.Bool.{Bool, true, false, cond, not, _&&_}

@@ -1,4 +1,4 @@
--- Sound (paper 01, "Sound means"; 02, note 7): one definition for find, intern, the check and both demands. Words past the counters do
+-- Sound (paper 01, "Sound means"; 02, notes 5 and 7): one definition for find, intern, the check and both demands. Words past the counters do
 -- not matter. Assumes nothing.
 use mathlib.Core.Path.{_≡_}
 use mathlib.Core.Logic.{_≢_}
@@ -10,7 +10,8 @@ use lib.Dec.{eqb}
 use Rattle.store.specs.declared.Counters.{Counters}
 use Rattle.store.specs.declared.Position.{Position}
 use Rattle.store.specs.Triple.{permitted, below, head0}
-use Rattle.store.specs.Tables.{Tables, fits, resourceWords, statementWords, termAt, nextAt, flagAt, tripleAt, firstAt, countAt, kindAt, liveAt}
+use Rattle.store.specs.Tables.{Tables, fits, resourceWords, statementWords, termAt, nextAt, flagAt, tripleAt, firstAt}
+use Rattle.store.specs.Tables.{countAt, kindAt, liveAt}
 use Rattle.store.specs.Dictionary.{Named}
 
 -- entry i holds the resource y at a position

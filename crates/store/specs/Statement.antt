@@ -1,5 +1,5 @@
--- Assert and retract (paper 01), by value and on lent counters: the reply and all four tables, on tables that hold anything.
--- Assumes nothing.
+-- Assert and retract (paper 01; 02, note 5), by value and on lent counters: the reply and all four tables, on tables that hold
+-- anything. Assumes nothing.
 use mathlib.Core.Bool.{Bool, true, false, cond, _&&_}
 use mathlib.Core.List.{List, [], _∷_}
 use mathlib.Core.Option.{Option, none, some}
@@ -18,7 +18,8 @@ use Rattle.store.specs.declared.Asserted.the-variants.{New, Already, Rev
 use Rattle.store.specs.declared.Retracted.{Retracted}
 use Rattle.store.specs.declared.Retracted.the-variants.{Number as Struck, Absent as NotLive, Refused as NotRetracted}
 use Rattle.store.specs.Triple.{at, all3, known, same, permitted}
-use Rattle.store.specs.Tables.{Tables, fits, statementCapacity, statementWords, resourceWords, off, tripleAt, flagAt, firstAt, countAt, kindAt, liveAt}
+use Rattle.store.specs.Tables.{Tables, fits, statementCapacity, statementWords, resourceWords, off, tripleAt, flagAt, firstAt}
+use Rattle.store.specs.Tables.{countAt, kindAt, liveAt}
 use Rattle.store.specs.Walk.{pickChain, pickable, startOf, linkOf, visitable, walk, Step, foundIn}
 
 -- ---- the record with the triple, by the chain that a scan would take

@@ -1,4 +1,4 @@
--- The tables and counters (paper 01, "Tables and counters"): widths and offsets of the records, their words at a position in
+-- The tables and counters (paper 01, "Tables and counters"; 02, note 5): widths and offsets of the records, their words at a position in
 -- general, capacities, refusal 1. Total on any words: a word past a table's end is 0. Assumes nothing.
 use mathlib.Core.Bool.{Bool, true, false, _&&_}
 use mathlib.Core.List.{List, [], _∷_}

@@ -540,7 +540,7 @@ fn live_0() {
     assert_eq!(call(&mut lent, Call::Assert { triple: [1; 3] }), (0, vec![2, 1]));
 }
 
-/// Decisions on live counts: reviving raises them also where they are at their counts; what comes after is refused.
+/// Decision 129: reviving raises them also where they are at their counts; what comes after is refused.
 #[test]
 fn revived_past_its_count() {
     let triple = [1, 1, 1];

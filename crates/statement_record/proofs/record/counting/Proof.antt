@@ -2,7 +2,6 @@ use denote.Ref.{now}
 use mathlib.Core.Path.{sym, _∙_}
 use Rattle.store.specs.declared.Position.the-variants.{Subject, Predicate, Object}
 use Rattle.statement_record.proofs.Records.{counting-none, counting-last}
-use borrow.Author.Needs.{needs}
 use Rattle.statement_record.proofs.record.counting.Statement.{statement}
 use Rattle.statement_record.proofs.record.counting.Tie as tie
 use Rattle.statement_record.proofs.record.counting.Reads as reads

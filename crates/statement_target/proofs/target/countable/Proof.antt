@@ -1,7 +1,6 @@
 use Rattle.table.proofs.Branches.{failed, passed}
 use Rattle.store.specs.declared.Position.the-variants.{Subject, Predicate, Object}
 use Rattle.store.specs.Statement.{countable}
-use borrow.Author.Needs.{needs}
 use Rattle.statement_target.proofs.target.countable.Statement.{statement}
 use Rattle.statement_target.proofs.target.countable.Tie as tie
 use Rattle.statement_target.proofs.target.countable.Reads as reads
