@@ -12,6 +12,7 @@ pub mod Calls
 pub mod Onwards
 pub mod Budget
 pub mod Scans
+pub mod Unseen
 pub mod Listed
 pub mod Writes
 pub mod Theorems

@@ -1,6 +1,6 @@
 -- Every claim of `specs/Claims.antt` with its proof: a declaration of each type. Assumes nothing.
 use Rattle.graph.specs.Claims.{GraphClaim, WordsClaim, ReadingClaim, NextClaim, KeptClaim, BudgetClaim, SplitClaim}
-use Rattle.graph.specs.Claims.{ScanClaim, LiveCountClaim}
+use Rattle.graph.specs.Claims.{ScanClaim, LiveCountClaim, QueriesDoNotLook}
 use Rattle.graph.specs.Claims.{WriteClaim, LoadClaim}
 use Rattle.graph.proofs.Names as names
 use Rattle.graph.proofs.Accepted as accepted
@@ -8,6 +8,7 @@ use Rattle.graph.proofs.Calls as calls
 use Rattle.graph.proofs.Onwards as onwards
 use Rattle.graph.proofs.Budget as budget
 use Rattle.graph.proofs.Scans as scans
+use Rattle.graph.proofs.Unseen as unseen
 use Rattle.graph.proofs.Writes as writes
 
 pub live-graph : GraphClaim
@@ -36,6 +37,9 @@ scan-reads = scans.scan-reads
 
 pub live-counts : LiveCountClaim
 live-counts = scans.live-counts
+
+pub queries-do-not-look : QueriesDoNotLook
+queries-do-not-look = unseen.queries-do-not-look
 
 pub graph-writes : WriteClaim
 graph-writes = writes.writes

@@ -28,6 +28,7 @@ use Rattle.store.specs.Dictionary.{nameAt}
 use Rattle.store.specs.Scan.{openOf, nextOf}
 use Rattle.store.specs.Soundness.{Sound}
 use Rattle.store.specs.History.{Store, store, callStore, storeAfter}
+use Rattle.store.specs.Claims.{SameButLive}
 use Rattle.graph.specs.declared.QueryCursor.{QueryCursor}
 use Rattle.graph.specs.declared.Opening.the-variants.{Opened}
 use Rattle.graph.specs.declared.QueryStep.{QueryStep}
@@ -284,6 +285,12 @@ LiveCountClaim = (c : Counters) (m : Tables) → Sound c m → (p : Position) (y
     → (q : ScanCursor) × (openOf c m (only p y) ≡ Cursor q)
     × ((bs : List ℕ) → AllPositive bs → scanEnded (scanOn c m q bs) ≡ true
     → length (scannedIn (scanOn c m q bs)) ≡ liveAt (m .resources) p y)
+
+-- On tables that differ in live counts alone a query is answered alike, sound or not; of a scan `ScansDoNotLook` of crate `store` says so.
+abbrev pub QueriesDoNotLook : Type 0
+QueriesDoNotLook = (c : Counters) (m m′ : Tables) → SameButLive m m′ → (ws : List ℕ)
+    → (openQueryOf c m ws ≡ openQueryOf c m′ ws)
+    × ((q : QueryCursor) (b : ℕ) → nextQueryOf c m ws q b ≡ nextQueryOf c m′ ws q b)
 
 -- ---- 7. Entering leaves the graph, asserting adds exactly its triple, retracting takes exactly it away.
 

@@ -121,7 +121,7 @@ struck-was-counted c m x n e p =
 -- ---- on any tables: a listing
 
 module _ (c : Counters) (m m′ : Tables) (s : SameButLive m m′) where
-  same-fits : fits c m ≡ fits c m′
+  pub same-fits : fits c m ≡ fits c m′
   unfolding fits
   same-fits = rw (s .lengths, s .index, s .statements, s .text)
 
@@ -133,7 +133,7 @@ module _ (c : Counters) (m m′ : Tables) (s : SameButLive m m′) where
   unfolding firstAt
   same-first p y = s .words y (off p) (omega (arith, off-lt p))
 
-  same-pickable : (x : Triple) → pickable (c .statements) (m .resources) x ≡ pickable (c .statements) (m′ .resources) x
+  pub same-pickable : (x : Triple) → pickable (c .statements) (m .resources) x ≡ pickable (c .statements) (m′ .resources) x
   unfolding pickable
   same-pickable x =
       rw (
@@ -145,12 +145,12 @@ module _ (c : Counters) (m m′ : Tables) (s : SameButLive m m′) where
         same-first Object (at Object x),
       )
 
-  same-pick : (x : Triple) → pickChain (m .resources) x ≡ pickChain (m′ .resources) x
+  pub same-pick : (x : Triple) → pickChain (m .resources) x ≡ pickChain (m′ .resources) x
   unfolding pickChain
   same-pick x =
       pick-cong x (λ q. countAt (m .resources) q (at q x)) (λ q. countAt (m′ .resources) q (at q x)) (λ p h. same-count p (at p x))
 
-  same-start : (ch : Chain) (x : Triple)
+  pub same-start : (ch : Chain) (x : Triple)
       → startOf (c .statements) (m .resources) ch x ≡ startOf (c .statements) (m′ .resources) ch x
   unfolding startOf
   same-start All x = refl
