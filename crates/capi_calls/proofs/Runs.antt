@@ -9,7 +9,7 @@ use Rattle.store.specs.Triple.{triple, known, within, same, agrees, permitted, 
 use Rattle.store.specs.Tables.{Tables, tables, fits, termAt, nextAt, flagAt, tripleAt, firstAt, countAt, offsetAt, kindAt, liveAt}
 use Rattle.store.specs.Walk.{entryAt, pickChain, pickable, startOf, linkOf, sits, visitable, walk}
 use Rattle.store.specs.Model.{matches, pick, better}
-use Rattle.store.specs.Statement.{seek, countable, locate, tallyAt, tally, counting as counted, appendRecord, linkFirst, linkRecord, kinded, asserting, assertOf}
+use Rattle.store.specs.Statement.{seek, countable, locate, tallyAt, tally, counting, appendRecord, linkFirst, linkRecord, kinded, asserting, assertOf}
 use Rattle.store.specs.Statement.{retracting, retractOf}
 use Rattle.store.specs.Scan.{openOf, chainOk, recordOk, cursorOk, walkFrom, nextOf}
 use Rattle.store.specs.Reading.{inRange, statementOf, zeroFrom, nameSpanOf}
@@ -34,13 +34,13 @@ before =
     (9 ∷ 9 ∷ 9 ∷ 9 ∷ 9 ∷ 9 ∷ 9 ∷ 9 ∷ 9 ∷ 9 ∷ 9 ∷ 9 ∷ 9 ∷ 9 ∷ []) (1 ∷ 2 ∷ []) names
 
 -- the statement with a flag, and its subject's live count
-abbrev counting : ℕ → ℕ → Tables
-counting flag live =
+abbrev liveAs : ℕ → ℕ → Tables
+liveAs flag live =
     tables (resource 1 0 1 1 0 1 0 live 0 (1 - flag) (resource 0 1 0 0 1 0 4 0 (1 - flag) 0 []))
     (1 ∷ 2 ∷ 1 ∷ 0 ∷ 0 ∷ 0 ∷ flag ∷ 9 ∷ 9 ∷ 9 ∷ 9 ∷ 9 ∷ 9 ∷ 9 ∷ []) (1 ∷ 2 ∷ []) names
 
 abbrev holding : ℕ → Tables
-holding flag = counting flag (1 - flag)
+holding flag = liveAs flag (1 - flag)
 
 abbrev written : ℕ → List ℕ → Tables → List ℕ → ℕ × (List ℕ × (Tables × List ℕ))
 written r cw m w = (r, (cw, (m, w)))
@@ -53,33 +53,33 @@ beside r q w = (r, (q, w))
 asserts : assertCall (counters 0) before (triple 1 2 1) (5 ∷ 5 ∷ 66 ∷ [])
     ∷ assertCall (counters 1) (holding 0) (triple 1 2 1) (5 ∷ 5 ∷ 66 ∷ [])
     ∷ assertCall (counters 1) (holding 1) (triple 1 2 1) (5 ∷ 5 ∷ 66 ∷ [])
-    ∷ assertCall (counters 1) (counting 0 2) (triple 1 2 1) (5 ∷ 5 ∷ 66 ∷ [])
+    ∷ assertCall (counters 1) (liveAs 0 2) (triple 1 2 1) (5 ∷ 5 ∷ 66 ∷ [])
     ∷ assertCall (counters 1) (holding 0) (triple 3 2 1) (5 ∷ 5 ∷ 66 ∷ [])
     ∷ assertCall (counters 0) before (triple 1 2 1) (5 ∷ [])
     ∷ []
     ≡ written 0 (counters 1) (holding 0) (1 ∷ 1 ∷ 66 ∷ [])
     ∷ written 0 (counters 1) (holding 0) (2 ∷ 1 ∷ 66 ∷ [])
     ∷ written 0 (counters 1) (holding 0) (3 ∷ 1 ∷ 66 ∷ [])
-    ∷ written 9 (counters 1) (counting 0 2) (0 ∷ 0 ∷ 66 ∷ [])
+    ∷ written 9 (counters 1) (liveAs 0 2) (0 ∷ 0 ∷ 66 ∷ [])
     ∷ written 4 (counters 1) (holding 0) (0 ∷ 0 ∷ 66 ∷ [])
     ∷ written 100 (counters 0) before (5 ∷ [])
     ∷ []
-unfolding fits known within same agrees permitted below termAt nextAt flagAt tripleAt firstAt countAt kindAt liveAt matches pick better entryAt pickChain pickable startOf linkOf sits visitable walk seek countable locate tallyAt tally counted appendRecord linkFirst linkRecord kinded asserting assertOf lent assertCall
+unfolding fits known within same agrees permitted below termAt nextAt flagAt tripleAt firstAt countAt kindAt liveAt matches pick better entryAt pickChain pickable startOf linkOf sits visitable walk seek countable locate tallyAt tally counting appendRecord linkFirst linkRecord kinded asserting assertOf lent assertCall
 asserts = refl
 
 -- ---- retract: live until now, no longer live, a live count above its count, a live count of 0
 
 retracts : retractCall (counters 1) (holding 0) (triple 1 2 1) (5 ∷ 66 ∷ [])
     ∷ retractCall (counters 1) (holding 1) (triple 1 2 1) (5 ∷ 66 ∷ [])
-    ∷ retractCall (counters 1) (counting 0 2) (triple 1 2 1) (5 ∷ 66 ∷ [])
-    ∷ retractCall (counters 1) (counting 0 0) (triple 1 2 1) (5 ∷ 66 ∷ [])
+    ∷ retractCall (counters 1) (liveAs 0 2) (triple 1 2 1) (5 ∷ 66 ∷ [])
+    ∷ retractCall (counters 1) (liveAs 0 0) (triple 1 2 1) (5 ∷ 66 ∷ [])
     ∷ []
     ≡ wrote 0 (holding 1) (1 ∷ 66 ∷ [])
     ∷ wrote 0 (holding 1) (0 ∷ 66 ∷ [])
-    ∷ wrote 9 (counting 0 2) (0 ∷ 66 ∷ [])
-    ∷ wrote 9 (counting 0 0) (0 ∷ 66 ∷ [])
+    ∷ wrote 9 (liveAs 0 2) (0 ∷ 66 ∷ [])
+    ∷ wrote 9 (liveAs 0 0) (0 ∷ 66 ∷ [])
     ∷ []
-unfolding fits known within same agrees permitted below termAt nextAt flagAt tripleAt firstAt countAt kindAt liveAt matches pick better entryAt pickChain pickable startOf linkOf sits visitable walk seek countable locate tallyAt tally counted retracting retractOf lent retractCall
+unfolding fits known within same agrees permitted below termAt nextAt flagAt tripleAt firstAt countAt kindAt liveAt matches pick better entryAt pickChain pickable startOf linkOf sits visitable walk seek countable locate tallyAt tally counting retracting retractOf lent retractCall
 retracts = refl
 
 -- ---- a statement and a name; find and enter as answered

@@ -43,7 +43,7 @@ sampleLoad =
 
 -- tables that hold anything, here a word 7 throughout: 8 resources, 8 statements, 64 bytes
 unfoldable pub sampleTables : Tables
-sampleTables = tables (replicate 88 7) (replicate 56 7) (replicate 8 7) (replicate 64 7)
+sampleTables = tables (replicate (8 * resourceWords) 7) (replicate 56 7) (replicate 8 7) (replicate 64 7)
 
 unfoldable pub sample : Store
 sample = storeAfter (freshStore sampleTables) sampleLoad

@@ -1,7 +1,8 @@
--- The claims of demand 2 (paper 01) as types, each with soundness as its only hypothesis on the tables: the live
+-- The claims of demand 2 (paper 01) as types, each but the last of part 6 with soundness as its only hypothesis on the tables: the live
 -- statements are an RDF graph; a query read through gives exactly the solution mappings of SPARQL 1.1; a call from
 -- any accepted cursor answers from the solutions that hold; budgets add up; a pattern scan read through gives exactly
--- the live triples that match, and a live count says how many; what each write does to the graph. Assumes nothing.
+-- the live triples that match, and a live count says how many; what each write does to the graph. A query
+-- does not look at live counts. Assumes nothing.
 use mathlib.Core.Path.{_≡_}
 use mathlib.Core.Logic.{_⊎_, _↔_, _≢_}
 use mathlib.Core.Bool.{Bool, true, false, cond}

@@ -16,7 +16,7 @@ use Rattle.store.specs.Tables.{Tables, fits, freshCounters, resourceWords, stat
 use Rattle.store.specs.Tables.{nextAt, flagAt, tripleAt, firstAt, countAt, kindAt, liveAt}
 use Rattle.store.specs.Model.{nameOf}
 use Rattle.store.specs.Dictionary.{Named, Indexed}
-use Rattle.store.specs.Soundness.{holding, Linked, Sound}
+use Rattle.store.specs.Soundness.{holding, isLive, Linked, Sound}
 use Rattle.store.specs.History.{freshStore, storeAfter}
 use Rattle.store.proofs.Theorems.{fresh-is-sound, histories-stay-sound}
 use Rattle.store.proofs.Tests.{and-l, and-r, and-of, all3-at, all3-of, known-low, known-high, known-of}
@@ -25,7 +25,7 @@ use Rattle.table.proofs.Capacity.{fits-room}
 use Rattle.integrity.specs.Tests.{allBelow, sumTo, chainLength, chainLive, isCount}
 use Rattle.integrity.specs.Names.{namesOk}
 use Rattle.integrity.specs.Index.{indexOk}
-use Rattle.integrity.specs.Records.{recordOk, isLive, chainCounts, chainOk, chainsOk, alone, recordsOk}
+use Rattle.integrity.specs.Records.{recordOk, chainCounts, chainOk, chainsOk, alone, recordsOk}
 use Rattle.integrity.specs.Check.{checkOf}
 use Rattle.integrity.specs.Claims.{CheckDecides, FreshPasses, HistoriesPass}
 use Rattle.integrity.proofs.Ranges.{all-at, all-of}

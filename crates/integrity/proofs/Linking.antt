@@ -15,12 +15,11 @@ use borrow.Author.Tests.{eqb-true, eqb-false, eq-eqb, leb-true, le-leb}
 use Rattle.store.specs.declared.Position.{Position}
 use Rattle.store.specs.Triple.{below, head0}
 use Rattle.store.specs.Tables.{resourceWords, statementWords, termAt, nextAt, flagAt, firstAt, countAt, liveAt}
-use Rattle.store.specs.Soundness.{holding, living, Linked}
+use Rattle.store.specs.Soundness.{holding, isLive, living, Linked}
 use Rattle.store.proofs.Tests.{decide, and-l, and-r}
 use Rattle.store.proofs.Falling.{below-yes, below-no, head-le}
 use Rattle.store.proofs.Walks.{Links}
 use Rattle.integrity.specs.Tests.{sumTo, chainLength, chainLive, oneMore}
-use Rattle.integrity.specs.Records.{isLive}
 use Rattle.integrity.proofs.Ranges.{sum-tight, sum-same, all-counted}
 
 -- ---- one chain

@@ -15,9 +15,9 @@ use Rattle.store.specs.declared.Position.the-variants.{Subject, Predicate, Obje
 use Rattle.store.specs.declared.Triple.{Triple}
 use Rattle.store.specs.Triple.{at, same}
 use Rattle.store.specs.Tables.{termAt, nextAt, tripleAt, firstAt, countAt, liveAt}
-use Rattle.store.specs.Soundness.{holding}
+use Rattle.store.specs.Soundness.{holding, isLive}
 use Rattle.integrity.specs.Tests.{allBelow, sumTo, chainLength, chainLive, oneMore, isSome}
-use Rattle.integrity.specs.Records.{isLive, chainCounts, chainOk, chainsOk, shorter, shortest, differs, aloneOn}
+use Rattle.integrity.specs.Records.{chainCounts, chainOk, chainsOk, shorter, shortest, differs, aloneOn}
 use Rattle.integrity.proofs.Linking.{chain-zero, live-zero}
 use Rattle.integrity.proofs.Ranges.{all-none, all-more, all-fails, sum-none, sum-more}
 
@@ -110,13 +110,13 @@ module _ (t : ℕ) (stm : List ℕ) (p : Position) (y first : ℕ) where
           A .3 ∙ live-here (nextAt stm p) (isLive stm) (A .0) (h .0) n alive (h .1) z,
         )
 
-    -- at the end, with as many records met as the count says, or not
     met-all : n ≡ 0 → chainLength (nextAt stm p) (holding stm p y) t first ≡ some met
     met-all z = let q : met + 0 ≡ met = omega arith in A .2 ∙ rw (z, chain-zero (nextAt stm p) (holding stm p y) (A .0), q)
 
     alive-all : n ≡ 0 → chainLive (nextAt stm p) (isLive stm) t first ≡ alive
     alive-all z = let q : alive + 0 ≡ alive = omega arith in A .3 ∙ rw (z, live-zero (nextAt stm p) (isLive stm) (A .0), q)
 
+    -- at the end, with as many records met as the count says, or not
     pub along-end : (count live : ℕ) → n ≡ 0 → met ≡ count → chainCounts t stm p y first count live ≡ eqb alive live
     unfolding chainCounts
     along-end count live z q = rw (met-all z, alive-all z, eq-eqb met count q)

@@ -9,7 +9,7 @@ use Rattle.store.specs.declared.Position.the-variants.{Subject, Predicate, Obje
 use Rattle.store.specs.declared.Triple.{Triple}
 use Rattle.store.specs.Triple.{at, all3, known, same, permitted}
 use Rattle.store.specs.Tables.{nextAt, flagAt, tripleAt, firstAt, countAt, kindAt, liveAt}
-use Rattle.store.specs.Soundness.{holding}
+use Rattle.store.specs.Soundness.{holding, isLive}
 use Rattle.integrity.specs.Tests.{allBelow, sumTo, chainLength, chainLive, isCount, isSome}
 
 -- ---- each record by itself: resources in 1..R, permitted kinds, flag 0 or 1
@@ -18,9 +18,6 @@ unfoldable pub recordOk : ℕ → List ℕ → List ℕ → ℕ → Bool
 recordOk r res stm i = known r (tripleAt stm i) && (permitted (kindAt res) (tripleAt stm i) && leb (flagAt stm i) 1)
 
 -- ---- the chains at a position
-
-abbrev pub isLive : List ℕ → ℕ → Bool
-isLive stm i = eqb (flagAt stm i) 0
 
 -- the chain from record `first` on falls, holds y in every record, and has `count` records, `live` of them live
 unfoldable pub chainCounts : ℕ → List ℕ → Position → ℕ → ℕ → ℕ → ℕ → Bool

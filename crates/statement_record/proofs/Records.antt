@@ -1,13 +1,12 @@
--- Laws of the stores: linking one position leaves what another asks; what assert and retract come to by the record found.
--- Assumes nothing.
+-- Laws of the stores: linking one position, or moving its live count, leaves what another asks; what assert and retract come to by the
+-- record found. Assumes nothing.
 use mathlib.Core.Path.{_≡_, refl, sym, _∙_}
 use mathlib.Core.List.{List}
 use mathlib.Core.Bool.{Bool, true, false}
 use Prim.Native.Nat.{ℕ, zero, suc, _+_, _-_, _*_, _≤_, _<_, _/_, min}
 use native.Mathlib.Omega.{arith}
-use lib.ListN.{length}
 use lib.Dec.{ltb}
-use Rattle.store.specs.Triple.{at, all3}
+use Rattle.store.specs.Triple.{at}
 use borrow.Author.Tests.{ltb-true, ltb-false, lt-ltb, le-ltb, eq-eqb, ne-eqb}
 use Rattle.store.specs.declared.Position.{Position}
 use Rattle.store.specs.declared.Position.the-variants.{Subject, Predicate, Object}
@@ -18,7 +17,7 @@ use Rattle.store.specs.declared.Asserted.the-variants.{New, Already, Revived, R
 use Rattle.store.specs.declared.Retracted.the-variants.{Number as Struck, Absent as NotLive, Refused as NotRetracted}
 use Rattle.store.specs.Tables.{Tables, tables, after, statementCapacity, statementWords, flagAt, off, liveAt, maxStatements}
 use Rattle.store.specs.Statement.{linkFirst, linkRecord, appendRecord, oneStatementMore, asserting, tallyAt, tally, counting, retracting}
-use Rattle.store.proofs.Tests.{decide, all3-at}
+use Rattle.store.proofs.LiveCounts.{counting-at}
 use Rattle.store.proofs.Words.{link-length, link-count-other, link-live-other, tallyAt-length, tallyAt-other}
 use Rattle.table.specs.Held.{ResourceHeld, TripleHeld}
 use Rattle.statement_record.specs.Records.{flagged, moved, Movable, Linkable, Appendable, Tallyable, AllTallyable}
@@ -54,14 +53,6 @@ movable-up up n e h = rw e at h
 pub movable-down : (up : Bool) (n : ℕ) → up ≡ false → Movable up n → 1 ≤ n
 movable-down up n e h = rw e at h
 
--- one of them is 0
-pub counting-none : (res : List ℕ) (x : Triple) (p : Position) → liveAt res p (at p x) ≡ 0 → counting res x ≡ false
-unfolding counting
-counting-none res x p e =
-    decide (all3 (λ p. ltb 0 (liveAt res p (at p x))))
-    (λ d. absurd (let q = ltb-true 0 (liveAt res p (at p x)) (all3-at (λ p. ltb 0 (liveAt res p (at p x))) d p) in omega arith))
-    (λ d. d)
-
 -- the last decides where the others are not 0
 pub counting-last : (res : List ℕ) (x : Triple) (n : ℕ) → (liveAt res Subject (at Subject x) ≡ 0 → ⊥)
     → (liveAt res Predicate (at Predicate x) ≡ 0 → ⊥) → n ≡ liveAt res Object (at Object x) → ltb 0 n ≡ counting res x
@@ -79,10 +70,8 @@ grows-all c res x a = record { each = λ p. record { resource-in = a .each p .re
 
 -- where none is 0, they can fall
 pub falls-all : (res : List ℕ) (x : Triple) → TripleHeld res x → counting res x ≡ true → AllTallyable false res x
-unfolding counting
-falls-all res x d e = record {
-  each = λ p. record { resource-in = d .each p; movable = let q = ltb-true 0 (liveAt res p (at p x)) (all3-at (λ p. ltb 0 (liveAt res p (at p x))) e p) in omega arith };
-}
+falls-all res x d e =
+    record { each = λ p. record { resource-in = d .each p; movable = let q = counting-at res x e p in omega arith } }
 
 -- ---- room
 

@@ -22,6 +22,7 @@ use table::inner::flag_at;
 use table::inner::live_at;
 use table::inner::offset;
 ghost use mathlib.Core.Path.{_≡_};
+ghost use mathlib.Core.Bool.{true};
 ghost use Prim.Native.Nat.{ℕ, suc, _-_, _*_, _/_, _≤_, min};
 ghost use lib.ListN.{length};
 ghost use lib.Dec.{ltb};
@@ -165,7 +166,7 @@ pub fn revive(
     n: StatementId,
     x: Triple,
 ) -> Asserted
-    requires { ⌜ StatementHeld (now statements) (n .0) × Appendable c (now resources) x ⌝ }
+    requires { ⌜ StatementHeld (now statements) (n .0) × AllTallyable true (now resources) x ⌝ }
     ensures { λ r. ⌜ Revived c x (n .0) (now (resources .entry)) (now (resources .exit))
         (now (statements .entry)) (now (statements .exit)) r ⌝ }
 {

@@ -6,8 +6,6 @@ use mathlib.Core.List.{List, []}
 use mathlib.Core.Option.{Option, none, some}
 use Prim.Native.Nat.{ℕ, _≤_}
 use native.Mathlib.Omega.{arith}
-use lib.Dec.{leb}
-use borrow.Author.Tests.{leb-true}
 use Rattle.store.specs.declared.Counters.{Counters}
 use Rattle.store.specs.declared.Position.{Position}
 use Rattle.store.specs.declared.Chain.{Chain}
@@ -16,7 +14,8 @@ use Rattle.store.specs.Triple.{at, known, same}
 use Rattle.store.specs.Tables.{Tables, tables, fits, countAt, liveAt, tripleAt}
 use Rattle.store.specs.Walk.{pickChain, pickable, startOf, linkOf, visitable, walk, Step, foundIn}
 use Rattle.store.specs.Statement.{seek, countable, locate}
-use Rattle.store.proofs.Tests.{and-l, and-r, all3-at, known-low, known-high}
+use Rattle.store.proofs.Tests.{and-l, and-r, known-low, known-high}
+use Rattle.store.proofs.LiveCounts.{countable-at}
 use Rattle.table.specs.Held.{TripleHeld}
 use Rattle.table.proofs.Capacity.{fits-room}
 use Rattle.chain.specs.Chains.{PatternHeld}
@@ -87,11 +86,8 @@ module _ (c : Counters) (m : Tables) (x : Triple) where
 
   -- and the live count within the count
   pub locate-live : (n : ℕ) → locate c m x ≡ some n → (p : Position) → liveAt (m .resources) p (at p x) ≤ countAt (m .resources) p (at p x)
-  unfolding countable
-  locate-live n e p =
-      leb-true (liveAt (m .resources) p (at p x)) (countAt (m .resources) p (at p x))
-      (all3-at (λ q. leb (liveAt (m .resources) q (at q x)) (countAt (m .resources) q (at q x)))
-      (and-r (pickable (c .statements) (m .resources) x) _ (locate-ready n e)) p)
+  locate-live n e =
+      countable-at (m .resources) x (and-r (pickable (c .statements) (m .resources) x) (countable (m .resources) x) (locate-ready n e))
 
   pub locate-within : (n : ℕ) → locate c m x ≡ some n → n ≤ c .statements
   unfolding seek

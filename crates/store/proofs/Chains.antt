@@ -1,5 +1,5 @@
--- What follows from linked tables (`Linked`), for a chain in general: the pick is never refused 9, a walk along a chain
--- never meets a damaged record and comes to what taking positions off the chain comes to. Assumes nothing.
+-- What follows from linked tables (`Linked`), for a chain in general: the pick is never refused 9, no live count is
+-- above its count, a walk along a chain never meets a damaged record and comes to what taking positions off the chain comes to. Assumes nothing.
 use mathlib.Core.Path.{_≡_, refl, sym, ap, _∙_}
 use mathlib.Core.Logic.{_≢_}
 use mathlib.Core.Bool.{Bool, true, false, cond, _&&_, _||_}

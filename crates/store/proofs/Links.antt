@@ -1,4 +1,4 @@
--- The chains stay as said: a new statement record, a flag, a new resource record. Assumes nothing.
+-- The chains stay as said: a new statement record, a record revived or struck out, a new resource record. Assumes nothing.
 use mathlib.Core.Path.{_≡_, refl, sym, ap, _∙_}
 use mathlib.Core.Logic.{_≢_}
 use mathlib.Core.Bool.{Bool, true, false, cond, _&&_}
@@ -110,7 +110,7 @@ module _ (stm : List ℕ) (i v : ℕ) where
   unfolding holding
   flag-chain p y n = below-cong _ _ n (λ j q. ap (λ (z : ℕ). eqb z y) (flag-term stm i v p j))
 
-  -- the three live counts as they have to be
+  -- and three live counts moved by f, where that makes them right
   module _ (r t : ℕ) (f : ℕ → ℕ) (x : Triple) (res : List ℕ) (h : i < t) (L : Linked r t res stm)
       (terms : (p : Position) → termAt stm p i ≡ at p x) where
     low-x : (p : Position) → 0 < at p x
@@ -141,13 +141,10 @@ module _ (stm : List ℕ) (i v : ℕ) where
 -- a struck-out record made live, and a live one struck out: one live record more, or less, at each position
 module _ (r t : ℕ) (x : Triple) (res stm : List ℕ) (i : ℕ) (h : i < t) (L : Linked r t res stm)
     (terms : (p : Position) → termAt stm p i ≡ at p x) where
-  abbrev set-to : ℕ → List ℕ
-  set-to v = set stm (statementWords * i + 6) v
-
-  set-same : (v : ℕ) → flagAt (set-to v) i ≡ v
+  set-same : (v : ℕ) → flagAt (flagged stm i v) i ≡ v
   set-same v = flag-same stm i v (omega (arith, L .fit-statements))
 
-  lives-other : (v : ℕ) (p : Position) (y j : ℕ) → j ≢ i → living (set-to v) p y j ≡ living stm p y j
+  lives-other : (v : ℕ) (p : Position) (y j : ℕ) → j ≢ i → living (flagged stm i v) p y j ≡ living stm p y j
   unfolding living holding
   lives-other v p y j n = rw (flag-other stm i v j n, flag-term stm i v p j)
 
@@ -161,32 +158,32 @@ module _ (r t : ℕ) (x : Triple) (res stm : List ℕ) (i : ℕ) (h : i < t) (L 
   lives-by w p y e d = rw (e, d)
 
   one-more-live : flagAt stm i ≡ 1 → (p : Position) (y : ℕ)
-      → length (below (living (set-to 0) p y) t)
+      → length (below (living (flagged stm i 0) p y) t)
       ≡ cond (eqb (at p x) y) (suc (length (below (living stm p y) t))) (length (below (living stm p y) t))
   one-more-live e p y =
-      length-turn (living stm p y) (living (set-to 0) p y) t i h (lives-not stm p y e) (lives-other 0 p y)
+      length-turn (living stm p y) (living (flagged stm i 0) p y) t i h (lives-not stm p y e) (lives-other 0 p y)
       ∙ ap (λ (b : Bool). cond b (suc (length (below (living stm p y) t))) (length (below (living stm p y) t)))
-      (lives-by (set-to 0) p y (set-same 0) (flag-term stm i 0 p i ∙ terms p))
+      (lives-by (flagged stm i 0) p y (set-same 0) (flag-term stm i 0 p i ∙ terms p))
 
   pub one-less-live : flagAt stm i ≡ 0 → (p : Position) (y : ℕ)
       → length (below (living stm p y) t)
-      ≡ cond (eqb (at p x) y) (suc (length (below (living (set-to 1) p y) t))) (length (below (living (set-to 1) p y) t))
+      ≡ cond (eqb (at p x) y) (suc (length (below (living (flagged stm i 1) p y) t))) (length (below (living (flagged stm i 1) p y) t))
   one-less-live e p y =
-      length-turn (living (set-to 1) p y) (living stm p y) t i h (lives-not (set-to 1) p y (set-same 1))
+      length-turn (living (flagged stm i 1) p y) (living stm p y) t i h (lives-not (flagged stm i 1) p y (set-same 1))
       (λ j n. sym (lives-other 1 p y j n))
-      ∙ ap (λ (b : Bool). cond b (suc (length (below (living (set-to 1) p y) t))) (length (below (living (set-to 1) p y) t)))
+      ∙ ap (λ (b : Bool). cond b (suc (length (below (living (flagged stm i 1) p y) t))) (length (below (living (flagged stm i 1) p y) t)))
       (lives-by stm p y e (terms p))
 
-  pub revived-linked : flagAt stm i ≡ 1 → Linked r t (tally suc x res) (set-to 0)
+  pub revived-linked : flagAt stm i ≡ 1 → Linked r t (tally suc x res) (flagged stm i 0)
   revived-linked e =
       flag-linked stm i 0 r t suc x res h L terms (omega arith)
       (λ p y a b. rw (L .live p y a b) (sym (one-more-live e p y)))
 
-  pub struck-linked : flagAt stm i ≡ 0 → Linked r t (tally (λ n. n - 1) x res) (set-to 1)
+  pub struck-linked : flagAt stm i ≡ 0 → Linked r t (tally (λ n. n - 1) x res) (flagged stm i 1)
   struck-linked e =
       flag-linked stm i 1 r t (λ n. n - 1) x res h L terms (omega arith)
       (λ p y a b. rw (L .live p y a b, one-less-live e p y)
-      (less-one (eqb (at p x) y) (length (below (living (set-to 1) p y) t))))
+      (less-one (eqb (at p x) y) (length (below (living (flagged stm i 1) p y) t))))
 
 -- a new resource record: no statement holds it
 module _ (r t : ℕ) (res stm : List ℕ) (L : Linked r t res stm) (room : resourceWords * suc r ≤ length res)

@@ -2,37 +2,34 @@
 -- not look at them. Assumes nothing.
 use mathlib.Core.Path.{_≡_, refl, _∙_}
 use mathlib.Core.Logic.{_≢_}
-use mathlib.Core.Bool.{true, false, cond, not, _&&_, true≢false, false≢true}
+use mathlib.Core.Bool.{true, false, cond, not, _&&_, false≢true}
 use mathlib.Core.List.{List, [], _∷_, _++_}
-use mathlib.Core.Option.{none}
+use mathlib.Core.Option.{none, some}
 use Prim.Native.Nat.{ℕ, zero, suc, _+_, _-_, _≤_, _<_}
 use native.Mathlib.Omega.{arith}
 use lib.ListN.{length}
 use lib.Dec.{eqb, leb, ltb}
-use borrow.Author.Tests.{leb-true, ltb-true, ne-eqb, eq-eqb}
+use borrow.Author.Tests.{leb-true, ltb-true, eqb-false, ne-eqb, eq-eqb}
 use Rattle.store.specs.declared.Counters.{Counters}
 use Rattle.store.specs.declared.Position.{Position}
 use Rattle.store.specs.declared.Position.the-variants.{Subject, Predicate, Object}
 use Rattle.store.specs.declared.Chain.{Chain}
 use Rattle.store.specs.declared.Chain.the-variants.{All, By}
 use Rattle.store.specs.declared.Triple.{Triple}
-use Rattle.store.specs.declared.StatementId.{StatementId}
-use Rattle.store.specs.declared.Retracted.the-variants.{Number as Struck}
-use Rattle.store.specs.Triple.{at, all3, known, below}
+use Rattle.store.specs.Triple.{at, below}
 use Rattle.store.specs.Tables.{Tables, off, fits, flagAt, firstAt, countAt, liveAt}
 use Rattle.store.specs.Model.{Entry}
 use Rattle.store.specs.Walk.{entryAt, pickChain, pickable, startOf}
-use Rattle.store.specs.Statement.{countable, locate, counting, retracting, retractOf}
+use Rattle.store.specs.Statement.{countable, locate, counting, retracting}
 use Rattle.store.specs.Scan.{openOf, cursorOk, walkFrom, nextOf}
 use Rattle.store.specs.Soundness.{holding, living}
-use Rattle.store.specs.Claims.{entriesUpTo, liveIn, LiveCountsShown, LiveAboveCount, StruckWasCounted}
+use Rattle.store.specs.Claims.{entriesUpTo, liveIn, LiveCountsShown, LiveAboveCount, LiveCountOfZero}
 use Rattle.store.specs.Claims.{SameButLive, ScansDoNotLook}
 use Rattle.store.proofs.Tests.{decide, and-r, all3-at, off-lt}
 use Rattle.store.proofs.Falling.{length-suc}
 use Rattle.store.proofs.Words.{triple-at}
 use Rattle.store.proofs.Picking.{pick-cong}
-use Rattle.store.proofs.Cases.{option-cases, retract-capacity, retract-unknown, retract-damaged, retract-located}
-use Rattle.store.proofs.Cases.{assert-damaged}
+use Rattle.store.proofs.Cases.{retract-damaged, retract-located, assert-damaged}
 
 -- ---- on a sound store
 
@@ -50,12 +47,7 @@ counted-is stm p y i h =
     rw (triple-at stm p i)
     (decide (eqb (flagAt stm i) 1)
     (λ e. let z : flagAt stm i ≢ 0 = (λ d. false≢true (rw d at e)) in rw (e, ne-eqb (flagAt stm i) 0 z))
-    (λ e. let z : flagAt stm i ≡ 0 = zero-of (flagAt stm i) h e in rw (e, eq-eqb (flagAt stm i) 0 z)))
-  where
-    zero-of : (n : ℕ) → n ≤ 1 → eqb n 1 ≡ false → n ≡ 0
-    zero-of zero h e = refl
-    zero-of (suc zero) h e = absurd (true≢false e)
-    zero-of (suc (suc n)) h e = absurd (omega arith)
+    (λ e. let z : flagAt stm i ≡ 0 = omega (arith, eqb-false (flagAt stm i) 1 e) in rw (e, eq-eqb (flagAt stm i) 0 z)))
 
 live-length : (stm : List ℕ) (p : Position) (y n : ℕ) → ((i : ℕ) → i < n → flagAt stm i ≤ 1)
     → length (below (living stm p y) n) ≡ liveIn (at p) y (entriesUpTo stm n)
@@ -74,49 +66,44 @@ live-counts-shown c m S y a b =
     (λ p. L .live p y a b ∙ live-length (m .statements) p y (c .statements) (λ i h. L .flag i h)) in
     record { subject = said Subject; predicate = said Predicate; object = said Object }
 
+-- ---- the two tests
+
+module _ (res : List ℕ) (x : Triple) where
+  pub countable-at : countable res x ≡ true → (p : Position) → liveAt res p (at p x) ≤ countAt res p (at p x)
+  unfolding countable
+  countable-at e p =
+      leb-true (liveAt res p (at p x)) (countAt res p (at p x)) (all3-at (λ q. leb (liveAt res q (at q x)) (countAt res q (at q x))) e p)
+
+  pub counting-at : counting res x ≡ true → (p : Position) → 0 < liveAt res p (at p x)
+  unfolding counting
+  counting-at e p = ltb-true 0 (liveAt res p (at p x)) (all3-at (λ q. ltb 0 (liveAt res q (at q x))) e p)
+
+  -- one of the three is 0
+  pub counting-none : (p : Position) → liveAt res p (at p x) ≡ 0 → counting res x ≡ false
+  counting-none p e = decide (counting res x) (λ d. absurd (omega (arith, counting-at d p))) (λ d. d)
+
 -- ---- on any tables: assert and retract
 
 torn : (c : Counters) (m : Tables) (x : Triple) (p : Position)
     → countAt (m .resources) p (at p x) < liveAt (m .resources) p (at p x) → locate c m x ≡ none
-unfolding locate countable
+unfolding locate
 torn c m x p h =
-    decide (pickable (c .statements) (m .resources) x && all3 (λ q. leb (liveAt (m .resources) q (at q x)) (countAt (m .resources) q (at q x))))
-    (λ e. absurd (
-    let k = leb-true (liveAt (m .resources) p (at p x)) (countAt (m .resources) p (at p x))
-    (all3-at (λ q. leb (liveAt (m .resources) q (at q x)) (countAt (m .resources) q (at q x)))
-    (and-r (pickable (c .statements) (m .resources) x) _ e) p) in
-    omega arith))
+    decide (pickable (c .statements) (m .resources) x && countable (m .resources) x)
+    (λ e. absurd (omega (
+      arith,
+      countable-at (m .resources) x (and-r (pickable (c .statements) (m .resources) x) (countable (m .resources) x) e) p,
+    )))
     (λ e. rw e)
 
 pub live-above-count : LiveAboveCount
 live-above-count c m x p a b h =
     (retract-damaged c m x a b (torn c m x p h), λ d f. assert-damaged c m x a b d f (torn c m x p h))
 
-module _ (n : StatementId) where
-  retracting-counted : (m : Tables) (x : Triple) (k : ℕ) → (retracting m x k) .1 ≡ Struck n → counting (m .resources) x ≡ true
-  unfolding retracting
-  retracting-counted m x zero = λ h. let z : _≡_ {A = ℕ} 0 1 = cc in absurd (omega arith)
-  retracting-counted m x (suc i) =
-      decide (eqb (flagAt (m .statements) i) 1)
-      (λ e. rw e (λ h. let z : _≡_ {A = ℕ} 0 1 = cc in absurd (omega arith)))
-      (λ e. rw e (decide (counting (m .resources) x) (λ d h. d)
-      (λ d. rw d (λ h. let z : _≡_ {A = ℕ} 0 1 = cc in absurd (omega arith)))))
-
-  retracted-counted : (c : Counters) (m : Tables) (x : Triple) → (retractOf c m x) .1 ≡ Struck n → counting (m .resources) x ≡ true
-  retracted-counted c m x =
-      decide (fits c m)
-      (λ a. decide (known (c .resources) x)
-      (λ b. option-cases (locate c m x)
-      (λ f. rw (retract-damaged c m x a b f) (λ h. let z : _≡_ {A = ℕ} 0 1 = cc in absurd (omega arith)))
-      (λ k f. rw (retract-located c m x a b k f) (retracting-counted m x k)))
-      (λ b. rw (retract-unknown c m x a b) (λ h. let z : _≡_ {A = ℕ} 0 1 = cc in absurd (omega arith))))
-      (λ a. rw (retract-capacity c m x a) (λ h. let z : _≡_ {A = ℕ} 0 1 = cc in absurd (omega arith)))
-
-pub struck-was-counted : StruckWasCounted
-unfolding counting
-struck-was-counted c m x n e p =
-    ltb-true 0 (liveAt (m .resources) p (at p x))
-    (all3-at (λ q. ltb 0 (liveAt (m .resources) q (at q x))) (retracted-counted n c m x e) p)
+pub live-count-of-zero : LiveCountOfZero
+unfolding retracting
+live-count-of-zero c m x p i a b f e z =
+    let n : flagAt (m .statements) i ≢ 1 = omega arith in
+    retract-located c m x a b (suc i) f ∙ rw (ne-eqb (flagAt (m .statements) i) 1 n, counting-none (m .resources) x p z)
 
 -- ---- on any tables: a listing
 

@@ -196,16 +196,16 @@ none-at-all = (intern ia, refusedWith 3)
 -- ---- tables that hold anything
 
 abbrev wide : Tables
-wide = tables (replicate 88 7) (replicate 70 9) (replicate 8 3) (replicate 100 1)
+wide = tables (replicate (8 * resourceWords) 7) (replicate 70 9) (replicate 8 3) (replicate 100 1)
 
 abbrev narrow : Tables
 narrow = tables (replicate 50 7) (replicate 24 1) (replicate 5 2) (replicate 15 0)
 
 abbrev few : Tables
-few = tables (replicate 88 1) (replicate 70 1) (replicate 2 1) (replicate 100 1)
+few = tables (replicate (8 * resourceWords) 1) (replicate 70 1) (replicate 2 1) (replicate 100 1)
 
 abbrev scant : Tables
-scant = tables (replicate 22 1) (replicate 70 1) (replicate 2 1) (replicate 4 1)
+scant = tables (replicate (2 * resourceWords) 1) (replicate 70 1) (replicate 2 1) (replicate 4 1)
 
 abbrev void : Tables
 void = tables [] [] [] []
@@ -275,13 +275,14 @@ unfolding litA longA empty label writesString canonical kindOf firstKindOf runOf
     findOf roomFor bring insertAt internAs internOf callStore storeAfter
 finds-run = refl
 
--- Live counts: after the paper's lines, and once statement 1 is retracted. A live count above its count, here the predicate's, is
+-- Live counts: after the paper's lines, once statement 1 is retracted, and once it is revived. A live count above its count, here the predicate's, is
 -- refused 9 by assert and retract, also where the triple is already there, and not by a listing; a live count of 0, here the
 -- object's, is refused 9 by retract alone.
 live-run : (recordsAfter []
     ≡ rr 2 0 0 2 0 0 0 2 0 0 (rr 0 2 0 0 2 0 7 0 2 0 (rr 0 0 1 0 0 1 17 0 0 1 (rr 0 0 2 0 0 1 23 0 0 1 []))))
     × (recordsAfter (retract lent (triple 1 2 3) ∷ [])
     ≡ rr 2 0 0 2 0 0 0 1 0 0 (rr 0 2 0 0 2 0 7 0 1 0 (rr 0 0 1 0 0 1 17 0 0 0 (rr 0 0 2 0 0 1 23 0 0 1 []))))
+    × (recordsAfter (retract lent (triple 1 2 3) ∷ assert byValue (triple 1 2 3) ∷ []) ≡ recordsAfter [])
     × (storeReplies (changed 20 2) (assert byValue one ∷ retract lent one ∷ open′ (triple 0 2 0) ∷ [])
     ≡ refusedWith 9 ∷ refusedWith 9 ∷ placed (cursorAt (triple 0 2 0) (By Predicate) 1) ∷ [])
     × (storeReplies (changed 10 0) (assert lent one ∷ retract byValue one ∷ [])
@@ -293,4 +294,4 @@ unfolding r21 trips b4 b7 loading ia ip single writesString canonical kindOf fir
     linkFirst linkRecord kinded asserting assertOf retracting retractOf assertLentOf retractLentOf openOf chainOk
     recordOk cursorOk walkFrom nextOf compare nameAt rank placeAt indexPlaceOf roomFor bring insertAt internAs internOf
     callStore storeReplies storeAfter
-live-run = (refl, refl, refl, refl)
+live-run = (refl, refl, refl, refl, refl)

@@ -6,7 +6,7 @@ use Rattle.store.specs.Claims.{listsOf, HistoriesAgree, HistoriesStaySou
 use Rattle.store.specs.Claims.{RefusalsChangeNothing, Finds, EndsOrSpends, VisitsAddUp, RoundTrips, SpellingsAgree, KnownMeans}
 use Rattle.store.specs.Claims.{WithinMeans, SameMeans, MatchesMeans, PermittedMeans, BelowMeans, PicksLeast}
 use Rattle.store.specs.Claims.{RefusalsAreBare, NoneIsMissed, FirstIsHighest, ReadsOnWithBudget}
-use Rattle.store.specs.Claims.{LiveCountsShown, LiveCountsAgree, LiveAboveCount, StruckWasCounted, ScansDoNotLook}
+use Rattle.store.specs.Claims.{LiveCountsShown, LiveCountsAgree, LiveAboveCount, LiveCountOfZero, ScansDoNotLook}
 use Rattle.store.proofs.Histories.{history-agrees, fresh-agrees}
 use Rattle.store.proofs.Kept.{tidy-history, tidy-fresh, agreeing-sound}
 use Rattle.store.proofs.Held.{agreeing-holds, sound-agrees, sound-tidy}
@@ -69,8 +69,8 @@ live-counts-agree m calls y a b =
 pub live-above-count : LiveAboveCount
 live-above-count = live.live-above-count
 
-pub struck-was-counted : StruckWasCounted
-struck-was-counted = live.struck-was-counted
+pub live-count-of-zero : LiveCountOfZero
+live-count-of-zero = live.live-count-of-zero
 
 pub scans-do-not-look : ScansDoNotLook
 scans-do-not-look = live.scans-do-not-look

@@ -4,6 +4,7 @@ use mathlib.Core.Path.{_≡_}
 use mathlib.Core.Logic.{_≢_, _↔_}
 use mathlib.Core.Bool.{Bool, true, false, cond, not, _&&_}
 use mathlib.Core.List.{List, [], _∷_, _++_, map, List·Memᴰ}
+use mathlib.Core.Option.{some}
 use Prim.Native.Nat.{ℕ, zero, suc, _+_, _-_, _*_, _≤_, _<_}
 use lib.ListN.{length, take, drop}
 use lib.Dec.{eqb}
@@ -14,20 +15,19 @@ use Rattle.store.specs.declared.Chain.{Chain}
 use Rattle.store.specs.declared.Chain.the-variants.{All, By}
 use Rattle.store.specs.declared.Triple.{Triple}
 use Rattle.store.specs.declared.ResourceId.{ResourceId}
-use Rattle.store.specs.declared.StatementId.{StatementId}
 use Rattle.store.specs.declared.ScanCursor.{ScanCursor}
 use Rattle.store.specs.declared.Refusal.the-variants.{Damaged}
 use Rattle.store.specs.declared.Asserted.the-variants.{Refused as NotAsserted}
-use Rattle.store.specs.declared.Retracted.the-variants.{Number as Struck, Refused as NotRetracted}
+use Rattle.store.specs.declared.Retracted.the-variants.{Refused as NotRetracted}
 use Rattle.store.specs.declared.NameRead.the-variants.{Span}
 use Rattle.store.specs.declared.Lookup.the-variants.{Number}
 use Rattle.store.specs.Triple.{at, known, within, same, agrees, permitted, below, head0, prev}
-use Rattle.store.specs.Tables.{Tables, after, word, off, freshCounters, fits, countAt, kindAt, liveAt}
+use Rattle.store.specs.Tables.{Tables, after, word, off, freshCounters, resourceWords, fits, flagAt, countAt, kindAt, liveAt}
 use Rattle.store.specs.Values.{Values, refusedWith}
 use Rattle.store.specs.Model.{Entry, Model, Call, intern, assert, retract, open′, next, freshModel, totals, entry}
 use Rattle.store.specs.Model.{Capacities, wellFormed, internModel, matches, holders, pick, cursorOf, modelReplies, modelAfter}
 use Rattle.store.specs.Walk.{entryAt}
-use Rattle.store.specs.Statement.{kinded, assertOf, retractOf}
+use Rattle.store.specs.Statement.{locate, kinded, assertOf, retractOf}
 use Rattle.store.specs.Scan.{openOf, nextOf}
 use Rattle.store.specs.Reading.{nameSpanOf}
 use Rattle.store.specs.Dictionary.{nameAt, findOf, internOf}
@@ -241,10 +241,11 @@ LiveAboveCount = (c : Counters) (m : Tables) (x : Triple) (p : Position) → fit
     × (kinded (m .resources) x ≡ true → permitted (kindAt (m .resources)) x ≡ true
     → assertOf c m x ≡ after m (NotAsserted Damaged))
 
--- On any tables none of the three was 0 where a live statement was retracted.
-abbrev pub StruckWasCounted : Type 0
-StruckWasCounted = (c : Counters) (m : Tables) (x : Triple) (n : StatementId) → (retractOf c m x) .1 ≡ Struck n
-    → (p : Position) → 0 < liveAt (m .resources) p (at p x)
+-- On any tables a live count of 0, at any position of the triple, is refused 9 where retract has found a live record.
+abbrev pub LiveCountOfZero : Type 0
+LiveCountOfZero = (c : Counters) (m : Tables) (x : Triple) (p : Position) (i : ℕ) → fits c m ≡ true → known (c .resources) x ≡ true
+    → locate c m x ≡ some (suc i) → flagAt (m .statements) i ≡ 0 → liveAt (m .resources) p (at p x) ≡ 0
+    → retractOf c m x ≡ after m (NotRetracted Damaged)
 
 -- tables that differ in live counts alone
 pub record SameButLive (m m′ : Tables) : Type 0 where
@@ -252,7 +253,8 @@ pub record SameButLive (m m′ : Tables) : Type 0 where
   pub index : m .index ≡ m′ .index
   pub text : m .text ≡ m′ .text
   pub lengths : length (m .resources) ≡ length (m′ .resources)
-  pub words : (y k : ℕ) → k < 8 → word (m .resources) (11 * (y - 1) + k) ≡ word (m′ .resources) (11 * (y - 1) + k)
+  pub words : (y k : ℕ) → k < 8
+      → word (m .resources) (resourceWords * (y - 1) + k) ≡ word (m′ .resources) (resourceWords * (y - 1) + k)
 
 -- A listing does not look at live counts, on any tables.
 abbrev pub ScansDoNotLook : Type 0

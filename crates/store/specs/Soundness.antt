@@ -18,9 +18,12 @@ use Rattle.store.specs.Dictionary.{Named}
 unfoldable pub holding : List ℕ → Position → ℕ → ℕ → Bool
 holding stm p y i = eqb (termAt stm p i) y
 
--- and is live
+abbrev pub isLive : List ℕ → ℕ → Bool
+isLive stm i = eqb (flagAt stm i) 0
+
+-- it is live and holds it
 unfoldable pub living : List ℕ → Position → ℕ → ℕ → Bool
-living stm p y i = eqb (flagAt stm i) 0 && holding stm p y i
+living stm p y i = isLive stm i && holding stm p y i
 
 -- The chains, for a position in general: resources in 1..R, flags 0 or 1; a record's next is the highest earlier record with its
 -- resource there, a resource's first the highest of all, its count their number, live or not, its live count that of the live ones.

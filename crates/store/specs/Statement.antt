@@ -126,7 +126,7 @@ assertOf c m x =
 
 -- ---- retract
 
--- a live record is there to be counted at each position
+-- none of the three live counts of the triple's resources is 0
 unfoldable pub counting : List ℕ → Triple → Bool
 counting res x = all3 (λ p. ltb 0 (liveAt res p (at p x)))
 

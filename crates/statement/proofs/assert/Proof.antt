@@ -1,6 +1,7 @@
 use native.Mathlib.Omega.{arith}
 use mathlib.Core.Path.{sym, _∙_, ap}
 use denote.Ref.{now}
+use Rattle.statement_record.proofs.Records.{grows-all}
 use Rattle.statement.proofs.Operations.{appendable, located-in, assert-refused, assert-at, assert-found}
 use Rattle.store.specs.Statement.{asserting}
 use Rattle.store.specs.Tables.{tables}
@@ -50,8 +51,10 @@ revive-requires c κs =
     let a = c .before .before .before .before .before .before .before .before .before .before .before .before .before .before .args in
     let m = tables (now (a .resources)) (now (a .statements)) (now (a .index)) (now (a .text)) in
     let n = c .before .before .before .before .before .n .given .0 .0 in
-    let f = assert-found (a .c) m (a .x) n (sym (c .before .before .before .before .before .before .before .assert-target .ensures) ∙ c .before .before .before .before .before .n .given .1) in
-    (record { from-one = omega arith; whole = located-in (a .c) m (f .0) (a .x) (n .0) (f .2) }, appendable (a .c) m (f .0) (a .x) (n .0) (f .1) (f .2))
+    let f = assert-found (a .c) m (a .x) n (sym (c .before .before .before .before .before .before .before .assert-target .ensures) ∙ c .before .before .before .before .before .n .given .1) in (
+      record { from-one = omega arith; whole = located-in (a .c) m (f .0) (a .x) (n .0) (f .2) },
+      grows-all (a .c) (now (a .resources)) (a .x) (appendable (a .c) m (f .0) (a .x) (n .0) (f .1) (f .2)),
+    )
 
 same-length-3 : tie.Need-same-length-3
 same-length-3 c = search needs

@@ -1,6 +1,6 @@
 use mathlib.Core.Path.{sym, _∙_}
 use denote.Ref.{now}
-use Rattle.statement_record.proofs.Records.{grows-all, revived, already}
+use Rattle.statement_record.proofs.Records.{revived, already}
 use borrow.Author.Needs.{needs}
 use Rattle.statement_record.proofs.record.revive.Statement.{statement}
 use Rattle.statement_record.proofs.record.revive.Tie as tie
@@ -17,7 +17,7 @@ set-flag-requires : tie.Need-set-flag-requires
 set-flag-requires c κs = search needs
 
 tally-requires : tie.Need-tally-requires
-tally-requires c κs = let a = c .before .before .before .before .before .before .before .before .before .before .args in grows-all (a .c) (now (a .resources)) (a .x) (c .before .before .before .before .before .before .before .before .before .before .pre .1)
+tally-requires c κs = c .before .before .before .before .before .before .before .before .before .before .pre .1
 
 same-length : tie.Need-same-length
 same-length c = search needs
