@@ -14,9 +14,11 @@ use Rattle.store.specs.declared.Asserted.the-variants.{New, Already, Rev
 use Rattle.store.specs.declared.Retracted.{Retracted}
 use Rattle.store.specs.declared.Retracted.the-variants.{Number as Struck, Absent as NotLive}
 use Rattle.store.specs.declared.Retracted.the-variants.{Refused as NotRetracted}
+use Rattle.store.specs.declared.Reclaimed.the-variants.{Done, Refused as NotReclaimed}
 use Rattle.store.specs.Triple.{known, permitted}
-use Rattle.store.specs.Tables.{Tables, fits, statementCapacity, flagAt, kindAt}
+use Rattle.store.specs.Tables.{Tables, fits, maxReclaims, statementCapacity, flagAt, kindAt}
 use Rattle.store.specs.Statement.{locate, kinded, asserting, assertOf, counting, retracting, retractOf}
+use Rattle.store.specs.Reclaim.{reclaimOf}
 use Rattle.store.proofs.Tests.{decide}
 
 pub option-cases : {A : Type 0} {P : Type 0} (o : Option A) → (o ≡ none → P) → ((a : A) → o ≡ some a → P) → P
@@ -117,3 +119,12 @@ retract-refused c m x =
     (λ n f. rw (retract-located c m x a b n f) (retracting-quiet m x n)))
     (λ b. rw (retract-unknown c m x a b) (λ q h. refl)))
     (λ a. rw (retract-capacity c m x a) (λ q h. refl))
+
+-- ---- a refused reclaim writes nothing
+
+pub reclaim-refused : (c : Counters) (m : Tables) (q : Refusal) → (reclaimOf c m) .1 ≡ NotReclaimed q → (reclaimOf c m) .0 ≡ m
+unfolding reclaimOf
+reclaim-refused c m q =
+    decide (fits c m)
+    (λ a. rw a (decide (ltb (c .generation) maxReclaims) (λ b. rw b (λ e. cc)) (λ b. rw b (λ e. refl))))
+    (λ a. rw a (λ e. refl))

@@ -1,19 +1,21 @@
--- The plain lists only grow: a listed triple keeps its position whatever is called. Assumes nothing.
+-- The plain lists only grow between reclaims: a listed triple keeps its position whatever else is called. Assumes nothing.
 use mathlib.Core.Path.{_≡_, refl, sym, ap, _∙_}
 use mathlib.Core.Bool.{Bool, true, false, cond, _&&_}
 use mathlib.Core.List.{List, [], _∷_, _++_}
-use Prim.Native.Nat.{ℕ, zero, suc, _≤_, _<_}
+use Prim.Native.Nat.{ℕ, zero, suc, _+_, _≤_, _<_}
 use native.Mathlib.Omega.{arith}
-use lib.ListN.{length, length-append, List·getD-append}
+use lib.ListN.{length, getD, length-append, List·getD-append}
 use lib.Dec.{eqb, leb, ltb}
 use Rattle.term.specs.Scanner.{firstKindOf}
 use Rattle.term.specs.Canonical.{canonical}
 use Rattle.store.specs.declared.Triple.{Triple}
 use Rattle.store.specs.Triple.{known, within, permitted}
-use Rattle.store.specs.Model.{Entry, Model, Capacities, Call, intern, assert, retract, open′, next, wellFormed}
+use Rattle.store.specs.Model.{Entry, Model, Capacities, Call, intern, assert, retract, open′, next, reclaim, wellFormed}
 use Rattle.store.specs.Model.{lookupName, nameOf, bytesOf, internName, internModel, entry, lookup, mark, put}
 use Rattle.store.specs.Model.{assertModel, strike, retractModel, openModel, turn, nextModel, callModel}
-use Rattle.store.specs.Model.{modelAfter}
+use Rattle.store.specs.Model.{noListing, reclaimModel, modelReplies, modelAfter}
+use Rattle.store.specs.Tables.{maxReclaims}
+use Rattle.store.specs.Claims.{reclaims, reclaimsIn}
 use Rattle.store.proofs.Tests.{decide}
 use Rattle.store.proofs.Represented.{mark-length, mark-spo}
 
@@ -48,10 +50,18 @@ module _ (k : Capacities) (s : Model) where
           (λ e. rw e) (λ e. rw e))
       go (suc i) = unfold internName in refl
 
-  pub grown-call : (a : Call) → Grown (s .entries) (((callModel k s a) .0) .entries)
-  unfolding callModel assertModel retractModel openModel nextModel turn
-  grown-call (intern w) = rw (intern-keeps w) (grown-same (s .entries))
-  grown-call (assert f x) =
+  -- a reclaim that was not answered
+  grown-refused : reclaims reclaim ((reclaimModel s) .1) ≡ 0 → Grown (s .entries) (((reclaimModel s) .0) .entries)
+  unfolding reclaimModel
+  grown-refused =
+      decide (ltb (s .generation) maxReclaims)
+      (λ e. rw e (λ h. absurd (omega (arith, h)))) (λ e. rw e (λ h. grown-same (s .entries)))
+
+  pub grown-call : (a : Call) → reclaims a ((callModel k s a) .1) ≡ 0
+      → Grown (s .entries) (((callModel k s a) .0) .entries)
+  unfolding callModel assertModel retractModel openModel nextModel turn reclaimModel
+  grown-call (intern w) h = rw (intern-keeps w) (grown-same (s .entries))
+  grown-call (assert f x) h =
       decide (known (length (s .names)) x)
       (λ e. rw e (decide (permitted (λ y. firstKindOf (nameOf (s .names) y)) x)
       (λ d. rw d (go (lookup x (s .entries))))
@@ -67,7 +77,7 @@ module _ (k : Capacities) (s : Model) where
           unfold put in
           (decide ((entry (s .entries) i) .retracted)
           (λ e. rw e (grown-mark (s .entries) i false)) (λ e. rw e (grown-same (s .entries))))
-  grown-call (retract f x) =
+  grown-call (retract f x) h =
       decide (known (length (s .names)) x)
       (λ e. rw e (go (lookup x (s .entries))))
       (λ e. rw e (grown-same (s .entries)))
@@ -78,13 +88,17 @@ module _ (k : Capacities) (s : Model) where
           unfold strike in
           (decide ((entry (s .entries) i) .retracted)
           (λ e. rw e (grown-same (s .entries))) (λ e. rw e (grown-mark (s .entries) i true)))
-  grown-call (open′ x) =
+  grown-call (open′ x) h =
       decide (within (length (s .names)) x) (λ e. rw e (grown-same (s .entries))) (λ e. rw e (grown-same (s .entries)))
-  grown-call (next j b) =
-      decide (eqb b 0) (λ e. rw e (grown-same (s .entries))) (λ e. rw e (grown-same (s .entries)))
+  grown-call (next j b) h =
+      decide (eqb ((getD (s .listings) j noListing) .generation) (s .generation))
+      (λ d. rw d (decide (eqb b 0) (λ e. rw e (grown-same (s .entries))) (λ e. rw e (grown-same (s .entries)))))
+      (λ d. rw d (grown-same (s .entries)))
+  grown-call reclaim h = grown-refused h
 
-pub grown-history : (k : Capacities) (s : Model) (a : List Call) → Grown (s .entries) ((modelAfter k s a) .entries)
-unfolding modelAfter
-grown-history k s [] = grown-same (s .entries)
-grown-history k s (a ∷ r) =
-    grown-trans _ _ _ (grown-call k s a) (grown-history k ((callModel k s a) .0) r)
+pub grown-history : (k : Capacities) (s : Model) (a : List Call) → reclaimsIn a (modelReplies k s a) ≡ 0
+    → Grown (s .entries) ((modelAfter k s a) .entries)
+unfolding modelAfter modelReplies reclaimsIn
+grown-history k s [] h = grown-same (s .entries)
+grown-history k s (a ∷ r) h =
+    grown-trans _ _ _ (grown-call k s a (omega arith)) (grown-history k ((callModel k s a) .0) r (omega arith))

@@ -12,7 +12,7 @@ use lib.Dec.{leb}
 use borrow.Author.Tests.{leb-true}
 use Rattle.store.specs.declared.Counters.{Counters}
 use Rattle.store.specs.Triple.{known, permitted}
-use Rattle.store.specs.Tables.{Tables, fits, resourceCapacity, statementCapacity, textCapacity, tripleAt, kindAt}
+use Rattle.store.specs.Tables.{Tables, fits, maxReclaims, resourceCapacity, statementCapacity, textCapacity, tripleAt}
 use Rattle.store.specs.Values.{noTriple}
 use Rattle.store.specs.Model.{Entry, Model, Capacities, entry, nameOf}
 use Rattle.store.specs.Walk.{entryAt}
@@ -22,7 +22,7 @@ use Rattle.store.specs.History.{Store, store, capacitiesOf}
 use Rattle.store.specs.Claims.{entriesUpTo, namesUpTo, statementsIn, namesIn, listsOf, Holds}
 use Rattle.store.proofs.Tests.{upto, and-l, and-r}
 use Rattle.store.proofs.Chains.{entry-known}
-use Rattle.store.proofs.Represented.{Agreeing, totals-agree, good-none}
+use Rattle.store.proofs.Represented.{Agreeing, totals-agree, standing-none}
 use Rattle.store.proofs.StatementsAgree.{permitted-agrees}
 use Rattle.store.proofs.NamesAgree.{name-at}
 use Rattle.store.proofs.Kept.{Tidy, agreeing-sound}
@@ -107,19 +107,23 @@ module _ (c : Counters) (m : Tables) (S : Sound c m) where
     linked = S .linked;
     reads = λ i h. entries-at (m .statements) (c .statements) i h;
     cursors = refl;
-    good = λ j. good-none (length (namesIn here)) (statementsIn here);
+    generation = refl;
+    good = λ j. standing-none (length (namesIn here)) (statementsIn here) (c .generation);
     room-resources = refl;
     room-statements = refl;
     room-text = refl;
     in-resources = leb-true (c .resources) (resourceCapacity m) (and-l _ _ bits);
     in-statements = leb-true (c .statements) (statementCapacity m) (and-l _ _
         (and-r (leb (c .resources) (resourceCapacity m)) _ bits));
-    in-text = leb-true (c .text) (textCapacity m)
-        (and-r (leb (c .statements) (statementCapacity m)) _ (and-r (leb (c .resources) (resourceCapacity m)) _ bits));
+    in-text = leb-true (c .text) (textCapacity m) (and-l _ _
+        (and-r (leb (c .statements) (statementCapacity m)) _ (and-r (leb (c .resources) (resourceCapacity m)) _ bits)));
+    in-generation = leb-true (c .generation) maxReclaims (and-r (leb (c .text) (textCapacity m)) _
+        (and-r (leb (c .statements) (statementCapacity m)) _ (and-r (leb (c .resources) (resourceCapacity m)) _ bits)));
   }
     where
       bits : leb (c .resources) (resourceCapacity m)
-          && (leb (c .statements) (statementCapacity m) && leb (c .text) (textCapacity m)) ≡ true
+          && (leb (c .statements) (statementCapacity m)
+          && (leb (c .text) (textCapacity m) && leb (c .generation) maxReclaims)) ≡ true
       bits = unfold fits in (S .capacity)
 
   spo-at : (i : ℕ) → i < c .statements → (entry (statementsIn here) i) .spo ≡ tripleAt (m .statements) i

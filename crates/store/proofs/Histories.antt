@@ -6,15 +6,16 @@ use Prim.Native.Nat.{ℕ, zero, suc, _≤_, _<_}
 use native.Mathlib.Omega.{arith}
 use Rattle.store.specs.Triple.{below}
 use Rattle.store.specs.Tables.{Tables}
-use Rattle.store.specs.Model.{Model, Capacities, Form, byValue, lent, Call, intern, assert, retract, open′, next}
+use Rattle.store.specs.Model.{Model, Capacities, Form, byValue, lent, Call, intern, assert, retract, open′, next, reclaim}
 use Rattle.store.specs.Model.{bytesOf, freshModel, callModel, modelReplies, modelAfter}
 use Rattle.store.specs.Statement.{assertLentOf, retractLentOf}
 use Rattle.store.specs.Dictionary.{joined}
 use Rattle.store.specs.History.{Store, freshStore, capacitiesOf, callStore, storeReplies, storeAfter}
-use Rattle.store.proofs.Represented.{Agreeing, Same, good-none}
+use Rattle.store.proofs.Represented.{Agreeing, Same, standing-none}
 use Rattle.store.proofs.StatementsAgree.{assert-agrees, retract-agrees}
 use Rattle.store.proofs.ScansAgree.{open-agrees, next-agrees}
 use Rattle.store.proofs.NamesAgree.{intern-agrees}
+use Rattle.store.proofs.ReclaimAgrees.{reclaim-agrees}
 
 pub call-agrees : (k : Capacities) (c : Store) (s : Model) → Agreeing k c s → (a : Call)
     → Same k (callStore c a) (callModel k s a)
@@ -26,6 +27,7 @@ call-agrees k c s R (retract byValue x) = retract-agrees k c s R x
 call-agrees k c s R (retract lent x) = retract-agrees k c s R x
 call-agrees k c s R (open′ x) = open-agrees k c s R x
 call-agrees k c s R (next j b) = next-agrees k c s R j b
+call-agrees k c s R reclaim = reclaim-agrees k c s R
 
 pub history-agrees : (k : Capacities) (c : Store) (s : Model) → Agreeing k c s → (a : List Call)
     → (storeReplies c a ≡ modelReplies k s a) × Agreeing k (storeAfter c a) (modelAfter k s a)
@@ -67,11 +69,13 @@ fresh-agrees m = record {
   };
   reads = λ i h. absurd (omega arith);
   cursors = refl;
-  good = λ j. good-none 0 [];
+  generation = refl;
+  good = λ j. standing-none 0 [] 0;
   room-resources = refl;
   room-statements = refl;
   room-text = refl;
   in-resources = omega arith;
   in-statements = omega arith;
   in-text = omega arith;
+  in-generation = omega arith;
 }

@@ -16,17 +16,19 @@ use Rattle.store.specs.declared.Counters.{Counters}
 use Rattle.store.specs.declared.Position.the-variants.{Subject, Predicate, Object}
 use Rattle.store.specs.declared.Triple.{Triple}
 use Rattle.store.specs.Triple.{at, known, within, same, permitted, below, head0}
-use Rattle.store.specs.Tables.{Tables, fits, resourceCapacity, statementCapacity, textCapacity, tripleAt, kindAt}
-use Rattle.store.specs.Model.{Entry, Listing, Model, Capacities, Call, intern, assert, retract, open′, next}
+use Rattle.store.specs.Tables.{Tables, fits, maxReclaims, resourceCapacity, statementCapacity, textCapacity, tripleAt, kindAt}
+use Rattle.store.specs.Model.{Entry, Listing, Model, Capacities, Call, intern, assert, retract, open′, next, reclaim}
 use Rattle.store.specs.Model.{wellFormed, lookupName, nameOf, bytesOf, internName, internModel, entry, lookup}
 use Rattle.store.specs.Model.{mark, put, assertModel, strike, retractModel, openModel, turn, nextModel}
-use Rattle.store.specs.Model.{freshModel, callModel, modelAfter}
+use Rattle.store.specs.Model.{freshModel, callModel, modelAfter, withNames, withEntries, withListings, noListing, unstruck, reclaimed}
+use Rattle.store.specs.Model.{reclaimModel}
 use Rattle.store.specs.Soundness.{Sound}
 use Rattle.store.specs.History.{Store}
 use Rattle.store.proofs.Tests.{decide, upto, known-low, known-high, known-more, same-self}
 use Rattle.store.proofs.Falling.{head-pos}
 use Rattle.store.proofs.Text.{name-old, length-snoc}
 use Rattle.store.proofs.Represented.{Agreeing, fits-agrees, spo-agrees, mark-length, mark-spo}
+use Rattle.store.proofs.Unstruck.{origin, origin-in, origin-reads, origin-rises}
 use Rattle.store.proofs.StatementsAgree.{permitted-agrees}
 
 abbrev pub kindIn : Model → ℕ → ℕ
@@ -38,7 +40,7 @@ pub record Tidy (s : Model) : Type 0 where
   pub once : (i j : ℕ) → i < j → j < length (s .entries) → (entry (s .entries) i) .spo ≢ (entry (s .entries) j) .spo
 
 -- a triple that is not found is not there
-absent : (x : Triple) (l : List Entry) → lookup x l ≡ 0 → (i : ℕ) → i < length l → (entry l i) .spo ≢ x
+pub absent : (x : Triple) (l : List Entry) → lookup x l ≡ 0 → (i : ℕ) → i < length l → (entry l i) .spo ≢ x
 unfolding lookup
 absent x l e i h d =
     omega (arith, head-pos (λ i. same x ((entry l i) .spo)) (length l) i h (same-self x ((entry l i) .spo) d), e)
@@ -49,7 +51,7 @@ more s x = s .entries ++ record { spo = x; retracted = false } ∷ []
 module _ (s : Model) (D : Tidy s) where
   tidy-append : (x : Triple) → known (length (s .names)) x ≡ true → permitted (kindIn s) x ≡ true
       → lookup x (s .entries) ≡ 0
-      → Tidy (record { names = s .names; entries = more s x; listings = s .listings })
+      → Tidy (withEntries s (more s x))
   tidy-append x k a e = record {
     inside = λ i h. upto (λ i. known (length (s .names)) ((entry (more s x) i) .spo) ≡ true) (length (s .entries))
         (λ i q. rw List·getD-append (D .inside i q)) (rw getD-append-seam k) i (omega (arith, simp length-append at h));
@@ -64,7 +66,7 @@ module _ (s : Model) (D : Tidy s) where
   }
 
   tidy-mark : (i : ℕ) (b : Bool)
-      → Tidy (record { names = s .names; entries = mark (s .entries) i b; listings = s .listings })
+      → Tidy (withEntries s (mark (s .entries) i b))
   tidy-mark i b =
       let n = mark-length (s .entries) i b in
       record {
@@ -78,7 +80,7 @@ module _ (s : Model) (D : Tidy s) where
             rw (mark-spo (s .entries) i j b h′, mark-spo (s .entries) i m b g′) (D .once j m h g′);
       }
 
-  tidy-name : (w : List ℕ) → Tidy (record { names = s .names ++ w ∷ []; entries = s .entries; listings = s .listings })
+  tidy-name : (w : List ℕ) → Tidy (withNames s (s .names ++ w ∷ []))
   unfolding permitted
   tidy-name w = record {
     inside = λ i h. known-more (length (s .names)) _ _ (omega (arith, length-snoc (s .names) w)) (D .inside i h);
@@ -93,11 +95,24 @@ module _ (s : Model) (D : Tidy s) where
     once = D .once;
   }
 
-  tidy-listings : (g : List Listing) → Tidy (record { names = s .names; entries = s .entries; listings = g })
+  tidy-listings : (g : List Listing) → Tidy (withListings s g)
   tidy-listings g = record { inside = D .inside; kinds = D .kinds; once = D .once }
 
-  tidy-call : (k : Capacities) (a : Call) → Tidy ((callModel k s a) .0)
-  unfolding callModel internModel assertModel retractModel openModel nextModel turn
+  -- an entry that is kept was there, and in the same order
+  tidy-reclaimed : Tidy (reclaimed s)
+  tidy-reclaimed =
+      let l = s .entries in
+      record {
+        inside = λ i h. rw (origin-reads l i h) (D .inside (origin l i) (origin-in l i h));
+        kinds = λ i h. rw (origin-reads l i h) (D .kinds (origin l i) (origin-in l i h));
+        once = λ i j h g.
+            let q : i < length (unstruck l) = omega arith in
+            rw (origin-reads l i q, origin-reads l j g)
+            (D .once (origin l i) (origin l j) (origin-rises l i j h g) (origin-in l j g));
+      }
+
+  pub tidy-call : (k : Capacities) (a : Call) → Tidy ((callModel k s a) .0)
+  unfolding callModel internModel assertModel retractModel openModel nextModel turn reclaimModel
   tidy-call k (intern w) = decide (wellFormed w) (λ e. rw e (go (lookupName (canonical w) (s .names)))) (λ e. rw e D)
     where
       go : (t : ℕ) → Tidy ((internName k s (canonical w) t) .0)
@@ -124,7 +139,11 @@ module _ (s : Model) (D : Tidy s) where
       go (suc i) =
           unfold strike in (decide ((entry (s .entries) i) .retracted) (λ f. rw f D) (λ f. rw f (tidy-mark i true)))
   tidy-call k (open′ x) = decide (within (length (s .names)) x) (λ e. rw e (tidy-listings _)) (λ e. rw e D)
-  tidy-call k (next j b) = decide (eqb b 0) (λ e. rw e D) (λ e. rw e (tidy-listings _))
+  tidy-call k (next j b) =
+      decide (eqb ((getD (s .listings) j noListing) .generation) (s .generation))
+      (λ d. rw d (decide (eqb b 0) (λ e. rw e D) (λ e. rw e (tidy-listings _))))
+      (λ d. rw d D)
+  tidy-call k reclaim = decide (ltb (s .generation) maxReclaims) (λ e. rw e tidy-reclaimed) (λ e. rw e D)
 
 pub tidy-history : (k : Capacities) (s : Model) → Tidy s → (a : List Call) → Tidy (modelAfter k s a)
 unfolding modelAfter

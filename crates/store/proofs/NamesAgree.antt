@@ -35,7 +35,7 @@ use Rattle.store.proofs.Links.{grow-linked}
 use Rattle.store.proofs.Form.{form-clean, storable-formed, canonical-storable}
 use Rattle.store.proofs.Text.{bytes-snoc, name-read, text-grows, name-old, name-new, length-snoc, snoc-all}
 use Rattle.store.proofs.Index.{insert-length, rank-le, at-rank-is, index-grows}
-use Rattle.store.proofs.Represented.{Agreeing, Same, same-cond, fits-agrees, totals-agree, good-grow}
+use Rattle.store.proofs.Represented.{Agreeing, Same, same-cond, fits-agrees, totals-agree, standing-grow}
 
 -- ---- a sound dictionary's names, read from the text
 
@@ -184,7 +184,8 @@ module _ (k : Capacities) (c : Store) (s : Model) (R : Agreeing k c s) (w : List
         (n .text) (firstKindOf w);
     reads = R .reads;
     cursors = R .cursors;
-    good = λ j. good-grow (length (s .names)) (length (s .names ++ w ∷ [])) (s .entries) (s .entries) _
+    generation = R .generation;
+    good = λ j. standing-grow (length (s .names)) (length (s .names ++ w ∷ [])) (s .entries) (s .entries) (s .generation) _
         (omega (arith, length-snoc (s .names) w)) (omega arith) (λ i q. refl) (R .good j);
     room-resources = rw (
       grow-length (n .resources) (m .resources) (n .text) (firstKindOf w),
@@ -195,6 +196,7 @@ module _ (k : Capacities) (c : Store) (s : Model) (R : Agreeing k c s) (w : List
     in-resources = rw (R .room-resources) gr;
     in-statements = R .in-statements;
     in-text = rw (R .room-text) gb;
+    in-generation = R .in-generation;
   }
 
   new-values : Agreeing k (store (oneNameMore n w) (withName n m w at-rank) (c .cursors))

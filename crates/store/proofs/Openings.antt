@@ -10,7 +10,7 @@ use native.Mathlib.Omega.{arith}
 use lib.ListN.{length, getD, take, drop, length-append}
 use lib.Seq.{getD-append-seam}
 use lib.Dec.{eqb}
-use borrow.Author.Tests.{eq-eqb, ne-eqb}
+use borrow.Author.Tests.{eq-eqb, ne-eqb, eqb-true, eqb-false}
 use Rattle.store.specs.declared.Position.{Position}
 use Rattle.store.specs.declared.Chain.{Chain}
 use Rattle.store.specs.declared.Chain.the-variants.{All, By}
@@ -25,14 +25,14 @@ use Rattle.store.specs.History.{Store, freshStore, capacitiesOf, callSto
 use Rattle.store.specs.Claims.{Opening, storeThen, opened, Accepted, openingNumber, chainThen, storeNow, visitsOf}
 use Rattle.store.specs.Claims.{visitsSoFar, restNow, reached, liveNow, nextNow, Latest, NoneOf, Exhausts}
 use Rattle.store.specs.Claims.{Shortest, unbound, bound, statementsIn, Finds, EndsOrSpends, VisitsAddUp}
-use Rattle.store.specs.Claims.{takenSoFar, NoneIsMissed, ReadsOnWithBudget}
+use Rattle.store.specs.Claims.{takenSoFar, reclaimsIn, reclaimsSince, Unreclaimed, NoneIsMissed, ReadsOnWithBudget, StaleAfterReclaim}
 use Rattle.store.proofs.Tests.{decide, off-lt, and-r}
 use Rattle.store.proofs.Falling.{Falling, below-falling, below-in, all-pass}
 use Rattle.store.proofs.Picking.{Picked, pick-picks, Bound, pick-bound}
 use Rattle.store.proofs.Represented.{Agreeing, Same}
 use Rattle.store.proofs.Histories.{call-agrees, history-agrees, fresh-agrees}
 use Rattle.store.proofs.Taking.{Outcome, hits, ends, stops, outcome, falling-drop, mem-split}
-use Rattle.store.proofs.Visits.{openingOf, opening-after, visits-add}
+use Rattle.store.proofs.Visits.{openingOf, opening-after, visits-add, generation-call, generation-after}
 use Rattle.store.proofs.Held.{agreeing-statements}
 use Rattle.store.proofs.Entries.{Grown, grown-trans, grown-call, grown-history}
 use Rattle.store.proofs.Pins.{agrees-at}
@@ -48,47 +48,61 @@ unfolding openModel
 open-accepted s x = decide (within (length (s .names)) x) (λ e h. e) (λ e. rw e (λ h. absurd (omega (arith, h))))
 
 open-lists : (s : Model) (x : Triple) → within (length (s .names)) x ≡ true
-    → ((openModel s x) .0) .listings ≡ s .listings ++ listing x (s .entries) ∷ []
+    → ((openModel s x) .0) .listings ≡ s .listings ++ listing (s .generation) x (s .entries) ∷ []
 unfolding openModel
 open-lists s x e = rw e
 
 open-values : (s : Model) (x : Triple) → within (length (s .names)) x ≡ true
-    → (openModel s x) .1 ≡ placed (cursorOf (listing x (s .entries)))
+    → (openModel s x) .1 ≡ placed (cursorOf (listing (s .generation) x (s .entries)))
 unfolding openModel
 open-values s x e = rw e
 
 next-values : (s : Model) (j b : ℕ) → ((nextModel s j b) .1) .refusal ≡ 0
     → (nextModel s j b) .1 ≡ takenValues (openingOf s j) (takeFrom (s .entries) (openingOf s j) b)
 unfolding nextModel turn
-next-values s j b = decide (eqb b 0) (λ e. rw e (λ h. absurd (omega (arith, h)))) (λ e. rw e (λ h. refl))
+next-values s j b =
+    decide (eqb ((openingOf s j) .generation) (s .generation))
+    (λ d. rw d (decide (eqb b 0) (λ e. rw e (λ h. absurd (omega (arith, h)))) (λ e. rw e (λ h. refl))))
+    (λ d. rw d (λ h. absurd (omega (arith, h))))
 
 taken-accepted : (g : Listing) (z : Taken) → (takenValues g z) .refusal ≡ 0
 taken-accepted g (took n v r) = refl
 taken-accepted g (emptied v) = refl
 taken-accepted g (stopped v r) = refl
 
--- a next is refused exactly without a budget
-next-budget : (s : Model) (j b : ℕ) → ((nextModel s j b) .1) .refusal ≡ 0 ↔ 0 < b
+-- a next is refused exactly without a budget or after a reclaim
+next-stale : (s : Model) (j b : ℕ) → (openingOf s j) .generation ≢ s .generation → (nextModel s j b) .1 ≡ refusedWith 13
+unfolding nextModel
+next-stale s j b h = rw (ne-eqb ((openingOf s j) .generation) (s .generation) h)
+
+next-accepted : (s : Model) (j b : ℕ) → ((nextModel s j b) .1) .refusal ≡ 0
+    → (0 < b) × ((openingOf s j) .generation ≡ s .generation)
+unfolding nextModel
+next-accepted s j b =
+    decide (eqb ((openingOf s j) .generation) (s .generation))
+    (λ d. rw d (decide (eqb b 0) (λ e. rw e (λ h. absurd (omega (arith, h))))
+    (λ e h. (omega (arith, eqb-false b 0 e), eqb-true ((openingOf s j) .generation) (s .generation) d))))
+    (λ d. rw d (λ h. absurd (omega (arith, h))))
+
+next-budget : (s : Model) (j b : ℕ) → (0 < b) × ((openingOf s j) .generation ≡ s .generation)
+    → ((nextModel s j b) .1) .refusal ≡ 0
 unfolding nextModel turn
-next-budget s j zero = (λ h. absurd (omega (arith, h)), λ h. absurd (omega arith))
-next-budget s j (suc b) = (
-  λ h. omega arith,
-  λ h. rw (ne-eqb (suc b) 0 (omega arith))
-      (taken-accepted (openingOf s j) (takeFrom (s .entries) (openingOf s j) (suc b))),
-)
+next-budget s j b h =
+    rw (eq-eqb ((openingOf s j) .generation) (s .generation) (h .1), ne-eqb b 0 (omega (arith, h .0)))
+    (taken-accepted (openingOf s j) (takeFrom (s .entries) (openingOf s j) b))
 
-chain-of : (x : Triple) (l : List Entry) → (cursorOf (listing x l)) .chain ≡ pickModel x l
+chain-of : (n : ℕ) (x : Triple) (l : List Entry) → (cursorOf (listing n x l)) .chain ≡ pickModel x l
 unfolding listing
-chain-of x l = refl
+chain-of n x l = refl
 
-take-from : (l : List Entry) (x : Triple) (h : List Entry) (r : List ℕ) (b : ℕ)
-    → takeFrom l (leaving (listing x h) r) b ≡ take-off (λ i. matches x (entry l i)) b r
+take-from : (n : ℕ) (l : List Entry) (x : Triple) (h : List Entry) (r : List ℕ) (b : ℕ)
+    → takeFrom l (leaving (listing n x h) r) b ≡ take-off (λ i. matches x (entry l i)) b r
 unfolding takeFrom listing
-take-from l x h r b = refl
+take-from n l x h r b = refl
 
-rest-of : (x : Triple) (l : List Entry) → (listing x l) .rest ≡ holders (pickModel x l) x l
+rest-of : (n : ℕ) (x : Triple) (l : List Entry) → (listing n x l) .rest ≡ holders (pickModel x l) x l
 unfolding listing
-rest-of x l = refl
+rest-of n x l = refl
 
 -- a match is on the picked chain
 matches-agrees : (x : Triple) (e : Entry) → matches x e ≡ true → agrees x (e .spo) ≡ true
@@ -100,10 +114,10 @@ unfolding onChain
 agrees-on All x t b h = refl
 agrees-on (By p) x t b h = eq-eqb (at p t) (at p x) (agrees-at x t h p b)
 
-in-listing : (x : Triple) (l : List Entry) (i : ℕ) → i < length l → agrees x ((entry l i) .spo) ≡ true
-    → List·Memᴰ (suc i) ((listing x l) .rest)
+in-listing : (n : ℕ) (x : Triple) (l : List Entry) (i : ℕ) → i < length l → agrees x ((entry l i) .spo) ≡ true
+    → List·Memᴰ (suc i) ((listing n x l) .rest)
 unfolding listing holders pickModel
-in-listing x l i h e = below-in _ (length l) i h (agrees-on _ x ((entry l i) .spo) (pick-bound x _) e)
+in-listing n x l i h e = below-in _ (length l) i h (agrees-on _ x ((entry l i) .spo) (pick-bound x _) e)
 
 holders-falling : (ch : Chain) (x : Triple) (l : List Entry) → Falling (holders ch x l)
 unfolding holders
@@ -143,23 +157,23 @@ module _ (o : Opening) (acc : Accepted o) where
   j-is : j ≡ length (s0 .listings)
   j-is = ap length (R0 .cursors) ∙ length-map cursorOf (s0 .listings)
 
-  lists-one : s1 .listings ≡ s0 .listings ++ listing x (s0 .entries) ∷ []
+  lists-one : s1 .listings ≡ s0 .listings ++ listing (s0 .generation) x (s0 .entries) ∷ []
   unfolding callModel
   lists-one = open-lists s0 x inside
 
   j-open : j < length (s1 .listings)
   j-open = rw (lists-one, length-append) (omega (arith, j-is))
 
-  at-opening : openingOf s1 j ≡ listing x (s0 .entries)
-  at-opening = rw (lists-one, j-is) (getD-append-seam (s0 .listings) (listing x (s0 .entries)) [] noListing)
+  at-opening : openingOf s1 j ≡ listing (s0 .generation) x (s0 .entries)
+  at-opening = rw (lists-one, j-is) (getD-append-seam (s0 .listings) (listing (s0 .generation) x (s0 .entries)) [] noListing)
 
-  chain-is : chainThen o ≡ (listing x (s0 .entries)) .rest
+  chain-is : chainThen o ≡ (listing (s0 .generation) x (s0 .entries)) .rest
   unfolding callModel
   chain-is =
       ap₂ (λ (c : Chain) (l : List Entry). holders c (o .pattern) l)
-      (ap (λ (v : Values). v .cursor .chain) (opened-same .0 ∙ open-values s0 x inside) ∙ chain-of x (s0 .entries))
+      (ap (λ (v : Values). v .cursor .chain) (opened-same .0 ∙ open-values s0 x inside) ∙ chain-of (s0 .generation) x (s0 .entries))
       (agreeing-statements k (storeThen o) s0 R0)
-      ∙ sym (rest-of (o .pattern) (s0 .entries))
+      ∙ sym (rest-of (s0 .generation) (o .pattern) (s0 .entries))
 
   abbrev s2 : Model
   s2 = modelAfter k s1 (o .since)
@@ -167,17 +181,28 @@ module _ (o : Opening) (acc : Accepted o) where
   R2 : Agreeing k (storeNow o) s2
   R2 = history-agrees k ((opened o) .0) s1 R1 (o .since) .1
 
-  grown-now : Grown (s0 .entries) (s2 .entries)
-  grown-now = grown-trans _ _ _ (grown-call k s0 (open′ x)) (grown-history k s1 (o .since))
+  -- the opening's number of reclaims and the number now
+  reclaims-same : reclaimsSince o ≡ reclaimsIn (o .since) (modelReplies k s1 (o .since))
+  reclaims-same = ap (reclaimsIn (o .since)) (history-agrees k ((opened o) .0) s1 R1 (o .since) .0)
+
+  open-generation : s1 .generation ≡ s0 .generation
+  open-generation = omega (arith, generation-call k s0 (open′ x))
+
+  number-now : s2 .generation ≡ s0 .generation + reclaimsSince o
+  number-now = omega (arith, generation-after k s1 (o .since), reclaims-same, open-generation)
+
+  grown-now : Unreclaimed o → Grown (s0 .entries) (s2 .entries)
+  grown-now u =
+      grown-trans _ _ _ (grown-call k s0 (open′ x) refl) (grown-history k s1 (o .since) (sym reclaims-same ∙ u))
 
   visits-same : visitsSoFar o ≡ visitsOf j (o .since) (modelReplies k s1 (o .since))
   visits-same = ap (visitsOf (openingNumber o) (o .since)) (history-agrees k ((opened o) .0) s1 R1 (o .since) .0)
 
-  at-now : openingOf s2 j ≡ leaving (listing x (s0 .entries)) (restNow o)
+  at-now : openingOf s2 j ≡ leaving (listing (s0 .generation) x (s0 .entries)) (restNow o)
   at-now =
       opening-after k s1 j (o .since) j-open
       ∙ ap₂ (λ (g : Listing) (v : ℕ). leaving g (drop v (g .rest))) at-opening (sym visits-same)
-      ∙ ap (λ (r : List ℕ). leaving (listing x (s0 .entries)) (drop (visitsSoFar o) r)) (sym chain-is)
+      ∙ ap (λ (r : List ℕ). leaving (listing (s0 .generation) x (s0 .entries)) (drop (visitsSoFar o) r)) (sym chain-is)
 
   abbrev liveAt : ℕ → Bool
   liveAt i = matches (o .pattern) (entry (statementsIn (storeNow o)) i)
@@ -186,8 +211,19 @@ module _ (o : Opening) (acc : Accepted o) where
   unfolding callModel
   next-same b = call-agrees k (storeNow o) s2 R2 (next j b) .0
 
-  with-budget : (b : ℕ) → (nextNow o b) .refusal ≡ 0 ↔ 0 < b
-  with-budget b = rw (next-same b) (next-budget s2 j b)
+  number-then : (openingOf s2 j) .generation ≡ s0 .generation
+  unfolding listing
+  number-then = ap (λ (g : Listing). g .generation) at-now
+
+  with-budget : (b : ℕ) → (nextNow o b) .refusal ≡ 0 ↔ (0 < b) × Unreclaimed o
+  with-budget b =
+      rw (next-same b) (
+        λ h. let z = next-accepted s2 j b h in (z .0, omega (arith, z .1, number-then, number-now)),
+        λ h. next-budget s2 j b (h .0, omega (arith, h .1, number-then, number-now)),
+      )
+
+  stale : 0 < reclaimsSince o → (b : ℕ) → nextNow o b ≡ refusedWith 13
+  stale h b = next-same b ∙ next-stale s2 j b (λ e. omega (arith, h, e, number-then, number-now))
 
   -- what a next answers
   next-is : (b : ℕ) → (nextNow o b) .refusal ≡ 0
@@ -197,7 +233,7 @@ module _ (o : Opening) (acc : Accepted o) where
       ∙ next-values s2 j b (sym (ap (λ (v : Values). v .refusal) (next-same b)) ∙ h)
       ∙ ap (takenValues (openingOf s2 j))
       (ap₂ (λ (l : List Entry) (g : Listing). takeFrom l g b) (sym (agreeing-statements k (storeNow o) s2 R2)) at-now
-      ∙ take-from (statementsIn (storeNow o)) (o .pattern) (s0 .entries) (restNow o) b)
+      ∙ take-from (s0 .generation) (statementsIn (storeNow o)) (o .pattern) (s0 .entries) (restNow o) b)
 
   rest-falling : Falling (restNow o)
   rest-falling = falling-drop (visitsSoFar o) (chainThen o) (holders-falling _ (o .pattern) _)
@@ -262,8 +298,8 @@ module _ (o : Opening) (acc : Accepted o) where
 
   -- ---- no match is missed
 
-  on-chain : (n : ℕ) → 0 < n → n ≤ (storeThen o) .counters .statements → liveNow o n ≡ true → List·Memᴰ n (chainThen o)
-  on-chain n lo hi e =
+  on-chain : Unreclaimed o → (n : ℕ) → 0 < n → n ≤ (storeThen o) .counters .statements → liveNow o n ≡ true → List·Memᴰ n (chainThen o)
+  on-chain u n lo hi e =
       let i = n - 1 in
       let d : suc i ≡ n = omega arith in
       let q : i < length (s0 .entries) = omega (arith, R0 .size) in
@@ -271,19 +307,19 @@ module _ (o : Opening) (acc : Accepted o) where
       sym (ap₂ (λ (l : List Entry) (z : ℕ). matches x (entry l z)) (agreeing-statements k (storeNow o) s2 R2)
       (prev-is n)) ∙ e in
       let a : agrees x ((entry (s0 .entries) i) .spo) ≡ true =
-      ap (agrees x) (sym (grown-now .stays i q)) ∙ matches-agrees x (entry (s2 .entries) i) m in
-      rw chain-is (subst (λ (z : ℕ). List·Memᴰ z ((listing x (s0 .entries)) .rest)) d
-      (in-listing x (s0 .entries) i q a))
+      ap (agrees x) (sym (grown-now u .stays i q)) ∙ matches-agrees x (entry (s2 .entries) i) m in
+      rw chain-is (subst (λ (z : ℕ). List·Memᴰ z ((listing (s0 .generation) x (s0 .entries)) .rest)) d
+      (in-listing (s0 .generation) x (s0 .entries) i q a))
     where
       prev-is : (n : ℕ) → prev n ≡ n - 1
       prev-is zero = omega arith
       prev-is (suc n) = omega arith
 
-  missed-none : (n : ℕ) → 0 < n → n ≤ (storeThen o) .counters .statements → liveNow o n ≡ true
+  missed-none : Unreclaimed o → (n : ℕ) → 0 < n → n ≤ (storeThen o) .counters .statements → liveNow o n ≡ true
       → ((i : ℕ) → List·Memᴰ i (takenSoFar o) → n < i) → List·Memᴰ n (restNow o)
-  missed-none n lo hi e h =
+  missed-none u n lo hi e h =
       ⊎-elim (λ m. absurd (omega (arith, h n m))) (λ m. m)
-      (mem-split (visitsSoFar o) (chainThen o) n (on-chain n lo hi e))
+      (mem-split (visitsSoFar o) (chainThen o) n (on-chain u n lo hi e))
 
   -- ---- the visits
 
@@ -303,7 +339,7 @@ module _ (o : Opening) (acc : Accepted o) where
   chain-length : length (chainThen o) ≡ length (holders (pickModel (o .pattern) (statementsIn (storeThen o)))
       (o .pattern) (statementsIn (storeThen o)))
   chain-length =
-      ap length (chain-is ∙ rest-of (o .pattern) (s0 .entries))
+      ap length (chain-is ∙ rest-of (s0 .generation) (o .pattern) (s0 .entries))
       ∙ ap (λ (l : List Entry). length (holders (pickModel (o .pattern) l) (o .pattern) l))
       (sym (agreeing-statements k (storeThen o) s0 R0))
 
@@ -325,6 +361,9 @@ picked-shortest x l v e =
 
 pub reads-on-with-budget : ReadsOnWithBudget
 reads-on-with-budget o acc b = with-budget o acc b
+
+pub stale-after-reclaim : StaleAfterReclaim
+stale-after-reclaim o acc = stale o acc
 
 pub finds : Finds
 finds o acc b h n = finds-by o acc b h n (outcome-now o acc b)

@@ -17,19 +17,22 @@ use Rattle.store.specs.declared.Retracted.the-variants.{Number as Struck
 use Rattle.store.specs.declared.Retracted.the-variants.{Refused as NotRetracted}
 use Rattle.store.specs.declared.ScanOpened.{ScanOpened}
 use Rattle.store.specs.declared.ScanOpened.the-variants.{Cursor, Refused as NotOpened}
+use Rattle.store.specs.declared.Reclaimed.{Reclaimed}
+use Rattle.store.specs.declared.Reclaimed.the-variants.{Done, Refused as NotReclaimed}
 use Rattle.store.specs.declared.Scanned.{Scanned}
 use Rattle.store.specs.declared.Scanned.the-variants.{Found, Ended, Spent, Refused as NotScanned}
 use Rattle.store.specs.Tables.{Tables}
 use Rattle.store.specs.Values.{Values, noCursor, refusedWith, internedValues, assertedValues, retractedValues}
-use Rattle.store.specs.Values.{openedValues, scannedValues}
-use Rattle.store.specs.Model.{Form, byValue, lent, Call, intern, assert, retract, open′, next}
+use Rattle.store.specs.Values.{openedValues, scannedValues, reclaimedValues}
+use Rattle.store.specs.Model.{Form, byValue, lent, Call, intern, assert, retract, open′, next, reclaim}
 use Rattle.store.specs.Statement.{assertOf, retractOf, countersAfter, assertLentOf, retractLentOf}
 use Rattle.store.specs.Scan.{openOf, nextOf}
 use Rattle.store.specs.Dictionary.{internOf}
-use Rattle.store.specs.History.{Store, store, internedCounters, openedCursors, movedCursors, callStore}
+use Rattle.store.specs.Reclaim.{reclaimOf}
+use Rattle.store.specs.History.{Store, store, afterReclaim, internedCounters, openedCursors, movedCursors, callStore}
 use Rattle.store.specs.Claims.{RefusalsChangeNothing, RefusalsAreBare}
 use Rattle.store.proofs.Interning.{intern-refused}
-use Rattle.store.proofs.Cases.{assert-refused, retract-refused}
+use Rattle.store.proofs.Cases.{assert-refused, retract-refused, reclaim-refused}
 
 module _ (s : Store) where
   abbrev c : Counters
@@ -61,6 +64,12 @@ module _ (s : Store) where
   retracted-stays m′ NotLive quiet h = absurd (h refl)
   retracted-stays m′ (NotRetracted q) quiet h = ap (λ (z : Tables). store c z (s .cursors)) (quiet q refl)
 
+  reclaimed-stays : (m′ : Tables) (a : Reclaimed) → ((q : Refusal) → a ≡ NotReclaimed q → m′ ≡ m)
+      → (reclaimedValues a) .refusal ≢ 0
+      → store (afterReclaim c a) m′ (s .cursors) ≡ s
+  reclaimed-stays m′ (Done d) quiet h = absurd (h refl)
+  reclaimed-stays m′ (NotReclaimed q) quiet h = ap (λ (z : Tables). store c z (s .cursors)) (quiet q refl)
+
   opened-stays : (a : ScanOpened) → (openedValues a) .refusal ≢ 0 → store c m (openedCursors (s .cursors) a) ≡ s
   opened-stays (Cursor q) h = absurd (h refl)
   opened-stays (NotOpened q) h = refl
@@ -91,6 +100,11 @@ retracted-bare (Struck n) h = absurd (h refl)
 retracted-bare NotLive h = absurd (h refl)
 retracted-bare (NotRetracted q) h = refl
 
+reclaimed-bare : (a : Reclaimed) → (reclaimedValues a) .refusal ≢ 0
+    → reclaimedValues a ≡ refusedWith ((reclaimedValues a) .refusal)
+reclaimed-bare (Done d) h = absurd (h refl)
+reclaimed-bare (NotReclaimed q) h = refl
+
 opened-bare : (a : ScanOpened) → (openedValues a) .refusal ≢ 0
     → openedValues a ≡ refusedWith ((openedValues a) .refusal)
 opened-bare (Cursor q) h = absurd (h refl)
@@ -115,6 +129,7 @@ refusals-change-nothing s (retract lent x) = retracted-stays s _ _ (retract-refu
 refusals-change-nothing s (open′ x) = opened-stays s (openOf (s .counters) (s .tables) x)
 refusals-change-nothing s (next j b) =
     scanned-stays s j (nextOf (s .counters) (s .tables) (getD (s .cursors) j noCursor) b)
+refusals-change-nothing s reclaim = reclaimed-stays s _ _ (reclaim-refused (s .counters) (s .tables))
 
 pub refusals-are-bare : RefusalsAreBare
 unfolding callStore assertLentOf retractLentOf
@@ -125,3 +140,4 @@ refusals-are-bare s (retract byValue x) = retracted-bare ((retractOf (s .counter
 refusals-are-bare s (retract lent x) = retracted-bare ((retractOf (s .counters) (s .tables) x) .1)
 refusals-are-bare s (open′ x) = opened-bare (openOf (s .counters) (s .tables) x)
 refusals-are-bare s (next j b) = scanned-bare (nextOf (s .counters) (s .tables) (getD (s .cursors) j noCursor) b)
+refusals-are-bare s reclaim = reclaimed-bare ((reclaimOf (s .counters) (s .tables)) .1)

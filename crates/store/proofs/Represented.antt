@@ -18,11 +18,11 @@ use Rattle.store.specs.declared.Chain.{Chain}
 use Rattle.store.specs.declared.Chain.the-variants.{All, By}
 use Rattle.store.specs.declared.Triple.{Triple}
 use Rattle.store.specs.Triple.{at, all3, known, same, below, head0}
-use Rattle.store.specs.Tables.{Tables, fits, resourceCapacity, statementCapacity, textCapacity, termAt, flagAt}
-use Rattle.store.specs.Tables.{tripleAt, countAt}
+use Rattle.store.specs.Tables.{Tables, fits, maxReclaims, resourceCapacity, statementCapacity, textCapacity, termAt}
+use Rattle.store.specs.Tables.{flagAt, tripleAt, countAt}
 use Rattle.store.specs.Values.{Values}
 use Rattle.store.specs.Model.{Entry, Listing, Model, Capacities, entry, lookup, mark, onChain, holders, pick}
-use Rattle.store.specs.Model.{pickModel, cursorOf, noListing, totals, take-off}
+use Rattle.store.specs.Model.{pickModel, cursorOf, noListing, bytesOf, totals, take-off}
 use Rattle.store.specs.Walk.{entryAt, pickChain, pickable, startOf, linkOf, visitable, walk, Step, foundIn}
 use Rattle.store.specs.Statement.{seek, countable, locate}
 use Rattle.store.specs.Scan.{chainOk}
@@ -49,13 +49,18 @@ pub record Good (r : ℕ) (l : List Entry) (g : Listing) : Type 0 where
   pub top-le : top ≤ length l
   pub rest-is : g .rest ≡ below (onList l (g .chain) (g .pattern)) top
 
+-- an opening in a store reclaimed n times: good if it was opened since the last reclaim
+abbrev pub Standing : ℕ → List Entry → ℕ → Listing → Type 0
+Standing r l n g = (g .generation ≤ n) × (g .generation ≡ n → Good r l g)
+
 pub record Agreeing (k : Capacities) (c : Store) (s : Model) : Type 0 where
   pub named : Named (s .names) (c .counters) (c .tables)
   pub size : c .counters .statements ≡ length (s .entries)
   pub linked : Linked (c .counters .resources) (c .counters .statements) (c .tables .resources) (c .tables .statements)
+  pub generation : c .counters .generation ≡ s .generation
   pub reads : (i : ℕ) → i < c .counters .statements → entry (s .entries) i ≡ entryAt (c .tables .statements) i
   pub cursors : c .cursors ≡ map cursorOf (s .listings)
-  pub good : (j : ℕ) → Good (length (s .names)) (s .entries) (getD (s .listings) j noListing)
+  pub good : (j : ℕ) → Standing (length (s .names)) (s .entries) (s .generation) (getD (s .listings) j noListing)
   -- the plain lists' capacities are the tables'
   pub room-resources : k .resources ≡ resourceCapacity (c .tables)
   pub room-statements : k .statements ≡ statementCapacity (c .tables)
@@ -64,6 +69,10 @@ pub record Agreeing (k : Capacities) (c : Store) (s : Model) : Type 0 where
   pub in-resources : c .counters .resources ≤ k .resources
   pub in-statements : c .counters .statements ≤ k .statements
   pub in-text : c .counters .text ≤ k .text
+  pub in-generation : c .counters .generation ≤ maxReclaims
+
+abbrev counts : ℕ → ℕ → ℕ → ℕ → Counters
+counts r t b g = record { resources = r; statements = t; text = b; generation = g }
 
 -- two answers agree, and the states that they leave
 abbrev pub Same : Capacities → Store × Values → Model × Values → Type 0
@@ -108,14 +117,15 @@ module _ (k : Capacities) (c : Store) (s : Model) (R : Agreeing k c s) where
   fits-agrees =
       and-of _ _ (le-leb r _ (rw (← R .room-resources) (R .in-resources)))
       (and-of _ _ (le-leb t _ (rw (← R .room-statements) (R .in-statements)))
-      (le-leb (c .counters .text) _ (rw (← R .room-text) (R .in-text))))
+      (and-of _ _ (le-leb (c .counters .text) _ (rw (← R .room-text) (R .in-text)))
+      (le-leb (c .counters .generation) maxReclaims (R .in-generation))))
 
   pub totals-agree : c .counters ≡ totals s
   totals-agree =
-      ap (λ (n : ℕ). record { resources = n; statements = t; text = c .counters .text }) (R .named .size)
-      ∙ ap (λ (n : ℕ). record { resources = length (s .names); statements = n; text = c .counters .text }) (R .size)
-      ∙ ap (λ (n : ℕ). record { resources = length (s .names); statements = length (s .entries); text = n })
-      (R .named .bytes)
+      ap (λ (n : ℕ). counts n t (c .counters .text) (c .counters .generation)) (R .named .size)
+      ∙ ap (λ (n : ℕ). counts (length (s .names)) n (c .counters .text) (c .counters .generation)) (R .size)
+      ∙ ap (λ (n : ℕ). counts (length (s .names)) (length (s .entries)) n (c .counters .generation)) (R .named .bytes)
+      ∙ ap (counts (length (s .names)) (length (s .entries)) (bytesOf (s .names))) (R .generation)
 
   pub spo-agrees : (i : ℕ) → i < t → (entry (s .entries) i) .spo ≡ tripleAt stm i
   unfolding entryAt
@@ -209,6 +219,10 @@ good-grow r r′ l l′ g a b h G = record {
       (sym (h i (omega (arith, G .top-le)))));
 }
 
+pub standing-grow : (r r′ : ℕ) (l l′ : List Entry) (n : ℕ) (g : Listing) → r ≤ r′ → length l ≤ length l′
+    → ((i : ℕ) → i < length l → (entry l′ i) .spo ≡ (entry l i) .spo) → Standing r l n g → Standing r′ l′ n g
+standing-grow r r′ l l′ n g a b h G = (G .0, λ e. good-grow r r′ l l′ g a b h (G .1 e))
+
 pub good-none : (r : ℕ) (l : List Entry) → Good r l noListing
 unfolding chainOk below
 good-none r l = record { small = λ p. zero-small p; picked = refl; top = 0; top-le = omega arith; rest-is = refl }
@@ -217,3 +231,6 @@ good-none r l = record { small = λ p. zero-small p; picked = refl; top = 0; top
     zero-small Subject = omega arith
     zero-small Predicate = omega arith
     zero-small Object = omega arith
+
+pub standing-none : (r : ℕ) (l : List Entry) (n : ℕ) → Standing r l n noListing
+standing-none r l n = (omega arith, λ e. good-none r l)

@@ -18,16 +18,17 @@ use Rattle.store.specs.Triple.{triple, known, within, same, agrees, perm
 use Rattle.store.specs.Tables.{Tables, tables, fits, termAt, nextAt, flagAt, tripleAt, firstAt, countAt, offsetAt}
 use Rattle.store.specs.Tables.{kindAt, liveAt, resourceWords}
 use Rattle.store.specs.Values.{Values, refusedWith, numbered, counted, placed, stepped}
-use Rattle.store.specs.Model.{Call, intern, assert, retract, open′, next, byValue, lent, Capacities, freshModel}
+use Rattle.store.specs.Model.{Call, intern, assert, retract, open′, next, reclaim, byValue, lent, Capacities, freshModel}
 use Rattle.store.specs.Model.{wellFormed, lookupName, nameOf, bytesOf, internName, internModel, matches}
 use Rattle.store.specs.Model.{lookup, mark, put, assertModel, strike, retractModel, onChain, holders, better}
-use Rattle.store.specs.Model.{pick}
+use Rattle.store.specs.Model.{pick, Model, unstruck, reclaimModel}
+use Rattle.store.specs.Reclaim.{unlinked, sweepOne, sweep, blanked, sweptOf, reclaimOf}
 use Rattle.store.specs.Model.{pickModel, listing, openModel, take-off, takeFrom, turn, nextModel, callModel}
 use Rattle.store.specs.Model.{modelReplies}
 use Rattle.store.specs.Walk.{entryAt, pickChain, pickable, startOf, linkOf, sits, visitable, walk}
 use Rattle.store.specs.Statement.{seek, countable, locate, tallyAt, tally, appendRecord, linkFirst, linkRecord, kinded, asserting}
 use Rattle.store.specs.Statement.{assertOf, counting, retracting, retractOf, assertLentOf, retractLentOf}
-use Rattle.store.specs.Scan.{cursorAt, openOf, chainOk, recordOk, cursorOk, walkFrom, nextOf}
+use Rattle.store.specs.Scan.{cursorIn, cursorAt, openOf, chainOk, recordOk, cursorOk, walkFrom, nextOf}
 use Rattle.store.specs.Dictionary.{compare, nameAt, rank, placeAt, indexPlaceOf, roomFor, bring, insertAt}
 use Rattle.store.specs.Dictionary.{findOf, internAs, internOf}
 use Rattle.store.specs.History.{Store, store, freshStore, capacitiesOf, callStore, storeReplies, storeAfter}
@@ -43,8 +44,12 @@ callsIn h = map (λ z. z .0) h
 abbrev answersIn : History → List Values
 answersIn h = map (λ z. z .1) h
 
+-- R, T, B after g reclaims; in a store never reclaimed
+abbrev tot-in : ℕ → ℕ → ℕ → ℕ → Counters
+tot-in g r t b = record { resources = r; statements = t; text = b; generation = g }
+
 abbrev tot : ℕ → ℕ → ℕ → Counters
-tot r t b = record { resources = r; statements = t; text = b }
+tot r t b = tot-in 0 r t b
 
 -- <r:21> <p:trips> <b:4> <b:7> "A"
 r21 : List ℕ
@@ -182,6 +187,42 @@ single = (intern ia, counted 0 1 (tot 1 0 4))
     ∷ (assert byValue (triple 1 2 1), counted 1 1 (tot 2 1 8))
     ∷ []
 
+-- A full table, one statement of it retracted, a listing half read; then a reclaim.
+until-reclaim : History
+until-reclaim = (intern ia, counted 0 1 (tot 1 0 4))
+    ∷ (intern ip, counted 0 2 (tot 2 0 8))
+    ∷ (intern ib, counted 0 3 (tot 3 0 12))
+    ∷ (assert byValue (triple 1 2 3), counted 1 1 (tot 3 1 12))
+    ∷ (assert lent (triple 3 2 1), counted 1 2 (tot 3 2 12))
+    ∷ (assert byValue (triple 1 2 1), counted 1 3 (tot 3 3 12))
+    ∷ (assert byValue (triple 3 2 3), refusedWith 3)
+    ∷ (retract lent (triple 1 2 3), numbered 1)
+    ∷ (open′ (triple 0 2 0), placed (cursorAt (triple 0 2 0) (By Predicate) 3))
+    ∷ (next 0 1, stepped 1 3 1 (cursorAt (triple 0 2 0) (By Predicate) 2))
+    ∷ (reclaim, counted 0 0 (tot-in 1 3 2 12))
+    ∷ []
+
+-- The listing is refused 13, with no budget too; the statement refused 3 is new; the retracted one is forgotten and there
+-- is no room for it; the others are numbered from 1. A listing of the second generation counts its visits on what is
+-- left. A reclaim with nothing to drop counts too. A next that names no opening is of no generation but 0.
+since-reclaim : History
+since-reclaim = (next 0 1, refusedWith 13)
+    ∷ (next 0 0, refusedWith 13)
+    ∷ (assert byValue (triple 3 2 3), counted 1 3 (tot-in 1 3 3 12))
+    ∷ (assert lent (triple 1 2 3), refusedWith 3)
+    ∷ (retract byValue (triple 3 2 1), numbered 1)
+    ∷ (open′ (triple 0 2 0), placed (cursorIn 1 (triple 0 2 0) (By Predicate) 3))
+    ∷ (next 1 2, stepped 1 3 1 (cursorIn 1 (triple 0 2 0) (By Predicate) 2))
+    ∷ (next 1 2, stepped 1 2 1 (cursorIn 1 (triple 0 2 0) (By Predicate) 1))
+    ∷ (next 1 2, stepped 2 0 1 (cursorIn 1 (triple 0 2 0) (By Predicate) 0))
+    ∷ (reclaim, counted 0 0 (tot-in 2 3 2 12))
+    ∷ (next 1 2, refusedWith 13)
+    ∷ (assert lent (triple 3 2 1), counted 1 3 (tot-in 2 3 3 12))
+    ∷ (reclaim, counted 0 0 (tot-in 3 3 3 12))
+    ∷ (assert lent (triple 3 2 1), counted 2 3 (tot-in 3 3 3 12))
+    ∷ (next 7 1, refusedWith 13)
+    ∷ []
+
 -- No room at all.
 none-at-all : History
 none-at-all = (intern ia, refusedWith 3)
@@ -274,6 +315,50 @@ unfolding litA longA empty label writesString canonical kindOf firstKindOf runOf
     textByte pairByte firstByte labelByte below wellFormed eqBytes fits offsetAt compare nameAt rank placeAt indexPlaceOf
     findOf roomFor bring insertAt internAs internOf callStore storeAfter
 finds-run = refl
+
+-- the words after the reclaim: two records, one of zeros, the table's end as it was; links, counts and live counts anew,
+-- offsets and kinds and what is past them as they were
+abbrev wordsAfter : Tables → History → List ℕ × List ℕ
+wordsAfter m h = let s = storeAfter (freshStore m) (callsIn h) in (s .tables .resources, s .tables .statements)
+
+abbrev expected : List ℕ × List ℕ
+expected = (
+  2 ∷ 0 ∷ 2 ∷ 1 ∷ 0 ∷ 2 ∷ 0 ∷ 1 ∷ 1 ∷ 0 ∷ 2 ∷ 0 ∷ 2 ∷ 0 ∷ 0 ∷ 2 ∷ 0 ∷ 4 ∷ 1 ∷ 0 ∷ 2 ∷ 0 ∷ 1 ∷ 0 ∷ 0 ∷ 1 ∷ 0 ∷ 0 ∷ 8
+      ∷ 1 ∷ 1 ∷ 0 ∷ 0 ∷ replicate 17 7,
+  3 ∷ 2 ∷ 1 ∷ 0 ∷ 0 ∷ 0 ∷ 0 ∷ 1 ∷ 2 ∷ 1 ∷ 0 ∷ 1 ∷ 1 ∷ 0 ∷ 0 ∷ 0 ∷ 0 ∷ 0 ∷ 0 ∷ 0 ∷ 0 ∷ 1 ∷ 1 ∷ 1 ∷ [],
+)
+
+-- counters of g reclaims over wide tables, and plain lists of so many
+abbrev after-reclaims : ℕ → Store
+after-reclaims g = store (tot-in g 0 0 0) wide []
+
+abbrev lists-after : ℕ → Model
+lists-after g = record { names = []; entries = []; listings = []; generation = g }
+
+reclaim-lists-run : Lists narrow (until-reclaim ++ since-reclaim)
+    × (modelReplies (capacitiesOf wide) (lists-after 65534) (reclaim ∷ reclaim ∷ [])
+    ≡ counted 0 0 (tot-in 65535 0 0 0) ∷ refusedWith 14 ∷ [])
+unfolding ia ib ic ip until-reclaim since-reclaim writesString canonical kindOf firstKindOf runOf stepOf wholeOf
+    among letter alnum iriByte textByte pairByte firstByte labelByte known within same agrees permitted below wellFormed
+    eqBytes lookupName nameOf bytesOf internName internModel matches lookup mark put assertModel strike retractModel
+    onChain holders better pick pickModel listing openModel take-off takeFrom turn nextModel unstruck reclaimModel
+    callModel modelReplies
+reclaim-lists-run = (refl, refl)
+
+-- 65,534 reclaims, the last one, one past it; a number above it is refusal 1 in every call
+reclaim-stores-run : Stores narrow (until-reclaim ++ since-reclaim) × (wordsAfter narrow until-reclaim ≡ expected)
+    × (storeReplies (after-reclaims 65534) (reclaim ∷ reclaim ∷ [])
+    ≡ counted 0 0 (tot-in 65535 0 0 0) ∷ refusedWith 14 ∷ [])
+    × (storeReplies (after-reclaims 65536) (reclaim ∷ open′ (triple 0 0 0) ∷ intern ia ∷ [])
+    ≡ refusedWith 1 ∷ refusedWith 1 ∷ refusedWith 1 ∷ [])
+unfolding ia ib ic ip until-reclaim since-reclaim writesString canonical kindOf firstKindOf runOf stepOf wholeOf
+    among letter alnum iriByte textByte pairByte firstByte labelByte known within same agrees permitted below wellFormed
+    eqBytes matches better pick fits termAt nextAt flagAt tripleAt firstAt countAt offsetAt kindAt liveAt entryAt
+    pickChain pickable startOf linkOf sits visitable walk seek countable locate tallyAt tally counting appendRecord
+    linkFirst linkRecord kinded asserting assertOf retracting retractOf assertLentOf retractLentOf openOf chainOk
+    recordOk cursorOk walkFrom nextOf compare nameAt rank placeAt indexPlaceOf roomFor bring insertAt internAs internOf
+    unlinked sweepOne sweep blanked sweptOf reclaimOf callStore storeReplies storeAfter
+reclaim-stores-run = (refl, refl, refl, refl)
 
 -- Live counts: after the paper's lines, once statement 1 is retracted, and once it is revived. A live count above its count, here the predicate's, is
 -- refused 9 by assert and retract, also where the triple is already there, and not by a listing; a live count of 0, here the

@@ -8,7 +8,7 @@ use Prim.Native.Nat.{ℕ, zero, suc, _≤_, _<_}
 use native.Mathlib.Omega.{arith}
 use lib.ListN.{length, getD, set, List·getD-map}
 use lib.Dec.{eqb, leb, ltb}
-use borrow.Author.Tests.{le-leb}
+use borrow.Author.Tests.{eqb-true, le-leb}
 use Rattle.store.specs.declared.Counters.{Counters}
 use Rattle.store.specs.declared.Position.{Position}
 use Rattle.store.specs.declared.Chain.{Chain}
@@ -24,7 +24,7 @@ use Rattle.store.specs.Model.{spent as stopped, entry, matches, holders,
 use Rattle.store.specs.Model.{withListings, openModel, take-off, noListing, leaving, restOf, takenValues}
 use Rattle.store.specs.Model.{takeFrom, turn, nextModel}
 use Rattle.store.specs.Walk.{entryAt, pickChain, startOf}
-use Rattle.store.specs.Scan.{cursorAt, openOf, chainOk, recordOk, cursorOk, walkFrom, scannedAs, nextOf}
+use Rattle.store.specs.Scan.{cursorIn, openOf, chainOk, recordOk, cursorOk, walkFrom, scannedAs, nextOf}
 use Rattle.store.specs.History.{Store, store, openedCursors, movedCursors}
 use Rattle.store.proofs.Tests.{and-of, within-high, within-of}
 use Rattle.store.proofs.Falling.{head-le, head-passes}
@@ -32,7 +32,7 @@ use Rattle.store.proofs.Walks.{asStep, Part, rest-chain, take-cong}
 use Rattle.store.proofs.Picking.{pick-ok}
 use Rattle.store.proofs.Chains.{onWords, pickChain-bound, chain-sits, chain-start, walk-linked, pickable-linked}
 use Rattle.store.proofs.Represented.{onList, Good, Agreeing, Same, same-cond, fits-agrees, chain-agrees}
-use Rattle.store.proofs.Represented.{holders-agree, pick-agrees, good-none}
+use Rattle.store.proofs.Represented.{holders-agree, pick-agrees, Standing, standing-none}
 
 -- ---- lists of openings
 
@@ -89,7 +89,7 @@ module _ (k : Capacities) (c : Store) (s : Model) (R : Agreeing k c s) where
   m = c .tables
 
   cursors-agree : (qs : List ScanCursor) (gs : List Listing) → qs ≡ map cursorOf gs
-      → ((j : ℕ) → Good (length (s .names)) (s .entries) (getD gs j noListing))
+      → ((j : ℕ) → Standing (length (s .names)) (s .entries) (s .generation) (getD gs j noListing))
       → Agreeing k (store n m qs) (withListings s gs)
   cursors-agree qs gs e h = record {
     named = R .named;
@@ -97,6 +97,7 @@ module _ (k : Capacities) (c : Store) (s : Model) (R : Agreeing k c s) where
     linked = R .linked;
     reads = R .reads;
     cursors = e;
+    generation = R .generation;
     good = h;
     room-resources = R .room-resources;
     room-statements = R .room-statements;
@@ -104,25 +105,27 @@ module _ (k : Capacities) (c : Store) (s : Model) (R : Agreeing k c s) where
     in-resources = R .in-resources;
     in-statements = R .in-statements;
     in-text = R .in-text;
+    in-generation = R .in-generation;
   }
 
   -- ---- open
 
   abbrev first : Triple → ScanCursor
-  first x = cursorAt x (pickChain (m .resources) x)
+  first x = cursorIn (n .generation) x (pickChain (m .resources) x)
       (startOf (n .statements) (m .resources) (pickChain (m .resources) x) x)
 
-  first-agrees : (x : Triple) → ((p : Position) → at p x ≤ n .resources) → first x ≡ cursorOf (listing x (s .entries))
+  first-agrees : (x : Triple) → ((p : Position) → at p x ≤ n .resources) → first x ≡ cursorOf (listing (s .generation) x (s .entries))
   unfolding listing
   first-agrees x h =
       rw (
         chain-start _ _ _ _ (R .linked) (pickChain (m .resources) x) x (pickChain-bound (m .resources) x) h,
         pick-agrees k c s R x h,
         holders-agree k c s R (pickModel x (s .entries)) x,
+        R .generation,
       )
 
   listing-good : (x : Triple) → ((p : Position) → at p x ≤ n .resources)
-      → Good (length (s .names)) (s .entries) (listing x (s .entries))
+      → Good (length (s .names)) (s .entries) (listing (s .generation) x (s .entries))
   unfolding listing holders pickModel
   listing-good x h =
       record {
@@ -132,6 +135,10 @@ module _ (k : Capacities) (c : Store) (s : Model) (R : Agreeing k c s) where
         top-le = omega arith;
         rest-is = refl;
       }
+
+  listing-stands : (x : Triple) → ((p : Position) → at p x ≤ n .resources)
+      → Standing (length (s .names)) (s .entries) (s .generation) (listing (s .generation) x (s .entries))
+  listing-stands x h = (unfold listing in (omega arith), λ e. listing-good x h)
 
   pub open-agrees : (x : Triple) → Same k (opened c (openOf n m x)) (openModel s x)
   unfolding openOf openModel
@@ -143,9 +150,9 @@ module _ (k : Capacities) (c : Store) (s : Model) (R : Agreeing k c s) where
       rw (pickable-linked _ _ _ _ (R .linked) x h) (
         ap placed (first-agrees x h),
         cursors-agree _ _ (rw (first-agrees x h, R .cursors)
-            (sym (map-snoc cursorOf (s .listings) (listing x (s .entries)))))
-            (all-snoc (Good (length (s .names)) (s .entries)) noListing (s .listings) _
-            (good-none (length (s .names)) (s .entries)) (R .good) (listing-good x h)),
+            (sym (map-snoc cursorOf (s .listings) (listing (s .generation) x (s .entries)))))
+            (all-snoc (Standing (length (s .names)) (s .entries) (s .generation)) noListing (s .listings) _
+            (standing-none (length (s .names)) (s .entries) (s .generation)) (R .good) (listing-stands x h)),
       ))
       (λ e. (refl, R)))
 
@@ -201,22 +208,29 @@ module _ (k : Capacities) (c : Store) (s : Model) (R : Agreeing k c s) where
           rest-is = rw (G .rest-is) (h .2);
         }
 
-    turn-agrees : (j b : ℕ) → Same k (scanned c j (scannedAs (cursorOf g) (walkFrom n m (cursorOf g) b))) (turn s j g
+    turn-agrees : g .generation ≤ s .generation → (j b : ℕ) → Same k (scanned c j (scannedAs (cursorOf g) (walkFrom n m (cursorOf g) b))) (turn s j g
         (takeFrom (s .entries) g b))
     unfolding turn
-    turn-agrees j b =
+    turn-agrees le j b =
         rw (walk-agrees b) (
           taken-values g (takeFrom (s .entries) g b),
           cursors-agree _ _ (taken-cursors (c .cursors) j g (takeFrom (s .entries) g b)
               ∙ ap (λ (z : List ScanCursor). set z j (cursorOf (leaving g (restOf (takeFrom (s .entries) g b)))))
               (R .cursors)
               ∙ sym (map-set cursorOf (s .listings) j (leaving g (restOf (takeFrom (s .entries) g b)))))
-              (all-set (Good (length (s .names)) (s .entries)) noListing (s .listings) j _ (R .good) (left-good b)),
+              (all-set (Standing (length (s .names)) (s .entries) (s .generation)) noListing (s .listings) j _ (R .good)
+              (le, λ e. left-good b)),
         )
 
   pub next-agrees : (j b : ℕ) → Same k (scanned c j (nextOf n m (getD (c .cursors) j noCursor) b)) (nextModel s j b)
   unfolding nextOf nextModel
   next-agrees j b =
-      rw (fits-agrees k c s R, cursor-at j, cursor-ok (getD (s .listings) j noListing) (R .good j))
-      (same-cond k (scanned c j) (eqb b 0) _ _ _ _ _ refl (λ e. (refl, R))
-      (λ e. turn-agrees (getD (s .listings) j noListing) (R .good j) j b))
+      let g = getD (s .listings) j noListing in
+      rw (fits-agrees k c s R, cursor-at j)
+      (same-cond k (scanned c j) (eqb (g .generation) (n .generation)) (eqb (g .generation) (s .generation)) _ _ _ _
+      (ap (eqb (g .generation)) (R .generation))
+      (λ d. let G = R .good j .1 (eqb-true (g .generation) (n .generation) d ∙ R .generation) in
+      rw (cursor-ok g G)
+      (same-cond k (scanned c j) (eqb b 0) (eqb b 0) _ _ _ _ refl (λ e. (refl, R))
+      (λ e. turn-agrees g G (R .good j .0) j b)))
+      (λ d. (refl, R)))

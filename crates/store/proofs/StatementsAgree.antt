@@ -40,7 +40,7 @@ use Rattle.store.proofs.Form.{form-kind, kind-high, storable-formed}
 use Rattle.store.proofs.Text.{length-snoc}
 use Rattle.store.proofs.Represented.{Agreeing, Same, same-cond, fits-agrees, totals-agree, mark-agrees}
 use Rattle.store.proofs.Represented.{lookup-le, locate-agrees, mark-length, mark-same, mark-other, mark-spo}
-use Rattle.store.proofs.Represented.{good-grow, found-holds}
+use Rattle.store.proofs.Represented.{standing-grow, found-holds}
 
 -- an entry by its words
 pub entry-of : (stm : List ℕ) (i : ℕ) (x : Triple) (b : Bool) → ((p : Position) → termAt stm p i ≡ at p x)
@@ -110,7 +110,8 @@ module _ (k : Capacities) (c : Store) (s : Model) (R : Agreeing k c s) where
         linked = L;
         reads = λ j q. flag-entry i j v b h e q;
         cursors = R .cursors;
-        good = λ j. good-grow (length (s .names)) (length (s .names)) (s .entries) (mark (s .entries) i b) _ (omega arith)
+        generation = R .generation;
+        good = λ j. standing-grow (length (s .names)) (length (s .names)) (s .entries) (mark (s .entries) i b) (s .generation) _ (omega arith)
             (omega (arith, mark-length (s .entries) i b)) (λ j q. mark-spo (s .entries) i j b q) (R .good j);
         room-resources = rw (tally-length f x (m .resources)) (R .room-resources);
         room-statements = rw length-set (R .room-statements);
@@ -118,6 +119,7 @@ module _ (k : Capacities) (c : Store) (s : Model) (R : Agreeing k c s) where
         in-resources = R .in-resources;
         in-statements = R .in-statements;
         in-text = R .in-text;
+        in-generation = R .in-generation;
       }
 
   -- ---- a new record
@@ -162,7 +164,8 @@ module _ (k : Capacities) (c : Store) (s : Model) (R : Agreeing k c s) where
           (append-term (n .statements) x (m .resources) (m .statements) h)
           (rw (append-flag (n .statements) x (m .resources) (m .statements) h))));
       cursors = R .cursors;
-      good = λ j. good-grow (length (s .names)) (length (s .names)) (s .entries) _ _ (omega arith)
+      generation = R .generation;
+      good = λ j. standing-grow (length (s .names)) (length (s .names)) (s .entries) _ (s .generation) _ (omega arith)
           (rw length-append (omega arith)) (λ i q. rw List·getD-append) (R .good j);
       room-resources = rw (linked-length (n .statements) x (m .resources)) (R .room-resources);
       room-statements = rw (append-length (n .statements) x (m .resources) (m .statements)) (R .room-statements);
@@ -170,6 +173,7 @@ module _ (k : Capacities) (c : Store) (s : Model) (R : Agreeing k c s) where
       in-resources = R .in-resources;
       in-statements = rw (R .room-statements) i;
       in-text = R .in-text;
+      in-generation = R .in-generation;
     }
 
     -- ---- assert

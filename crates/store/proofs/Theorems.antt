@@ -5,12 +5,14 @@ use Rattle.store.specs.History.{store, freshStore, capacitiesOf, storeAf
 use Rattle.store.specs.Claims.{listsOf, HistoriesAgree, HistoriesStaySound, SoundStoresAgree, FreshIsSound}
 use Rattle.store.specs.Claims.{RefusalsChangeNothing, Finds, EndsOrSpends, VisitsAddUp, RoundTrips, SpellingsAgree, KnownMeans}
 use Rattle.store.specs.Claims.{WithinMeans, SameMeans, MatchesMeans, PermittedMeans, BelowMeans, PicksLeast}
-use Rattle.store.specs.Claims.{RefusalsAreBare, NoneIsMissed, FirstIsHighest, ReadsOnWithBudget}
+use Rattle.store.specs.Claims.{RefusalsAreBare, NoneIsMissed, FirstIsHighest, ReadsOnWithBudget, StaleAfterReclaim}
 use Rattle.store.specs.Claims.{LiveCountsShown, LiveCountsAgree, LiveAboveCount, LiveCountOfZero, ScansDoNotLook}
+use Rattle.store.specs.Claims.{ReclaimKeeps, ReclaimWords, ForgetsRetracted, RoomAgain}
 use Rattle.store.proofs.Histories.{history-agrees, fresh-agrees}
 use Rattle.store.proofs.Kept.{tidy-history, tidy-fresh, agreeing-sound}
 use Rattle.store.proofs.Held.{agreeing-holds, sound-agrees, sound-tidy}
 use Rattle.store.proofs.Openings as openings
+use Rattle.store.proofs.Reclaims as reclaims
 use Rattle.store.proofs.Refusals as refusals
 use Rattle.store.proofs.LiveCounts as live
 use Rattle.store.proofs.RoundTrips as trips
@@ -43,6 +45,9 @@ refusals-change-nothing = refusals.refusals-change-nothing
 pub reads-on-with-budget : ReadsOnWithBudget
 reads-on-with-budget = openings.reads-on-with-budget
 
+pub stale-after-reclaim : StaleAfterReclaim
+stale-after-reclaim = openings.stale-after-reclaim
+
 pub finds : Finds
 finds = openings.finds
 
@@ -74,6 +79,20 @@ live-count-of-zero = live.live-count-of-zero
 
 pub scans-do-not-look : ScansDoNotLook
 scans-do-not-look = live.scans-do-not-look
+
+-- ---- reclaim
+
+pub reclaim-keeps : ReclaimKeeps
+reclaim-keeps = reclaims.reclaim-keeps
+
+pub reclaim-words : ReclaimWords
+reclaim-words = reclaims.reclaim-words
+
+pub forgets-retracted : ForgetsRetracted
+forgets-retracted = reclaims.forgets-retracted
+
+pub room-again : RoomAgain
+room-again = reclaims.room-again
 
 -- ---- numbers and names
 

@@ -311,6 +311,18 @@ module _ (t : ℕ) (x : Triple) (res : List ℕ) (pos : (p : Position) → 0 < a
       ∙ link-skip Subject t (x .subject .0) res (resourceWords * (y - 1) + k) (omega (arith, pos Subject))
       (omega (arith, pos Subject)) (omega (arith, pos Subject))
 
+  -- words past the resources that are in range
+  pub linked-past : (r : ℕ) → ((p : Position) → at p x ≤ r) → (k : ℕ) → resourceWords * r ≤ k
+      → word (linkRecord t x res) k ≡ word res k
+  unfolding linkRecord
+  linked-past r high k h =
+      link-skip Object t (x .object .0) two k (omega (arith, pos Object, high Object)) (omega (arith, pos Object, high Object))
+      (omega (arith, pos Object, high Object))
+      ∙ link-skip Predicate t (x .predicate .0) one k (omega (arith, pos Predicate, high Predicate))
+      (omega (arith, pos Predicate, high Predicate)) (omega (arith, pos Predicate, high Predicate))
+      ∙ link-skip Subject t (x .subject .0) res k (omega (arith, pos Subject, high Subject))
+      (omega (arith, pos Subject, high Subject)) (omega (arith, pos Subject, high Subject))
+
   pub linked-offset : (y : ℕ) → 0 < y → offsetAt (linkRecord t x res) y ≡ offsetAt res y
   unfolding offsetAt
   linked-offset y h = linked-tail 6 y (omega arith) (omega arith) h

@@ -22,10 +22,12 @@ use Rattle.store.specs.declared.Retracted.the-variants.{Refused as NotRe
 use Rattle.store.specs.declared.NameRead.the-variants.{Span}
 use Rattle.store.specs.declared.Lookup.the-variants.{Number}
 use Rattle.store.specs.Triple.{at, known, within, same, agrees, permitted, below, head0, prev}
-use Rattle.store.specs.Tables.{Tables, after, word, off, freshCounters, resourceWords, fits, flagAt, countAt, kindAt, liveAt}
+use Rattle.store.specs.Tables.{Tables, after, word, off, freshCounters, maxReclaims, statementWords, resourceWords, fits}
+use Rattle.store.specs.Tables.{flagAt, countAt, offsetAt, kindAt, liveAt}
 use Rattle.store.specs.Values.{Values, refusedWith}
-use Rattle.store.specs.Model.{Entry, Model, Call, intern, assert, retract, open′, next, freshModel, totals, entry}
-use Rattle.store.specs.Model.{Capacities, wellFormed, internModel, matches, holders, pick, cursorOf, modelReplies, modelAfter}
+use Rattle.store.specs.Model.{Entry, Model, Form, Call, intern, assert, retract, open′, next, reclaim, freshModel, totals, entry}
+use Rattle.store.specs.Model.{Capacities, wellFormed, internModel, matches, holders, pick, cursorOf, unstruck, modelReplies}
+use Rattle.store.specs.Model.{modelAfter}
 use Rattle.store.specs.Walk.{entryAt}
 use Rattle.store.specs.Statement.{locate, kinded, assertOf, retractOf}
 use Rattle.store.specs.Scan.{openOf, nextOf}
@@ -54,7 +56,7 @@ namesIn s = namesUpTo (s .tables) (s .counters .resources)
 
 -- the plain lists of a store with no listing open
 abbrev pub listsOf : Store → Model
-listsOf s = record { names = namesIn s; entries = statementsIn s; listings = [] }
+listsOf s = record { names = namesIn s; entries = statementsIn s; listings = []; generation = s .counters .generation }
 
 -- a sound store of just these names, triples and marks, and of the openings' cursors
 pub record Holds (s : Store) (l : Model) : Type 0 where
@@ -132,6 +134,29 @@ readsOn j (assert f x) = false
 readsOn j (retract f x) = false
 readsOn j (open′ x) = false
 readsOn j (next i b) = eqb i j
+readsOn j reclaim = false
+
+-- a reclaim that was answered is one reclaim more
+abbrev pub reclaims : Call → Values → ℕ
+reclaims (intern w) r = 0
+reclaims (assert f x) r = 0
+reclaims (retract f x) r = 0
+reclaims (open′ x) r = 0
+reclaims (next i b) r = 0
+reclaims reclaim r = cond (eqb (r .refusal) 0) 1 0
+
+-- the reclaims that were answered
+unfoldable pub reclaimsIn : List Call → List Values → ℕ
+reclaimsIn [] rs = 0
+reclaimsIn (a ∷ as′) [] = 0
+reclaimsIn (a ∷ as′) (r ∷ rs) = reclaims a r + reclaimsIn as′ rs
+
+-- no reclaim was answered since the opening
+abbrev pub reclaimsSince : Opening → ℕ
+reclaimsSince o = reclaimsIn (o .since) (storeReplies ((opened o) .0) (o .since))
+
+abbrev pub Unreclaimed : Opening → Type 0
+Unreclaimed o = reclaimsSince o ≡ 0
 
 -- the visits reported to the calls that read opening j on
 unfoldable pub visitsOf : ℕ → List Call → List Values → ℕ
@@ -171,9 +196,13 @@ pub record Latest (test : ℕ → Bool) (l : List ℕ) (n : ℕ) : Type 0 where
 abbrev pub NoneOf : (ℕ → Bool) → List ℕ → Type 0
 NoneOf test l = (i : ℕ) → List·Memᴰ i l → test i ≡ false
 
--- A listing read on is refused only for want of a budget.
+-- A listing read on is refused only for want of a budget or after a reclaim.
 abbrev pub ReadsOnWithBudget : Type 0
-ReadsOnWithBudget = (o : Opening) → Accepted o → (b : ℕ) → (nextNow o b) .refusal ≡ 0 ↔ 0 < b
+ReadsOnWithBudget = (o : Opening) → Accepted o → (b : ℕ) → (nextNow o b) .refusal ≡ 0 ↔ (0 < b) × Unreclaimed o
+
+-- A listing left open across a reclaim is refused 13, whatever the budget.
+abbrev pub StaleAfterReclaim : Type 0
+StaleAfterReclaim = (o : Opening) → Accepted o → 0 < reclaimsSince o → (b : ℕ) → nextNow o b ≡ refusedWith 13
 
 -- A listing read on and not refused finds a record exactly when its budget reaches a live match, as of that call, among
 -- the records there at its opening and not yet passed, and gives the latest of these.
@@ -182,9 +211,9 @@ Finds = (o : Opening) → Accepted o → (b : ℕ) → (nextNow o b) .refusal �
     → ((nextNow o b) .status ≡ 1) × ((nextNow o b) .number ≡ n) ↔ Latest (liveNow o) (reached o b) n
 
 -- No match is missed: a record there at the opening that is a live match now is in the rest, or it or one below it was
--- taken.
+-- taken, as long as no reclaim gives records other numbers.
 abbrev pub NoneIsMissed : Type 0
-NoneIsMissed = (o : Opening) → Accepted o → (n : ℕ) → 0 < n → n ≤ (storeThen o) .counters .statements
+NoneIsMissed = (o : Opening) → Accepted o → Unreclaimed o → (n : ℕ) → 0 < n → n ≤ (storeThen o) .counters .statements
     → liveNow o n ≡ true → ((i : ℕ) → List·Memᴰ i (takenSoFar o) → n < i) → List·Memᴰ n (restNow o)
 
 -- Where it reaches none it answers ended exactly if the rest is within the budget, with the rest's length as visits,
@@ -260,6 +289,63 @@ pub record SameButLive (m m′ : Tables) : Type 0 where
 abbrev pub ScansDoNotLook : Type 0
 ScansDoNotLook = (c : Counters) (m m′ : Tables) → SameButLive m m′
     → ((x : Triple) → openOf c m x ≡ openOf c m′ x) × ((q : ScanCursor) (b : ℕ) → nextOf c m q b ≡ nextOf c m′ q b)
+
+-- ---- reclaim
+
+-- the store after some calls, from fresh counters over tables that hold anything
+abbrev pub storeAt : Tables → List Call → Store
+storeAt m calls = storeAfter (freshStore m) calls
+
+-- On a sound store an answered reclaim leaves a sound one of the same names and of the live statements in their order.
+pub record Compacted (s s′ : Store) : Type 0 where
+  pub sound : Sound (s′ .counters) (s′ .tables)
+  pub names : namesIn s′ ≡ namesIn s
+  pub statements : statementsIn s′ ≡ unstruck (statementsIn s)
+  pub generation : s′ .counters .generation ≡ suc (s .counters .generation)
+  pub cursors : s′ .cursors ≡ s .cursors
+  pub all-live : (p : Position) (y : ℕ) → 0 < y → y ≤ s′ .counters .resources
+      → liveAt (s′ .tables .resources) p y ≡ countAt (s′ .tables .resources) p y
+
+abbrev pub ReclaimKeeps : Type 0
+ReclaimKeeps = (c : Counters) (m : Tables) → Sound c m → c .generation < maxReclaims
+    → Compacted (store c m []) ((callStore (store c m []) reclaim) .0)
+
+-- The words: those of the records given up are 0; those past the old T and past R, offsets and kinds, index and text
+-- stay.
+pub record ReclaimWrites (c d : Counters) (m m′ : Tables) : Type 0 where
+  pub fewer : d .statements ≤ c .statements
+  pub given-up : (i : ℕ) → statementWords * d .statements ≤ i → i < statementWords * c .statements
+      → word (m′ .statements) i ≡ 0
+  pub past-statements : (i : ℕ) → statementWords * c .statements ≤ i → word (m′ .statements) i ≡ word (m .statements) i
+  pub past-resources : (i : ℕ) → resourceWords * c .resources ≤ i → word (m′ .resources) i ≡ word (m .resources) i
+  pub offsets : (y : ℕ) → 0 < y → offsetAt (m′ .resources) y ≡ offsetAt (m .resources) y
+  pub kinds : (y : ℕ) → 0 < y → kindAt (m′ .resources) y ≡ kindAt (m .resources) y
+  pub same-resources : length (m′ .resources) ≡ length (m .resources)
+  pub same-statements : length (m′ .statements) ≡ length (m .statements)
+  pub index : m′ .index ≡ m .index
+  pub text : m′ .text ≡ m .text
+
+abbrev pub ReclaimWords : Type 0
+ReclaimWords = (c : Counters) (m : Tables) → Sound c m → c .generation < maxReclaims
+    → let s = (callStore (store c m []) reclaim) .0 in ReclaimWrites c (s .counters) m (s .tables)
+
+-- A triple that a reclaim finds struck out is new when it is asserted then.
+abbrev pub ForgetsRetracted : Type 0
+ForgetsRetracted = (m : Tables) (before : List Call) (f : Form) (x : Triple) (i : ℕ)
+    → i < (storeAt m before) .counters .statements
+    → entry (statementsIn (storeAt m before)) i ≡ record { spo = x; retracted = true }
+    → let z = callStore (storeAt m before) reclaim in
+    z .1 .refusal ≡ 0 → (callStore (z .0) (assert f x)) .1 .status ≡ 1
+
+-- An assert refused 3 and made again right after the next answered reclaim, whatever was called between, is new exactly
+-- if a record was dropped.
+abbrev pub RoomAgain : Type 0
+RoomAgain = (m : Tables) (before : List Call) (f g : Form) (x : Triple) (between : List Call)
+    → let r = callStore (storeAt m before) (assert f x) in
+    let s = storeAfter (r .0) between in
+    let z = callStore s reclaim in
+    r .1 .refusal ≡ 3 → reclaimsIn between (storeReplies (r .0) between) ≡ 0 → z .1 .refusal ≡ 0
+    → (callStore (z .0) (assert g x)) .1 .status ≡ 1 ↔ (z .0) .counters .statements < s .counters .statements
 
 -- ---- numbers and names
 

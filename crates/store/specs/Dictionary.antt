@@ -123,7 +123,12 @@ unfoldable pub roomFor : Counters → Tables → List ℕ → Bool
 roomFor c m w = ltb (c .resources) (resourceCapacity m) && leb (c .text + length w + 1) (textCapacity m)
 
 abbrev pub oneNameMore : Counters → List ℕ → Counters
-oneNameMore c w = record { resources = suc (c .resources); statements = c .statements; text = c .text + length w + 1 }
+oneNameMore c w = record {
+  resources = suc (c .resources);
+  statements = c .statements;
+  text = c .text + length w + 1;
+  generation = c .generation;
+}
 
 -- the eleven words of a new record: no statements, its offset, its kind, no live ones
 abbrev pub freshRecord : ℕ → ℕ → List ℕ

@@ -7,16 +7,20 @@ use Rattle.store.specs.declared.Counters.{Counters}
 use Rattle.store.specs.declared.ScanCursor.{ScanCursor}
 use Rattle.store.specs.declared.Interned.{Interned}
 use Rattle.store.specs.declared.Interned.the-variants.{Number as Id, Refused as NotInterned}
+use Rattle.store.specs.declared.Reclaimed.{Reclaimed}
+use Rattle.store.specs.declared.Reclaimed.the-variants.{Done, Refused as NotReclaimed}
 use Rattle.store.specs.declared.ScanOpened.{ScanOpened}
 use Rattle.store.specs.declared.ScanOpened.the-variants.{Cursor, Refused as NotOpened}
 use Rattle.store.specs.declared.Scanned.{Scanned}
 use Rattle.store.specs.declared.Scanned.the-variants.{Found, Ended, Spent, Refused as NotScanned}
 use Rattle.store.specs.Tables.{Tables, freshCounters, resourceCapacity, statementCapacity, textCapacity}
 use Rattle.store.specs.Values.{Values, noCursor, internedValues, assertedValues, retractedValues, openedValues, scannedValues}
-use Rattle.store.specs.Model.{Capacities, Form, byValue, lent, Call, intern, assert, retract, open′, next}
+use Rattle.store.specs.Values.{reclaimedValues}
+use Rattle.store.specs.Model.{Capacities, Form, byValue, lent, Call, intern, assert, retract, open′, next, reclaim}
 use Rattle.store.specs.Dictionary.{internOf}
 use Rattle.store.specs.Statement.{assertOf, retractOf, countersAfter, assertLentOf, retractLentOf}
 use Rattle.store.specs.Scan.{openOf, nextOf}
+use Rattle.store.specs.Reclaim.{reclaimOf}
 
 -- the counters last answered, the tables, and the cursor of each opening that was not refused
 pub record Store : Type 0 where
@@ -37,6 +41,10 @@ capacitiesOf m = record { resources = resourceCapacity m; statements = statement
 abbrev pub internedCounters : Counters → Interned → Counters
 internedCounters c (Id n d) = d
 internedCounters c (NotInterned r) = c
+
+abbrev pub afterReclaim : Counters → Reclaimed → Counters
+afterReclaim c (Done d) = d
+afterReclaim c (NotReclaimed r) = c
 
 -- a refused opening is not kept
 abbrev pub openedCursors : List ScanCursor → ScanOpened → List ScanCursor
@@ -68,6 +76,9 @@ callStore s (open′ x) =
 callStore s (next j b) =
     let r = nextOf (s .counters) (s .tables) (getD (s .cursors) j noCursor) b in
     (store (s .counters) (s .tables) (movedCursors (s .cursors) j r), scannedValues r)
+callStore s reclaim =
+    let r = reclaimOf (s .counters) (s .tables) in
+    (store (afterReclaim (s .counters) (r .1)) (r .0) (s .cursors), reclaimedValues (r .1))
 
 -- every reply, in order
 unfoldable pub storeReplies : Store → List Call → List Values

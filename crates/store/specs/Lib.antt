@@ -8,5 +8,6 @@ pub mod Statement
 pub mod Scan
 pub mod Dictionary
 pub mod Soundness
+pub mod Reclaim
 pub mod History
 pub mod Claims

@@ -18,6 +18,7 @@ use Rattle.store.specs.declared.Counters.{Counters}
 use Rattle.store.specs.declared.Triple.{Triple}
 use Rattle.store.specs.declared.ScanCursor.{ScanCursor}
 use Rattle.store.specs.Triple.{at, known, within, same, agrees, permitted, below, head0, prev}
+use Rattle.store.specs.Tables.{maxReclaims}
 use Rattle.store.specs.Values.{Values, noTriple, refusedWith, numbered, counted, placed, stepped}
 
 -- ---- the lists
@@ -27,16 +28,18 @@ pub record Entry : Type 0 where
   pub spo : Triple
   pub retracted : Bool
 
--- an opening: the pattern, the position picked, the positions in the list not yet taken, highest first
+-- an opening: the pattern, the position picked, the positions in the list not yet taken, highest first; the number of reclaims then
 pub record Listing : Type 0 where
   pub pattern : Triple
   pub chain : Chain
   pub rest : List ℕ
+  pub generation : ℕ
 
 pub record Model : Type 0 where
   pub names : List (List ℕ)
   pub entries : List Entry
   pub listings : List Listing
+  pub generation : ℕ
 
 pub record Capacities : Type 0 where
   pub resources : ℕ
@@ -44,7 +47,7 @@ pub record Capacities : Type 0 where
   pub text : ℕ
 
 abbrev pub freshModel : Model
-freshModel = record { names = []; entries = []; listings = [] }
+freshModel = record { names = []; entries = []; listings = []; generation = 0 }
 
 -- one call; the lent form of assert and retract is answered like the form by value
 pub data Form : Type 0 where
@@ -56,6 +59,7 @@ pub data Call : Type 0 where
   retract : Form → Triple → Call
   open′ : Triple → Call
   next : ℕ → ℕ → Call
+  reclaim : Call
 
 -- ---- names
 
@@ -76,12 +80,17 @@ unfoldable pub bytesOf : List (List ℕ) → ℕ
 bytesOf [] = 0
 bytesOf (n ∷ ns) = length n + 1 + bytesOf ns
 
--- R, T and B
+-- R, T, B and the reclaims so far
 abbrev pub totals : Model → Counters
-totals s = record { resources = length (s .names); statements = length (s .entries); text = bytesOf (s .names) }
+totals s = record {
+  resources = length (s .names);
+  statements = length (s .entries);
+  text = bytesOf (s .names);
+  generation = s .generation;
+}
 
 abbrev pub withNames : Model → List (List ℕ) → Model
-withNames s ns = record { names = ns; entries = s .entries; listings = s .listings }
+withNames s ns = record { names = ns; entries = s .entries; listings = s .listings; generation = s .generation }
 
 -- the last name is the answer
 abbrev pub lastName : Model → Model × Values
@@ -115,7 +124,7 @@ unfoldable pub mark : List Entry → ℕ → Bool → List Entry
 mark l i b = set l i (record { spo = (entry l i) .spo; retracted = b })
 
 abbrev pub withEntries : Model → List Entry → Model
-withEntries s l = record { names = s .names; entries = l; listings = s .listings }
+withEntries s l = record { names = s .names; entries = l; listings = s .listings; generation = s .generation }
 
 -- the last triple is the answer
 abbrev pub lastEntry : Model → Model × Values
@@ -170,21 +179,23 @@ pick x cost = better x cost Object (better x cost Predicate (better x cost Subje
 unfoldable pub pickModel : Triple → List Entry → Chain
 pickModel x l = pick x (λ q. length (holders (By q) x l))
 
-unfoldable pub listing : Triple → List Entry → Listing
-listing x l = record { pattern = x; chain = pickModel x l; rest = holders (pickModel x l) x l }
+unfoldable pub listing : ℕ → Triple → List Entry → Listing
+listing n x l = record { pattern = x; chain = pickModel x l; rest = holders (pickModel x l) x l; generation = n }
 
--- a place: the pattern, the position picked, the rest's first or 0
+-- a place: the pattern, the position picked, the rest's first or 0, the number of reclaims
 abbrev pub cursorOf : Listing → ScanCursor
-cursorOf g = record { pattern = g .pattern; chain = g .chain; next = record { 0 = head0 (g .rest) } }
+cursorOf g = record { pattern = g .pattern; chain = g .chain; next = record { 0 = head0 (g .rest) }; generation = g .generation }
 
 abbrev pub withListings : Model → List Listing → Model
-withListings s g = record { names = s .names; entries = s .entries; listings = g }
+withListings s g = record { names = s .names; entries = s .entries; listings = g; generation = s .generation }
 
 -- Open: 4; the listing is kept under the next opening's number
 unfoldable pub openModel : Model → Triple → Model × Values
 openModel s x =
-    cond (within (length (s .names)) x)
-    (withListings s (s .listings ++ listing x (s .entries) ∷ []), placed (cursorOf (listing x (s .entries))))
+    cond (within (length (s .names)) x) (
+      withListings s (s .listings ++ listing (s .generation) x (s .entries) ∷ []),
+      placed (cursorOf (listing (s .generation) x (s .entries))),
+    )
     (s, refusedWith 4)
 
 -- what taking positions off a rest comes to: found, ended or spent, with the visits made and what is left
@@ -206,10 +217,10 @@ take-off live (suc b) [] = ended 0
 take-off live (suc b) (x ∷ xs) = cond (live (prev x)) (found x 1 xs) (oneMore (take-off live b xs))
 
 abbrev pub noListing : Listing
-noListing = record { pattern = noTriple; chain = All; rest = [] }
+noListing = record { pattern = noTriple; chain = All; rest = []; generation = 0 }
 
 abbrev pub leaving : Listing → List ℕ → Listing
-leaving g r = record { pattern = g .pattern; chain = g .chain; rest = r }
+leaving g r = record { pattern = g .pattern; chain = g .chain; rest = r; generation = g .generation }
 
 abbrev pub restOf : Taken → List ℕ
 restOf (found n v r) = r
@@ -227,10 +238,29 @@ takeFrom l g b = take-off (λ i. matches (g .pattern) (entry l i)) b (g .rest)
 unfoldable pub turn : Model → ℕ → Listing → Taken → Model × Values
 turn s j g r = (withListings s (set (s .listings) j (leaving g (restOf r))), takenValues g r)
 
--- Next of opening j, counted from 0 among those not refused: 7; found, ended or spent. A j that names none is a listing with nothing left.
+-- Next of opening j, counted from 0 among those not refused: 13 if a reclaim came since; 7; found, ended or spent. A j that names none is
+-- a listing with nothing left, opened before any reclaim.
 unfoldable pub nextModel : Model → ℕ → ℕ → Model × Values
 nextModel s j b =
-    let g = getD (s .listings) j noListing in cond (eqb b 0) (s, refusedWith 7) (turn s j g (takeFrom (s .entries) g b))
+    let g = getD (s .listings) j noListing in
+    cond (eqb (g .generation) (s .generation))
+    (cond (eqb b 0) (s, refusedWith 7) (turn s j g (takeFrom (s .entries) g b)))
+    (s, refusedWith 13)
+
+-- ---- reclaim
+
+-- the entries that are not struck out, in their order
+unfoldable pub unstruck : List Entry → List Entry
+unstruck [] = []
+unstruck (e ∷ l) = cond (e .retracted) (unstruck l) (e ∷ unstruck l)
+
+-- the struck-out entries forgotten, one reclaim more; the listings are kept and can't go on
+abbrev pub reclaimed : Model → Model
+reclaimed s = record { names = s .names; entries = unstruck (s .entries); listings = s .listings; generation = suc (s .generation) }
+
+-- Reclaim: 14 past the maximum
+unfoldable pub reclaimModel : Model → Model × Values
+reclaimModel s = cond (ltb (s .generation) maxReclaims) (reclaimed s, counted 0 0 (totals (reclaimed s))) (s, refusedWith 14)
 
 -- ---- a list of calls
 
@@ -240,6 +270,7 @@ callModel k s (assert f x) = assertModel k s x
 callModel k s (retract f x) = retractModel s x
 callModel k s (open′ x) = openModel s x
 callModel k s (next j b) = nextModel s j b
+callModel k s reclaim = reclaimModel s
 
 -- every reply, in order
 unfoldable pub modelReplies : Capacities → Model → List Call → List Values

@@ -10,7 +10,7 @@ use Rattle.store.specs.declared.Chain.{Chain}
 use Rattle.store.specs.declared.Chain.the-variants.{All, By}
 use Rattle.store.specs.declared.Triple.{Triple}
 use Rattle.store.specs.declared.ScanCursor.{ScanCursor}
-use Rattle.store.specs.declared.Refusal.the-variants.{Capacity, UnknownNumber, BadCursor, NoBudget, Damaged}
+use Rattle.store.specs.declared.Refusal.the-variants.{Capacity, UnknownNumber, BadCursor, NoBudget, Damaged, StaleCursor}
 use Rattle.store.specs.declared.ScanOpened.{ScanOpened}
 use Rattle.store.specs.declared.ScanOpened.the-variants.{Cursor, Refused as NotOpened}
 use Rattle.store.specs.declared.Scanned.{Scanned}
@@ -22,16 +22,21 @@ use Rattle.store.specs.Walk.{entryAt, pickChain, pickable, startOf, link
 
 -- ---- open
 
-abbrev pub cursorAt : Triple → Chain → ℕ → ScanCursor
-cursorAt x ch n = record { pattern = x; chain = ch; next = record { 0 = n } }
+-- a cursor of the generation g; one of a store never reclaimed
+abbrev pub cursorIn : ℕ → Triple → Chain → ℕ → ScanCursor
+cursorIn g x ch n = record { pattern = x; chain = ch; next = record { 0 = n }; generation = g }
 
--- Open: 1; 4 if a number exceeds R; 9 at the pick; else the pattern, the chain picked and its first record
+abbrev pub cursorAt : Triple → Chain → ℕ → ScanCursor
+cursorAt x ch n = cursorIn 0 x ch n
+
+-- Open: 1; 4 if a number exceeds R; 9 at the pick; else the pattern, the chain picked, its first record and the number of reclaims
 unfoldable pub openOf : Counters → Tables → Triple → ScanOpened
 openOf c m x =
     cond (fits c m)
     (cond (within (c .resources) x)
     (cond (pickable (c .statements) (m .resources) x)
-    (Cursor (cursorAt x (pickChain (m .resources) x) (startOf (c .statements) (m .resources) (pickChain (m .resources) x) x)))
+    (Cursor (cursorIn (c .generation) x (pickChain (m .resources) x)
+    (startOf (c .statements) (m .resources) (pickChain (m .resources) x) x)))
     (NotOpened Damaged))
     (NotOpened UnknownNumber))
     (NotOpened Capacity)
@@ -62,15 +67,17 @@ walkFrom c m q b =
 
 abbrev pub scannedAs : ScanCursor → Option Step → Scanned
 scannedAs q none = NotScanned Damaged
-scannedAs q (some (found n v r)) = Found (record { 0 = n }) v (cursorAt (q .pattern) (q .chain) r)
-scannedAs q (some (ended v)) = Ended v (cursorAt (q .pattern) (q .chain) 0)
-scannedAs q (some (spent v r)) = Spent v (cursorAt (q .pattern) (q .chain) r)
+scannedAs q (some (found n v r)) = Found (record { 0 = n }) v (cursorIn (q .generation) (q .pattern) (q .chain) r)
+scannedAs q (some (ended v)) = Ended v (cursorIn (q .generation) (q .pattern) (q .chain) 0)
+scannedAs q (some (spent v r)) = Spent v (cursorIn (q .generation) (q .pattern) (q .chain) r)
 
--- Next: 1; 6; 7; 9; else found, ended or spent
+-- Next: 1; 13 if the cursor has another number of reclaims; 6; 7; 9; else found, ended or spent
 unfoldable pub nextOf : Counters → Tables → ScanCursor → ℕ → Scanned
 nextOf c m q b =
     cond (fits c m)
+    (cond (eqb (q .generation) (c .generation))
     (cond (cursorOk c m q)
     (cond (eqb b 0) (NotScanned NoBudget) (scannedAs q (walkFrom c m q b)))
     (NotScanned BadCursor))
+    (NotScanned StaleCursor))
     (NotScanned Capacity)

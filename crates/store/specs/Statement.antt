@@ -100,7 +100,12 @@ unfoldable pub kinded : List ℕ → Triple → Bool
 kinded res x = all3 (λ p. ltb 0 (kindAt res (at p x)) && leb (kindAt res (at p x)) 3)
 
 abbrev pub oneStatementMore : Counters → Counters
-oneStatementMore c = record { resources = c .resources; statements = suc (c .statements); text = c .text }
+oneStatementMore c = record {
+  resources = c .resources;
+  statements = suc (c .statements);
+  text = c .text;
+  generation = c .generation;
+}
 
 -- by the record found, or 0: "already", "revived", 3 or "new"
 unfoldable pub asserting : Counters → Tables → Triple → ℕ → Tables × Asserted

@@ -22,6 +22,9 @@ maxStatements = 65535
 abbrev pub maxText : ℕ
 maxText = 1048576
 
+abbrev pub maxReclaims : ℕ
+maxReclaims = 65535
+
 -- a resource record: first statement as subject, predicate, object; count as each; text offset; kind; live count as each
 abbrev pub resourceWords : ℕ
 resourceWords = 11
@@ -88,7 +91,7 @@ liveAt res p y = word res (resourceWords * (y - 1) + (8 + off p))
 -- ---- capacities and refusal 1
 
 abbrev pub freshCounters : Counters
-freshCounters = record { resources = 0; statements = 0; text = 0 }
+freshCounters = record { resources = 0; statements = 0; text = 0; generation = 0 }
 
 abbrev pub resourceCapacity : Tables → ℕ
 resourceCapacity m = min (min (length (m .resources) / resourceWords) (length (m .index))) maxResources
@@ -99,6 +102,8 @@ statementCapacity m = min (length (m .statements) / statementWords) maxStatement
 abbrev pub textCapacity : Tables → ℕ
 textCapacity m = min (length (m .text)) maxText
 
--- no counter exceeds its capacity; refusal 1 exactly where this is false
+-- no counter exceeds its capacity, nor the number of reclaims its maximum; refusal 1 exactly where this is false
 unfoldable pub fits : Counters → Tables → Bool
-fits c m = leb (c .resources) (resourceCapacity m) && (leb (c .statements) (statementCapacity m) && leb (c .text) (textCapacity m))
+fits c m =
+    leb (c .resources) (resourceCapacity m)
+    && (leb (c .statements) (statementCapacity m) && (leb (c .text) (textCapacity m) && leb (c .generation) maxReclaims))

@@ -7,7 +7,7 @@ use Rattle.store.specs.declared.Chain.{Chain}
 use Rattle.store.specs.declared.Chain.the-variants.{All}
 use Rattle.store.specs.declared.ScanCursor.{ScanCursor}
 use Rattle.store.specs.declared.Refusal.{Refusal}
-use Rattle.store.specs.declared.Refusal.the-variants.{Capacity, Malformed, Full, UnknownNumber, KindNotPermitted, BadCursor, NoBudget, BadQuery, Damaged, BadLine}
+use Rattle.store.specs.declared.Refusal.the-variants.{Capacity, Malformed, Full, UnknownNumber, KindNotPermitted, BadCursor, NoBudget, BadQuery, Damaged, BadLine, StaleCursor, ReclaimLimit}
 use Rattle.store.specs.declared.StatementRead.{StatementRead}
 use Rattle.store.specs.declared.StatementRead.the-variants.{Is, Refused as NotRead}
 use Rattle.store.specs.declared.NameRead.{NameRead}
@@ -20,6 +20,8 @@ use Rattle.store.specs.declared.Asserted.{Asserted}
 use Rattle.store.specs.declared.Asserted.the-variants.{New, Already, Revived, Refused as NotAsserted}
 use Rattle.store.specs.declared.Retracted.{Retracted}
 use Rattle.store.specs.declared.Retracted.the-variants.{Number as Struck, Absent as NotLive, Refused as NotRetracted}
+use Rattle.store.specs.declared.Reclaimed.{Reclaimed}
+use Rattle.store.specs.declared.Reclaimed.the-variants.{Done, Refused as NotReclaimed}
 use Rattle.store.specs.declared.ScanOpened.{ScanOpened}
 use Rattle.store.specs.declared.ScanOpened.the-variants.{Cursor, Refused as NotOpened}
 use Rattle.store.specs.declared.Scanned.{Scanned}
@@ -38,12 +40,14 @@ refusalNumber NoBudget = 7
 refusalNumber BadQuery = 8
 refusalNumber Damaged = 9
 refusalNumber BadLine = 10
+refusalNumber StaleCursor = 13
+refusalNumber ReclaimLimit = 14
 
 abbrev pub noTriple : Triple
 noTriple = triple 0 0 0
 
 abbrev pub noCursor : ScanCursor
-noCursor = record { pattern = noTriple; chain = All; next = record { 0 = 0 } }
+noCursor = record { pattern = noTriple; chain = All; next = record { 0 = 0 }; generation = 0 }
 
 -- refusal: the paper's number, 0 where the call is answered. status: new 1, already 2, revived 3; found 1, ended 2, spent 3.
 pub record Values : Type 0 where
@@ -89,6 +93,10 @@ abbrev pub retractedValues : Retracted → Values
 retractedValues (Struck n) = numbered (n .0)
 retractedValues NotLive = numbered 0
 retractedValues (NotRetracted r) = refusedWith (refusalNumber r)
+
+abbrev pub reclaimedValues : Reclaimed → Values
+reclaimedValues (Done c) = counted 0 0 c
+reclaimedValues (NotReclaimed r) = refusedWith (refusalNumber r)
 
 abbrev pub openedValues : ScanOpened → Values
 openedValues (Cursor q) = placed q

@@ -12,11 +12,12 @@ pub struct ResourceId(pub u32);
 // A statement's number, from 1; 0 is null. It is never a resource's number.
 pub struct StatementId(pub u32);
 
-// How much of the lent tables is in use: resources R, statements T, text bytes B.
+// How much of the lent tables is in use: resources R, statements T, text bytes B. The generation is the number of reclaims so far.
 pub struct Counters {
     pub resources: u32,
     pub statements: u32,
     pub text: u32,
+    pub generation: u32,
 }
 
 impl Counters {
@@ -28,6 +29,8 @@ impl Counters {
 
     pub const MAX_NAME: u32 = 255;
 
+    pub const MAX_RECLAIMS: u32 = 65535;
+
     // The counters of a fresh store. The tables may hold anything.
     pub fn fresh() -> Self
         ensures { λ r. ⌜ r ≡ freshCounters ⌝ }
@@ -36,6 +39,7 @@ impl Counters {
             resources: 0,
             statements: 0,
             text: 0,
+            generation: 0,
         }
     }
 }
@@ -60,11 +64,13 @@ pub struct Triple {
     pub object: ResourceId,
 }
 
-// Where a pattern scan stands (the paper's place of a listing): the pattern, the chain picked at the opening, the next record or 0.
+// Where a pattern scan stands (the paper's place of a listing): the pattern, the chain picked at the opening, the next record or 0, the
+// number of reclaims at the opening.
 pub struct ScanCursor {
     pub pattern: Triple,
     pub chain: Chain,
     pub next: StatementId,
+    pub generation: u32,
 }
 
 // Why an operation refuses; `specs/Values.antt` gives the paper's number of each.
@@ -89,6 +95,10 @@ pub enum Refusal {
     Damaged,
     // 10: bytes that are no line.
     BadLine,
+    // 13: a cursor from before a reclaim, or of another number of reclaims.
+    StaleCursor,
+    // 14: a reclaim past the maximum.
+    ReclaimLimit,
 }
 
 // The paper's number of a refusal.
@@ -106,6 +116,8 @@ pub fn refusal_number(e: Refusal) -> u32
         Refusal::BadQuery => 8,
         Refusal::Damaged => 9,
         Refusal::BadLine => 10,
+        Refusal::StaleCursor => 13,
+        Refusal::ReclaimLimit => 14,
     }
 }
 
@@ -153,6 +165,12 @@ pub enum Asserted {
 pub enum Retracted {
     Number(StatementId),
     Absent,
+    Refused(Refusal),
+}
+
+// Reclaim: the counters from now on.
+pub enum Reclaimed {
+    Done(Counters),
     Refused(Refusal),
 }
 
