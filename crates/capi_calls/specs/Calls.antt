@@ -4,13 +4,14 @@ use mathlib.Core.Path.{_≡_}
 use mathlib.Core.Bool.{Bool, true, false, cond}
 use mathlib.Core.Logic.{_↔_}
 use mathlib.Core.List.{List}
-use Prim.Native.Nat.{ℕ}
+use Prim.Native.Nat.{ℕ, _≤_, _<_}
 use lib.ListN.{length}
 use lib.Dec.{ltb}
 use Rattle.term.specs.Grammar.{nameLimit}
 use Rattle.term.specs.Scanner.{kindOf}
 use Rattle.store.specs.declared.Lookup.{Lookup}
 use Rattle.store.specs.declared.Interned.{Interned}
+use Rattle.store.specs.declared.Reclaimed.{Reclaimed}
 use Rattle.store.specs.declared.Triple.{Triple}
 use Rattle.store.specs.Tables.{Tables}
 use Rattle.store.specs.Statement.{assertOf, retractOf}
@@ -19,6 +20,8 @@ use Rattle.ntriples.specs.Text.{readOf}
 use Rattle.store.specs.Soundness.{Sound}
 use Rattle.store.specs.Reading.{nameSpanOf, statementOf}
 use Rattle.store.specs.Dictionary.{FindAnswer, InternAnswer}
+use Rattle.store.specs.Reclaim.{ReclaimAnswer}
+use Rattle.capi_calls.specs.Words.{reclaimedAs}
 use Rattle.capi_calls.specs.Words.{tooShort, countersOf, kindAnswer, checkAnswer, lookupAnswer, nameAnswer, statementAnswer, done, one, two, four, lent, roomy, wrote, retractAs, openedAs, lineAs, readAnswer, cursorWords, counterWords, nextFrom, scannedAs, assertAs, enteredAs}
 
 -- `lt_name_kind`: the name, the reply
@@ -85,3 +88,13 @@ pub record EnterCall (cw : List ℕ) (m m′ : Tables) (name w : List ℕ) (z : 
   pub told : z ≡ enterAs cw w entered
   pub exact : roomy cw 1 w ≡ true → InternAnswer (countersOf cw) m m′ name entered
   pub kept : roomy cw 1 w ≡ false → m′ ≡ m
+
+-- `lt_reclaim`: m′ are the tables after it; the counters tell what reclaim answers
+unfoldable pub reclaimAs : List ℕ → Reclaimed → ℕ × List ℕ
+reclaimAs cw a = cond (ltb (length cw) counterWords) (done tooShort cw) (reclaimedAs cw a)
+
+pub record ReclaimCall (cw : List ℕ) (m m′ : Tables) (z : ℕ × List ℕ) : Type 0 where
+  pub reclaimed : Reclaimed
+  pub told : z ≡ reclaimAs cw reclaimed
+  pub exact : counterWords ≤ length cw → ReclaimAnswer (countersOf cw) m m′ reclaimed
+  pub kept : length cw < counterWords → m′ ≡ m

@@ -15,7 +15,7 @@ use Rattle.store.specs.declared.ScanCursor.{ScanCursor}
 use Rattle.store.specs.declared.Triple.{Triple}
 use Rattle.store.specs.Tables.{Tables, word}
 use Rattle.capi_calls.specs.Words.{counterWords, cursorWords, tooShort, countersOf, withCounters, cursorOf, withCursor, chainOf, chainWord, done, wrote}
-use Rattle.capi_calls.specs.Calls.{FindCall, nameCall, statementCall, retractCall, openCall, nextCall, assertCall, EnterCall}
+use Rattle.capi_calls.specs.Calls.{FindCall, nameCall, statementCall, retractCall, openCall, nextCall, assertCall, EnterCall, ReclaimCall}
 use Rattle.capi_calls.specs.QueryWords.{queryReplyWords}
 use Rattle.capi_calls.specs.QueryCalls.{queryOpenCall, queryNextCall}
 
@@ -79,6 +79,11 @@ UnansweredAssert = (cw : List ℕ) (m : Tables) (x : Triple) (w : List ℕ) → 
 abbrev pub UnansweredEnter : Type 0
 UnansweredEnter = (cw : List ℕ) (m m′ : Tables) (name w : List ℕ) (z : ℕ × (List ℕ × List ℕ)) → EnterCall cw m m′ name w z → z .0 ≢ 0
     → (z ≡ bareBeside 1 cw w (z .0)) × (m′ ≡ m)
+
+-- the counters and the tables as they were
+abbrev pub UnansweredReclaim : Type 0
+UnansweredReclaim = (cw : List ℕ) (m m′ : Tables) (z : ℕ × List ℕ) → ReclaimCall cw m m′ z → z .0 ≢ 0
+    → (z ≡ done (z .0) cw) × (m′ ≡ m)
 
 abbrev pub UnansweredOpen : Type 0
 UnansweredOpen = (cw : List ℕ) (m : Tables) (x : Triple) (q : List ℕ) → (openCall cw m x q) .0 ≢ 0

@@ -67,8 +67,8 @@ QueryRepliesKept = (w : List ℕ) (a : QueryAnswer) → queryReplyWords ≤ leng
 
 -- In a cursor's words the slots from the levels entered on are 0. At the start and at the end no levels are entered, so all slots are 0.
 pub record SlotsBlank (q : List ℕ) : Type 0 where
-  pub chain-blank : (i : ℕ) → word q 1 ≤ i → i < maxPatterns → word q (2 + 2 * i) ≡ 0
-  pub record-blank : (i : ℕ) → word q 1 ≤ i → i < maxPatterns → word q (3 + 2 * i) ≡ 0
+  pub chain-blank : (i : ℕ) → word q 1 ≤ i → i < maxPatterns → word q (3 + 2 * i) ≡ 0
+  pub record-blank : (i : ℕ) → word q 1 ≤ i → i < maxPatterns → word q (4 + 2 * i) ≡ 0
   pub outside-blank : word q 0 ≢ 1 → word q 1 ≡ 0
 
 abbrev pub OpenedSlotsBlank : Type 0

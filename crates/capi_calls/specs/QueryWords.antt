@@ -1,5 +1,5 @@
 -- The words of a query's cursor and of its reply: how many they are, what they tell, and how they are written. A cursor is its progress
--- (0 start, 1 within, 2 end), the levels entered, then chain and record of each of `maxPatterns` levels. A reply is its status, the
+-- (0 start, 1 within, 2 end), the levels entered, the number of reclaims, then chain and record of each of `maxPatterns` levels. A reply is its status, the
 -- visits, then the number of each of the `variables` variables. Assumes nothing.
 use mathlib.Core.Bool.{Bool, true, false, cond}
 use mathlib.Core.List.{List, [], _∷_}
@@ -9,7 +9,7 @@ use lib.Seq.{sets}
 use lib.Dec.{eqb, leb}
 use Rattle.store.specs.declared.Counters.{Counters}
 use Rattle.store.specs.declared.Refusal.{Refusal}
-use Rattle.store.specs.declared.Refusal.the-variants.{BadCursor}
+use Rattle.store.specs.declared.Refusal.the-variants.{BadCursor, StaleCursor}
 use Rattle.store.specs.Tables.{Tables, word}
 use Rattle.graph.specs.declared.Level.{Level}
 use Rattle.graph.specs.declared.Progress.{Progress}
@@ -26,7 +26,7 @@ use Rattle.capi_calls.specs.Words.{chainOf, chainWord}
 -- ---- how many words; both follow from the limits of `graph`
 
 abbrev pub queryCursorWords : ℕ
-queryCursorWords = 2 + 2 * maxPatterns
+queryCursorWords = 3 + 2 * maxPatterns
 
 abbrev pub queryReplyWords : ℕ
 queryReplyWords = 2 + variables
@@ -51,13 +51,14 @@ levelsFrom w k zero = []
 levelsFrom w k (suc n) = levelAt w k ∷ levelsFrom w (suc (suc k)) n
 
 abbrev pub queryCursorOf : List ℕ → QueryCursor
-queryCursorOf w = record { progress = progressOf (word w 0); depth = word w 1; levels = levelsFrom w 2 maxPatterns }
+queryCursorOf w =
+    record { progress = progressOf (word w 0); depth = word w 1; generation = word w 2; levels = levelsFrom w 3 maxPatterns }
 
 -- ---- words that tell no cursor
 
 -- the chain's word at slot i is one
 abbrev pub chainSpelt : List ℕ → ℕ → Bool
-chainSpelt w i = leb (word w (2 + 2 * i)) 3
+chainSpelt w i = leb (word w (3 + 2 * i)) 3
 
 -- the slots of d levels; more than there are slots are refused as a place, whatever the slots hold
 abbrev pub slotsOf : ℕ → ℕ
@@ -68,15 +69,16 @@ slotsOf d = cond (leb d maxPatterns) d maxPatterns
 unfoldable pub spelt : List ℕ → Bool
 spelt w = cond (leb (word w 0) 2) (cond (eqb (word w 0) 1) (allBelow (chainSpelt w) (slotsOf (word w 1))) true) false
 
--- refusals 1 and 8 stand before 6
-abbrev pub misspelt : Opening → Refusal
-misspelt Opened = BadCursor
-misspelt (NotOpened e) = e
+-- words that tell no cursor, which have the store's number of reclaims or not: 1; 8; 13; 6
+abbrev pub misspelt : Bool → Opening → Refusal
+misspelt now Opened = cond now BadCursor StaleCursor
+misspelt now (NotOpened e) = e
 
--- next from a cursor's words: 1; 8; 6, also where they tell none; 7; 9
+-- next from a cursor's words: 1; 8; 13; 6, also where they tell none; 7; 9
 unfoldable pub nextQueryFrom : Counters → Tables → List ℕ → List ℕ → ℕ → QueryAnswer
 nextQueryFrom c m ws w b =
-    cond (spelt w) (nextQueryOf c m ws (queryCursorOf w) b) (packed (refused (misspelt ((openQueryOf c m ws) .opening))))
+    cond (spelt w) (nextQueryOf c m ws (queryCursorOf w) b) 
+    (packed 0 (refused (misspelt (eqb (word w 2) (c .generation)) ((openQueryOf c m ws) .opening))))
 
 -- ---- the words of a cursor and of a reply, written from the first on; words past them keep their values
 
@@ -87,7 +89,7 @@ levelWords ls i (suc n) =
     chainWord ((getD ls i noLevel) .chain) ∷ (getD ls i noLevel) .statement .0 ∷ levelWords ls (suc i) n
 
 abbrev pub withQueryCursor : List ℕ → QueryCursor → List ℕ
-withQueryCursor w q = sets w 0 (progressWord (q .progress) ∷ q .depth ∷ levelWords (q .levels) 0 maxPatterns)
+withQueryCursor w q = sets w 0 (progressWord (q .progress) ∷ q .depth ∷ q .generation ∷ levelWords (q .levels) 0 maxPatterns)
 
 -- what is bound to n variables from v on, 0 where nothing is
 unfoldable pub numbersFrom : Bindings → ℕ → ℕ → List ℕ

@@ -16,9 +16,11 @@ use Rattle.store.specs.declared.Retracted.{Retracted}
 use Rattle.store.specs.declared.ScanOpened.{ScanOpened}
 use Rattle.store.specs.declared.Scanned.{Scanned}
 use Rattle.store.specs.declared.Scanned.the-variants.{Refused as NotScanned}
-use Rattle.store.specs.declared.Refusal.the-variants.{Capacity, BadCursor}
+use Rattle.store.specs.declared.Refusal.{Refusal}
+use Rattle.store.specs.declared.Refusal.the-variants.{Capacity, BadCursor, StaleCursor}
 use Rattle.store.specs.declared.Asserted.{Asserted}
 use Rattle.store.specs.declared.Interned.{Interned}
+use Rattle.store.specs.declared.Reclaimed.{Reclaimed}
 use Rattle.store.specs.Triple.{triple}
 use Rattle.store.specs.Scan.{nextOf}
 use Rattle.store.specs.declared.Position.the-variants.{Subject, Predicate, Object}
@@ -26,6 +28,7 @@ use Rattle.store.specs.declared.Chain.{Chain}
 use Rattle.store.specs.declared.Chain.the-variants.{All, By}
 use Rattle.store.specs.declared.ScanCursor.{ScanCursor}
 use Rattle.store.specs.Tables.{Tables, word, fits}
+use Rattle.store.specs.Values.{reclaimedValues}
 use Rattle.store.specs.Values.{lookupValues, nameValues, statementValues, retractedValues, openedValues, scannedValues, assertedValues, internedValues}
 use Rattle.capi_calls.specs.declared.Answer.{Answer}
 use Rattle.capi_calls.specs.declared.LineAnswer.{LineAnswer}
@@ -34,22 +37,22 @@ use Rattle.capi_calls.specs.declared.LineAnswer.{LineAnswer}
 
 -- the words of the lent counters, and of a lent cursor
 abbrev pub counterWords : ℕ
-counterWords = 3
+counterWords = 4
 
 abbrev pub cursorWords : ℕ
-cursorWords = 5
+cursorWords = 6
 
 -- the result where a lent counters, cursor or reply slice is too short
 abbrev pub tooShort : ℕ
 tooShort = 100
 
--- ---- counters: R, T, B
+-- ---- counters: R, T, B, the reclaims so far
 
 abbrev pub countersOf : List ℕ → Counters
-countersOf w = record { resources = word w 0; statements = word w 1; text = word w 2 }
+countersOf w = record { resources = word w 0; statements = word w 1; text = word w 2; generation = word w 3 }
 
 abbrev pub withCounters : List ℕ → Counters → List ℕ
-withCounters w c = set (set (set w 0 (c .resources)) 1 (c .statements)) 2 (c .text)
+withCounters w c = set (set (set (set w 0 (c .resources)) 1 (c .statements)) 2 (c .text)) 3 (c .generation)
 
 -- ---- a reply: what a call gives back, and its words, 0 where it names fewer
 
@@ -92,7 +95,7 @@ readAnswer (Triple s p o) n =
     record { result = 0; what = 2; next = n; first = s .start; second = sizeOf s; third = p .start; fourth = sizeOf p; fifth = o .start; sixth = sizeOf o }
 readAnswer (Refused k) n = lineAnswer 10 0 n k
 
--- ---- a cursor: subject, predicate, object, chain, next
+-- ---- a cursor: subject, predicate, object, chain, next, the number of reclaims
 
 abbrev pub chainWord : Chain → ℕ
 chainWord All = 0
@@ -102,17 +105,23 @@ chainWord (By Object) = 3
 
 abbrev pub withCursor : List ℕ → ScanCursor → List ℕ
 withCursor w q =
-    set (set (set (set (set w 0 (q .pattern .subject .0)) 1 (q .pattern .predicate .0)) 2 (q .pattern .object .0)) 3 (chainWord (q .chain))) 4 (q .next .0)
+    set (set (set (set (set (set w 0 (q .pattern .subject .0)) 1 (q .pattern .predicate .0)) 2 (q .pattern .object .0)) 3 (chainWord (q .chain))) 4
+    (q .next .0)) 5 (q .generation)
 
 abbrev pub chainOf : ℕ → Chain
 chainOf k = cond (eqb k 1) (By Subject) (cond (eqb k 2) (By Predicate) (cond (eqb k 3) (By Object) All))
 
 abbrev pub cursorOf : List ℕ → ScanCursor
-cursorOf w = record { pattern = triple (word w 0) (word w 1) (word w 2); chain = chainOf (word w 3); next = record { 0 = word w 4 } }
+cursorOf w =
+    record { pattern = triple (word w 0) (word w 1) (word w 2); chain = chainOf (word w 3); next = record { 0 = word w 4 }; generation = word w 5 }
 
--- next from a cursor's words: a chain word above 3 is refused 6, after refusal 1
+-- words that tell no cursor: 1; 13; 6
+unfoldable pub misread : Counters → Tables → List ℕ → Refusal
+misread c m w = cond (fits c m) (cond (eqb (word w 5) (c .generation)) BadCursor StaleCursor) Capacity
+
+-- next from a cursor's words: 1; 13; 6, also for a chain word above 3; 7; 9
 unfoldable pub nextFrom : Counters → Tables → List ℕ → ℕ → Scanned
-nextFrom c m w b = cond (leb (word w 3) 3) (nextOf c m (cursorOf w) b) (NotScanned (cond (fits c m) BadCursor Capacity))
+nextFrom c m w b = cond (leb (word w 3) 3) (nextOf c m (cursorOf w) b) (NotScanned (misread c m w))
 
 abbrev pub scannedAnswer : Scanned → Answer
 scannedAnswer a = answer ((scannedValues a) .refusal) ((scannedValues a) .status) ((scannedValues a) .number) ((scannedValues a) .visits) 0
@@ -179,6 +188,11 @@ enteredAs cw w a = (
   (enterAnswer a) .result,
   (cond (eqb ((enterAnswer a) .result) 0) (withCounters cw ((internedValues a) .counters)) cw, set w 0 ((enterAnswer a) .first)),
 )
+
+-- the tables stand apart here too; there is no reply, the counters tell all
+abbrev pub reclaimedAs : List ℕ → Reclaimed → ℕ × List ℕ
+reclaimedAs cw a =
+    done ((reclaimedValues a) .refusal) (cond (eqb ((reclaimedValues a) .refusal) 0) (withCounters cw ((reclaimedValues a) .counters)) cw)
 
 -- s where the counters or the reply, of n words, are lent too short, else a
 unfoldable pub lent : {A : Type 0} → List ℕ → ℕ → List ℕ → A → A → A

@@ -5,14 +5,14 @@
 use graph::MAX_PATTERNS;
 use graph::VARIABLES;
 
-// The words of the lent counters.
-pub const COUNTER_WORDS: usize = 3;
+// The words of the lent counters: R, T, B, the reclaims so far.
+pub const COUNTER_WORDS: usize = 4;
 
-// The words of a lent cursor: subject, predicate, object, chain (0 none, 1 subject, 2 predicate, 3 object), next.
-pub const CURSOR_WORDS: usize = 5;
+// The words of a lent cursor: subject, predicate, object, chain (0 none, 1 subject, 2 predicate, 3 object), next, the number of reclaims.
+pub const CURSOR_WORDS: usize = 6;
 
-// The words of a lent query cursor.
-pub const QUERY_CURSOR_WORDS: usize = 2 + 2 * MAX_PATTERNS;
+// The words of a lent query cursor: place, levels, the number of reclaims, then chain and record of each level.
+pub const QUERY_CURSOR_WORDS: usize = 3 + 2 * MAX_PATTERNS;
 
 // The words of a query's reply.
 pub const QUERY_REPLY_WORDS: usize = 2 + VARIABLES;

@@ -153,12 +153,12 @@ inside-levels : (ls : List Level) (d : ℕ) (l : Level) (up : List Level) → le
 unfolding levelsOf insideOf
 inside-levels ls d l up e = cc
 
-pub place-cursor : (q : Place) → Shallow q → placeOf (cursorAt q) ≡ q
+pub place-cursor : (g : ℕ) (q : Place) → Shallow q → placeOf (cursorAt g q) ≡ q
 unfolding cursorAt placeAs
-place-cursor start h = refl
-place-cursor (inside l up) h =
+place-cursor g start h = refl
+place-cursor g (inside l up) h =
     inside-levels (written (l ∷ up)) (length up) l up (written-levels (l ∷ up) (omega arith))
-place-cursor finish h = refl
+place-cursor g finish h = refl
 
 -- what stands in the array past the levels read
 pub written-past : (up : List Level) (i : ℕ) → length up ≤ i → getD (written up) i noLevel ≡ noLevel

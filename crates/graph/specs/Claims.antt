@@ -5,7 +5,7 @@
 -- does not look at live counts. Assumes nothing.
 use mathlib.Core.Path.{_≡_}
 use mathlib.Core.Logic.{_⊎_, _↔_, _≢_}
-use mathlib.Core.Bool.{Bool, true, false, cond}
+use mathlib.Core.Bool.{Bool, true, false, cond, _&&_}
 use mathlib.Core.List.{List, [], _∷_, map, List·Memᴰ}
 use Prim.Native.Nat.{ℕ, _+_, _*_, _≤_, _<_}
 use lib.ListN.{length}
@@ -16,20 +16,20 @@ use Rattle.store.specs.declared.Position.the-variants.{Subject, Predicate, Obje
 use Rattle.store.specs.declared.Counters.{Counters}
 use Rattle.store.specs.declared.Triple.{Triple}
 use Rattle.store.specs.declared.ScanCursor.{ScanCursor}
-use Rattle.store.specs.declared.Refusal.the-variants.{BadCursor}
+use Rattle.store.specs.declared.Refusal.the-variants.{BadCursor, StaleCursor}
 use Rattle.store.specs.declared.ScanOpened.the-variants.{Cursor}
 use Rattle.store.specs.declared.Scanned.{Scanned}
 use Rattle.store.specs.declared.Scanned.the-variants.{Found as ScanFound, Ended as ScanEnded, Spent as ScanSpent}
 use Rattle.store.specs.declared.Scanned.the-variants.{Refused as NotScanned}
 use Rattle.store.specs.Triple.{at, triple, within, prev}
-use Rattle.store.specs.Tables.{Tables, tripleAt, liveAt}
+use Rattle.store.specs.Tables.{Tables, fits, tripleAt, liveAt}
 use Rattle.store.specs.Values.{Values}
-use Rattle.store.specs.Model.{Call, Form, byValue, intern, assert, retract}
+use Rattle.store.specs.Model.{Call, Form, byValue, intern, assert, retract, reclaim}
 use Rattle.store.specs.Dictionary.{nameAt}
 use Rattle.store.specs.Scan.{openOf, nextOf}
 use Rattle.store.specs.Soundness.{Sound}
-use Rattle.store.specs.History.{Store, store, callStore, storeAfter}
-use Rattle.store.specs.Claims.{SameButLive}
+use Rattle.store.specs.History.{Store, store, callStore, storeReplies, storeAfter}
+use Rattle.store.specs.Claims.{SameButLive, reclaimsIn}
 use Rattle.graph.specs.declared.QueryCursor.{QueryCursor}
 use Rattle.graph.specs.declared.Opening.the-variants.{Opened}
 use Rattle.graph.specs.declared.QueryStep.{QueryStep}
@@ -115,7 +115,7 @@ lastSpent y (a ∷ r) = lastSpent (isSpent (a .step)) r
 
 -- the replies to calls with these budgets, one after another, with no change between
 abbrev pub reading : Counters → Tables → List ℕ → List ℕ → List QueryAnswer
-reading c m ws bs = readOn c m ws startCursor bs
+reading c m ws bs = readOn c m ws (startCursor (c .generation)) bs
 
 -- the statements of a solution, one a pattern
 abbrev pub statementsIn : Counters → Tables → List ℕ → Bindings → List ℕ
@@ -142,7 +142,7 @@ pub record Ends (c : Counters) (m : Tables) (ws : List ℕ) (n : ℕ) : Type 0 w
 
 abbrev pub ReadingClaim : Type 0
 ReadingClaim = (c : Counters) (m : Tables) → Sound c m → (ws : List ℕ) → wordsOk (c .resources) ws ≡ true
-    → (openQueryOf c m ws ≡ record { opening = Opened; cursor = startCursor })
+    → (openQueryOf c m ws ≡ record { opening = Opened; cursor = startCursor (c .generation) })
     × ((bs : List ℕ) → AllPositive bs → Read c m ws bs)
     × Ends c m ws (workOf c m ws)
 
@@ -164,9 +164,10 @@ pub record AllInOrder (c : Counters) (m : Tables) (ws : List ℕ) (ss : List Bin
   pub once : NoDuplicates (map (mappingOf m) ss)
   pub order : Descending (statementsIn c m ws) ss
 
--- refusal 6 accepts the cursor
+-- refusals 13 and 6 accept the cursor
 abbrev pub accepted : Counters → Tables → List ℕ → QueryCursor → Bool
-accepted c m ws q = placeOk (m .statements) (patternsOf ws) (c .resources) (c .statements) (placeOf q)
+accepted c m ws q = eqb (q .generation) (c .generation)
+    && placeOk (m .statements) (patternsOf ws) (c .resources) (c .statements) (placeOf q)
 
 -- of these solutions, those at or after the cursor's place
 abbrev pub onwardsFrom : Counters → Tables → List ℕ → List Bindings → QueryCursor → List Bindings
@@ -196,6 +197,20 @@ KeptClaim = (c : Counters) (m : Tables) → Sound c m → (ws : List ℕ) (q : Q
     → Unrefused ((nextQueryOf c m ws q b) .step)
     → (qs : List ScanCursor) (calls : List Call) (b′ : ℕ) → let s = storeAfter (store c m qs) calls in
     (nextQueryOf (s .counters) (s .tables) ws ((nextQueryOf c m ws q b) .cursor) b′) .step ≢ Refused BadCursor
+
+-- On any tables a cursor with another number of reclaims, at the start and at the end too, is refused 13 where 1 and 8 are not refused,
+-- whatever the budget.
+abbrev pub StaleClaim : Type 0
+StaleClaim = (c : Counters) (m : Tables) (ws : List ℕ) (q : QueryCursor) (b : ℕ) → fits c m ≡ true → wordsOk (c .resources) ws ≡ true
+    → q .generation ≢ c .generation → (nextQueryOf c m ws q b) .step ≡ Refused StaleCursor
+
+-- A cursor that a next call answered is refused 13 once a reclaim was answered since, whatever else was called.
+abbrev pub ReclaimedClaim : Type 0
+ReclaimedClaim = (c : Counters) (m : Tables) → Sound c m → (ws : List ℕ) (q : QueryCursor) (b : ℕ)
+    → Unrefused ((nextQueryOf c m ws q b) .step)
+    → (qs : List ScanCursor) (calls : List Call) (b′ : ℕ) → 0 < reclaimsIn calls (storeReplies (store c m qs) calls)
+    → let s = storeAfter (store c m qs) calls in
+    (nextQueryOf (s .counters) (s .tables) ws ((nextQueryOf c m ws q b) .cursor) b′) .step ≡ Refused StaleCursor
 
 -- A call visits no more records than its budget, on any tables, words and cursor.
 abbrev pub BudgetClaim : Type 0
@@ -293,7 +308,7 @@ QueriesDoNotLook = (c : Counters) (m m′ : Tables) → SameButLive m m′ → (
     → (openQueryOf c m ws ≡ openQueryOf c m′ ws)
     × ((q : QueryCursor) (b : ℕ) → nextQueryOf c m ws q b ≡ nextQueryOf c m′ ws q b)
 
--- ---- 7. Entering leaves the graph, asserting adds exactly its triple, retracting takes exactly it away.
+-- ---- 7. Entering and reclaiming leave the graph, asserting adds exactly its triple, retracting takes exactly it away.
 
 abbrev pub SoundStore : Store → Type 0
 SoundStore s = Sound (s .counters) (s .tables)
@@ -327,12 +342,20 @@ pub record Removed (s s′ : Store) (y : RdfTriple) (v : Values) : Type 0 where
   pub removed : v .refusal ≡ 0 → (z : RdfTriple) → graphIn s′ z ↔ (graphIn s z × (z ≢ y))
   pub absent : v .refusal ≡ 0 → (v .number ≡ 0) ↔ (graphIn s y → ⊥)
 
+-- reclaimed, answered or refused: numbers keep their names
+pub record Rebuilt (s s′ : Store) : Type 0 where
+  pub sound : SoundStore s′
+  pub graph : SameGraph (graphIn s′) (graphIn s)
+  pub resources : s′ .counters .resources ≡ s .counters .resources
+  pub kept : (n : ℕ) → 0 < n → n ≤ s .counters .resources → nameAt (s′ .tables) n ≡ nameAt (s .tables) n
+
 pub record Writes (s : Store) : Type 0 where
   pub enters : (w : Term) → Entered s ((callStore s (intern w)) .0) w ((callStore s (intern w)) .1)
   pub asserts : (f : Form) (x : Triple) → Added s ((callStore s (assert f x)) .0) (named (s .tables) x)
       ((callStore s (assert f x)) .1)
   pub retracts : (f : Form) (x : Triple)
       → Removed s ((callStore s (retract f x)) .0) (named (s .tables) x) ((callStore s (retract f x)) .1)
+  pub reclaims : Rebuilt s ((callStore s reclaim) .0)
 
 abbrev pub WriteClaim : Type 0
 WriteClaim = (s : Store) → SoundStore s → Writes s

@@ -1,6 +1,6 @@
 -- Open and next of a query, the paper's question (paper 01, "Open a question", "Next of a question"), on tables,
 -- words and cursors that hold anything. Assumes nothing.
-use mathlib.Core.Bool.{Bool, true, false, cond, _&&_, _||_}
+use mathlib.Core.Bool.{Bool, true, false, cond, not, _&&_, _||_}
 use mathlib.Core.List.{List, [], _∷_}
 use mathlib.Core.Option.{Option, none, some}
 use Prim.Native.Nat.{ℕ, zero, suc, _+_, _*_, _-_}
@@ -12,7 +12,7 @@ use Rattle.store.specs.declared.Chain.{Chain}
 use Rattle.store.specs.declared.Chain.the-variants.{All}
 use Rattle.store.specs.declared.Triple.{Triple}
 use Rattle.store.specs.declared.Refusal.{Refusal}
-use Rattle.store.specs.declared.Refusal.the-variants.{Capacity, BadCursor, NoBudget, BadQuery, Damaged}
+use Rattle.store.specs.declared.Refusal.the-variants.{Capacity, BadCursor, NoBudget, BadQuery, Damaged, StaleCursor}
 use Rattle.store.specs.Triple.{triple, known, prev}
 use Rattle.store.specs.Tables.{Tables, fits, tripleAt, flagAt}
 use Rattle.store.specs.Walk.{pickChain, pickable, startOf, linkOf, visitable}
@@ -22,6 +22,7 @@ use Rattle.graph.specs.declared.Level.{Level}
 use Rattle.graph.specs.declared.Progress.{Progress}
 use Rattle.graph.specs.declared.Progress.the-variants.{Start, Within, End}
 use Rattle.graph.specs.declared.QueryCursor.{QueryCursor}
+use Rattle.graph.specs.declared.Opening.{Opening}
 use Rattle.graph.specs.declared.Opening.the-variants.{Opened, Refused as NotOpened}
 use Rattle.graph.specs.declared.QueryOpened.{QueryOpened}
 use Rattle.graph.specs.declared.QueryStep.{QueryStep}
@@ -262,7 +263,7 @@ module _ (r t : ℕ) (res stm : List ℕ) (ps : List QueryPattern) where
       cond (intact stm up) (walk budget ((pruned stm l up) .0) ((pruned stm l up) .1) 0) (refused Damaged)
   resume finish budget = ended 0
 
--- Next, from a place: 1; 8; 6; 7; 9; else found, ended or spent
+-- Next, from a place of the store's own number of reclaims: 1; 8; 6; 7; 9; else found, ended or spent
 unfoldable pub answerOf : Counters → Tables → List ℕ → Place → ℕ → Answer
 answerOf c m ws q budget =
     cond (fits c m)
@@ -303,40 +304,48 @@ unfoldable pub written : List Level → List Level
 written [] = replicate maxPatterns noLevel
 written (e ∷ up) = set (written up) (length up) e
 
-abbrev pub cursorWith : Progress → List Level → QueryCursor
-cursorWith g up = record { progress = g; depth = length up; levels = written up }
+-- a cursor of the generation g
+abbrev pub cursorWith : ℕ → Progress → List Level → QueryCursor
+cursorWith g s up = record { progress = s; depth = length up; generation = g; levels = written up }
 
-abbrev pub startCursor : QueryCursor
-startCursor = cursorWith Start []
+abbrev pub startCursor : ℕ → QueryCursor
+startCursor g = cursorWith g Start []
 
-unfoldable pub cursorAt : Place → QueryCursor
-cursorAt start = startCursor
-cursorAt (inside l up) = cursorWith Within (l ∷ up)
-cursorAt finish = cursorWith End []
+unfoldable pub cursorAt : ℕ → Place → QueryCursor
+cursorAt g start = startCursor g
+cursorAt g (inside l up) = cursorWith g Within (l ∷ up)
+cursorAt g finish = cursorWith g End []
 
 -- ---- the two operations
 
--- Open: 1; 8; else the start, before the first solution
+abbrev pub openedWith : Opening → ℕ → QueryOpened
+openedWith o g = record { opening = o; cursor = startCursor g }
+
+-- Open: 1; 8; else the start, before the first solution, with the number of reclaims; zeros beside a refusal
 unfoldable pub openQueryOf : Counters → Tables → List ℕ → QueryOpened
 openQueryOf c m ws =
-    record {
-      opening = cond (fits c m) (cond (wordsOk (c .resources) ws) Opened (NotOpened BadQuery))
-          (NotOpened Capacity);
-      cursor = startCursor;
-    }
+    cond (fits c m)
+    (cond (wordsOk (c .resources) ws) (openedWith Opened (c .generation)) (openedWith (NotOpened BadQuery) 0))
+    (openedWith (NotOpened Capacity) 0)
 
-abbrev pub answered : QueryStep → ℕ → Bindings → Place → QueryAnswer
-answered s v b q = record { step = s; visits = v; solution = record { values = b }; cursor = cursorAt q }
+abbrev pub answered : QueryStep → ℕ → Bindings → QueryCursor → QueryAnswer
+answered s v b q = record { step = s; visits = v; solution = record { values = b }; cursor = q }
 
--- what a case does not give is zero; ended gives the end
-unfoldable pub packed : Answer → QueryAnswer
-packed (refused e) = answered (NotAnswered e) 0 unbound start
-packed (found b v q) = answered Found v b q
-packed (ended v) = answered Ended v unbound finish
-packed (spent v q) = answered Spent v unbound q
+-- with the number g of reclaims; what a case does not give is zero; ended gives the end
+unfoldable pub packed : ℕ → Answer → QueryAnswer
+packed g (refused e) = answered (NotAnswered e) 0 unbound (startCursor 0)
+packed g (found b v q) = answered Found v b (cursorAt g q)
+packed g (ended v) = answered Ended v unbound (cursorAt g finish)
+packed g (spent v q) = answered Spent v unbound (cursorAt g q)
 
+-- refusal 13 exactly where this is true: 1 and 8 are not refused, and the cursor has another number of reclaims
+unfoldable pub stale : Counters → Tables → List ℕ → QueryCursor → Bool
+stale c m ws q = fits c m && (wordsOk (c .resources) ws && not (eqb (q .generation) (c .generation)))
+
+-- Next: 1; 8; 13 if the cursor, at the start and at the end too, has another number of reclaims; 6; 7; 9; else found, ended or spent
 unfoldable pub nextQueryOf : Counters → Tables → List ℕ → QueryCursor → ℕ → QueryAnswer
-nextQueryOf c m ws q budget = packed (answerOf c m ws (placeOf q) budget)
+nextQueryOf c m ws q budget =
+    packed (c .generation) (cond (stale c m ws q) (refused StaleCursor) (answerOf c m ws (placeOf q) budget))
 
 -- ---- calls one after another with no change between, each from the cursor last answered
 

@@ -44,11 +44,13 @@ pub enum Progress {
     End,
 }
 
-// The place of a query: how far it is, how many patterns are entered, and their chains and records, the first pattern
-// first. Words past the levels entered are ignored where a cursor is taken, and zero in a cursor that is answered.
+// The place of a query: how far it is, how many patterns are entered, the number of reclaims when it was answered, and the chains and
+// records of the patterns entered, the first pattern first. Words past the levels entered are ignored where a cursor is taken, and zero in
+// a cursor that is answered.
 pub struct QueryCursor {
     pub progress: Progress,
     pub depth: u32,
+    pub generation: u32,
     pub levels: [Level; MAX_PATTERNS],
 }
 
@@ -73,8 +75,7 @@ pub enum QueryStep {
 }
 
 // Next of a query: the visits made, the solution found, the cursor from now on; whatever a case does not give is
-// zero.
-// Beside a refusal the cursor is zero, which is the start: the caller goes on from the cursor it had.
+// zero. Beside a refusal the cursor is zero: the caller goes on from the cursor it had.
 pub struct QueryAnswer {
     pub step: QueryStep,
     pub visits: u32,

@@ -5,7 +5,7 @@ use Rattle.store.specs.History.{store, freshStore, capacitiesOf, storeAf
 use Rattle.store.specs.Claims.{listsOf, HistoriesAgree, HistoriesStaySound, SoundStoresAgree, FreshIsSound}
 use Rattle.store.specs.Claims.{RefusalsChangeNothing, Finds, EndsOrSpends, VisitsAddUp, RoundTrips, SpellingsAgree, KnownMeans}
 use Rattle.store.specs.Claims.{WithinMeans, SameMeans, MatchesMeans, PermittedMeans, BelowMeans, PicksLeast}
-use Rattle.store.specs.Claims.{RefusalsAreBare, NoneIsMissed, FirstIsHighest, ReadsOnWithBudget, StaleAfterReclaim}
+use Rattle.store.specs.Claims.{RefusalsAreBare, NoneIsMissed, FirstIsHighest, ReadsOnWithBudget, StaleAfterReclaim, StaleRefused}
 use Rattle.store.specs.Claims.{LiveCountsShown, LiveCountsAgree, LiveAboveCount, LiveCountOfZero, ScansDoNotLook}
 use Rattle.store.specs.Claims.{ReclaimKeeps, ReclaimWords, ForgetsRetracted, RoomAgain}
 use Rattle.store.proofs.Histories.{history-agrees, fresh-agrees}
@@ -47,6 +47,9 @@ reads-on-with-budget = openings.reads-on-with-budget
 
 pub stale-after-reclaim : StaleAfterReclaim
 stale-after-reclaim = openings.stale-after-reclaim
+
+pub stale-refused : StaleRefused
+stale-refused = openings.stale-refused
 
 pub finds : Finds
 finds = openings.finds

@@ -16,9 +16,10 @@ use Rattle.store.specs.declared.Chain.the-variants.{All, By}
 use Rattle.store.specs.declared.Triple.{Triple}
 use Rattle.store.specs.declared.ResourceId.{ResourceId}
 use Rattle.store.specs.declared.ScanCursor.{ScanCursor}
-use Rattle.store.specs.declared.Refusal.the-variants.{Damaged}
+use Rattle.store.specs.declared.Refusal.the-variants.{Damaged, StaleCursor}
 use Rattle.store.specs.declared.Asserted.the-variants.{Refused as NotAsserted}
 use Rattle.store.specs.declared.Retracted.the-variants.{Refused as NotRetracted}
+use Rattle.store.specs.declared.Scanned.the-variants.{Refused as NotScanned}
 use Rattle.store.specs.declared.NameRead.the-variants.{Span}
 use Rattle.store.specs.declared.Lookup.the-variants.{Number}
 use Rattle.store.specs.Triple.{at, known, within, same, agrees, permitted, below, head0, prev}
@@ -203,6 +204,11 @@ ReadsOnWithBudget = (o : Opening) → Accepted o → (b : ℕ) → (nextNow o b)
 -- A listing left open across a reclaim is refused 13, whatever the budget.
 abbrev pub StaleAfterReclaim : Type 0
 StaleAfterReclaim = (o : Opening) → Accepted o → 0 < reclaimsSince o → (b : ℕ) → nextNow o b ≡ refusedWith 13
+
+-- On any tables a cursor with another number of reclaims is refused 13 where 1 is not refused, whatever the budget.
+abbrev pub StaleRefused : Type 0
+StaleRefused = (c : Counters) (m : Tables) (q : ScanCursor) (b : ℕ) → fits c m ≡ true → q .generation ≢ c .generation
+    → nextOf c m q b ≡ NotScanned StaleCursor
 
 -- A listing read on and not refused finds a record exactly when its budget reaches a live match, as of that call, among
 -- the records there at its opening and not yet passed, and gives the latest of these.

@@ -9,7 +9,7 @@ use lib.Dec.{leb}
 use borrow.Author.Tests.{leb-true, leb-false, le-leb, lt-leb}
 use Rattle.store.specs.declared.Counters.{Counters}
 use Rattle.store.proofs.Tests.{and-l, and-r}
-use Rattle.store.specs.Tables.{Tables, fits, resourceCapacity, statementCapacity, textCapacity, maxResources, maxStatements, maxText, resourceWords, statementWords}
+use Rattle.store.specs.Tables.{Tables, fits, resourceCapacity, statementCapacity, textCapacity, maxResources, maxStatements, maxText, maxReclaims, resourceWords, statementWords}
 
 -- ---- refusal 1
 
@@ -22,27 +22,24 @@ module _ (c : Counters) (m : Tables) where
   unfolding fits
   over-statements a h = rw (le-leb (c .resources) (resourceCapacity m) a, lt-leb (c .statements) (statementCapacity m) h)
 
-  pub by-text : c .resources ≤ resourceCapacity m → c .statements ≤ statementCapacity m → fits c m ≡ leb (c .text) (textCapacity m)
-  unfolding fits
-  by-text a b = rw (le-leb (c .resources) (resourceCapacity m) a, le-leb (c .statements) (statementCapacity m) b)
-
   pub over-text : c .resources ≤ resourceCapacity m → c .statements ≤ statementCapacity m → textCapacity m < c .text → fits c m ≡ false
-  over-text a b h = by-text a b ∙ lt-leb (c .text) (textCapacity m) h
+  unfolding fits
+  over-text a b h =
+      rw (le-leb (c .resources) (resourceCapacity m) a, le-leb (c .statements) (statementCapacity m) b, lt-leb (c .text) (textCapacity m) h)
 
-  -- where the text's limit is kept, its length decides
-  pub text-decides : c .resources ≤ resourceCapacity m → c .statements ≤ statementCapacity m → c .text ≤ maxText
-      → leb (c .text) (length (m .text)) ≡ fits c m
-  text-decides a b h = decide (leb (c .text) (length (m .text))) refl ∙ sym (by-text a b)
-    where
-      decide : (t : Bool) → leb (c .text) (length (m .text)) ≡ t → leb (c .text) (length (m .text)) ≡ leb (c .text) (textCapacity m)
-      decide true e = e ∙ sym (le-leb (c .text) (textCapacity m) (let q = leb-true (c .text) (length (m .text)) e in omega arith))
-      decide false e = e ∙ sym (lt-leb (c .text) (textCapacity m) (let q = leb-false (c .text) (length (m .text)) e in omega arith))
+  -- where the tables have room, the number of reclaims decides
+  pub reclaims-decide : c .resources ≤ resourceCapacity m → c .statements ≤ statementCapacity m → c .text ≤ textCapacity m
+      → leb (c .generation) maxReclaims ≡ fits c m
+  unfolding fits
+  reclaims-decide a b d =
+      rw (le-leb (c .resources) (resourceCapacity m) a, le-leb (c .statements) (statementCapacity m) b, le-leb (c .text) (textCapacity m) d)
 
   -- counters within capacity: the records and bytes in use lie in the tables
   pub record Room : Type 0 where
     pub few-resources : c .resources ≤ maxResources
     pub few-statements : c .statements ≤ maxStatements
     pub few-bytes : c .text ≤ maxText
+    pub few-reclaims : c .generation ≤ maxReclaims
     pub in-resources : resourceWords * c .resources ≤ length (m .resources)
     pub in-statements : statementWords * c .statements ≤ length (m .statements)
     pub in-index : c .resources ≤ length (m .index)
@@ -54,11 +51,14 @@ module _ (c : Counters) (m : Tables) where
       let a = leb-true (c .resources) (resourceCapacity m) (and-l _ _ e) in
       let f = and-r (leb (c .resources) (resourceCapacity m)) _ e in
       let b = leb-true (c .statements) (statementCapacity m) (and-l _ _ f) in
-      let d = leb-true (c .text) (textCapacity m) (and-r (leb (c .statements) (statementCapacity m)) _ f) in
+      let g = and-r (leb (c .statements) (statementCapacity m)) _ f in
+      let d = leb-true (c .text) (textCapacity m) (and-l _ _ g) in
+      let n = leb-true (c .generation) maxReclaims (and-r (leb (c .text) (textCapacity m)) _ g) in
       record {
         few-resources = omega arith;
         few-statements = omega arith;
         few-bytes = omega arith;
+        few-reclaims = n;
         in-resources = omega arith;
         in-statements = omega arith;
         in-index = omega arith;

@@ -44,7 +44,7 @@ pub const FLAG: usize = 6;
 // A name of the longest kind and its zero byte.
 pub const NAME_WINDOW: usize = 256;
 
-// Whether no counter exceeds its capacity. Every operation of the store refuses 1 where this is false.
+// Whether no counter exceeds its capacity, nor the reclaims so far their maximum. Every operation of the store refuses 1 where this is false.
 pub fn fits(c: Counters, resources: &[u32], statements: &[u32], index: &[u32], text: &[u8]) -> bool
     ensures { λ b. ⌜ b ≡ fits c (tables (now (resources .entry)) (now (statements .entry)) (now (index .entry)) (now (text .entry))) ⌝ }
 {
@@ -69,7 +69,10 @@ pub fn fits(c: Counters, resources: &[u32], statements: &[u32], index: &[u32], t
     if c.text > Counters::MAX_TEXT {
         return false;
     }
-    b <= text.len()
+    if b > text.len() {
+        return false;
+    }
+    c.generation <= Counters::MAX_RECLAIMS
 }
 
 // Whether x is one of the numbers 1 to n.

@@ -1,7 +1,7 @@
 use native.Mathlib.Omega.{arith}
 use mathlib.Core.Path.{sym, _∙_}
 use borrow.Author.Needs.{needs}
-use Rattle.table.proofs.Capacity.{over-resources, over-statements, by-text, over-text, text-decides}
+use Rattle.table.proofs.Capacity.{over-resources, over-statements, over-text, reclaims-decide}
 use Rattle.table.proofs.fits.Statement.{statement}
 use Rattle.table.proofs.fits.Tie as tie
 use Rattle.table.proofs.fits.Reads as reads
@@ -41,7 +41,10 @@ returns-6 : tie.Need-returns-6
 returns-6 c = sym (over-text _ _ (omega arith) (omega arith) (omega arith))
 
 returns-7 : tie.Need-returns-7
-returns-7 c = text-decides _ _ (omega arith) (omega arith) (omega arith)
+returns-7 c = sym (over-text _ _ (omega arith) (omega arith) (omega arith))
+
+returns-8 : tie.Need-returns-8
+returns-8 c = reclaims-decide _ _ (omega arith) (omega arith) (omega arith)
 
 pub fits-spec : {M : Type 1} → statement M
 fits-spec =
@@ -58,4 +61,5 @@ fits-spec =
     mul-if5
     returns-5
     returns-6
-    returns-7)
+    returns-7
+    returns-8)
