@@ -152,7 +152,7 @@ reclaimsIn [] rs = 0
 reclaimsIn (a ∷ as′) [] = 0
 reclaimsIn (a ∷ as′) (r ∷ rs) = reclaims a r + reclaimsIn as′ rs
 
--- no reclaim was answered since the opening
+-- the reclaims answered since the opening
 abbrev pub reclaimsSince : Opening → ℕ
 reclaimsSince o = reclaimsIn (o .since) (storeReplies ((opened o) .0) (o .since))
 
