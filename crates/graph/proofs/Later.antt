@@ -161,12 +161,14 @@ module _ (c : Counters) (m : Tables) where
   asserting-keeps : (x : Triple) (n : ℕ) → AssertKeeps (asserting c m x n)
   unfolding asserting
   asserting-keeps x zero =
-      cond-all AssertKeeps (ltb (c .statements) (statementCapacity m)) _ _
-      (record {
-        resources = omega arith;
-        records = omega arith;
-        terms = λ p i h. append-term-old (c .statements) x (m .resources) (m .statements) p i h;
-      }, refl)
+      cond-all AssertKeeps (ltb (c .statements) (statementCapacity m)) _ _ (
+        record {
+          resources = omega arith;
+          records = omega arith;
+          terms = λ p i h. append-term-old (c .statements) x (m .resources) (m .statements) p i h;
+        },
+        refl,
+      )
       (keeps-same c m)
   asserting-keeps x (suc i) =
       cond-all AssertKeeps (eqb (flagAt (m .statements) i) 1) _ _ (flag-keeps suc 0 c m x i) (keeps-same c m)
@@ -253,11 +255,14 @@ abbrev pub StoreKeeps : Store → Store → Type 0
 StoreKeeps s s′ = Keeps (s .counters) (s .tables) (s′ .counters) (s′ .tables)
 
 keeps-trans : (a b d : Store) → StoreKeeps a b → StoreKeeps b d → StoreKeeps a d
-keeps-trans a b d K M = (record {
-  resources = omega (arith, K .0 .resources, M .0 .resources);
-  records = omega (arith, K .0 .records, M .0 .records);
-  terms = λ p i h. M .0 .terms p i (omega (arith, K .0 .records)) ∙ K .0 .terms p i h;
-}, M .1 ∙ K .1)
+keeps-trans a b d K M = (
+  record {
+    resources = omega (arith, K .0 .resources, M .0 .resources);
+    records = omega (arith, K .0 .records, M .0 .records);
+    terms = λ p i h. M .0 .terms p i (omega (arith, K .0 .records)) ∙ K .0 .terms p i h;
+  },
+  M .1 ∙ K .1,
+)
 
 abbrev answered : Store → Call → ℕ
 answered s a = reclaims a ((callStore s a) .1)
