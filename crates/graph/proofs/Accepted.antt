@@ -1,4 +1,4 @@
--- The words that refusal 8 accepts, in the paper's terms (`WordsClaim`). Assumes nothing.
+-- The words that refusal 8 accepts, in the paper's terms (`WordsClaim`); they stay accepted as R grows. Assumes nothing.
 use mathlib.Core.Path.{_≡_, refl, sym}
 use mathlib.Core.Logic.{_⊎_, inl, inr}
 use mathlib.Core.Bool.{Bool, true, false, _&&_, _||_, false≢true}

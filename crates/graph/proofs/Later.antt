@@ -1,6 +1,6 @@
 -- A place once accepted stays accepted until a reclaim is answered, on any tables: no other call takes a record away or changes its triple
 -- (`Kept`), and the number of reclaims tells whether one was answered. So a cursor that a next call answered is never refused 6 later
--- (`KeptClaim`, put together in `Onwards`). Assumes nothing.
+-- (`KeptClaim`, put together in `Onwards`). No call takes a name away, and a sound store stays sound. Assumes nothing.
 use mathlib.Core.Path.{_≡_, refl, _∙_}
 use mathlib.Core.Bool.{true, _&&_}
 use mathlib.Core.List.{List, [], _∷_}

@@ -271,10 +271,11 @@ place-after c m ws q b (ended v) g = (finish, refl, (unfold placeOk in refl))
 place-after c m ws q b (spent v q′) g = (q′, refl, g .1)
 
 module _ (c : Counters) (m : Tables) (ws : List ℕ) (q : QueryCursor) (b : ℕ) where
-  -- with the store's own number or not
+  -- what the cursor comes to, with the store's own number or another
   abbrev outcome : Answer
   outcome = cond (stale c m ws q) (refused StaleCursor) (answerOf c m ws (placeOf q) b)
 
+  -- its place is accepted: not 6, whatever its number
   never-six : placeOk (m .statements) (patternsOf ws) (c .resources) (c .statements) (placeOf q) ≡ true
       → (nextQueryOf c m ws q b) .step ≢ Refused BadCursor
   unfolding nextQueryOf
@@ -299,6 +300,7 @@ module _ (c : Counters) (m : Tables) (ws : List ℕ) (q : QueryCursor) (b : ℕ)
 
 module _ (c : Counters) (m : Tables) (S : Sound c m) (ws : List ℕ) (q : QueryCursor) (b : ℕ)
     (u : Unrefused ((nextQueryOf c m ws q b) .step)) where
+  -- the call's answer as a place, and the cursor from now on
   abbrev first : Answer
   first = answerOf c m ws (placeOf q) b
 
@@ -326,6 +328,7 @@ module _ (c : Counters) (m : Tables) (S : Sound c m) (ws : List ℕ) (q : QueryC
       rw d (g .2)
 
   module _ (qs : List ScanCursor) (calls : List Call) (b′ : ℕ) where
+    -- the store after the calls, and how many reclaims of them were answered
     abbrev then : Store
     then = storeAfter (store c m qs) calls
 
@@ -335,6 +338,7 @@ module _ (c : Counters) (m : Tables) (S : Sound c m) (ws : List ℕ) (q : QueryC
     not-reclaimed : c .generation ≡ then .counters .generation → reclaimed ≡ 0
     not-reclaimed e = omega (arith, calls-onward (store c m qs) calls .0)
 
+    -- no reclaim: the place is still accepted; else the numbers differ
     kept : (nextQueryOf (then .counters) (then .tables) ws now b′) .step ≢ Refused BadCursor
     kept =
         decide (eqb (c .generation) (then .counters .generation))
@@ -345,6 +349,7 @@ module _ (c : Counters) (m : Tables) (S : Sound c m) (ws : List ℕ) (q : QueryC
         (λ e. other-never-six (then .counters) (then .tables) ws now b′
         (λ d. eqb-false (c .generation) (then .counters .generation) e (sym now-number ∙ d)))
 
+    -- words stay accepted, the store stays sound, and the number has risen
     gone : 0 < reclaimed → (nextQueryOf (then .counters) (then .tables) ws now b′) .step ≡ Refused StaleCursor
     gone h =
         let o = calls-onward (store c m qs) calls in
