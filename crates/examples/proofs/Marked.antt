@@ -18,7 +18,7 @@ use Rattle.store.specs.Statement.{seek, countable, locate, tallyAt, tally, coun
 use Rattle.store.specs.Scan.{openOf, chainOk, recordOk, cursorOk, walkFrom, nextOf}
 use Rattle.store.specs.Dictionary.{compare, nameAt, rank, placeAt, indexPlaceOf, roomFor, bring, insertAt, internAs, internOf}
 use Rattle.store.specs.History.{Store, callStore, storeAfter}
-use Rattle.graph.specs.Query.{patternsOf, wordOk, allOk, wordsOk, valueOf, under, bind, match, recordAt, past, struck, intact, anyStruck, pruned, settle, remains, nextPattern, binds, asked, enteredOk, placeOk, enter, hit, tried, visit, walk, begun, resume, answerOf, levelsOf, insideOf, placeAs, written, cursorAt, packed, nextQueryOf}
+use Rattle.graph.specs.Query.{patternsOf, wordOk, allOk, wordsOk, valueOf, under, bind, match, recordAt, past, struck, intact, anyStruck, pruned, settle, remains, nextPattern, binds, asked, enteredOk, placeOk, enter, hit, tried, visit, walk, begun, resume, answerOf, levelsOf, insideOf, placeAs, written, cursorAt, packed, stale, nextQueryOf}
 use Rattle.store.proofs.Tests.{and-l, and-r}
 use Rattle.examples.specs.Marked.{r21, trips, b4, b7, sampleLoad, sampleTables, sample, Row, readOn, solveOn, answer, markedRows, Answered, Marked}
 
@@ -60,7 +60,7 @@ unfolding r21 trips b4 b7 sampleLoad sampleTables sample readOn solveOn answer m
     retractOf openOf chainOk recordOk cursorOk walkFrom nextOf compare nameAt rank placeAt indexPlaceOf roomFor bring insertAt internAs
     internOf callStore storeAfter patternsOf wordOk allOk wordsOk valueOf under bind match recordAt past struck intact anyStruck pruned
     settle remains nextPattern binds asked enteredOk placeOk enter hit tried visit walk begun resume answerOf levelsOf insideOf placeAs
-    written cursorAt packed nextQueryOf
+    written cursorAt packed stale nextQueryOf
 test = refl
 
 pub marked : Marked

@@ -102,7 +102,7 @@ answer s (links n) = (
   nextAt (s .tables .statements) Subject (prev n) ∷ nextAt (s .tables .statements) Predicate (prev n)
       ∷ nextAt (s .tables .statements) Object (prev n) ∷ [],
 )
-answer s (solve ws x) = (s, solveOn 9 s ws x startCursor 0 [])
+answer s (solve ws x) = (s, solveOn 9 s ws x (startCursor (s .counters .generation)) 0 [])
 answer s (strike x) = let r = callStore s (retract byValue x) in (r .0, (r .1) .number ∷ [])
 answer s (put x) = let r = callStore s (assert byValue x) in (r .0, (r .1) .status ∷ (r .1) .number ∷ [])
 answer s (once x b) = let r = callStore (opened s x) (next (length (s .cursors)) b) in (s, (r .1) .status ∷ (r .1) .visits ∷ [])

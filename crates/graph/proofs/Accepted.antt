@@ -1,4 +1,4 @@
--- The words that refusal 8 accepts, in the paper's terms (`WordsClaim`). Assumes nothing.
+-- The words that refusal 8 accepts, in the paper's terms (`WordsClaim`); they stay accepted as R grows. Assumes nothing.
 use mathlib.Core.Path.{_≡_, refl, sym}
 use mathlib.Core.Logic.{_⊎_, inl, inr}
 use mathlib.Core.Bool.{Bool, true, false, _&&_, _||_, false≢true}
@@ -76,3 +76,18 @@ words-accepted r ws = (
       and-of _ _ (eq-eqb (3 * length (patternsOf ws)) (length ws) (omega (arith, A .three-each)))
       (and-of _ _ (le-leb (length (patternsOf ws)) maxPatterns (omega (arith, A .few))) (all-of r ws (A .each)))),
 )
+
+-- ---- words accepted stay accepted as R grows
+
+word-more : (r r′ w : ℕ) → r ≤ r′ → Word r w → Word r′ w
+word-more r r′ w h (inl g) = inl (g .0, omega (arith, g .1))
+word-more r r′ w h (inr g) = inr g
+
+pub words-more : (r r′ : ℕ) (ws : List ℕ) → r ≤ r′ → wordsOk r ws ≡ true → wordsOk r′ ws ≡ true
+unfolding wordsOk
+words-more r r′ ws h e =
+    let n = length (patternsOf ws) in
+    let f = and-r (eqb (3 * n) (length ws)) _ e in
+    and-of _ _ (and-l (eqb (3 * n) (length ws)) _ e)
+    (and-of _ _ (and-l (leb n maxPatterns) _ f)
+    (all-of r′ ws (λ w k. word-more r r′ w h (all-mean r ws (and-r (leb n maxPatterns) _ f) w k))))

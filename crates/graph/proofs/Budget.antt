@@ -11,19 +11,19 @@ use Rattle.store.proofs.Tests.{decide}
 use Rattle.graph.specs.declared.QueryPattern.{QueryPattern}
 use Rattle.graph.specs.declared.Level.{Level}
 use Rattle.graph.specs.Query.{wordsOk, patternsOf, placeOk, Place, start, inside, finish, placeOf, intact, pruned, settle, remains}
-use Rattle.graph.specs.Query.{Bindings, Turn, bad, go, whole, Answer, enter, visit, walk, begun, resume, answerOf, packed, nextQueryOf}
+use Rattle.graph.specs.Query.{Bindings, Turn, bad, go, whole, Answer, enter, visit, walk, begun, resume, answerOf, packed, stale, nextQueryOf}
 use Rattle.graph.specs.Claims.{BudgetClaim}
 use Rattle.graph.proofs.Laws.{walk-over, turn-ended, turn-bad, turn-go, turn-whole}
 
-abbrev Within : ℕ → Answer → Type 0
-Within b a = (packed a) .visits ≤ b
+abbrev Within : ℕ → ℕ → Answer → Type 0
+Within g b a = (packed g a) .visits ≤ b
 
-module _ (r t : ℕ) (res stm : List ℕ) (ps : List QueryPattern) where
+module _ (g r t : ℕ) (res stm : List ℕ) (ps : List QueryPattern) where
   -- with one visit less to make
   abbrev Lower : ℕ → Type 0
-  Lower left = (n : Level) (top : List Level) (w : ℕ) → Within (w + left) (walk r t res stm ps left n top w)
+  Lower left = (n : Level) (top : List Level) (w : ℕ) → Within g (w + left) (walk r t res stm ps left n top w)
 
-  walk-within : (left : ℕ) (l : Level) (up : List Level) (v : ℕ) → Within (v + left) (walk r t res stm ps left l up v)
+  walk-within : (left : ℕ) (l : Level) (up : List Level) (v : ℕ) → Within g (v + left) (walk r t res stm ps left l up v)
   unfolding packed
   walk-within zero l up v =
       rw (walk-over r t res stm ps l up v zero refl)
@@ -34,24 +34,24 @@ module _ (r t : ℕ) (res stm : List ℕ) (ps : List QueryPattern) where
       more e = omega arith
 
       turned : Lower left → (n : Level) (top : List Level) → settle stm l up ≡ n ∷ top → (z : Turn) → visit r t res stm ps n top ≡ z
-          → Within (v + suc left) (walk r t res stm ps (suc left) l up v)
+          → Within g (v + suc left) (walk r t res stm ps (suc left) l up v)
       turned ih n top e bad d = rw (turn-bad r t res stm ps l up v (suc left) n top more e d) (omega arith)
       turned ih n top e (go n′ top′) d =
           let q : suc left - 1 ≡ left = omega arith in
           rw (turn-go r t res stm ps l up v (suc left) n top n′ top′ more e d, q) (omega (arith, ih n′ top′ (v + 1)))
       turned ih n top e (whole b n′ top′) d = rw (turn-whole r t res stm ps l up v (suc left) n top b n′ top′ more e d) (omega arith)
 
-      settled : Lower left → (s : List Level) → settle stm l up ≡ s → Within (v + suc left) (walk r t res stm ps (suc left) l up v)
+      settled : Lower left → (s : List Level) → settle stm l up ≡ s → Within g (v + suc left) (walk r t res stm ps (suc left) l up v)
       settled ih [] e = rw (turn-ended r t res stm ps l up v (suc left) more e) (omega arith)
       settled ih (n ∷ top) e = turned ih n top e (visit r t res stm ps n top) refl
 
-  begun-within : (b : ℕ) (z : Turn) → Within b (begun r t res stm ps b z)
+  begun-within : (b : ℕ) (z : Turn) → Within g b (begun r t res stm ps b z)
   unfolding begun packed
   begun-within b bad = omega arith
   begun-within b (go l up) = omega (arith, walk-within b l up 0)
   begun-within b (whole s l up) = omega arith
 
-  resume-within : (q : Place) (b : ℕ) → Within b (resume r t res stm ps q b)
+  resume-within : (q : Place) (b : ℕ) → Within g b (resume r t res stm ps q b)
   unfolding resume packed
   resume-within start b = decide (eqb (length ps) 0) (λ e. rw e (omega arith)) (λ e. rw e (begun-within b (enter r t res stm ps [])))
   resume-within (inside l up) b = decide (intact stm up)
@@ -61,12 +61,13 @@ module _ (r t : ℕ) (res stm : List ℕ) (ps : List QueryPattern) where
 
 pub within-budget : BudgetClaim
 unfolding nextQueryOf answerOf packed
-within-budget c m ws q b = decide (fits c m)
+within-budget c m ws q b = decide (stale c m ws q) (λ d. rw d (omega arith))
+    (λ d. rw d (decide (fits c m)
     (λ e. rw e (decide (wordsOk (c .resources) ws)
     (λ f. rw f (decide (placeOk (m .statements) (patternsOf ws) (c .resources) (c .statements) (placeOf q))
     (λ g. rw g (decide (eqb b 0)
     (λ h. rw h (omega arith))
-    (λ h. rw h (resume-within (c .resources) (c .statements) (m .resources) (m .statements) (patternsOf ws) (placeOf q) b))))
+    (λ h. rw h (resume-within (c .generation) (c .resources) (c .statements) (m .resources) (m .statements) (patternsOf ws) (placeOf q) b))))
     (λ g. rw g (omega arith))))
     (λ f. rw f (omega arith))))
-    (λ e. rw e (omega arith))
+    (λ e. rw e (omega arith))))

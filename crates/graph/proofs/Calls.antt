@@ -32,6 +32,7 @@ use Rattle.graph.specs.Claims.{AllPositive, solutionsIn, NoneRefused, ha
 use Rattle.graph.specs.Claims.{statementsIn, Read, Ends, ReadingClaim}
 use Rattle.graph.proofs.Accepted.{or-cases}
 use Rattle.graph.proofs.Laws.{Shallow, place-cursor}
+use Rattle.graph.proofs.Generations.{cursor-number, own-number, read-on}
 use Rattle.graph.proofs.Bind.{wordAt, Fit}
 use Rattle.graph.proofs.Solve.{solve, AllFit, solve-descending, statements, numberOf, descending-nodup}
 use Rattle.graph.proofs.Levels.{AllLow}
@@ -171,9 +172,17 @@ module _ (c : Counters) (m : Tables) (S : Sound c m) (ws : List ℕ) (words : wo
       (go-outcome (c .resources) (c .statements) (m .resources) (m .statements) (patternsOf ws)
       (S .linked) fit low q b R h)
 
-  pub next-is : (q : Place) (b : ℕ) → Shallow q → nextQueryOf c m ws (cursorAt q) b ≡ packed (answerOf c m ws q b)
-  unfolding nextQueryOf
-  next-is q b h = ap (λ (z : Place). packed (answerOf c m ws z b)) (place-cursor q h)
+  -- with the number of reclaims
+  abbrev cursorHere : Place → QueryCursor
+  cursorHere q = cursorAt (c .generation) q
+
+  abbrev pack : Answer → QueryAnswer
+  pack a = packed (c .generation) a
+
+  pub next-is : (q : Place) (b : ℕ) → Shallow q → nextQueryOf c m ws (cursorHere q) b ≡ pack (answerOf c m ws q b)
+  next-is q b h =
+      read-on c m ws (cursorHere q) b (own-number c m ws (cursorHere q) (cursor-number (c .generation) q))
+      ∙ ap (λ (z : Place). pack (answerOf c m ws z b)) (place-cursor (c .generation) q h)
 
   finish-ended : (b : ℕ) → 0 < b → answerOf c m ws finish b ≡ ended 0
   unfolding answerOf placeOk resume
@@ -182,19 +191,19 @@ module _ (c : Counters) (m : Tables) (S : Sound c m) (ws : List ℕ) (words : wo
   -- ---- the calls that follow
 
   on-found : (q : QueryCursor) (b : ℕ) (bs : List ℕ) (s : Bindings) (v : ℕ) (q′ : Place)
-      → nextQueryOf c m ws q b ≡ packed (found s v q′)
-      → readOn c m ws q (b ∷ bs) ≡ packed (found s v q′) ∷ readOn c m ws (cursorAt q′) bs
+      → nextQueryOf c m ws q b ≡ pack (found s v q′)
+      → readOn c m ws q (b ∷ bs) ≡ pack (found s v q′) ∷ readOn c m ws (cursorHere q′) bs
   unfolding readOn packed
   on-found q b bs s v q′ e = rw e
 
-  on-ended : (q : QueryCursor) (b : ℕ) (bs : List ℕ) (v : ℕ) → nextQueryOf c m ws q b ≡ packed (ended v)
-      → readOn c m ws q (b ∷ bs) ≡ packed (ended v) ∷ readOn c m ws (cursorAt finish) bs
+  on-ended : (q : QueryCursor) (b : ℕ) (bs : List ℕ) (v : ℕ) → nextQueryOf c m ws q b ≡ pack (ended v)
+      → readOn c m ws q (b ∷ bs) ≡ pack (ended v) ∷ readOn c m ws (cursorHere finish) bs
   unfolding readOn packed
   on-ended q b bs v e = rw e
 
   on-spent : (q : QueryCursor) (b : ℕ) (bs : List ℕ) (v : ℕ) (q′ : Place)
-      → nextQueryOf c m ws q b ≡ packed (spent v q′)
-      → readOn c m ws q (b ∷ bs) ≡ packed (spent v q′) ∷ readOn c m ws (cursorAt q′) bs
+      → nextQueryOf c m ws q b ≡ pack (spent v q′)
+      → readOn c m ws q (b ∷ bs) ≡ pack (spent v q′) ∷ readOn c m ws (cursorHere q′) bs
   unfolding readOn packed
   on-spent q b bs v q′ e = rw e
 
@@ -209,7 +218,7 @@ module _ (c : Counters) (m : Tables) (S : Sound c m) (ws : List ℕ) (words : wo
 
   told-found : (ss ss′ : List Bindings) (w w′ k k′ b : ℕ) (bs : List ℕ) (rs : List QueryAnswer) (s : Bindings)
       (v : ℕ) (q : Place)
-      → ss ≡ s ∷ ss′ → v + w′ ≡ w → k′ < k → Told ss′ w′ k′ bs rs → Told ss w k (b ∷ bs) (packed (found s v q) ∷ rs)
+      → ss ≡ s ∷ ss′ → v + w′ ≡ w → k′ < k → Told ss′ w′ k′ bs rs → Told ss w k (b ∷ bs) (pack (found s v q) ∷ rs)
   unfolding packed solutionsIn hasEnded visitsIn lastSpent
   told-found ss ss′ w w′ k k′ b bs rs s v q e d h T = record {
     fine = (tt, T .fine);
@@ -222,7 +231,7 @@ module _ (c : Counters) (m : Tables) (S : Sound c m) (ws : List ℕ) (words : wo
 
   told-spent : (ss ss′ : List Bindings) (w w′ k k′ b : ℕ) (bs : List ℕ) (rs : List QueryAnswer) (v : ℕ) (q : Place)
       → ss ≡ ss′ → v + w′ ≡ w → k′ < k → 0 < w′ → Told ss′ w′ k′ bs rs
-      → Told ss w k (b ∷ bs) (packed (spent v q) ∷ rs)
+      → Told ss w k (b ∷ bs) (pack (spent v q) ∷ rs)
   unfolding packed solutionsIn hasEnded visitsIn lastSpent
   told-spent ss ss′ w w′ k k′ b bs rs v q e d h o T = record {
     fine = (tt, T .fine);
@@ -242,7 +251,7 @@ module _ (c : Counters) (m : Tables) (S : Sound c m) (ws : List ℕ) (words : wo
 
   told-ended : (ss : List Bindings) (w k b : ℕ) (bs : List ℕ) (rs : List QueryAnswer) (v : ℕ) → ss ≡ [] → v ≡ w
       → Over rs
-      → Told ss w k (b ∷ bs) (packed (ended v) ∷ rs)
+      → Told ss w k (b ∷ bs) (pack (ended v) ∷ rs)
   unfolding packed solutionsIn hasEnded visitsIn lastSpent
   told-ended ss w k b bs rs v e d O = record {
     fine = (tt, O .fine);
@@ -253,7 +262,7 @@ module _ (c : Counters) (m : Tables) (S : Sound c m) (ws : List ℕ) (words : wo
     early = λ y g n. absurd (true≢false (sym n ∙ O .not-spent));
   }
 
-  over-ended : (rs : List QueryAnswer) → Over rs → Over (packed (ended 0) ∷ rs)
+  over-ended : (rs : List QueryAnswer) → Over rs → Over (pack (ended 0) ∷ rs)
   unfolding packed solutionsIn visitsIn lastSpent
   over-ended rs O = record {
     fine = (tt, O .fine);
@@ -263,12 +272,12 @@ module _ (c : Counters) (m : Tables) (S : Sound c m) (ws : List ℕ) (words : wo
     not-spent = O .not-spent;
   }
 
-  over : (bs : List ℕ) → AllPositive bs → Over (readOn c m ws (cursorAt finish) bs)
+  over : (bs : List ℕ) → AllPositive bs → Over (readOn c m ws (cursorHere finish) bs)
   over [] h = unfold readOn solutionsIn visitsIn lastSpent in
       record { fine = tt; none-found = refl; no-visits = refl; not-spent = refl }
   over (b ∷ bs) h =
-      rw (on-ended (cursorAt finish) b bs 0 (next-is finish b tt ∙ ap packed (finish-ended b (h .0))))
-      (over-ended (readOn c m ws (cursorAt finish) bs) (over bs (h .1)))
+      rw (on-ended (cursorHere finish) b bs 0 (next-is finish b tt ∙ ap pack (finish-ended b (h .0))))
+      (over-ended (readOn c m ws (cursorHere finish) bs) (over bs (h .1)))
 
   told-none : (ss : List Bindings) (w k : ℕ) → Told ss w k [] []
   unfolding solutionsIn hasEnded visitsIn lastSpent
@@ -288,31 +297,31 @@ module _ (c : Counters) (m : Tables) (S : Sound c m) (ws : List ℕ) (words : wo
   read-none q = refl
 
   pub told : (bs : List ℕ) (q : Place) → At q → AllPositive bs
-      → Told (leftFrom q) (visitsFrom q) (toilFrom q) bs (readOn c m ws (cursorAt q) bs)
-  told [] q R h = rw (read-none (cursorAt q)) (told-none (leftFrom q) (visitsFrom q) (toilFrom q))
+      → Told (leftFrom q) (visitsFrom q) (toilFrom q) bs (readOn c m ws (cursorHere q) bs)
+  told [] q R h = rw (read-none (cursorHere q)) (told-none (leftFrom q) (visitsFrom q) (toilFrom q))
   told (b ∷ bs) q R h = one (answerOf c m ws q b) refl (next-comes q b R (h .0)) (λ q′ R′. told bs q′ R′ (h .1))
     where
       one : (a : Answer) → answerOf c m ws q b ≡ a → Comes q b a
           → ((q′ : Place) → At q′ → Told (leftFrom q′) (visitsFrom q′) (toilFrom q′) bs
-          (readOn c m ws (cursorAt q′) bs))
-          → Told (leftFrom q) (visitsFrom q) (toilFrom q) (b ∷ bs) (readOn c m ws (cursorAt q) (b ∷ bs))
+          (readOn c m ws (cursorHere q′) bs))
+          → Told (leftFrom q) (visitsFrom q) (toilFrom q) (b ∷ bs) (readOn c m ws (cursorHere q) (b ∷ bs))
       one (refused n) e o ih = absurd o
       one (found s v q′) e o ih =
-          rw (on-found (cursorAt q) b bs s v q′ (next-is q b (reached-shallow q R) ∙ ap packed e))
+          rw (on-found (cursorHere q) b bs s v q′ (next-is q b (reached-shallow q R) ∙ ap pack e))
           (told-found (leftFrom q) (leftFrom q′) (visitsFrom q) (visitsFrom q′) (toilFrom q)
           (toilFrom q′) b bs _ s v q′ (o .0) (omega (arith, o .3)) (o .2) (ih q′ (o .1)))
       one (ended v) e o ih =
-          rw (on-ended (cursorAt q) b bs v (next-is q b (reached-shallow q R) ∙ ap packed e))
+          rw (on-ended (cursorHere q) b bs v (next-is q b (reached-shallow q R) ∙ ap pack e))
           (told-ended (leftFrom q) (visitsFrom q) (toilFrom q) b bs _ v (o .0) (omega (arith, o .1)) (over bs (h .1)))
       one (spent v q′) e o ih =
-          rw (on-spent (cursorAt q) b bs v q′ (next-is q b (reached-shallow q R) ∙ ap packed e))
+          rw (on-spent (cursorHere q) b bs v q′ (next-is q b (reached-shallow q R) ∙ ap pack e))
           (told-spent (leftFrom q) (leftFrom q′) (visitsFrom q) (visitsFrom q′) (toilFrom q)
           (toilFrom q′) b bs _ v q′ (o .0) (omega (arith, o .3)) (omega (arith, o .2, h .0)) (o .5)
           (ih q′ (o .1)))
 
   -- ---- from the start
 
-  opens : openQueryOf c m ws ≡ record { opening = Opened; cursor = startCursor }
+  opens : openQueryOf c m ws ≡ record { opening = Opened; cursor = startCursor (c .generation) }
   unfolding openQueryOf
   opens = rw (S .capacity, words)
 
@@ -320,7 +329,7 @@ module _ (c : Counters) (m : Tables) (S : Sound c m) (ws : List ℕ) (words : wo
   unfolding leftAt
   start-left = refl
 
-  start-cursor : cursorAt start ≡ startCursor
+  start-cursor : cursorHere start ≡ startCursor (c .generation)
   unfolding cursorAt
   start-cursor = refl
 

@@ -1,11 +1,11 @@
--- A place once accepted stays accepted, on any tables: no call takes a record away or changes its triple (`Kept`). So
--- a cursor that a next call answered is never refused 6 later (`KeptClaim`, put together in `Onwards`). Assumes
--- nothing.
+-- A place once accepted stays accepted until a reclaim is answered, on any tables: no other call takes a record away or changes its triple
+-- (`Kept`), and the number of reclaims tells whether one was answered. So a cursor that a next call answered is never refused 6 later
+-- (`KeptClaim`, put together in `Onwards`). No call takes a name away, and a sound store stays sound. Assumes nothing.
 use mathlib.Core.Path.{_≡_, refl, _∙_}
 use mathlib.Core.Bool.{true, _&&_}
 use mathlib.Core.List.{List, [], _∷_}
 use mathlib.Core.Option.{Option, none, some}
-use Prim.Native.Nat.{ℕ, zero, suc, _-_, _≤_, _<_}
+use Prim.Native.Nat.{ℕ, zero, suc, _+_, _-_, _≤_, _<_}
 use native.Mathlib.Omega.{arith}
 use lib.ListN.{length}
 use lib.Dec.{eqb, leb, ltb}
@@ -21,24 +21,33 @@ use Rattle.store.specs.declared.IndexPlace.the-variants.{At, Before, Torn}
 use Rattle.store.specs.declared.Interned.{Interned}
 use Rattle.store.specs.declared.Asserted.{Asserted}
 use Rattle.store.specs.declared.Retracted.{Retracted}
+use Rattle.store.specs.declared.Reclaimed.{Reclaimed}
 use Rattle.store.specs.declared.Asserted.the-variants.{Refused as NotAsserted}
 use Rattle.store.specs.declared.Retracted.the-variants.{Refused as NotRetracted}
 use Rattle.store.specs.declared.Refusal.the-variants.{Damaged}
 use Rattle.store.specs.Triple.{known, prev, permitted}
-use Rattle.store.specs.Tables.{Tables, fits, termAt, kindAt, flagAt, statementCapacity}
-use Rattle.store.specs.Model.{Call, intern, assert, retract, open′, next, byValue, lent, wellFormed}
+use Rattle.store.specs.Tables.{Tables, fits, maxReclaims, termAt, kindAt, flagAt, statementCapacity}
+use Rattle.store.specs.Values.{reclaimedValues}
+use Rattle.store.specs.Model.{Call, intern, assert, retract, open′, next, reclaim, byValue, lent, wellFormed}
 use Rattle.store.specs.Walk.{sits}
 use Rattle.store.specs.Scan.{chainOk, recordOk}
 use Rattle.store.specs.Statement.{locate, kinded, withFlag, counting, asserting, assertOf, retracting, retractOf, countersAfter}
 use Rattle.store.specs.Statement.{assertLentOf, retractLentOf}
 use Rattle.store.specs.Dictionary.{indexPlaceOf, roomFor, internAs, internOf}
-use Rattle.store.specs.History.{Store, internedCounters, callStore, storeAfter}
-use Rattle.store.proofs.Tests.{and-l, and-r, and-of, cond-all, known-more}
+use Rattle.store.specs.Reclaim.{reclaimOf}
+use Rattle.store.specs.Soundness.{Sound}
+use Rattle.store.specs.History.{Store, store, capacitiesOf, internedCounters, afterReclaim, callStore, storeReplies, storeAfter}
+use Rattle.store.specs.Claims.{listsOf, reclaims, reclaimsIn}
+use Rattle.store.proofs.Tests.{decide, and-l, and-r, and-of, cond-all, known-more}
 use Rattle.store.proofs.Words.{triple-same, append-term-old, flag-term}
+use Rattle.store.proofs.Histories.{call-agrees}
+use Rattle.store.proofs.Kept.{tidy-call, agreeing-sound}
+use Rattle.store.proofs.Held.{sound-agrees, sound-tidy}
 use Rattle.graph.specs.declared.QueryPattern.{QueryPattern}
 use Rattle.graph.specs.declared.Level.{Level}
 use Rattle.graph.specs.Query.{match, isSome, Place, start, inside, finish, recordAt, nextPattern, binds, asked}
 use Rattle.graph.specs.Query.{enteredOk, placeOk}
+use Rattle.graph.specs.Claims.{SoundStore}
 use Rattle.graph.proofs.Levels.{suc-prev}
 
 -- no record fewer, and each with its triple
@@ -132,16 +141,18 @@ module _ (r t : ℕ) (stm : List ℕ) (r′ t′ : ℕ) (stm′ : List ℕ) (K :
 
 -- ---- the calls keep
 
+-- and no reclaim more
 abbrev pub Keeps : Counters → Tables → Counters → Tables → Type 0
-Keeps c m c′ m′ = Kept (c .resources) (c .statements) (m .statements) (c′ .resources) (c′ .statements)
-    (m′ .statements)
+Keeps c m c′ m′ =
+    Kept (c .resources) (c .statements) (m .statements) (c′ .resources) (c′ .statements) (m′ .statements)
+    × (c′ .generation ≡ c .generation)
 
 keeps-same : (c : Counters) (m : Tables) → Keeps c m c m
-keeps-same c m = record { resources = omega arith; records = omega arith; terms = λ p i h. refl }
+keeps-same c m = (record { resources = omega arith; records = omega arith; terms = λ p i h. refl }, refl)
 
 flag-keeps : (f : ℕ → ℕ) (v : ℕ) (c : Counters) (m : Tables) (x : Triple) (i : ℕ) → Keeps c m c (withFlag f v m x i)
 flag-keeps f v c m x i =
-    record { resources = omega arith; records = omega arith; terms = λ p j h. flag-term (m .statements) i v p j }
+    (record { resources = omega arith; records = omega arith; terms = λ p j h. flag-term (m .statements) i v p j }, refl)
 
 module _ (c : Counters) (m : Tables) where
   abbrev AssertKeeps : Tables × Asserted → Type 0
@@ -150,13 +161,14 @@ module _ (c : Counters) (m : Tables) where
   asserting-keeps : (x : Triple) (n : ℕ) → AssertKeeps (asserting c m x n)
   unfolding asserting
   asserting-keeps x zero =
-      cond-all AssertKeeps (ltb (c .statements) (statementCapacity m)) _ _
-      (record {
-        resources = omega arith;
-        records = omega arith;
-        terms =
-            λ p i h. append-term-old (c .statements) x (m .resources) (m .statements) p i h;
-      })
+      cond-all AssertKeeps (ltb (c .statements) (statementCapacity m)) _ _ (
+        record {
+          resources = omega arith;
+          records = omega arith;
+          terms = λ p i h. append-term-old (c .statements) x (m .resources) (m .statements) p i h;
+        },
+        refl,
+      )
       (keeps-same c m)
   asserting-keeps x (suc i) =
       cond-all AssertKeeps (eqb (flagAt (m .statements) i) 1) _ _ (flag-keeps suc 0 c m x i) (keeps-same c m)
@@ -204,7 +216,7 @@ module _ (c : Counters) (m : Tables) where
   interned-keeps w (At n k) = keeps-same c m
   interned-keeps w (Before k) =
       cond-all InternKeeps (roomFor c m w) _ _
-      (record { resources = omega arith; records = omega arith; terms = λ p i h. refl }) (keeps-same c m)
+      (record { resources = omega arith; records = omega arith; terms = λ p i h. refl }, refl) (keeps-same c m)
   interned-keeps w Torn = keeps-same c m
 
   intern-keeps : (w : List ℕ) → InternKeeps (internOf c m w)
@@ -214,30 +226,112 @@ module _ (c : Counters) (m : Tables) where
       (cond-all InternKeeps (wellFormed w) _ _ (interned-keeps (canonical w) (indexPlaceOf c m (canonical w))) (keeps-same c m))
       (keeps-same c m)
 
+  -- a reclaim that is refused leaves all; one that is answered is one more
+  abbrev reclaimAnswered : Tables × Reclaimed → ℕ
+  reclaimAnswered a = reclaims reclaim (reclaimedValues (a .1))
+
+  reclaim-refused : reclaimAnswered (reclaimOf c m) ≡ 0 → Keeps c m (afterReclaim c ((reclaimOf c m) .1)) ((reclaimOf c m) .0)
+  unfolding reclaimOf
+  reclaim-refused =
+      decide (fits c m)
+      (λ f. rw f (decide (ltb (c .generation) maxReclaims)
+      (λ l. rw l (λ n. absurd (omega (arith, n))))
+      (λ l. rw l (λ n. keeps-same c m))))
+      (λ f. rw f (λ n. keeps-same c m))
+
+  abbrev Numbered : Tables × Reclaimed → Type 0
+  Numbered a =
+      (afterReclaim c (a .1) .generation ≡ c .generation + reclaimAnswered a)
+      × (c .resources ≤ afterReclaim c (a .1) .resources)
+
+  reclaim-numbers : Numbered (reclaimOf c m)
+  unfolding reclaimOf
+  reclaim-numbers =
+      cond-all Numbered (fits c m) _ _
+      (cond-all Numbered (ltb (c .generation) maxReclaims) _ _ (omega arith, omega arith) (omega arith, omega arith))
+      (omega arith, omega arith)
+
 abbrev pub StoreKeeps : Store → Store → Type 0
 StoreKeeps s s′ = Keeps (s .counters) (s .tables) (s′ .counters) (s′ .tables)
 
 keeps-trans : (a b d : Store) → StoreKeeps a b → StoreKeeps b d → StoreKeeps a d
-keeps-trans a b d K M = record {
-  resources = omega (arith, K .resources, M .resources);
-  records = omega (arith, K .records, M .records);
-  terms = λ p i h. M .terms p i (omega (arith, K .records)) ∙ K .terms p i h;
-}
+keeps-trans a b d K M = (
+  record {
+    resources = omega (arith, K .0 .resources, M .0 .resources);
+    records = omega (arith, K .0 .records, M .0 .records);
+    terms = λ p i h. M .0 .terms p i (omega (arith, K .0 .records)) ∙ K .0 .terms p i h;
+  },
+  M .1 ∙ K .1,
+)
 
-call-keeps : (s : Store) (a : Call) → StoreKeeps s ((callStore s a) .0)
+abbrev answered : Store → Call → ℕ
+answered s a = reclaims a ((callStore s a) .1)
+
+call-keeps : (s : Store) (a : Call) → answered s a ≡ 0 → StoreKeeps s ((callStore s a) .0)
 unfolding callStore assertLentOf retractLentOf
-call-keeps s (intern w) = intern-keeps (s .counters) (s .tables) w
-call-keeps s (assert byValue x) = assert-keeps (s .counters) (s .tables) x
-call-keeps s (assert lent x) = assert-keeps (s .counters) (s .tables) x
-call-keeps s (retract byValue x) = retract-keeps (s .counters) (s .tables) x
-call-keeps s (retract lent x) = retract-keeps (s .counters) (s .tables) x
-call-keeps s (open′ x) = keeps-same (s .counters) (s .tables)
-call-keeps s (next j b) = keeps-same (s .counters) (s .tables)
+call-keeps s (intern w) n = intern-keeps (s .counters) (s .tables) w
+call-keeps s (assert byValue x) n = assert-keeps (s .counters) (s .tables) x
+call-keeps s (assert lent x) n = assert-keeps (s .counters) (s .tables) x
+call-keeps s (retract byValue x) n = retract-keeps (s .counters) (s .tables) x
+call-keeps s (retract lent x) n = retract-keeps (s .counters) (s .tables) x
+call-keeps s (open′ x) n = keeps-same (s .counters) (s .tables)
+call-keeps s (next j b) n = keeps-same (s .counters) (s .tables)
+call-keeps s reclaim n = reclaim-refused (s .counters) (s .tables) n
+
+-- the number counts the reclaims answered, and no name is taken away
+abbrev Onward : Store → Store → ℕ → Type 0
+Onward s s′ n = (s′ .counters .generation ≡ s .counters .generation + n) × (s .counters .resources ≤ s′ .counters .resources)
+
+kept-onward : (s : Store) (a : Call) → StoreKeeps s ((callStore s a) .0) → Onward s ((callStore s a) .0) 0
+kept-onward s a K = (omega (arith, K .1), K .0 .resources)
+
+call-onward : (s : Store) (a : Call) → Onward s ((callStore s a) .0) (answered s a)
+call-onward s (intern w) = kept-onward s (intern w) (call-keeps s (intern w) refl)
+call-onward s (assert f x) = kept-onward s (assert f x) (call-keeps s (assert f x) refl)
+call-onward s (retract f x) = kept-onward s (retract f x) (call-keeps s (retract f x) refl)
+call-onward s (open′ x) = kept-onward s (open′ x) (call-keeps s (open′ x) refl)
+call-onward s (next j b) = kept-onward s (next j b) (call-keeps s (next j b) refl)
+call-onward s reclaim = unfold callStore in (reclaim-numbers (s .counters) (s .tables))
+
+-- on any tables, any calls among which no reclaim was answered
+pub calls-keep : (s : Store) (a : List Call) → reclaimsIn a (storeReplies s a) ≡ 0 → StoreKeeps s (storeAfter s a)
+unfolding storeAfter storeReplies reclaimsIn
+calls-keep s [] n = keeps-same (s .counters) (s .tables)
+calls-keep s (a ∷ r) n =
+    keeps-trans s ((callStore s a) .0) (storeAfter ((callStore s a) .0) r) (call-keeps s a (omega (arith, n)))
+    (calls-keep ((callStore s a) .0) r (omega (arith, n)))
 
 -- on any tables, any calls
-pub calls-keep : (s : Store) (a : List Call) → StoreKeeps s (storeAfter s a)
+pub calls-onward : (s : Store) (a : List Call) → Onward s (storeAfter s a) (reclaimsIn a (storeReplies s a))
+unfolding storeAfter storeReplies reclaimsIn
+calls-onward s [] = (omega arith, omega arith)
+calls-onward s (a ∷ r) =
+    let h = call-onward s a in
+    let z = calls-onward ((callStore s a) .0) r in
+    (omega (arith, h .0, z .0), omega (arith, h .1, z .1))
+
+-- ---- a sound store stays sound
+
+module _ (c : Counters) (m : Tables) (S : Sound c m) where
+  sound-once : (a : Call) → SoundStore ((callStore (store c m []) a) .0)
+  sound-once a =
+      let k = capacitiesOf m in
+      let l = listsOf (store c m []) in
+      agreeing-sound k _ _ (call-agrees k (store c m []) l (sound-agrees c m S) a .1) (tidy-call l (sound-tidy c m S) k a)
+
+-- the cursors of open listings do not matter
+call-sound : (s : Store) → SoundStore s → (a : Call) → SoundStore ((callStore s a) .0)
+unfolding callStore assertLentOf retractLentOf
+call-sound s S (intern w) = sound-once (s .counters) (s .tables) S (intern w)
+call-sound s S (assert byValue x) = sound-once (s .counters) (s .tables) S (assert byValue x)
+call-sound s S (assert lent x) = sound-once (s .counters) (s .tables) S (assert lent x)
+call-sound s S (retract byValue x) = sound-once (s .counters) (s .tables) S (retract byValue x)
+call-sound s S (retract lent x) = sound-once (s .counters) (s .tables) S (retract lent x)
+call-sound s S (open′ x) = S
+call-sound s S (next j b) = S
+call-sound s S reclaim = sound-once (s .counters) (s .tables) S reclaim
+
+pub calls-sound : (s : Store) → SoundStore s → (a : List Call) → SoundStore (storeAfter s a)
 unfolding storeAfter
-calls-keep s [] = keeps-same (s .counters) (s .tables)
-calls-keep s (a ∷ r) =
-    keeps-trans s ((callStore s a) .0) (storeAfter ((callStore s a) .0) r) (call-keeps s a)
-    (calls-keep ((callStore s a) .0) r)
+calls-sound s S [] = S
+calls-sound s S (a ∷ r) = calls-sound ((callStore s a) .0) (call-sound s S a) r

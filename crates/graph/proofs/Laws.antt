@@ -18,6 +18,8 @@ use Rattle.graph.specs.declared.Level.{Level}
 use Rattle.graph.specs.Query.{patternsOf, pattern, maxPatterns, Bindings, Place, start, inside, finish, bad, go}
 use Rattle.graph.specs.Query.{whole, refused, found, ended, spent, past, settle, remains, visit, walk, noLevel}
 use Rattle.graph.specs.Query.{levelsOf, insideOf, placeAs, placeOf, written, cursorAt}
+-- Every law stands on this file, and so on the closed runs: a definition that changes an answer is refused there first.
+use Rattle.graph.proofs.Runs as runs
 
 pub prev-minus : (n : ℕ) → prev n ≡ n - 1
 prev-minus zero = refl

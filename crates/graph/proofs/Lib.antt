@@ -1,4 +1,5 @@
 pub mod Laws
+pub mod Generations
 pub mod Bind
 pub mod Solve
 pub mod Levels

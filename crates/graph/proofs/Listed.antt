@@ -1,4 +1,4 @@
--- The graph of the plain lists (crate `store`, `Model`), and what entering, asserting and retracting do to it.
+-- The graph of the plain lists (crate `store`, `Model`), and what entering, asserting, retracting and reclaiming do to it.
 -- Assumes nothing.
 use mathlib.Core.Path.{_≡_, refl, sym, ap, _∙_}
 use mathlib.Core.Logic.{_≢_, _⊎_, inl, inr, _↔_}
@@ -18,13 +18,15 @@ use Rattle.store.specs.declared.Position.{Position}
 use Rattle.store.specs.declared.Position.the-variants.{Subject, Predicate, Object}
 use Rattle.store.specs.declared.Triple.{Triple}
 use Rattle.store.specs.Triple.{at, known, same, permitted}
+use Rattle.store.specs.Tables.{maxReclaims}
 use Rattle.store.specs.Values.{Values}
 use Rattle.store.specs.Model.{Entry, Model, Capacities, wellFormed, lookupName, nameOf, bytesOf, internName}
-use Rattle.store.specs.Model.{internModel, entry, lookup, mark, put, assertModel, strike, retractModel}
+use Rattle.store.specs.Model.{internModel, entry, lookup, mark, put, assertModel, strike, retractModel, unstruck, reclaimModel}
 use Rattle.store.proofs.Tests.{decide, three, known-low, known-high, same-self, same-is}
 use Rattle.store.proofs.Falling.{head-le, head-passes, head-pos}
 use Rattle.store.proofs.Text.{name-old, name-new, length-snoc}
 use Rattle.store.proofs.Represented.{mark-length, mark-same, mark-other}
+use Rattle.store.proofs.Unstruck.{unstruck-keep, unstruck-drop, origin, origin-in, origin-reads}
 use Rattle.store.proofs.Kept.{Tidy}
 use Rattle.graph.specs.Meaning.{Term, RdfTriple, termAt, Graph}
 use Rattle.graph.specs.Claims.{SameGraph}
@@ -430,3 +432,44 @@ module _ (s : Model) (D : Tidy s)
       decide (known (length (s .names)) x)
       (λ e. rw e (strike-removes x e (lookup x (s .entries)) refl))
       (λ e. rw e (not-removed (N x) _ (λ n. omega arith)))
+
+-- ---- struck-out entries forgotten
+
+-- an entry that is not struck out is kept
+stays : (l : List Entry) (i : ℕ) → i < length l → (entry l i) .retracted ≡ false
+    → (j : ℕ) × (j < length (unstruck l)) × (entry (unstruck l) j ≡ entry l i)
+stays [] i h d = absurd (omega arith)
+stays (e ∷ l) zero h d = rw (unstruck-keep e l d) (0, omega arith, refl)
+stays (e ∷ l) (suc i) h d =
+    let r = stays l i (omega arith) d in
+    decide (e .retracted)
+    (λ b. rw (unstruck-drop e l b) r)
+    (λ b. rw (unstruck-keep e l b) (suc (r .0), omega (arith, r .1), r .2))
+
+unstruck-graph : (ns : List Term) (l : List Entry) → SameGraph (listGraph ns (unstruck l)) (listGraph ns l)
+unstruck-graph ns l z = (
+  (λ g. let e = origin-reads l (g .0) (g .1) in (
+    origin l (g .0),
+    origin-in l (g .0) (g .1),
+    ap (λ (e : Entry). e .retracted) (sym e) ∙ g .2,
+    ap (λ (e : Entry). nameTriple ns (e .spo)) (sym e) ∙ g .3,
+  )),
+  (λ g. let r = stays l (g .0) (g .1) (g .2) in (
+    r .0,
+    r .1,
+    ap (λ (e : Entry). e .retracted) (r .2) ∙ g .2,
+    ap (λ (e : Entry). nameTriple ns (e .spo)) (r .2) ∙ g .3,
+  )),
+)
+
+-- what reclaiming does to the lists
+pub record ModelRebuilt (s s′ : Model) : Type 0 where
+  pub graph : SameGraph (modelGraph s′) (modelGraph s)
+  pub names : s′ .names ≡ s .names
+
+pub model-reclaims : (s : Model) → ModelRebuilt s ((reclaimModel s) .0)
+unfolding reclaimModel
+model-reclaims s =
+    decide (ltb (s .generation) maxReclaims)
+    (λ e. rw e (record { graph = unstruck-graph (s .names) (s .entries); names = refl }))
+    (λ e. rw e (record { graph = graph-same (modelGraph s); names = refl }))

@@ -1,42 +1,48 @@
--- One next call from any cursor that refusal 6 accepts answers from the solutions holding at the call, at or after
--- the cursor's place (`NextClaim`); a cursor answered is never refused 6 later (`KeptClaim`); with no change between,
--- budgets add up (`SplitClaim`). Assumes nothing.
+-- One next call from any cursor that refusals 13 and 6 accept answers from the solutions holding at the call, at or after
+-- the cursor's place (`NextClaim`); a cursor answered is never refused 6 later (`KeptClaim`), and is refused 13 once a reclaim was answered
+-- since (`ReclaimedClaim`); with no change between, budgets add up (`SplitClaim`). Assumes nothing.
 use mathlib.Core.Path.{_≡_, refl, sym, ap, _∙_, fun-ext}
 use mathlib.Core.Logic.{_≢_}
-use mathlib.Core.Bool.{Bool, true, false, true≢false, false≢true}
+use mathlib.Core.Bool.{Bool, true, false, cond, true≢false, false≢true}
 use mathlib.Core.List.{List, [], _∷_}
 use Prim.Native.Nat.{ℕ, zero, suc, _+_, _-_, _<_}
 use native.Mathlib.Omega.{arith}
 use lib.ListN.{length}
 use lib.Dec.{eqb, ltb}
-use borrow.Author.Tests.{eqb-false, ltb-true, ne-eqb}
+use borrow.Author.Tests.{eqb-true, eqb-false, eq-eqb, ltb-true, ne-eqb}
 use Rattle.store.specs.declared.Counters.{Counters}
+use Rattle.store.specs.declared.ScanCursor.{ScanCursor}
 use Rattle.store.specs.declared.Refusal.{Refusal}
 use Rattle.store.specs.declared.Refusal.the-variants.{Capacity, Malformed, Full, UnknownNumber, KindNotPermitted}
-use Rattle.store.specs.declared.Refusal.the-variants.{BadCursor, NoBudget, BadQuery, Damaged, BadLine}
+use Rattle.store.specs.declared.Refusal.the-variants.{BadCursor, NoBudget, BadQuery, Damaged, BadLine, StaleCursor, ReclaimLimit}
 use Rattle.store.specs.Tables.{Tables, fits}
-use Rattle.store.specs.History.{store, storeAfter}
+use Rattle.store.specs.Model.{Call}
+use Rattle.store.specs.History.{Store, store, storeReplies, storeAfter}
 use Rattle.store.specs.Soundness.{Sound}
-use Rattle.store.proofs.Tests.{decide, and-l}
+use Rattle.store.specs.Claims.{reclaimsIn}
+use Rattle.store.proofs.Tests.{decide, and-l, and-r, and-of, cond-all}
 use Rattle.graph.specs.declared.QueryPattern.{QueryPattern}
 use Rattle.graph.specs.declared.Level.{Level}
 use Rattle.graph.specs.declared.QueryCursor.{QueryCursor}
 use Rattle.graph.specs.declared.QueryStep.{QueryStep}
 use Rattle.graph.specs.declared.QueryStep.the-variants.{Found, Ended, Spent, Refused}
+use Rattle.graph.specs.declared.QueryAnswer.{QueryAnswer}
 use Rattle.graph.specs.Query.{wordsOk, patternsOf, Bindings, unbound, Place, start, inside, finish, Turn, bad}
 use Rattle.graph.specs.Query.{go, whole, Answer, refused, found, ended, spent, settle, remains, intact, pruned}
 use Rattle.graph.specs.Query.{placeOk, enter, visit, walk, begun, resume, answerOf, placeOf, cursorAt, packed}
-use Rattle.graph.specs.Query.{nextQueryOf}
+use Rattle.graph.specs.Query.{stale, nextQueryOf}
 use Rattle.graph.specs.Order.{numbersOn, atOrAfter, keep, onwardsOf}
 use Rattle.graph.specs.Claims.{Unrefused, statementsIn, AllInOrder, accepted, onwardsFrom, Answers, NextClaim}
-use Rattle.graph.specs.Claims.{KeptClaim, moreVisits, SplitClaim}
+use Rattle.graph.specs.Claims.{KeptClaim, ReclaimedClaim, moreVisits, SplitClaim}
 use Rattle.graph.proofs.Laws.{Shallow, place-cursor, walk-ended, walk-bad, walk-go, walk-whole}
+use Rattle.graph.proofs.Generations.{cursor-number, NotRefused, packed-number, own-number, read-on, unrefused-read, stale-refused}
 use Rattle.graph.proofs.Solve.{statements, descending-nodup}
 use Rattle.graph.proofs.Reading.{Reached, Outcome, walk-outcome, intact-ok, pruned-same}
 use Rattle.graph.proofs.Place.{fromPlace, Gives, any-place, place-keeps}
-use Rattle.graph.proofs.Later.{place-kept, calls-keep}
+use Rattle.graph.proofs.Later.{place-kept, calls-keep, calls-onward, calls-sound}
+use Rattle.graph.proofs.Accepted.{words-more}
 use Rattle.graph.proofs.Solutions.{single, exactly, once-as-mappings}
-use Rattle.graph.proofs.Calls.{words-few, statements-are, fit, low, everything, everything-order}
+use Rattle.graph.proofs.Calls.{words-few, statements-are, fit, low, everything, next-is, everything-order}
 
 -- ---- an accepted place fits its cursor
 
@@ -92,16 +98,27 @@ module _ (c : Counters) (m : Tables) (S : Sound c m) (ws : List ℕ) (words : wo
       (any-place (c .resources) (c .statements) (m .resources) (m .statements) (patternsOf ws) (S .linked)
       (fit c m S ws words) (low c m S ws words) q b o h)
 
-  -- the cursor answered stands for the place
-  cursor-ok : (q : Place) → Ok q → accepted c m ws (cursorAt q) ≡ true
-  cursor-ok q o = rw (place-cursor q (accepted-shallow c m ws words q o)) o
+  -- with the number of reclaims
+  abbrev cursorHere : Place → QueryCursor
+  cursorHere q = cursorAt (c .generation) q
 
-  cursor-after : (q : Place) → Ok q → onwardsFrom c m ws all (cursorAt q) ≡ after q
-  cursor-after q o = ap after (place-cursor q (accepted-shallow c m ws words q o))
+  abbrev pack : Answer → QueryAnswer
+  pack a = packed (c .generation) a
+
+  -- the cursor answered stands for the place
+  place-ok : (q : Place) → Ok q → Ok (placeOf (cursorHere q))
+  place-ok q o = rw (place-cursor (c .generation) q (accepted-shallow c m ws words q o)) o
+
+  cursor-ok : (q : Place) → Ok q → accepted c m ws (cursorHere q) ≡ true
+  cursor-ok q o =
+      and-of _ _ (eq-eqb ((cursorHere q) .generation) (c .generation) (cursor-number (c .generation) q)) (place-ok q o)
+
+  cursor-after : (q : Place) → Ok q → onwardsFrom c m ws all (cursorHere q) ≡ after q
+  cursor-after q o = ap after (place-cursor (c .generation) q (accepted-shallow c m ws words q o))
 
   answers-of : (q : QueryCursor) (b : ℕ) (a : Answer) → Ok (placeOf q)
       → Gives (c .resources) (c .statements) (m .resources) (m .statements) (patternsOf ws) (placeOf q) b a
-      → Answers c m ws all q b (packed a) ((packed a) .step)
+      → Answers c m ws all q b (pack a) ((pack a) .step)
   unfolding packed
   answers-of q b (refused e) o g = g
   answers-of q b (found s v q′) o g = (
@@ -118,8 +135,11 @@ module _ (c : Counters) (m : Tables) (S : Sound c m) (ws : List ℕ) (words : wo
 
   next-answers : (q : QueryCursor) (b : ℕ) → accepted c m ws q ≡ true → 0 < b
       → Answers c m ws all q b (nextQueryOf c m ws q b) ((nextQueryOf c m ws q b) .step)
-  unfolding nextQueryOf
-  next-answers q b o h = answers-of q b (answerOf c m ws (placeOf q) b) o (answer-gives (placeOf q) b o h)
+  next-answers q b o h =
+      let g = eqb-true (q .generation) (c .generation) (and-l _ _ o) in
+      let p : Ok (placeOf q) = and-r (eqb (q .generation) (c .generation)) _ o in
+      rw (read-on c m ws q b (own-number c m ws q g))
+      (answers-of q b (answerOf c m ws (placeOf q) b) p (answer-gives (placeOf q) b p h))
 
   in-order : AllInOrder c m ws all
   in-order = record {
@@ -140,12 +160,6 @@ pub record Passed (c : Counters) (m : Tables) (ws : List ℕ) (q : Place) (b : �
   pub place : placeOk (m .statements) (patternsOf ws) (c .resources) (c .statements) q ≡ true
   pub budget : 0 < b
 
-abbrev NotRefused : Answer → Type 0
-NotRefused (refused e) = ⊥
-NotRefused (found s v q) = Unit {0}
-NotRefused (ended v) = Unit {0}
-NotRefused (spent v q) = Unit {0}
-
 pub passed : (c : Counters) (m : Tables) (ws : List ℕ) (q : Place) (b : ℕ) → NotRefused (answerOf c m ws q b)
     → Passed c m ws q b
 unfolding answerOf
@@ -161,13 +175,6 @@ passed c m ws q b =
     (λ w. rw (f, w) (λ n. absurd n)))
     (λ f. rw f (λ n. absurd n))
 
-unrefused-answer : (a : Answer) → Unrefused ((packed a) .step) → NotRefused a
-unfolding packed
-unrefused-answer (refused e) n = n
-unrefused-answer (found s v q) n = tt
-unrefused-answer (ended v) n = tt
-unrefused-answer (spent v q) n = tt
-
 -- ---- refusal 6 is given by its test alone
 
 abbrev isSix : Refusal → Bool
@@ -181,6 +188,8 @@ isSix NoBudget = false
 isSix BadQuery = false
 isSix Damaged = false
 isSix BadLine = false
+isSix StaleCursor = false
+isSix ReclaimLimit = false
 
 abbrev saysSix : Answer → Bool
 saysSix (refused e) = isSix e
@@ -243,17 +252,17 @@ isRefused (Refused e) = true
 refusal-is : (e : Refusal) → Refused e ≡ Refused BadCursor → e ≡ BadCursor
 refusal-is e d = cc
 
-six-step : (a : Answer) → saysSix a ≡ false → (packed a) .step ≢ Refused BadCursor
+six-step : (g : ℕ) (a : Answer) → saysSix a ≡ false → (packed g a) .step ≢ Refused BadCursor
 unfolding packed isRefused
-six-step (refused e) n d = true≢false (sym (ap isSix (refusal-is e d)) ∙ n)
-six-step (found s v q) n d = false≢true (ap isRefused d)
-six-step (ended v) n d = false≢true (ap isRefused d)
-six-step (spent v q) n d = false≢true (ap isRefused d)
+six-step g (refused e) n d = true≢false (sym (ap isSix (refusal-is e d)) ∙ n)
+six-step g (found s v q) n d = false≢true (ap isRefused d)
+six-step g (ended v) n d = false≢true (ap isRefused d)
+six-step g (spent v q) n d = false≢true (ap isRefused d)
 
 -- the place that an answer stands for is accepted
 place-after : (c : Counters) (m : Tables) (ws : List ℕ) (q : Place) (b : ℕ) (a : Answer)
     → Gives (c .resources) (c .statements) (m .resources) (m .statements) (patternsOf ws) q b a
-    → (q′ : Place) × ((packed a) .cursor ≡ cursorAt q′)
+    → (q′ : Place) × ((packed (c .generation) a) .cursor ≡ cursorAt (c .generation) q′)
     × (placeOk (m .statements) (patternsOf ws) (c .resources) (c .statements) q′ ≡ true)
 unfolding packed
 place-after c m ws q b (refused e) g = absurd g
@@ -261,26 +270,98 @@ place-after c m ws q b (found s v q′) g = (q′, refl, g .1)
 place-after c m ws q b (ended v) g = (finish, refl, (unfold placeOk in refl))
 place-after c m ws q b (spent v q′) g = (q′, refl, g .1)
 
-never-six : (c : Counters) (m : Tables) (ws : List ℕ) (q : QueryCursor) (b : ℕ)
-    → placeOk (m .statements) (patternsOf ws) (c .resources) (c .statements) (placeOf q) ≡ true
-    → (nextQueryOf c m ws q b) .step ≢ Refused BadCursor
-unfolding nextQueryOf
-never-six c m ws q b o = six-step (answerOf c m ws (placeOf q) b) (not-six c m ws (placeOf q) b o)
+module _ (c : Counters) (m : Tables) (ws : List ℕ) (q : QueryCursor) (b : ℕ) where
+  -- what the cursor comes to, with the store's own number or another
+  abbrev outcome : Answer
+  outcome = cond (stale c m ws q) (refused StaleCursor) (answerOf c m ws (placeOf q) b)
+
+  -- its place is accepted: not 6, whatever its number
+  never-six : placeOk (m .statements) (patternsOf ws) (c .resources) (c .statements) (placeOf q) ≡ true
+      → (nextQueryOf c m ws q b) .step ≢ Refused BadCursor
+  unfolding nextQueryOf
+  never-six o = six-step (c .generation) outcome
+      (cond-all (λ (a : Answer). saysSix a ≡ false) (stale c m ws q) _ _ refl (not-six c m ws (placeOf q) b o))
+
+  -- with another number: 1, 8 or 13
+  other-not-six : q .generation ≢ c .generation → saysSix outcome ≡ false
+  unfolding stale answerOf
+  other-not-six n =
+      decide (fits c m)
+      (λ f. decide (wordsOk (c .resources) ws)
+      (λ w. rw (f, w, ne-eqb (q .generation) (c .generation) n))
+      (λ w. rw (f, w)))
+      (λ f. rw f)
+
+  other-never-six : q .generation ≢ c .generation → (nextQueryOf c m ws q b) .step ≢ Refused BadCursor
+  unfolding nextQueryOf
+  other-never-six n = six-step (c .generation) outcome (other-not-six n)
+
+-- ---- a cursor answered, after any calls
+
+module _ (c : Counters) (m : Tables) (S : Sound c m) (ws : List ℕ) (q : QueryCursor) (b : ℕ)
+    (u : Unrefused ((nextQueryOf c m ws q b) .step)) where
+  -- the call's answer as a place, and the cursor from now on
+  abbrev first : Answer
+  first = answerOf c m ws (placeOf q) b
+
+  abbrev now : QueryCursor
+  now = (nextQueryOf c m ws q b) .cursor
+
+  tests : Passed c m ws (placeOf q) b
+  tests = passed c m ws (placeOf q) b (unrefused-read c m ws q b u .1)
+
+  first-is : nextQueryOf c m ws q b ≡ packed (c .generation) first
+  first-is = read-on c m ws q b (unrefused-read c m ws q b u .0)
+
+  now-number : now .generation ≡ c .generation
+  now-number =
+      ap (λ (a : QueryAnswer). a .cursor .generation) first-is
+      ∙ packed-number (c .generation) first (unrefused-read c m ws q b u .1)
+
+  now-place : placeOk (m .statements) (patternsOf ws) (c .resources) (c .statements) (placeOf now) ≡ true
+  now-place =
+      let g = place-after c m ws (placeOf q) b first
+      (answer-gives c m S ws (tests .words) (placeOf q) b (tests .place) (tests .budget)) in
+      let d : placeOf now ≡ g .0 =
+      ap (λ (a : QueryAnswer). placeOf (a .cursor)) first-is ∙ ap placeOf (g .1)
+      ∙ place-cursor (c .generation) (g .0) (accepted-shallow c m ws (tests .words) (g .0) (g .2)) in
+      rw d (g .2)
+
+  module _ (qs : List ScanCursor) (calls : List Call) (b′ : ℕ) where
+    -- the store after the calls, and how many reclaims of them were answered
+    abbrev then : Store
+    then = storeAfter (store c m qs) calls
+
+    abbrev reclaimed : ℕ
+    reclaimed = reclaimsIn calls (storeReplies (store c m qs) calls)
+
+    not-reclaimed : c .generation ≡ then .counters .generation → reclaimed ≡ 0
+    not-reclaimed e = omega (arith, calls-onward (store c m qs) calls .0)
+
+    -- no reclaim: the place is still accepted; else the numbers differ
+    kept : (nextQueryOf (then .counters) (then .tables) ws now b′) .step ≢ Refused BadCursor
+    kept =
+        decide (eqb (c .generation) (then .counters .generation))
+        (λ e. let K = calls-keep (store c m qs) calls (not-reclaimed (eqb-true _ _ e)) in
+        never-six (then .counters) (then .tables) ws now b′
+        (place-kept (c .resources) (c .statements) (m .statements) (then .counters .resources)
+        (then .counters .statements) (then .tables .statements) (K .0) (patternsOf ws) (placeOf now) now-place))
+        (λ e. other-never-six (then .counters) (then .tables) ws now b′
+        (λ d. eqb-false (c .generation) (then .counters .generation) e (sym now-number ∙ d)))
+
+    -- words stay accepted, the store stays sound, and the number has risen
+    gone : 0 < reclaimed → (nextQueryOf (then .counters) (then .tables) ws now b′) .step ≡ Refused StaleCursor
+    gone h =
+        let o = calls-onward (store c m qs) calls in
+        stale-refused (then .counters) (then .tables) ws now b′ (calls-sound (store c m qs) S calls .capacity)
+        (words-more (c .resources) (then .counters .resources) ws (o .1) (tests .words))
+        (λ d. omega (arith, o .0, now-number, d, h))
 
 pub cursor-kept : KeptClaim
-unfolding nextQueryOf
-cursor-kept c m S ws q b u qs calls b′ =
-    let P = passed c m ws (placeOf q) b (unrefused-answer (answerOf c m ws (placeOf q) b) u) in
-    let s = storeAfter (store c m qs) calls in
-    let a = answerOf c m ws (placeOf q) b in
-    let g = place-after c m ws (placeOf q) b a
-    (answer-gives c m S ws (P .words) (placeOf q) b (P .place) (P .budget)) in
-    let d : placeOf ((packed a) .cursor) ≡ g .0 =
-    ap placeOf (g .1) ∙ place-cursor (g .0) (accepted-shallow c m ws (P .words) (g .0) (g .2)) in
-    let k = place-kept (c .resources) (c .statements) (m .statements) (s .counters .resources)
-    (s .counters .statements) (s .tables .statements)
-    (calls-keep (store c m qs) calls) (patternsOf ws) (g .0) (g .2) in
-    never-six (s .counters) (s .tables) ws ((packed a) .cursor) b′ (rw d k)
+cursor-kept c m S ws q b u qs calls b′ = kept c m S ws q b u qs calls b′
+
+pub reclaimed-refused : ReclaimedClaim
+reclaimed-refused c m S ws q b u qs calls b′ h = gone c m S ws q b u qs calls b′ h
 
 -- ---- budgets add up
 
@@ -290,12 +371,12 @@ plus w (found s v q) = found s (w + v) q
 plus w (ended v) = ended (w + v)
 plus w (spent v q) = spent (w + v) q
 
-packed-plus : (w : ℕ) (a : Answer) → NotRefused a → packed (plus w a) ≡ moreVisits w (packed a)
+packed-plus : (g w : ℕ) (a : Answer) → NotRefused a → packed g (plus w a) ≡ moreVisits w (packed g a)
 unfolding packed
-packed-plus w (refused e) n = absurd n
-packed-plus w (found s v q) n = refl
-packed-plus w (ended v) n = refl
-packed-plus w (spent v q) n = refl
+packed-plus g w (refused e) n = absurd n
+packed-plus g w (found s v q) n = refl
+packed-plus g w (ended v) n = refl
+packed-plus g w (spent v q) n = refl
 
 abbrev isSpentAnswer : Answer → Bool
 isSpentAnswer (refused e) = false
@@ -433,12 +514,12 @@ isSpentStep Ended = false
 isSpentStep Spent = true
 isSpentStep (Refused e) = false
 
-spent-answer : (a : Answer) → (packed a) .step ≡ Spent → (v : ℕ) × (q : Place) × (a ≡ spent v q)
+spent-answer : (g : ℕ) (a : Answer) → (packed g a) .step ≡ Spent → (v : ℕ) × (q : Place) × (a ≡ spent v q)
 unfolding packed isSpentStep
-spent-answer (refused e) d = absurd (false≢true (ap isSpentStep d))
-spent-answer (found s v q) d = absurd (false≢true (ap isSpentStep d))
-spent-answer (ended v) d = absurd (false≢true (ap isSpentStep d))
-spent-answer (spent v q) d = (v, q, refl)
+spent-answer g (refused e) d = absurd (false≢true (ap isSpentStep d))
+spent-answer g (found s v q) d = absurd (false≢true (ap isSpentStep d))
+spent-answer g (ended v) d = absurd (false≢true (ap isSpentStep d))
+spent-answer g (spent v q) d = (v, q, refl)
 
 outcome-fine : (r t : ℕ) (res stm : List ℕ) (ps : List QueryPattern) (v₀ b : ℕ) (ss : List Bindings) (w k : ℕ)
     (a : Answer)
@@ -477,24 +558,29 @@ module _ (c : Counters) (m : Tables) (S : Sound c m) (ws : List ℕ) (words : wo
       (fit c m S ws words) (low c m S ws words)
       b l up 0 (R .0) (R .1))
 
+  -- with the number of reclaims
+  abbrev cursorNow : Place → QueryCursor
+  cursorNow q = cursorAt (c .generation) q
+
+  abbrev packNow : Answer → QueryAnswer
+  packNow a = packed (c .generation) a
+
   -- the second call, from the place the first has left
   second : (l : Level) (up : List Level) (b v : ℕ) → Here (inside l up)
       → placeOk (m .statements) (patternsOf ws) (c .resources) (c .statements) (inside l up) ≡ true → 0 < b
-      → packed (step-on b l up v) ≡ moreVisits v (nextQueryOf c m ws (cursorAt (inside l up)) b)
-  unfolding nextQueryOf
+      → packNow (step-on b l up v) ≡ moreVisits v (nextQueryOf c m ws (cursorNow (inside l up)) b)
   second l up b v R o h =
       let P : Passed c m ws (inside l up) b =
       record { capacity = S .capacity; words = words; place = o; budget = h } in
       let z : v + 0 ≡ v = omega arith in
-      ap (λ (k : ℕ). packed (step-on b l up k)) (sym z)
-      ∙ ap packed (walk-plus (c .resources) (c .statements) (m .resources) (m .statements) (patternsOf ws) b l up v 0)
-      ∙ packed-plus v (step-on b l up 0) (step-fine l up b R)
-      ∙ ap (λ (a : Answer). moreVisits v (packed a)) (sym (goes-on l up b R) ∙ sym (resumes c m ws (inside l up) b P))
-      ∙ ap (λ (q : Place). moreVisits v (packed (answerOf c m ws q b)))
-      (sym (place-cursor (inside l up) (accepted-shallow c m ws words (inside l up) o)))
+      ap (λ (k : ℕ). packNow (step-on b l up k)) (sym z)
+      ∙ ap packNow (walk-plus (c .resources) (c .statements) (m .resources) (m .statements) (patternsOf ws) b l up v 0)
+      ∙ packed-plus (c .generation) v (step-on b l up 0) (step-fine l up b R)
+      ∙ ap (λ (a : Answer). moreVisits v (packNow a)) (sym (goes-on l up b R) ∙ sym (resumes c m ws (inside l up) b P))
+      ∙ ap (moreVisits v) (sym (next-is c m S ws words (inside l up) b (accepted-shallow c m ws words (inside l up) o)))
 
   both : (q : Place) (b b′ v : ℕ) (q′ : Place) → Passed c m ws q b → 0 < b′ → answerOf c m ws q b ≡ spent v q′
-      → packed (answerOf c m ws q (b + b′)) ≡ moreVisits v (nextQueryOf c m ws (cursorAt q′) b′)
+      → packNow (answerOf c m ws q (b + b′)) ≡ moreVisits v (nextQueryOf c m ws (cursorNow q′) b′)
   both q b b′ v q′ P h e =
       let g : Gives (c .resources) (c .statements) (m .resources) (m .statements) (patternsOf ws) q b (spent v q′) =
       rw e at (answer-gives c m S ws words q b (P .place) (P .budget)) in
@@ -502,16 +588,19 @@ module _ (c : Counters) (m : Tables) (S : Sound c m) (ws : List ℕ) (words : wo
       record { capacity = P .capacity; words = P .words; place = P .place; budget = omega (arith, P .budget) } in
       let w = resume-split (c .resources) (c .statements) (m .resources) (m .statements) (patternsOf ws) b b′ q v q′
       (sym (resumes c m ws q b P) ∙ e) in
-      ap packed (resumes c m ws q (b + b′) P′ ∙ w .3)
+      ap packNow (resumes c m ws q (b + b′) P′ ∙ w .3)
       ∙ second (w .0) (w .1) b′ v (rw (w .2) at (g .3)) (rw (w .2) at (g .1)) h
-      ∙ ap (λ (p : Place). moreVisits v (nextQueryOf c m ws (cursorAt p) b′)) (sym (w .2))
+      ∙ ap (λ (p : Place). moreVisits v (nextQueryOf c m ws (cursorNow p) b′)) (sym (w .2))
 
 pub budgets-add : SplitClaim
-unfolding nextQueryOf packed
+unfolding packed
 budgets-add c m S ws q b b′ h e =
     let a = answerOf c m ws (placeOf q) b in
-    let k = spent-answer a e in
+    let f = unrefused-read c m ws q b (rw e tt) .0 in
+    let n = read-on c m ws q b f in
+    let k = spent-answer (c .generation) a (ap (λ (z : QueryAnswer). z .step) (sym n) ∙ e) in
     let P = passed c m ws (placeOf q) b (rw (k .2) tt) in
-    both c m S ws (P .words) (placeOf q) b b′ (k .0) (k .1) P h (k .2)
-    ∙ ap (λ (z : Answer). moreVisits ((packed z) .visits)
-    (packed (answerOf c m ws (placeOf ((packed z) .cursor)) b′))) (sym (k .2))
+    read-on c m ws q (b + b′) f
+    ∙ both c m S ws (P .words) (placeOf q) b b′ (k .0) (k .1) P h (k .2)
+    ∙ ap (λ (z : QueryAnswer). moreVisits (z .visits) (nextQueryOf c m ws (z .cursor) b′))
+    (sym (n ∙ ap (λ (z : Answer). packed (c .generation) z) (k .2)))

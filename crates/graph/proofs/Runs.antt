@@ -1,5 +1,5 @@
--- Closed runs of a query over the tables: the paper's example and the edges of its rules, whole answers and cursors
--- compared. Assumes nothing.
+-- Closed runs of a query over the tables: the paper's example, the edges of its rules and the number of reclaims (paper 02, note 6), whole
+-- answers and cursors compared. Assumes nothing.
 use mathlib.Core.Path.{_≡_, refl}
 use mathlib.Core.List.{List, [], _∷_, _++_, map}
 use Prim.Native.Nat.{ℕ, zero, suc, _+_}
@@ -8,10 +8,13 @@ use Rattle.store.specs.declared.Counters.{Counters}
 use Rattle.store.specs.declared.Chain.the-variants.{All, By}
 use Rattle.store.specs.declared.Position.the-variants.{Subject, Predicate, Object}
 use Rattle.store.specs.Triple.{known}
-use Rattle.store.specs.Tables.{Tables, tables, fits, termAt, nextAt, flagAt, tripleAt, firstAt, countAt}
+use Rattle.store.specs.Tables.{Tables, tables, fits, termAt, nextAt, flagAt, tripleAt, firstAt, countAt, liveAt}
 use Rattle.store.specs.Model.{better, pick}
 use Rattle.store.specs.Walk.{pickChain, pickable, startOf, linkOf, sits, visitable}
 use Rattle.store.specs.Scan.{chainOk, recordOk}
+use Rattle.store.specs.Statement.{appendRecord, linkFirst, linkRecord}
+use Rattle.store.specs.Reclaim.{unlinked, sweepOne, sweep, blanked, sweptOf, reclaimOf}
+use Rattle.store.specs.History.{afterReclaim}
 use Rattle.graph.specs.declared.Level.{Level}
 use Rattle.graph.specs.declared.Progress.{Progress}
 use Rattle.graph.specs.declared.Progress.the-variants.{Start, Within, End}
@@ -20,7 +23,7 @@ use Rattle.graph.specs.Query.{patternsOf, wordOk, allOk, wordsOk, Bindin
 use Rattle.graph.specs.Query.{match, level, noLevel, recordAt, past, struck, intact, anyStruck, pruned, settle}
 use Rattle.graph.specs.Query.{remains, nextPattern, binds, asked, enteredOk, placeOk, enter, hit, tried, visit}
 use Rattle.graph.specs.Query.{walk, begun, resume, answerOf, levelsOf, insideOf, placeAs, written, startCursor}
-use Rattle.graph.specs.Query.{cursorAt, openQueryOf, packed, nextQueryOf, readOn}
+use Rattle.graph.specs.Query.{cursorAt, openQueryOf, packed, stale, nextQueryOf, readOn}
 use Rattle.graph.specs.Values.{QueryValues, queryOpenedValues, queryValues}
 
 -- ---- stores, cursors and answers as numbers
@@ -35,7 +38,7 @@ pub record Lent : Type 0 where
 -- R and T, the resource and the statement table; no text is needed
 abbrev store : ℕ → ℕ → List ℕ → List ℕ → Lent
 store r t res stm = record {
-  counters = record { resources = r; statements = t; text = 0 };
+  counters = record { resources = r; statements = t; text = 0; generation = 0 };
   lent =
       tables res stm (replicate r 0) [];
 }
@@ -67,11 +70,23 @@ lone = store 4 1 (rr 1 0 0 1 0 0 (rr 0 1 0 0 1 0 (rr 0 0 0 0 0 0 (rr 0 0 1 0 0 1
 much : Lent
 much = store 4 1 (rr 1 0 0 1 0 0 (rr 0 1 0 0 1 0 (rr 0 0 1 99 0 1 (rr 0 0 0 0 0 0 [])))) (sr 1 2 3 0 0 0 0 [])
 
--- the cursors: eight levels written out, the first pattern first
+-- the same tables with g for the number of reclaims
+abbrev numbered : ℕ → Lent → Lent
+numbered g s = record {
+  counters = record { resources = s .counters .resources; statements = s .counters .statements; text = s .counters .text; generation = g };
+  lent = s .lent;
+}
+
+-- after a reclaim
+abbrev reclaimed : Lent → Lent
+reclaimed s = let r = reclaimOf (s .counters) (s .lent) in record { counters = afterReclaim (s .counters) (r .1); lent = r .0 }
+
+-- the cursors of a store never reclaimed: eight levels written out, the first pattern first
 abbrev none : QueryCursor
 none = record {
   progress = Start;
   depth = 0;
+  generation = 0;
   levels =
       noLevel ∷ noLevel ∷ noLevel ∷ noLevel ∷ noLevel ∷ noLevel ∷ noLevel ∷ noLevel ∷ [];
 }
@@ -80,6 +95,7 @@ abbrev end : QueryCursor
 end = record {
   progress = End;
   depth = 0;
+  generation = 0;
   levels =
       noLevel ∷ noLevel ∷ noLevel ∷ noLevel ∷ noLevel ∷ noLevel ∷ noLevel ∷ noLevel ∷ [];
 }
@@ -88,6 +104,7 @@ abbrev in1 : Level → QueryCursor
 in1 a = record {
   progress = Within;
   depth = 1;
+  generation = 0;
   levels =
       a ∷ noLevel ∷ noLevel ∷ noLevel ∷ noLevel ∷ noLevel ∷ noLevel ∷ noLevel ∷ [];
 }
@@ -96,6 +113,7 @@ abbrev in2 : Level → Level → QueryCursor
 in2 a b = record {
   progress = Within;
   depth = 2;
+  generation = 0;
   levels =
       a ∷ b ∷ noLevel ∷ noLevel ∷ noLevel ∷ noLevel ∷ noLevel ∷ noLevel ∷ [];
 }
@@ -104,9 +122,14 @@ abbrev in3 : Level → Level → Level → QueryCursor
 in3 a b d = record {
   progress = Within;
   depth = 3;
+  generation = 0;
   levels =
       a ∷ b ∷ d ∷ noLevel ∷ noLevel ∷ noLevel ∷ noLevel ∷ noLevel ∷ [];
 }
+
+-- the same place with g for the number of reclaims
+abbrev after : ℕ → QueryCursor → QueryCursor
+after g q = record { progress = q .progress; depth = q .depth; generation = g; levels = q .levels }
 
 -- the first two of sixteen
 abbrev sol : ℕ → ℕ → Bindings
@@ -124,14 +147,20 @@ O n = level (By Object) n
 abbrev refusedWith : ℕ → QueryValues
 refusedWith n = record { refusal = n; status = 0; visits = 0; solution = record { values = sol 0 0 }; cursor = none }
 
+abbrev startAfter : ℕ → QueryValues
+startAfter g = record { refusal = 0; status = 0; visits = 0; solution = record { values = sol 0 0 }; cursor = after g none }
+
 abbrev atStart : QueryValues
-atStart = record { refusal = 0; status = 0; visits = 0; solution = record { values = sol 0 0 }; cursor = none }
+atStart = startAfter 0
 
 abbrev found : ℕ → Bindings → QueryCursor → QueryValues
 found n b q = record { refusal = 0; status = 1; visits = n; solution = record { values = b }; cursor = q }
 
+abbrev endedAfter : ℕ → ℕ → QueryValues
+endedAfter g n = record { refusal = 0; status = 2; visits = n; solution = record { values = sol 0 0 }; cursor = after g end }
+
 abbrev ended : ℕ → QueryValues
-ended n = record { refusal = 0; status = 2; visits = n; solution = record { values = sol 0 0 }; cursor = end }
+ended n = endedAfter 0 n
 
 abbrev spent : ℕ → QueryCursor → QueryValues
 spent n q = record { refusal = 0; status = 3; visits = n; solution = record { values = sol 0 0 }; cursor = q }
@@ -146,7 +175,7 @@ copies (suc n) = 1 ∷ 2 ∷ 3 ∷ copies n
 
 -- a cursor of eight equal levels
 abbrev filled : Progress → ℕ → QueryCursor
-filled g n = record { progress = g; depth = n; levels = replicate 8 (P 77) }
+filled g n = record { progress = g; depth = n; generation = 0; levels = replicate 8 (P 77) }
 
 -- open, one next call, calls one after another from the start
 abbrev open′ : Lent → List ℕ → QueryValues
@@ -156,7 +185,7 @@ abbrev next : Lent → List ℕ → QueryCursor → ℕ → QueryValues
 next s ws q b = queryValues (nextQueryOf (s .counters) (s .lent) ws q b)
 
 abbrev read : Lent → List ℕ → List ℕ → List QueryValues
-read s ws bs = map queryValues (readOn (s .counters) (s .lent) ws startCursor bs)
+read s ws bs = map queryValues (readOn (s .counters) (s .lent) ws (startCursor (s .counters .generation)) bs)
 
 -- ---- the table
 
@@ -206,7 +235,7 @@ eight-patterns : Case
 eight-patterns = record {
   given = next two (copies 8) none 9 ∷ next two (copies 9) none 9 ∷ [];
   due = found 8 (sol 0 0)
-      (record { progress = Within; depth = 8; levels = O 1 ∷ O 1 ∷ O 1 ∷ O 1 ∷ O 1 ∷ O 1 ∷ O 1 ∷ O 0 ∷ [] })
+      (record { progress = Within; depth = 8; generation = 0; levels = O 1 ∷ O 1 ∷ O 1 ∷ O 1 ∷ O 1 ∷ O 1 ∷ O 1 ∷ O 0 ∷ [] })
       ∷ refusedWith 8 ∷ [];
 }
 
@@ -216,7 +245,7 @@ slots-ignored = record {
   given = next two (1 ∷ 2 ∷ 3 ∷ []) (filled Within 0) 1
       ∷ next two (1 ∷ 2 ∷ 3 ∷ []) (filled Start 5) 1
       ∷ next two (1 ∷ 2 ∷ 3 ∷ []) (filled End 5) 1
-      ∷ next two (1 ∷ 2 ∷ 3 ∷ []) (record { progress = Within; depth = 1; levels = O 1 ∷ replicate 7 (P 77) }) 1 ∷ [];
+      ∷ next two (1 ∷ 2 ∷ 3 ∷ []) (record { progress = Within; depth = 1; generation = 0; levels = O 1 ∷ replicate 7 (P 77) }) 1 ∷ [];
   due = found 1 (sol 0 0) (in1 (O 0))
       ∷ found 1 (sol 0 0) (in1 (O 0))
       ∷ ended 0
@@ -294,15 +323,83 @@ large-budget = record {
   due = ended 4 ∷ [];
 }
 
+-- ---- the number of reclaims
+
+-- 13 for a cursor with another number, lower or higher, with a budget of 0 too: at the start, at the end, within
+stale-places : Case
+stale-places = record {
+  given = next (numbered 1 two) (1 ∷ 2 ∷ 3 ∷ []) none 1
+      ∷ next (numbered 1 two) (1 ∷ 2 ∷ 3 ∷ []) none 0
+      ∷ next (numbered 1 two) (1 ∷ 2 ∷ 3 ∷ []) end 1
+      ∷ next (numbered 1 two) (1 ∷ 2 ∷ 3 ∷ []) end 0
+      ∷ next (numbered 1 two) (1 ∷ 2 ∷ 3 ∷ []) (in1 (O 1)) 1
+      ∷ next two (1 ∷ 2 ∷ 3 ∷ []) (after 1 none) 1
+      ∷ next (numbered 2 two) (1 ∷ 2 ∷ 3 ∷ []) (after 1 (in1 (O 1))) 1 ∷ [];
+  due = refusedWith 13
+      ∷ refusedWith 13
+      ∷ refusedWith 13
+      ∷ refusedWith 13
+      ∷ refusedWith 13
+      ∷ refusedWith 13
+      ∷ refusedWith 13 ∷ [];
+}
+
+-- 1, 8, 13, 6, 7: each before the next, with a cursor that is refused all the later ones too
+refusals-in-order : Case
+refusals-in-order = record {
+  given = next (numbered 65536 two) (1 ∷ 2 ∷ []) (in1 (P 9)) 0
+      ∷ next (numbered 65535 two) (1 ∷ 2 ∷ []) (in1 (P 9)) 0
+      ∷ next (numbered 65535 two) (1 ∷ 2 ∷ 3 ∷ []) (in1 (P 9)) 0
+      ∷ next (numbered 65535 two) (1 ∷ 2 ∷ 3 ∷ []) (after 65535 (in1 (P 9))) 0
+      ∷ next (numbered 65535 two) (1 ∷ 2 ∷ 3 ∷ []) (after 65535 (in1 (P 1))) 0
+      ∷ open′ (numbered 65536 two) (1 ∷ 2 ∷ [])
+      ∷ open′ (numbered 65535 two) (1 ∷ 2 ∷ []) ∷ [];
+  due = refusedWith 1 ∷ refusedWith 8 ∷ refusedWith 13 ∷ refusedWith 6 ∷ refusedWith 7 ∷ refusedWith 1 ∷ refusedWith 8 ∷ [];
+}
+
+-- opened, found, ended, spent: the cursor answered has the number
+carried : Case
+carried = record {
+  given = open′ (numbered 65535 two) (1 ∷ 2 ∷ 3 ∷ [])
+      ∷ read (numbered 1 two) (1 ∷ 2 ∷ 3 ∷ []) (1 ∷ 0 ∷ 1 ∷ 1 ∷ [])
+      ++ read (numbered 2 two) (v 0 ∷ v 0 ∷ v 0 ∷ []) (1 ∷ 9 ∷ [])
+      ++ read (numbered 3 two) [] (1 ∷ 1 ∷ []);
+  due = startAfter 65535
+      ∷ found 1 (sol 0 0) (after 1 (in1 (O 0)))
+      ∷ refusedWith 7
+      ∷ endedAfter 1 0
+      ∷ endedAfter 1 0
+      ∷ spent 1 (after 2 (in1 (level All 1)))
+      ∷ endedAfter 2 1
+      ∷ found 0 (sol 0 0) (after 3 end)
+      ∷ endedAfter 3 0 ∷ [];
+}
+
+-- statement 1 is struck out, a query stands before 2: once reclaimed, its cursor is refused 13, and a query anew finds the two that are left
+reclaimed-between : Case
+reclaimed-between = record {
+  given = next (three 1 0) (v 0 ∷ 2 ∷ 4 ∷ []) (in1 (P 2)) 9
+      ∷ next (reclaimed (three 1 0)) (v 0 ∷ 2 ∷ 4 ∷ []) (in1 (P 2)) 9
+      ∷ read (reclaimed (three 1 0)) (v 0 ∷ 2 ∷ 4 ∷ []) (9 ∷ 9 ∷ 9 ∷ []);
+  due = found 1 (sol 1 0) (in1 (P 1))
+      ∷ refusedWith 13
+      ∷ found 1 (sol 3 0) (after 1 (in1 (P 1)))
+      ∷ found 1 (sol 1 0) (after 1 (in1 (P 0)))
+      ∷ endedAfter 1 0 ∷ [];
+}
+
 cases : List Case
-cases = paper ∷ opened ∷ no-patterns ∷ eight-patterns ∷ slots-ignored ∷ variable-thrice ∷ chains-accepted ∷
-    struck-since ∷ enter-refused ∷ run-out-stays ∷ nothing-remains ∷ found-run-out ∷ damaged-below ∷ large-budget ∷ []
+cases = paper ∷ opened ∷ no-patterns ∷ eight-patterns ∷ slots-ignored ∷ variable-thrice ∷ chains-accepted ∷ struck-since ∷ enter-refused ∷
+    run-out-stays ∷ nothing-remains ∷ found-run-out ∷ damaged-below ∷ large-budget ∷ stale-places ∷ refusals-in-order ∷ carried ∷
+    reclaimed-between ∷ []
 
 all-as-due : map (λ (x : Case). x .given) cases ≡ map (λ (x : Case). x .due) cases
 unfolding cases paper opened no-patterns eight-patterns slots-ignored variable-thrice chains-accepted struck-since
-    enter-refused run-out-stays nothing-remains found-run-out damaged-below large-budget two three lone much copies
+    enter-refused run-out-stays nothing-remains found-run-out damaged-below large-budget stale-places refusals-in-order
+    carried reclaimed-between two three lone much copies
     wordOk allOk wordsOk patternsOf valueOf under bind match recordAt past struck intact anyStruck pruned settle
     remains nextPattern binds asked enteredOk placeOk enter hit tried visit walk begun resume answerOf levelsOf
-    insideOf placeAs written cursorAt openQueryOf packed nextQueryOf readOn known better pick termAt nextAt flagAt
-    tripleAt firstAt countAt linkOf startOf sits visitable pickChain pickable chainOk recordOk fits
+    insideOf placeAs written cursorAt openQueryOf packed stale nextQueryOf readOn known better pick termAt nextAt flagAt
+    tripleAt firstAt countAt liveAt linkOf startOf sits visitable pickChain pickable chainOk recordOk fits appendRecord
+    linkFirst linkRecord unlinked sweepOne sweep blanked sweptOf reclaimOf
 all-as-due = refl

@@ -26,7 +26,7 @@ use Rattle.store.specs.Model.{onChain, matches, Taken, found as took, ended as 
 use Rattle.store.specs.Model.{take-off}
 use Rattle.store.specs.Walk.{entryAt, pickChain}
 use Rattle.store.specs.Dictionary.{nameAt}
-use Rattle.store.specs.Scan.{openOf, cursorAt, chainOk, recordOk, cursorOk, walkFrom, scannedAs, nextOf}
+use Rattle.store.specs.Scan.{openOf, cursorIn, chainOk, recordOk, cursorOk, walkFrom, scannedAs, nextOf}
 use Rattle.store.specs.Soundness.{living, Sound}
 use Rattle.store.proofs.Tests.{decide, and-l, and-r, and-of, all3-at, all3-of, within-high, within-of}
 use Rattle.store.proofs.Falling.{below-cong, below-yes, below-no, below-nil, below-in, below-out, head-le, head-passes}
@@ -216,7 +216,7 @@ module _ (c : Counters) (m : Tables) (S : Sound c m) (x : Triple) (known : withi
 
     -- the cursor at the positions below k
     abbrev here : ℕ → ScanCursor
-    here k = cursorAt x ch (head0 (below F k))
+    here k = cursorIn (c .generation) x ch (head0 (below F k))
 
     record-ok : (n : ℕ) → ((i : ℕ) → n ≡ suc i → F i ≡ true) → recordOk (m .statements) ch x n ≡ true
     unfolding recordOk
@@ -236,7 +236,7 @@ module _ (c : Counters) (m : Tables) (S : Sound c m) (x : Triple) (known : withi
     unfolding nextOf walkFrom
     next-is k b h g =
         let n : b ≢ 0 = omega arith in
-        rw (S .capacity, here-ok k h, ne-eqb b 0 n)
+        rw (S .capacity, eq-eqb (c .generation) (c .generation) refl, here-ok k h, ne-eqb b 0 n)
         (ap (scannedAs (here k))
         (walk-linked (c .resources) (c .statements) (m .resources) (m .statements) (S .linked) ch x hit k b h))
 
@@ -266,7 +266,7 @@ module _ (c : Counters) (m : Tables) (S : Sound c m) (x : Triple) (known : withi
             rw (read-cons (here k) b bs _ e)
             (told-ended (below hit k) k b bs _ v _ t (rw (← below-nil hit, ← nil-here) (ih 0 (omega arith))))
           where
-            nil-here : here 0 ≡ cursorAt x ch 0
+            nil-here : here 0 ≡ cursorIn (c .generation) x ch 0
             nil-here = rw (below-nil F)
         one (stopped v r) e t ih =
             rw (read-cons (here k) b bs _ e, t .2)

@@ -12,7 +12,7 @@ use Rattle.store.proofs.LiveCounts.{same-fits, same-pickable, same-pick, same-s
 use Rattle.graph.specs.declared.QueryPattern.{QueryPattern}
 use Rattle.graph.specs.declared.Level.{Level}
 use Rattle.graph.specs.Query.{Bindings, Place, start, inside, finish, asked, settle, Turn, bad, go, whole, enter, hit, tried}
-use Rattle.graph.specs.Query.{visit, walk, begun, resume, answerOf, openQueryOf, nextQueryOf}
+use Rattle.graph.specs.Query.{visit, walk, begun, resume, answerOf, openQueryOf, stale, nextQueryOf}
 use Rattle.graph.specs.Claims.{QueriesDoNotLook}
 use Rattle.graph.proofs.Laws.{walk-ended, walk-bad, walk-go, walk-whole}
 
@@ -77,7 +77,7 @@ module _ (c : Counters) (m m′ : Tables) (s : SameButLive m m′) (stm : List �
   resume-same finish b = refl
 
 pub queries-do-not-look : QueriesDoNotLook
-unfolding openQueryOf nextQueryOf answerOf
+unfolding openQueryOf stale nextQueryOf answerOf
 queries-do-not-look c m m′ s ws = (
   rw (same-fits c m m′ s),
   λ q b. rw (same-fits c m m′ s, s .statements, resume-same c m m′ s (m′ .statements)),

@@ -1,4 +1,4 @@
--- On a sound store entering a name leaves the graph, asserting adds exactly its triple, retracting takes exactly it
+-- On a sound store entering a name and reclaiming leave the graph, asserting adds exactly its triple, retracting takes exactly it
 -- away, and a refusal leaves it (`WriteClaim`); a line's three names entered and asserted add exactly the line's
 -- triple (`LoadClaim`). Assumes nothing.
 use mathlib.Core.Path.{_≡_, sym, ap, _∙_}
@@ -17,7 +17,7 @@ use Rattle.store.specs.declared.Triple.{Triple}
 use Rattle.store.specs.Triple.{triple, known}
 use Rattle.store.specs.Tables.{Tables, tripleAt, flagAt}
 use Rattle.store.specs.Values.{Values}
-use Rattle.store.specs.Model.{Entry, Model, Capacities, Form, byValue, lent, Call, intern, assert, retract, nameOf}
+use Rattle.store.specs.Model.{Entry, Model, Capacities, Form, byValue, lent, Call, intern, assert, retract, reclaim, nameOf}
 use Rattle.store.specs.Model.{entry, assertModel, retractModel, callModel, modelAfter}
 use Rattle.store.specs.Walk.{entryAt}
 use Rattle.store.specs.Dictionary.{nameAt}
@@ -34,10 +34,10 @@ use Rattle.store.proofs.Kept.{Tidy, tidy-history}
 use Rattle.store.proofs.Held.{entries-length, entries-at, named-names, agreeing-holds, sound-agrees, sound-tidy}
 use Rattle.graph.specs.Meaning.{Term, RdfTriple}
 use Rattle.graph.specs.Graph.{named, graphOf}
-use Rattle.graph.specs.Claims.{SoundStore, graphIn, SameGraph, Entered, Added, Removed, WriteClaim, loadOf, canonicalTriple}
+use Rattle.graph.specs.Claims.{SoundStore, graphIn, SameGraph, Entered, Added, Removed, Rebuilt, WriteClaim, loadOf, canonicalTriple}
 use Rattle.graph.specs.Claims.{Loaded, LoadClaim}
 use Rattle.graph.proofs.Listed.{nameTriple, modelGraph, graph-trans, ModelEntered, model-enters, ModelAdded}
-use Rattle.graph.proofs.Listed.{model-asserts, ModelRemoved, model-retracts}
+use Rattle.graph.proofs.Listed.{model-asserts, ModelRemoved, model-retracts, ModelRebuilt, model-reclaims}
 
 -- ---- a store that holds plain lists
 
@@ -173,6 +173,25 @@ module _ (c : Counters) (m : Tables) (S : Sound c m) where
             );
       }
 
+  -- ---- reclaim
+
+  model-rebuilt : ModelRebuilt lists ((callModel k lists reclaim) .0)
+  unfolding callModel
+  model-rebuilt = model-reclaims lists
+
+  rebuilt : Rebuilt here ((callStore here reclaim) .0)
+  rebuilt =
+      let M = model-rebuilt in
+      let A = after reclaim in
+      let n = held-size _ _ A ∙ ap (λ (ns : List Term). length ns) (M .names) ∙ sym (held-size here lists before) in
+      record {
+        sound = A .sound;
+        graph = same-after reclaim (M .graph);
+        resources = n;
+        kept = λ y a b. held-name _ _ A y a (omega (arith, n)) ∙ ap (λ (ns : List Term). nameOf ns y) (M .names)
+            ∙ sym (held-name here lists before y a b);
+      }
+
   -- ---- assert and retract
 
   triple-here : (x : Triple) → known (length (lists .names)) x ≡ true → nameTriple (lists .names) x ≡ named m x
@@ -276,6 +295,8 @@ writes s S = record {
       record { sound = E .sound; graph = E .graph; kept = E .kept; answered = E .answered };
   asserts = λ f x. one-assert f x;
   retracts = λ f x. one-retract f x;
+  reclaims = let E = rebuilt (s .counters) (s .tables) S in
+      record { sound = E .sound; graph = E .graph; resources = E .resources; kept = E .kept };
 }
   where
     one-assert : (f : Form) (x : Triple) → Added s ((callStore s (assert f x)) .0) (named (s .tables) x)

@@ -1,0 +1,72 @@
+-- The number of reclaims in a query's cursor: a cursor with the store's own number is read on from its place, one with another number is
+-- refused 13 (`StaleClaim`). Assumes nothing.
+use mathlib.Core.Path.{_≡_, refl}
+use mathlib.Core.Bool.{Bool, true, false, cond, not, _&&_}
+use mathlib.Core.List.{List}
+use Prim.Native.Nat.{ℕ}
+use lib.Dec.{eqb}
+use borrow.Author.Tests.{eq-eqb, ne-eqb}
+use Rattle.store.specs.declared.Counters.{Counters}
+use Rattle.store.specs.declared.Refusal.the-variants.{StaleCursor}
+use Rattle.store.specs.Tables.{Tables, fits}
+use Rattle.store.proofs.Tests.{decide}
+use Rattle.graph.specs.declared.QueryCursor.{QueryCursor}
+use Rattle.graph.specs.Query.{wordsOk, Place, start, inside, finish, Answer, refused, found, ended, spent, answerOf}
+use Rattle.graph.specs.Query.{placeOf, cursorAt, packed, stale, nextQueryOf}
+use Rattle.graph.specs.Claims.{Unrefused, StaleClaim}
+
+pub cursor-number : (g : ℕ) (q : Place) → (cursorAt g q) .generation ≡ g
+unfolding cursorAt
+cursor-number g start = refl
+cursor-number g (inside l up) = refl
+cursor-number g finish = refl
+
+-- ---- an answer that is not refused
+
+abbrev pub NotRefused : Answer → Type 0
+NotRefused (refused e) = ⊥
+NotRefused (found s v q) = Unit {0}
+NotRefused (ended v) = Unit {0}
+NotRefused (spent v q) = Unit {0}
+
+pub unrefused-answer : (g : ℕ) (a : Answer) → Unrefused ((packed g a) .step) → NotRefused a
+unfolding packed
+unrefused-answer g (refused e) n = n
+unrefused-answer g (found s v q) n = tt
+unrefused-answer g (ended v) n = tt
+unrefused-answer g (spent v q) n = tt
+
+pub packed-number : (g : ℕ) (a : Answer) → NotRefused a → ((packed g a) .cursor) .generation ≡ g
+unfolding packed
+packed-number g (refused e) n = absurd n
+packed-number g (found s v q) n = cursor-number g q
+packed-number g (ended v) n = cursor-number g finish
+packed-number g (spent v q) n = cursor-number g q
+
+-- ---- one call, by the cursor's number
+
+and-none : (a b : Bool) → a && (b && false) ≡ false
+and-none true true = refl
+and-none true false = refl
+and-none false b = refl
+
+module _ (c : Counters) (m : Tables) (ws : List ℕ) (q : QueryCursor) where
+  pub own-number : q .generation ≡ c .generation → stale c m ws q ≡ false
+  unfolding stale
+  own-number e = rw (eq-eqb (q .generation) (c .generation) e) (and-none (fits c m) (wordsOk (c .resources) ws))
+
+  pub read-on : (b : ℕ) → stale c m ws q ≡ false → nextQueryOf c m ws q b ≡ packed (c .generation) (answerOf c m ws (placeOf q) b)
+  unfolding nextQueryOf
+  read-on b e = rw e
+
+  pub unrefused-read : (b : ℕ) → Unrefused ((nextQueryOf c m ws q b) .step)
+      → (stale c m ws q ≡ false) × NotRefused (answerOf c m ws (placeOf q) b)
+  unfolding nextQueryOf
+  unrefused-read b =
+      decide (stale c m ws q)
+      (λ e. rw e (λ n. absurd (unrefused-answer (c .generation) (refused StaleCursor) n)))
+      (λ e. rw e (λ n. (refl, unrefused-answer (c .generation) (answerOf c m ws (placeOf q) b) n)))
+
+pub stale-refused : StaleClaim
+unfolding nextQueryOf stale packed
+stale-refused c m ws q b f w n = rw (f, w, ne-eqb (q .generation) (c .generation) n)
