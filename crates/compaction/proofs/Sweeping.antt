@@ -1,24 +1,23 @@
 -- The sweep for code: a step by its way out, a turn of the loop, what a sound store gives each step, and reclaim's answer
 -- where all is done. Assumes nothing.
-use mathlib.Core.Path.{_≡_, ap, _∙_}
-use mathlib.Core.Logic.{_≢_}
-use mathlib.Core.Bool.{true}
+use mathlib.Core.Path.{_≡_, sym, ap, _∙_}
+use mathlib.Core.Logic.{_≢_, _↔_}
+use mathlib.Core.Bool.{Bool, true, false, not, true≢false}
 use mathlib.Core.List.{List}
 use Prim.Native.Nat.{ℕ, suc, _+_, _-_, _*_, _≤_, _<_}
 use native.Mathlib.Omega.{arith}
 use native.Mathlib.Numerals.{add-one}
-use borrow.Author.Tests.{eq-eqb, ne-eqb}
+use borrow.Author.Tests.{eq-eqb, ne-eqb, not-true, not-false}
 use Rattle.store.specs.declared.Counters.{Counters}
 use Rattle.store.specs.declared.Reclaimed.the-variants.{Done}
-use Rattle.store.specs.Tables.{Tables, fits, maxReclaims, maxStatements, flagAt, tripleAt}
+use Rattle.store.specs.Tables.{Tables, tables, fits, maxReclaims, maxStatements, flagAt, tripleAt}
 use Rattle.store.specs.Statement.{appendRecord, linkRecord}
 use Rattle.store.specs.Soundness.{Linked, Sound}
-use Rattle.store.specs.Reclaim.{Swept, swept, unlinked, sweepOne, sweep, sweptOf, reclaimedTables, reclaimedCounters, ReclaimAnswer}
+use Rattle.store.specs.Reclaim.{Swept, swept, unlinked, sweepOne, sweep, blanked, sweptOf, reclaimedCounters, ReclaimAnswer}
 use Rattle.store.proofs.Tests.{known-low, known-high}
 use Rattle.store.proofs.ReclaimAgrees.{sweeping}
 use Rattle.store.proofs.SweepLaws.{StepNeeds, step-needs, answer-done}
-use Rattle.table.proofs.Capacity.{fits-room}
-use Rattle.compaction.specs.Steps.{Sweepable, AllSweepable}
+use Rattle.compaction.specs.Steps.{Sweepable, AllSweepable, compacted}
 
 -- ---- a step
 
@@ -49,7 +48,7 @@ module _ (r t : ℕ) (res stm : List ℕ) (L : Linked r t res stm) where
   abbrev start : Swept
   start = swept 0 (unlinked r res) stm
 
-  pub all-sweepable : t ≤ maxStatements → AllSweepable t start
+  all-sweepable : t ≤ maxStatements → AllSweepable t start
   all-sweepable few = record { each = λ i h. one i h (step-needs r t res stm L i h) }
     where
       one : (i : ℕ) → i < t → StepNeeds r t i (sweep i start) → Sweepable (suc i) (sweep i start)
@@ -72,35 +71,40 @@ module _ (r t : ℕ) (res stm : List ℕ) (L : Linked r t res stm) where
             });
           }
 
-  -- no more live ones than records
-  pub few-swept : (sweep t start) .count ≤ t
-  few-swept = sweeping r t res stm L t (omega arith) .few
+  -- the chains and counts cleared, then the sweep: each step can be made, no more are live than there are, and the rest is blanked
+  module _ (u : List ℕ) (d : u ≡ unlinked r res) where
+    pub cleared-sweepable : t ≤ maxStatements → AllSweepable t (swept 0 u stm)
+    cleared-sweepable few = rw d (all-sweepable few)
+
+    module _ (k : ℕ) (res′ stm′ : List ℕ) (e : swept k res′ stm′ ≡ sweep t (swept 0 u stm)) where
+      swept-is : swept k res′ stm′ ≡ sweep t start
+      swept-is = rw d at e
+
+      pub swept-few : k ≤ t
+      swept-few =
+          let n : k ≡ (sweep t start) .count = ap (λ (z : Swept). z .count) swept-is in
+          omega (arith, sweeping r t res stm L t (omega arith) .few, n)
+
+      pub swept-done : (last : List ℕ) → last ≡ blanked k t stm′ → swept k res′ last ≡ compacted r t res stm
+      swept-done last b =
+          rw b (ap (λ (z : Swept). swept (z .count) (z .resources) (blanked (z .count) t (z .statements))) swept-is)
 
 -- ---- reclaim
 
+-- what the check says, by the way taken
+pub check-yes : {b : Bool} {P : Type 0} → (b ≡ true) ↔ P → not b ≡ false → P
+check-yes {b} e h = e .0 (not-false b h)
+
+pub check-no : {b : Bool} {P : Type 0} → (b ≡ true) ↔ P → not b ≡ true → P → ⊥
+check-no {b} e h p = true≢false (sym (e .1 p) ∙ not-true b h)
+
 module _ (c : Counters) (m : Tables) (a : fits c m ≡ true) (b : c .generation < maxReclaims) (S : Sound c m) where
-  done-at : (z : Swept) → z ≡ sweptOf c m → ReclaimAnswer c m (reclaimedTables c m z) (Done (reclaimedCounters c z))
+  done-at : (z : Swept) → z ≡ compacted (c .resources) (c .statements) (m .resources) (m .statements)
+      → ReclaimAnswer c m (tables (z .resources) (z .statements) (m .index) (m .text)) (Done (reclaimedCounters c z))
+  unfolding sweptOf
   done-at z e = rw e (answer-done c m a b S)
 
-  -- the chains and counts cleared, then the sweep
-  module _ (u : List ℕ) (d : u ≡ unlinked (c .resources) (m .resources)) where
-    pub sound-sweepable : AllSweepable (c .statements) (swept 0 u (m .statements))
-    sound-sweepable =
-        rw d
-        (all-sweepable (c .resources) (c .statements) (m .resources) (m .statements) (S .linked)
-        (fits-room c m a .few-statements))
-
-    module _ (k : ℕ) (res stm : List ℕ) (e : swept k res stm ≡ sweep (c .statements) (swept 0 u (m .statements))) where
-      swept-is : swept k res stm ≡ sweptOf c m
-      unfolding sweptOf
-      swept-is = rw d at e
-
-      pub kept-few : k ≤ c .statements
-      unfolding sweptOf
-      kept-few =
-          let q = few-swept (c .resources) (c .statements) (m .resources) (m .statements) (S .linked) in
-          let n : k ≡ (sweptOf c m) .count = ap (λ (z : Swept). z .count) swept-is in
-          omega (arith, q, n)
-
-      pub done : ReclaimAnswer c m (reclaimedTables c m (swept k res stm)) (Done (reclaimedCounters c (swept k res stm)))
-      done = done-at (swept k res stm) swept-is
+  pub done : (k : ℕ) (res stm : List ℕ)
+      → swept k res stm ≡ compacted (c .resources) (c .statements) (m .resources) (m .statements)
+      → ReclaimAnswer c m (tables res stm (m .index) (m .text)) (Done (reclaimedCounters c (swept k res stm)))
+  done k res stm e = done-at (swept k res stm) e

@@ -4,7 +4,7 @@ use Prim.Native.Nat.{ℕ, suc, _+_, _-_, _*_, _≤_, _<_}
 use lib.ListN.{replicate}
 use lib.Seq.{sets}
 use Rattle.store.specs.Tables.{resourceWords, tripleAt}
-use Rattle.store.specs.Reclaim.{Swept, sweep}
+use Rattle.store.specs.Reclaim.{Swept, swept, unlinked, sweep, blanked}
 use Rattle.table.specs.Held.{StatementHeld}
 use Rattle.statement_record.specs.Records.{AllLinkable}
 
@@ -21,3 +21,8 @@ pub record Sweepable (n : ℕ) (z : Swept) : Type 0 where
 -- the same at each of n records, with those before it swept
 pub record AllSweepable (n : ℕ) (z : Swept) : Type 0 where
   pub each : (i : ℕ) → i < n → Sweepable (suc i) (sweep i z)
+
+-- all three passes: how many live ones, and the two tables
+abbrev pub compacted : ℕ → ℕ → List ℕ → List ℕ → Swept
+compacted r t res stm =
+    let z = sweep t (swept 0 (unlinked r res) stm) in swept (z .count) (z .resources) (blanked (z .count) t (z .statements))

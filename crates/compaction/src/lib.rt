@@ -7,11 +7,28 @@
 use store::Counters;
 use store::Reclaimed;
 use store::Refusal;
-ghost use Rattle.store.specs.Tables.{tables};
-ghost use Rattle.store.specs.Reclaim.{ReclaimAnswer};
+ghost use mathlib.Core.Path.{_≡_};
+ghost use Prim.Native.Nat.{_≤_};
+ghost use Rattle.store.specs.Tables.{tables, maxStatements};
+ghost use Rattle.store.specs.Soundness.{Linked};
+ghost use Rattle.store.specs.Reclaim.{swept, ReclaimAnswer};
+ghost use Rattle.compaction.specs.Steps.{compacted};
 
 mod clear;
 mod sweep;
+
+// Chains and counts cleared, the live records moved down and linked anew, the words of the others set to 0. How many are
+// live.
+fn compact(resources: &mut [u32], statements: &mut [u32], r: u32, t: u32) -> u32
+    requires { ⌜ Linked r t (now resources) (now statements) × (t ≤ maxStatements) ⌝ }
+    ensures { λ k. ⌜ swept k (now (resources .exit)) (now (statements .exit))
+        ≡ compacted r t (now (resources .entry)) (now (statements .entry)) ⌝ }
+{
+    clear::unlink_all(resources, r);
+    let k = sweep::sweep(resources, statements, t);
+    clear::blank(statements, k, t);
+    k
+}
 
 // Reclaim: the counters from now on, one reclaim more among them.
 pub fn reclaim(
@@ -33,11 +50,9 @@ pub fn reclaim(
     if !integrity::check(c, resources, statements, index, text) {
         return Reclaimed::Refused(Refusal::Damaged);
     }
-    clear::unlink_all(resources, c.resources);
-    let t = sweep::sweep(resources, statements, c.statements);
-    clear::blank(statements, t, c.statements);
+    let k = compact(resources, statements, c.resources, c.statements);
     let mut d = c;
-    d.statements = t;
+    d.statements = k;
     d.generation = c.generation + 1;
     Reclaimed::Done(d)
 }

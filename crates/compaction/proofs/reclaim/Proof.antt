@@ -1,11 +1,17 @@
+use Rattle.store.specs.Tables.{Tables, tables}
+use Rattle.store.proofs.SweepLaws.{answer-capacity, answer-limit, answer-unsound}
+use Rattle.table.proofs.Branches.{passed, failed}
+use Rattle.table.proofs.Capacity.{fits-room}
+use Rattle.compaction.proofs.Sweeping.{check-yes, check-no, done}
+use denote.Ref.{now}
+use native.Mathlib.Omega.{arith}
+use native.Mathlib.Numerals.{add-one}
 use borrow.Author.Needs.{needs}
 use Rattle.compaction.proofs.reclaim.Statement.{statement}
 use Rattle.compaction.proofs.reclaim.Tie as tie
 use Rattle.compaction.proofs.reclaim.Reads as reads
 use Rattle.compaction.proofs.reclaim.Lts as lts
-use Rattle.compaction.proofs.clear.blank.Reads as blank-reads
-use Rattle.compaction.proofs.clear.unlink_all.Reads as unlink-all-reads
-use Rattle.compaction.proofs.sweep.sweep.Reads as sweep-reads
+use Rattle.compaction.proofs.compact.Reads as compact-reads
 use Rattle.integrity.proofs.check.Reads as check-reads
 use Rattle.table.proofs.fits.Reads as fits-reads
 
@@ -19,7 +25,10 @@ same-length-2 : tie.Need-same-length-2
 same-length-2 c = search needs
 
 returns : tie.Need-returns
-returns c = search needs
+returns c =
+    let a = c .before .before .before .before .before .before .before .before .args in
+    let m = tables (now (a .resources)) (now (a .statements)) (now (a .index)) (now (a .text)) in
+    answer-capacity (a .c) m (failed (c .before .fits2 .ensures) (c .if1 .taken))
 
 same-length-3 : tie.Need-same-length-3
 same-length-3 c = search needs
@@ -28,7 +37,10 @@ same-length-4 : tie.Need-same-length-4
 same-length-4 c = search needs
 
 returns-2 : tie.Need-returns-2
-returns-2 c = search needs
+returns-2 c =
+    let a = c .before .before .before .before .before .before .before .before .before .before .args in
+    let m = tables (now (a .resources)) (now (a .statements)) (now (a .index)) (now (a .text)) in
+    answer-limit (a .c) m (passed (c .before .before .before .fits2 .ensures) (c .before .before .if1 .left)) (c .if2 .taken)
 
 check-requires : tie.Need-check-requires
 check-requires c κs = search needs
@@ -40,16 +52,18 @@ same-length-6 : tie.Need-same-length-6
 same-length-6 c = search needs
 
 returns-3 : tie.Need-returns-3
-returns-3 c = search needs
+returns-3 c =
+    let a = c .before .before .before .before .before .before .before .before .before .before .before .before .before .before .args in
+    let m = tables (now (a .resources)) (now (a .statements)) (now (a .index)) (now (a .text)) in
+    answer-unsound (a .c) m (passed (c .before .before .before .before .before .before .before .fits2 .ensures) (c .before .before .before .before .before .before .if1 .left)) (c .before .before .before .before .if2 .left)
+    (check-no (c .before .check .ensures) (c .if3 .taken))
 
-unlink-all-requires : tie.Need-unlink-all-requires
-unlink-all-requires c κs = search needs
-
-sweep-requires : tie.Need-sweep-requires
-sweep-requires c κs = search needs
-
-blank-requires : tie.Need-blank-requires
-blank-requires c κs = search needs
+compact-requires : tie.Need-compact-requires
+compact-requires c κs =
+    let a = c .before .before .before .before .before .before .before .before .before .before .before .before .before .before .before .before .args in
+    let m = tables (now (a .resources)) (now (a .statements)) (now (a .index)) (now (a .text)) in
+    let room = fits-room (a .c) m (passed (c .before .before .before .before .before .before .before .before .before .fits2 .ensures) (c .before .before .before .before .before .before .before .before .if1 .left)) in
+    (check-yes (c .before .before .before .check .ensures) (c .before .before .if3 .left) .linked, room .few-statements)
 
 add-d : tie.Need-add-d
 add-d c = search needs
@@ -61,7 +75,12 @@ same-length-8 : tie.Need-same-length-8
 same-length-8 c = search needs
 
 returns-4 : tie.Need-returns-4
-returns-4 c = search needs
+returns-4 c =
+    let a = c .before .before .before .before .before .before .before .before .before .before .before .before .before .before .before .before .before .before .before .before .before .before .args in
+    let m = tables (now (a .resources)) (now (a .statements)) (now (a .index)) (now (a .text)) in
+    rw (add-one (a .c .generation))
+    (done (a .c) m (passed (c .before .before .before .before .before .before .before .before .before .before .before .before .before .before .before .fits2 .ensures) (c .before .before .before .before .before .before .before .before .before .before .before .before .before .before .if1 .left)) (c .before .before .before .before .before .before .before .before .before .before .before .before .if2 .left)
+    (check-yes (c .before .before .before .before .before .before .before .before .before .check .ensures) (c .before .before .before .before .before .before .before .before .if3 .left)) _ _ _ (c .before .before .before .before .before .compact .ensures))
 
 pub reclaim-spec : {M : Type 1} → statement M
 reclaim-spec =
@@ -78,9 +97,7 @@ reclaim-spec =
     same-length-5
     same-length-6
     returns-3
-    unlink-all-requires
-    sweep-requires
-    blank-requires
+    compact-requires
     add-d
     same-length-7
     same-length-8
