@@ -6,16 +6,13 @@ use native.Mathlib.Omega.{arith}
 use native.Mathlib.Numerals.{add-one}
 use native.Mathlib.Nat.{add-zero, add-suc, suc-add}
 use lib.ListN.{length, take, drop, getD, set, List·getD-append, drop-of-length-le, length-take, length-drop}
-use lib.ListN.{replicate, length-replicate, replicate-append-replicate}
+use lib.ListN.{replicate}
 use lib.Seq.{sets, set-comm, set-set, split-at, set-at, length-take-le, take-suc, drop-cons, getD-take, take-all}
 use Rattle.store.specs.Tables.{resourceWords}
 use Rattle.store.specs.Dictionary.{freshRecord, bring, insertAt}
+use Rattle.table.proofs.Stores.{sets-snoc}
 
 -- ---- a run of stores
-
-sets-snoc : (vs l : List ℕ) (b x : ℕ) → sets l b (vs ++ x ∷ []) ≡ set (sets l b vs) (b + length vs) x
-sets-snoc [] l b x = rw add-zero
-sets-snoc (v ∷ vs) l b x = rw (add-suc, ← suc-add) (sets-snoc vs (set l b v) (suc b) x)
 
 -- a turn: one byte more
 pub name-turn : (t l w : List ℕ) (b i : ℕ) → t ≡ sets l b (take i w) → i < length w
@@ -30,10 +27,6 @@ pub name-end : (t l w : List ℕ) (b i : ℕ) → t ≡ sets l b (take i w) → 
 name-end t l w b i e h g =
     let n : i ≡ length w = omega arith in
     rw (sets-snoc w l b 0, e, take-all i w g, n)
-
--- one zero more
-pub zero-turn : (t l : List ℕ) (b i : ℕ) → t ≡ sets l b (replicate i 0) → set t (b + i) 0 ≡ sets l b (replicate (i + 1) 0)
-zero-turn t l b i e = rw (e, ← replicate-append-replicate {A = ℕ} i 1 0, sets-snoc (replicate i 0) l b 0, length-replicate {A = ℕ} i 0)
 
 -- a store before a run, and one within it
 set-before : (vs l : List ℕ) (b j x : ℕ) → j < b → set (sets l b vs) j x ≡ sets (set l j x) b vs

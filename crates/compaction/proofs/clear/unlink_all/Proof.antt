@@ -1,5 +1,5 @@
 use Rattle.store.specs.Reclaim.{unlinked}
-use Rattle.compaction.proofs.Stores.{unlinked-none, unlinked-turn}
+use Rattle.compaction.proofs.Unlinking.{unlinked-none, unlinked-turn}
 use denote.Ref.{now}
 use lib.ListN.{length}
 use native.Mathlib.Omega.{arith}

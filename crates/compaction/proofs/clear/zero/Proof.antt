@@ -1,4 +1,4 @@
-use Rattle.compaction.proofs.Stores.{zero-turn}
+use Rattle.table.proofs.Stores.{zero-turn}
 use lib.Seq.{sets}
 use lib.ListN.{length, replicate, length-set}
 use denote.Ref.{now}

@@ -1,4 +1,5 @@
-use Rattle.dictionary.proofs.Writes.{zero-turn, record-end}
+use Rattle.table.proofs.Stores.{zero-turn}
+use Rattle.dictionary.proofs.Writes.{record-end}
 use lib.Seq.{sets}
 use lib.ListN.{length, replicate, length-set}
 use denote.Ref.{now}
