@@ -1,54 +1,38 @@
--- Laws for code that reclaims: the sweep step by step, what linked tables give at each step, and reclaim's whole answer
--- for each way out. Assumes nothing.
-use mathlib.Core.Path.{_≡_, refl, sym, ap, _∙_}
-use mathlib.Core.Logic.{_≢_}
-use mathlib.Core.Bool.{Bool, true, false, cond, true≢false}
+-- Laws for code that reclaims: what linked tables give at each step of the sweep, and reclaim's whole answer for each way out. Assumes nothing.
+use mathlib.Core.Path.{_≡_, refl, sym, _∙_}
+use mathlib.Core.Bool.{true, false, true≢false}
 use mathlib.Core.List.{List}
-use Prim.Native.Nat.{ℕ, zero, suc, _*_, _≤_, _<_}
+use Prim.Native.Nat.{ℕ, _*_, _≤_, _<_}
 use native.Mathlib.Omega.{arith}
 use lib.ListN.{length}
-use lib.Dec.{eqb, ltb}
-use borrow.Author.Tests.{eq-eqb, ne-eqb, lt-ltb}
+use borrow.Author.Tests.{lt-ltb}
 use Rattle.store.specs.declared.Counters.{Counters}
 use Rattle.store.specs.declared.Position.{Position}
 use Rattle.store.specs.declared.Triple.{Triple}
 use Rattle.store.specs.declared.Refusal.the-variants.{Capacity, Damaged, ReclaimLimit}
 use Rattle.store.specs.declared.Reclaimed.the-variants.{Done, Refused as NotReclaimed}
 use Rattle.store.specs.Triple.{at, known}
-use Rattle.store.specs.Tables.{Tables, fits, maxReclaims, statementWords, resourceWords, flagAt, tripleAt, firstAt}
+use Rattle.store.specs.Tables.{Tables, fits, maxReclaims, statementWords, resourceWords, tripleAt}
 use Rattle.store.specs.Tables.{countAt, liveAt}
 use Rattle.store.specs.Soundness.{Linked, Sound}
-use Rattle.store.specs.Reclaim.{unlinked, Swept, swept, movedDown, sweepOne, sweep, sweptOf, reclaimedTables}
+use Rattle.store.specs.Reclaim.{unlinked, Swept, swept, sweep, sweptOf, reclaimedTables}
 use Rattle.store.specs.Reclaim.{reclaimedCounters, reclaimOf, ReclaimAnswer}
 use Rattle.store.proofs.Tests.{known-of}
-use Rattle.store.proofs.Falling.{head-le, length-le}
-use Rattle.store.proofs.ReclaimAgrees.{Sweeping, sweeping, flag-now, x-low, x-high}
-
--- ---- step by step
+use Rattle.store.proofs.Falling.{length-le}
+use Rattle.store.proofs.ReclaimAgrees.{Sweeping, sweeping, x-low, x-high}
 
 pub sweep-none : (z : Swept) → sweep 0 z ≡ z
 unfolding sweep
 sweep-none z = refl
 
-pub sweep-passed : (n : ℕ) (z : Swept) → flagAt ((sweep n z) .statements) n ≡ 1 → sweep (suc n) z ≡ sweep n z
-unfolding sweep sweepOne
-sweep-passed n z e = rw (sweepOne, eq-eqb (flagAt ((sweep n z) .statements) n) 1 e)
-
-pub sweep-moved : (n : ℕ) (z : Swept) → flagAt ((sweep n z) .statements) n ≢ 1
-    → sweep (suc n) z ≡ movedDown (sweep n z) (tripleAt ((sweep n z) .statements) n)
-unfolding sweep sweepOne
-sweep-moved n z e = rw (sweepOne, ne-eqb (flagAt ((sweep n z) .statements) n) 1 e)
-
 -- ---- what the step at entry n needs
 
 pub record StepNeeds (r t n : ℕ) (z : Swept) : Type 0 where
   pub few : z .count ≤ n
-  pub flag : flagAt (z .statements) n ≤ 1
   pub resources : known r (tripleAt (z .statements) n) ≡ true
   pub fit-resources : resourceWords * r ≤ length (z .resources)
   pub fit-statements : statementWords * t ≤ length (z .statements)
   -- so that no count overflows
-  pub firsts : (p : Position) → firstAt (z .resources) p (at p (tripleAt (z .statements) n)) ≤ z .count
   pub counts : (p : Position) → countAt (z .resources) p (at p (tripleAt (z .statements) n)) ≤ z .count
   pub lives : (p : Position) → liveAt (z .resources) p (at p (tripleAt (z .statements) n)) ≤ z .count
 
@@ -68,11 +52,9 @@ module _ (r t : ℕ) (res stm : List ℕ) (L : Linked r t res stm) (n : ℕ) (h 
   pub step-needs : StepNeeds r t n z
   step-needs = record {
     few = S .few;
-    flag = rw (flag-now r t res stm L n h z S) (L .flag n h);
     resources = known-of r (tripleAt (z .statements) n) low high;
     fit-resources = S .linked .fit-resources;
     fit-statements = omega (arith, S .same-statements, L .fit-statements);
-    firsts = λ p. rw (S .linked .first p _ (low p) (high p)) (head-le _ (z .count));
     counts = λ p. rw (S .linked .count p _ (low p) (high p)) (length-le _ (z .count));
     lives = λ p. rw (S .linked .live p _ (low p) (high p)) (length-le _ (z .count));
   }
