@@ -7,7 +7,7 @@ index is a list of numbers. It knows nothing of the library and shares nothing w
 import re
 import sys
 
-LIMIT, TEXT_LIMIT, NAME_LIMIT = 65535, 1048576, 255
+LIMIT, TEXT_LIMIT, NAME_LIMIT, RECLAIMS = 65535, 1048576, 255, 65535
 PATTERNS, VARIABLES, VARIABLE = 8, 16, 2**31
 PLACES = ["subject", "predicate", "object"]
 
@@ -69,9 +69,10 @@ class Store:
         self.table = {"resource": [], "statement": []}
         self.index, self.text = [], bytearray()
         self.lend(0, 0, 0, 0)
-        self.counters = (0, 0, 0)
-        self.listing = ((0, 0, 0), 0, 0)
-        self.question, self.place = [], ("start", 0, [])
+        # R, T, B, the number of reclaims. A place carries that number too: the listing's last, the question's third.
+        self.counters = (0, 0, 0, 0)
+        self.listing = ((0, 0, 0), 0, 0, 0)
+        self.question, self.place = [], ("start", 0, 0, [])
 
     # ---- the lent tables
 
@@ -117,7 +118,7 @@ class Store:
         return self.table["statement"][n - 1]
 
     def capacities(self):
-        return min(self.whole["resource"], self.words, LIMIT), min(self.whole["statement"], LIMIT), min(self.bytes, TEXT_LIMIT)
+        return min(self.whole["resource"], self.words, LIMIT), min(self.whole["statement"], LIMIT), min(self.bytes, TEXT_LIMIT), RECLAIMS
 
     def within_capacity(self):
         return all(c <= k for c, k in zip(self.counters, self.capacities()))
@@ -125,6 +126,11 @@ class Store:
     def test_counters(self):
         if not self.within_capacity():
             refuse(1)
+
+    # A place from before a reclaim, or with any other number.
+    def test_reclaims(self, reclaims):
+        if reclaims != self.counters[3]:
+            refuse(13)
 
     def test_numbers(self, triple):
         if any(y == 0 or y > self.counters[0] for y in triple):
@@ -166,16 +172,16 @@ class Store:
     # Room and the stored bytes go by the shortened name.
     def enter(self, spelled):
         n, name = self.search(spelled), shortened(spelled)
-        R, T, B = self.counters
+        R, T, B, N = self.counters
         if n == 0:
             if R >= self.capacities()[0] or B + len(name) + 1 > self.capacities()[2]:
                 refuse(3)
             n = R + 1
             self.change("resource", n, ["offset", str(B), "kind", str(KINDS[name[:1]])], True)
             self.text[B : B + len(name) + 1] = name + b"\0"
-            self.counters = (n, T, B + len(name) + 1)
+            self.counters = (n, T, B + len(name) + 1, N)
             self.index[:n] = sorted(self.index[:R] + [n], key=self.spelling)
-        return n, self.counters[0], self.counters[2]
+        return n, *self.counters
 
     # The span, the part's length, and the part if it is short. A refusal comes with an empty part.
     def name(self, y):
@@ -254,7 +260,7 @@ class Store:
         if kinds[0] == 3 or kinds[1] != 1:
             refuse(5)
         n, flag = self.locate(triple)
-        R, T, B = self.counters
+        R, T, B, N = self.counters
         if n and flag == 0:
             return "already", n, *self.counters
         if n:
@@ -267,7 +273,7 @@ class Store:
             self.resource(y)["first"][p] = T + 1
             self.resource(y)["count"][p] += 1
             self.resource(y)["live"][p] += 1
-        self.counters = (R, T + 1, B)
+        self.counters = (R, T + 1, B, N)
         return "new", T + 1, *self.counters
 
     def retract(self, *triple):
@@ -281,23 +287,49 @@ class Store:
         self.mark(n, triple, 1)
         return n
 
+    # 1, 14, 9. The live statements keep their order and are numbered from 1. Each record's nexts are the highest ones below it that hold its
+    # resource in the place, each first is the highest of all, each count how many there are, and all of them are live. What was in use beyond
+    # them is 0; offsets, kinds, index and text stay.
+    def reclaim(self):
+        self.test_counters()
+        R, T, B, N = self.counters
+        if N == RECLAIMS:
+            refuse(14)
+        if not self.sound():
+            refuse(9)
+        live = [r["triple"] for r in self.table["statement"][:T] if r["flag"] == [0]]
+
+        def holding(p, y, below):
+            return [n for n in range(1, below) if live[n - 1][p] == y]
+
+        records = [{"triple": x, "next": [max(holding(p, x[p], n), default=0) for p in range(3)], "flag": [0]} for n, x in enumerate(live, 1)]
+        self.table["statement"][:T] = records + [new_record("statement", 0) for _ in range(T - len(live))]
+        for y in range(1, R + 1):
+            chains = [holding(p, y, len(live) + 1) for p in range(3)]
+            self.resource(y)["first"] = [max(chain, default=0) for chain in chains]
+            self.resource(y)["count"] = [len(chain) for chain in chains]
+            self.resource(y)["live"] = [len(chain) for chain in chains]
+        self.counters = (R, len(live), B, N + 1)
+        return self.counters
+
     # ---- listings
 
     def listed(self):
-        pattern, chain, n = self.listing
-        return "place", *pattern, ["none", "s", "p", "o"][chain], n
+        pattern, chain, n, reclaims = self.listing
+        return "place", *pattern, ["none", "s", "p", "o"][chain], n, reclaims
 
     def open(self, *pattern):
         self.test_counters()
         if any(y > self.counters[0] for y in pattern):
             refuse(4)
-        self.listing = (pattern, *self.pick(pattern))
+        self.listing = (pattern, *self.pick(pattern), self.counters[3])
         return self.listed()
 
     def next(self, budget):
         self.test_counters()
-        R, T, B = self.counters
-        pattern, chain, n = self.listing
+        R, T, B, N = self.counters
+        pattern, chain, n, reclaims = self.listing
+        self.test_reclaims(reclaims)
         if any(y > R for y in pattern):
             refuse(6)
         if (pattern[chain - 1] == 0 if chain else any(pattern)) or n > T:
@@ -312,9 +344,9 @@ class Store:
             triple, flag, after = self.visit(pattern, chain, n)
             here, n = n, after
             if flag == 0 and all(w in (0, y) for w, y in zip(pattern, triple)):
-                self.listing = (pattern, chain, n)
+                self.listing = (pattern, chain, n, N)
                 return "found", here, "visits", visits, *self.listed()
-        self.listing = (pattern, chain, n)
+        self.listing = (pattern, chain, n, N)
         return "spent" if n else "ended", 0, "visits", visits, *self.listed()
 
     # ---- questions
@@ -351,8 +383,8 @@ class Store:
     # 6: each entered record before the deepest is there and matches its pattern under the earlier ones; chains and the deepest next are ones
     # that a listing would take.
     def test_place(self):
-        R, T, B = self.counters
-        how, depth, levels = self.place
+        R, T, B, N = self.counters
+        how, depth, reclaims, levels = self.place
         if how != "within" or depth == 0:
             return
         if depth > len(self.question) // 3:
@@ -374,7 +406,7 @@ class Store:
 
     # The levels that a walk starts from; 9 if a word of an entered record is out of range. Below a record struck out since, levels are left.
     def entered(self):
-        how, depth, levels = self.place
+        how, depth, reclaims, levels = self.place
         if how == "start" or depth == 0:
             return [self.pick(self.asked(0, {}))]
         levels = levels[:depth]
@@ -389,6 +421,7 @@ class Store:
     # Status, visits, what is bound, the place from now on.
     def walk(self, budget):
         self.test_question()
+        self.test_reclaims(self.place[2])
         self.test_place()
         if budget == 0:
             refuse(7)
@@ -421,13 +454,14 @@ class Store:
             return "spent", visits, {}, ("within", levels)
         return "ended", visits, {}, ("end", [])
 
-    # A reply has the place from now on, or the start beside a refusal, which leaves the place as it was.
+    # A reply has the place from now on, or the start and zeros beside a refusal, which leaves the place as it was.
     def replied(self, status, place):
         how, levels = place
-        slots = levels + [(0, 0)] * (PATTERNS - len(levels))
+        slots, reclaims = levels + [(0, 0)] * (PATTERNS - len(levels)), 0
         if status[0] != "refused":
-            self.place = (how, len(levels), slots)
-        return "place", how, len(levels), *["-spo"[chain] + str(n) for chain, n in slots]
+            reclaims = self.counters[3]
+            self.place = (how, len(levels), reclaims, slots)
+        return "place", how, len(levels), reclaims, *["-spo"[chain] + str(n) for chain, n in slots]
 
     def ask(self):
         status = ("opened",)
@@ -451,7 +485,7 @@ class Store:
     def sound(self):
         if not self.within_capacity():
             return False
-        R, T, B = self.counters
+        R, T, B, N = self.counters
         # The text is exactly R names, each closed by a zero byte.
         names = bytes(self.text[:B]).split(b"\0")
         if names.pop() != b"" or len(names) != R:
@@ -515,7 +549,7 @@ def set_up(store, verb, words, line):
     elif verb == "fill":
         store.fill(int(words[0]))
     elif verb == "counters":
-        store.counters = tuple(int(w) for w in words)
+        store.counters = tuple(int(w) for w in words) + (0,) * (4 - len(words))
     elif verb in FIELDS:
         store.change(verb, int(words[0]), words[1:], True)
     elif verb == "change":
@@ -529,13 +563,14 @@ def set_up(store, verb, words, line):
         assert at + len(data) <= store.bytes
         store.text[at : at + len(data)] = data
     elif verb == "listing":
-        store.listing = (tuple(int(w) for w in words[:3]), ["none", "s", "p", "o"].index(words[3]), int(words[4]))
+        store.listing = (tuple(int(w) for w in words[:3]), ["none", "s", "p", "o"].index(words[3]), int(words[4]), int((words + ["0"])[5]))
     elif verb == "question":
         store.question = [number(w) for w in words]
     elif verb == "place":
         assert words[0] in ("start", "within", "end")
-        levels = [("-spo".index(chain), int(n)) for chain, n in zip(words[2::2], words[3::2])]
-        store.place = (words[0], int((words + ["0"])[1]), levels + [(0, 0)] * (PATTERNS - len(levels)))
+        depth, reclaims = [int(w) for w in (words[1:3] + ["0", "0"])[:2]]
+        levels = [("-spo".index(chain), int(n)) for chain, n in zip(words[3::2], words[4::2])]
+        store.place = (words[0], depth, reclaims, levels + [(0, 0)] * (PATTERNS - len(levels)))
     else:
         raise SyntaxError(line)
 
@@ -551,6 +586,7 @@ def call(store, verb, words, rest):
         "read": store.read,
         "assert": store.do_assert,
         "retract": store.retract,
+        "reclaim": store.reclaim,
         "open": store.open,
         "next": store.next,
         "ask": store.ask,

@@ -41,6 +41,10 @@ pub fn statements(
     text: &[u8],
 ) -> State {
     let c = state::counters(s);
+    if verb == script::RECLAIM {
+        let a = compaction::reclaim(c, resources, statements, index, text);
+        return reply::reclaimed(s, a);
+    }
     let x = triple(line);
     if verb == script::ASSERT {
         let a = statement::assert(c, resources, statements, index, text, x);

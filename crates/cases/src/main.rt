@@ -1,21 +1,21 @@
-// Runs the script of `stdin` on every operation of the store (paper 01). A line is words with one space between them; a line that begins with
-// `# ` and an empty line are passed over. `reference.py` reads the same script and follows the paper with plain Python lists.
+// Runs the script of `stdin` on every operation of the store (paper 01; 02, notes 5 to 7). A line is words with one space between them; a line
+// that begins with `# ` and an empty line are passed over. `reference.py` reads the same script and follows the papers with plain Python lists.
 //
 // Lines that set something up write nothing. A set-up changes what is lent, and drops what lies past it.
 //
-// | line                        | sets                                                                                              |
-// |-----------------------------|---------------------------------------------------------------------------------------------------|
-// | lend R S I T [short K L]    | what is lent: resource and statement records (K and L words less), index words, text bytes        |
-// | fill V                      | every word and byte that is lent                                                                  |
-// | counters R T B              | the counters                                                                                      |
-// | resource Y FIELDS           | a resource record, 0 in each field that is not named                                              |
-// | statement N FIELDS          | a statement record, likewise                                                                      |
-// | change resource Y FIELDS    | the fields named, and no other; so for `change statement N FIELDS`                                |
-// | index AT V ..               | words of the index, from AT on, which counts from 0                                               |
-// | text AT BYTES               | bytes of the text, from AT on, which counts from 0; a bar stands for a zero byte                  |
-// | listing S P O CHAIN N       | the place of the listing: pattern, chain (none, s, p, o), next                                    |
-// | question W ..               | the question's words, a variable as `?` and its number                                            |
-// | place HOW [DEPTH LEVEL ..]  | the place of the question: start, within or end, the levels entered, chain (-, s, p, o) and record of each |
+// | line                                | sets                                                                                                      |
+// |-------------------------------------|-----------------------------------------------------------------------------------------------------------|
+// | lend R S I T [short K L]            | what is lent: resource and statement records (K and L words less), index words, text bytes                |
+// | fill V                              | every word and byte that is lent                                                                          |
+// | counters R T B [RECLAIMS]           | the counters                                                                                              |
+// | resource Y FIELDS                   | a resource record, 0 in each field that is not named                                                      |
+// | statement N FIELDS                  | a statement record, likewise                                                                              |
+// | change resource Y FIELDS            | the fields named, and no other; so for `change statement N FIELDS`                                        |
+// | index AT V ..                       | words of the index, from AT on, which counts from 0                                                       |
+// | text AT BYTES                       | bytes of the text, from AT on, which counts from 0; a bar stands for a zero byte                          |
+// | listing S P O CHAIN N [RECLAIMS]    | the listing's place: pattern, chain (none, s, p, o), next, the number of reclaims                         |
+// | question W ..                       | the question's words, a variable as `?` and its number                                                    |
+// | place HOW [DEPTH RECLAIMS LEVEL ..] | the question's place: start, within or end; levels; reclaims; chain (-, s, p, o) and record of each level |
 //
 // A field is `first`, `count`, `offset`, `kind`, `live` of a resource, `triple`, `next`, `flag` of a statement; a field of three words is
 // followed by three numbers, or by `subject`, `predicate` or `object` and one number. What is not told is 0.
@@ -25,12 +25,13 @@
 //
 // | call                               | writes                                                                   |
 // |------------------------------------|--------------------------------------------------------------------------|
-// | enter NAME                         | number, R, B                                                             |
+// | enter NAME                         | number, and the counters: R, T, B, the number of reclaims                |
 // | find NAME                          | number, or `absent`                                                      |
 // | name Y                             | offset and length, `part`, the part's length, and its bytes if under ten |
 // | read N                             | subject, predicate, object, flag                                         |
-// | assert S P O                       | status, number, R, T, B                                                  |
+// | assert S P O                       | status, number, the counters                                             |
 // | retract S P O                      | number, 0 if none                                                        |
+// | reclaim                            | the counters                                                             |
 // | open S P O                         | the listing's place                                                      |
 // | next BUDGET                        | status, number, visits, the listing's place                              |
 // | ask                                | status, the question's place                                             |

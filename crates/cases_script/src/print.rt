@@ -151,7 +151,7 @@ pub fn part(bytes: &[u8]) {
 
 // ---- places and solutions
 
-// The pattern, the chain, the next record.
+// The pattern, the chain, the next record, the number of reclaims.
 pub fn listing(s: State) {
     token(PLACE);
     number(state::get(s, state::LISTING));
@@ -159,6 +159,7 @@ pub fn listing(s: State) {
     number(state::get(s, state::LISTING_OBJECT));
     token(std::num::wrapping_add_u32(NONE, state::get(s, state::LISTING_CHAIN)));
     number(state::get(s, state::LISTING_NEXT));
+    number(state::get(s, state::LISTING_RECLAIMS));
 }
 
 fn progress(g: u32) -> u32 {
@@ -169,13 +170,14 @@ fn progress(g: u32) -> u32 {
     }
 }
 
-// How far, how many levels, and every level, the first pattern's first.
+// How far, how many levels, the number of reclaims, and every level, the first pattern's first.
 pub fn place(s: State) {
     token(PLACE);
     labelled(
         progress(state::get(s, state::PLACE)),
         state::get(s, state::DEPTH),
     );
+    number(state::get(s, state::PLACE_RECLAIMS));
     let mut i: usize = 0;
     while i < MAX_PATTERNS {
         let k = state::LEVELS + 2 * i;

@@ -12,6 +12,7 @@ use store::Counters;
 use store::Interned;
 use store::Lookup;
 use store::NameRead;
+use store::Reclaimed;
 use store::Retracted;
 use store::ScanCursor;
 use store::ScanOpened;
@@ -23,15 +24,22 @@ pub fn interned(s: State, a: Interned) -> State {
     match a {
         Interned::Number(n, d) => {
             print::number(n.0);
-            print::number(d.resources);
-            print::number(d.text);
-            state::with_counters(s, d)
+            counted(s, d)
         }
         Interned::Refused(e) => {
             print::refused(e);
             s
         }
     }
+}
+
+// The counters from now on.
+fn counted(s: State, d: Counters) -> State {
+    print::number(d.resources);
+    print::number(d.statements);
+    print::number(d.text);
+    print::number(d.generation);
+    state::with_counters(s, d)
 }
 
 pub fn looked_up(a: Lookup) {
@@ -88,10 +96,7 @@ pub fn asserted(s: State, a: Asserted) -> State {
 fn entered(s: State, status: u32, n: StatementId, d: Counters) -> State {
     print::token(status);
     print::number(n.0);
-    print::number(d.resources);
-    print::number(d.statements);
-    print::number(d.text);
-    state::with_counters(s, d)
+    counted(s, d)
 }
 
 pub fn retracted(a: Retracted) {
@@ -100,6 +105,16 @@ pub fn retracted(a: Retracted) {
         Retracted::Absent => print::number(0),
         Retracted::Refused(e) => {
             print::refused(e);
+        }
+    }
+}
+
+pub fn reclaimed(s: State, a: Reclaimed) -> State {
+    match a {
+        Reclaimed::Done(d) => counted(s, d),
+        Reclaimed::Refused(e) => {
+            print::refused(e);
+            s
         }
     }
 }

@@ -181,21 +181,23 @@ pub const ASSERT: u32 = 13;
 
 pub const RETRACT: u32 = 14;
 
-pub const OPEN: u32 = 15;
+pub const RECLAIM: u32 = 15;
 
-pub const NEXT: u32 = 16;
+pub const OPEN: u32 = 16;
 
-pub const ASK: u32 = 17;
+pub const NEXT: u32 = 17;
 
-pub const ANSWER: u32 = 18;
+pub const ASK: u32 = 18;
 
-pub const FIND: u32 = 19;
+pub const ANSWER: u32 = 19;
 
-pub const NAME: u32 = 20;
+pub const FIND: u32 = 20;
 
-pub const READ: u32 = 21;
+pub const NAME: u32 = 21;
 
-pub const CHECK: u32 = 22;
+pub const READ: u32 = 22;
+
+pub const CHECK: u32 = 23;
 
 // What a line does, as the number of its verb in `spelt`; after `change`, and after the name of a case, the second word says it.
 pub fn verb(line: &[u8]) -> u32 {
@@ -219,7 +221,7 @@ pub fn sort(verb: u32) -> u32 {
     }
     match verb {
         ENTER => 2,
-        ASSERT | RETRACT => 3,
+        ASSERT | RETRACT | RECLAIM => 3,
         _ => 4,
     }
 }
@@ -228,6 +230,6 @@ fn spelt(word: &[u8]) -> u32 {
     position(
         word,
         b"# lend counters listing question place fill resource statement index text change \
-          enter assert retract open next ask answer find name read check show",
+          enter assert retract reclaim open next ask answer find name read check show",
     )
 }

@@ -42,16 +42,18 @@ pub const SHORT_STATEMENTS: usize = LENT + 6;
 
 pub const LENT_WORDS: u32 = 7;
 
-// Resources, statements, text.
+// Resources, statements, text, reclaims.
 pub const COUNTERS: usize = 8;
 
 pub const COUNTER_STATEMENTS: usize = COUNTERS + 1;
 
 pub const COUNTER_TEXT: usize = COUNTERS + 2;
 
-pub const COUNTER_WORDS: u32 = 3;
+pub const COUNTER_RECLAIMS: usize = COUNTERS + 3;
 
-// Pattern, chain, next.
+pub const COUNTER_WORDS: u32 = 4;
+
+// Pattern, chain, next, reclaims.
 pub const LISTING: usize = 16;
 
 pub const LISTING_PREDICATE: usize = LISTING + 1;
@@ -62,16 +64,20 @@ pub const LISTING_CHAIN: usize = LISTING + 3;
 
 pub const LISTING_NEXT: usize = LISTING + 4;
 
-pub const LISTING_WORDS: u32 = 5;
+pub const LISTING_RECLAIMS: usize = LISTING + 5;
 
-// How far, how many levels, and of each level its chain and its record.
+pub const LISTING_WORDS: u32 = 6;
+
+// How far, how many levels, reclaims, and of each level its chain and its record.
 pub const PLACE: usize = 24;
 
 pub const DEPTH: usize = PLACE + 1;
 
-pub const LEVELS: usize = PLACE + 2;
+pub const PLACE_RECLAIMS: usize = PLACE + 2;
 
-pub const PLACE_WORDS: u32 = 2 + 2 * MAX_PATTERNS as u32;
+pub const LEVELS: usize = PLACE + 3;
+
+pub const PLACE_WORDS: u32 = 3 + 2 * MAX_PATTERNS as u32;
 
 // How many words, and the words.
 pub const QUESTION: usize = 48;
@@ -144,13 +150,15 @@ pub fn counters(s: State) -> Counters {
         resources: get(s, COUNTERS),
         statements: get(s, COUNTER_STATEMENTS),
         text: get(s, COUNTER_TEXT),
+        generation: get(s, COUNTER_RECLAIMS),
     }
 }
 
 pub fn with_counters(s: State, c: Counters) -> State {
     let s = set(s, COUNTERS, c.resources);
     let s = set(s, COUNTER_STATEMENTS, c.statements);
-    set(s, COUNTER_TEXT, c.text)
+    let s = set(s, COUNTER_TEXT, c.text);
+    set(s, COUNTER_RECLAIMS, c.generation)
 }
 
 // ---- chains: 0 for all records, 1 to 3 by subject, predicate, object
@@ -194,6 +202,7 @@ pub fn listing(s: State) -> ScanCursor {
         ),
         chain: chain_of(get(s, LISTING_CHAIN)),
         next: StatementId(get(s, LISTING_NEXT)),
+        generation: get(s, LISTING_RECLAIMS),
     }
 }
 
@@ -203,7 +212,8 @@ pub fn with_listing(s: State, q: ScanCursor) -> State {
     let s = set(s, LISTING_PREDICATE, q.pattern.predicate.0);
     let s = set(s, LISTING_OBJECT, q.pattern.object.0);
     let s = set(s, LISTING_CHAIN, chain_word(chain));
-    set(s, LISTING_NEXT, q.next.0)
+    let s = set(s, LISTING_NEXT, q.next.0);
+    set(s, LISTING_RECLAIMS, q.generation)
 }
 
 // ---- the place of the question: its first word is 4 within and 5 at the end, as the script's words `within` and `end` are
@@ -244,6 +254,7 @@ pub fn place(s: State) -> QueryCursor {
     QueryCursor {
         progress: progress_of(get(s, PLACE)),
         depth: get(s, DEPTH),
+        generation: get(s, PLACE_RECLAIMS),
         levels: levels,
     }
 }
@@ -251,7 +262,8 @@ pub fn place(s: State) -> QueryCursor {
 pub fn with_place(s: State, q: QueryCursor) -> State {
     let progress = q.progress;
     let s = set(s, PLACE, progress_word(progress));
-    let mut t = set(s, DEPTH, q.depth);
+    let s = set(s, DEPTH, q.depth);
+    let mut t = set(s, PLACE_RECLAIMS, q.generation);
     let mut i: usize = 0;
     while i < MAX_PATTERNS {
         let l = q.levels[i];

@@ -8,6 +8,7 @@ use Rattle.cases_script.proofs.print.place.Reads as reads
 use Rattle.cases_script.proofs.print.place.Lts as lts
 use Rattle.cases_script.proofs.print.labelled.Reads as labelled-reads
 use Rattle.cases_script.proofs.print.level.Reads as level-reads
+use Rattle.cases_script.proofs.print.number.Reads as number-reads
 use Rattle.cases_script.proofs.print.progress.Reads as progress-reads
 use Rattle.cases_script.proofs.print.token.Reads as token-reads
 use Rattle.cases_script.proofs.state.get.Reads as get-reads
@@ -33,6 +34,12 @@ get-requires-2 c κs = search needs
 labelled-requires : tie.Need-labelled-requires Inv-loop μ-loop
 labelled-requires c κs = search needs
 
+get-requires-3 : tie.Need-get-requires-3 Inv-loop μ-loop
+get-requires-3 c κs = search needs
+
+number-requires : tie.Need-number-requires Inv-loop μ-loop
+number-requires c κs = search needs
+
 loop-holds : tie.Need-loop-holds Inv-loop μ-loop
 loop-holds c = search needs
 
@@ -42,14 +49,14 @@ mul-k c = search needs
 add-k : tie.Need-add-k Inv-loop μ-loop
 add-k c = search needs
 
-get-requires-3 : tie.Need-get-requires-3 Inv-loop μ-loop
-get-requires-3 c κs = search needs
+get-requires-4 : tie.Need-get-requires-4 Inv-loop μ-loop
+get-requires-4 c κs = search needs
 
 add-get : tie.Need-add-get Inv-loop μ-loop
 add-get c = search needs
 
-get-requires-4 : tie.Need-get-requires-4 Inv-loop μ-loop
-get-requires-4 c κs = search needs
+get-requires-5 : tie.Need-get-requires-5 Inv-loop μ-loop
+get-requires-5 c κs = search needs
 
 level-requires : tie.Need-level-requires Inv-loop μ-loop
 level-requires c κs = search needs
@@ -77,12 +84,14 @@ place-spec =
     progress-requires
     get-requires-2
     labelled-requires
+    get-requires-3
+    number-requires
     loop-holds
     mul-k
     add-k
-    get-requires-3
-    add-get
     get-requires-4
+    add-get
+    get-requires-5
     level-requires
     add-i
     loop-less

@@ -66,6 +66,9 @@ progress-of-requires c κs = search needs
 get-requires-4 : tie.Need-get-requires-4 Inv-loop μ-loop
 get-requires-4 c κs = search needs
 
+get-requires-5 : tie.Need-get-requires-5 Inv-loop μ-loop
+get-requires-5 c κs = search needs
+
 returns : tie.Need-returns Inv-loop μ-loop
 returns c = search needs
 
@@ -91,4 +94,5 @@ place-spec =
     get-requires-3
     progress-of-requires
     get-requires-4
+    get-requires-5
     returns)

@@ -25,6 +25,9 @@ set-requires c κs = search needs
 set-requires-2 : tie.Need-set-requires-2 Inv-loop μ-loop
 set-requires-2 c κs = search needs
 
+set-requires-3 : tie.Need-set-requires-3 Inv-loop μ-loop
+set-requires-3 c κs = search needs
+
 loop-holds : tie.Need-loop-holds Inv-loop μ-loop
 loop-holds c = search needs
 
@@ -64,6 +67,7 @@ with-place-spec =
     progress-word-requires
     set-requires
     set-requires-2
+    set-requires-3
     loop-holds
     mul-l
     element-copy-out-l
