@@ -125,6 +125,7 @@ static size_t nt_len;
 static size_t do_parse(void) { return peer_parse(nt, nt_len); }
 static size_t do_load(void) { return peer_load(st, nt, nt_len); }
 static size_t do_check(void) { return (size_t)peer_check(st); }
+static size_t do_reclaim(void) { return peer_reclaim(st); }
 
 static size_t do_find(void)
 {
@@ -181,15 +182,34 @@ static double once(const char *what, size_t (*f)(void), size_t *units)
     return now() - t;
 }
 
-/* The least of several runs: twice at least, then until 40 ms are spent; a long run stands alone. */
+/* Whether there is a run after k of them: twice at least, then until 40 ms are spent; a long run stands alone. */
+static int another(int k, double spent) { return k == 0 || (!counting && k < 20 && (k < 2 || spent < 0.04) && spent < 0.2); }
+
+/* The least of several runs. */
 static double least(const char *what, size_t (*f)(void), size_t *units)
 {
-    double best = once(what, f, units), spent = best;
-    for (int k = 1; !counting && k < 20 && (k < 2 || spent < 0.04) && spent < 0.2; k++) {
+    double best = 1e9, spent = 0;
+    for (int k = 0; another(k, spent); k++) {
         double t = once(what, f, units);
         spent += t;
         if (t < best) best = t;
     }
+    return best;
+}
+
+/* The same for what changes the store: every run has a copy of its own. */
+static double least_on_copies(const char *what, size_t (*f)(void), size_t *units)
+{
+    void *kept = st;
+    double best = 1e9, spent = 0;
+    for (int k = 0; another(k, spent); k++) {
+        st = peer_copy(kept);
+        double t = once(what, f, units);
+        peer_close(st);
+        spent += t;
+        if (t < best) best = t;
+    }
+    st = kept;
     return best;
 }
 
@@ -199,6 +219,28 @@ static size_t in_use(void)
 {
     struct mallinfo2 m = mallinfo2();
     return m.uordblks + m.hblkhd;
+}
+
+/* Reclaim, with none of the statements retracted, every second one, and all. A peer with a soundness check makes it first in every reclaim:
+ * it is measured on the same store by itself. Of one without, the metric is what remains of a reclaim without the check. */
+static void reclaims(size_t statements)
+{
+    static const char *const share[] = {"none", "half", "all"};
+    int checks = peer_check(st) >= 0;
+    size_t left, sound;
+    for (size_t k = 0; k < 3; k++) {
+        char what[20];
+        if (k) peer_retract_each(st, k, 2);
+        snprintf(what, sizeof what, "%s-%s", checks ? "reclaim" : "sweep", share[k]);
+        double t = least_on_copies(what, do_reclaim, &left);
+        report(what, t, statements);
+        snprintf(what, sizeof what, "reclaim-%s", share[k]);
+        out_sum(what, left);
+        if (!checks) continue;
+        snprintf(what, sizeof what, "check-%s", share[k]);
+        t = least(what, do_check, &sound);
+        report(what, t, statements);
+    }
 }
 
 int main(int argc, char **argv)
@@ -262,6 +304,11 @@ int main(int argc, char **argv)
         t = least("check", do_check, &units);
         if (units != 1) { fprintf(stderr, "%s %s: not sound\n", peer_name, workload); return 1; }
         report("check", t, statements);
+    }
+    void *copy = peer_copy(st);
+    if (copy) {
+        peer_close(copy);
+        reclaims(statements);
     }
     peer_close(st);
     return 0;

@@ -3,10 +3,12 @@
  * Every slice is a pointer and a length in elements: the pointer is aligned, and that many elements stand there. It may not be null,
  * also where the length is 0; slices of one call must not overlap where one of them is written. All memory is the caller's: it is lent
  * for the duration of one call, nothing of it is kept or freed, and no memory is asked for. Two calls on the same tables must not run
- * at once where one of them writes tables (lt_enter, lt_assert, lt_retract); reading calls may, each with its own cursor and reply.
+ * at once where one of them writes tables (lt_enter, lt_assert, lt_retract, lt_reclaim); reading calls may, each with its own cursor
+ * and reply.
  *
  * Every store function begins with the same five slices:
- *   counters    LT_COUNTER_WORDS words: resources R, statements T, text bytes B; all 0 for a fresh store, whose tables may hold anything
+ *   counters    LT_COUNTER_WORDS words: resources R, statements T, text bytes B, reclaims so far; all 0 for a fresh store, whose tables
+ *               may hold anything
  *   resources   LT_RESOURCE_WORDS words a resource: first statement as subject, predicate, object; count as each; text offset; kind;
  *               live count as subject, predicate, object
  *   statements  LT_STATEMENT_WORDS words a statement: subject, predicate, object; next statement for each; flag, 1 if retracted
@@ -14,6 +16,10 @@
  *   text        bytes: the names, each closed by a zero byte
  * Resources and statements are numbered from 1; 0 is none. How much a store holds follows from the lengths lent: whole records (and for
  * resources index words too), up to the limits below.
+ *
+ * A retracted statement keeps its room, so that asserting it again gives it its old number, until lt_reclaim gives the room of all of
+ * them back. Cursors carry the number of reclaims of the store that they were opened on. With any other number, also at the start and at
+ * the end, they are LT_STALE_CURSOR and to be opened again.
  *
  * How many live statements have a resource at a position a screen reads straight from the table, without a walk, while no call writes it:
  * for a number from 1 to R and an `lt_position` it is word `LT_RESOURCE_WORDS * (number - 1) + LT_RESOURCE_LIVE + position` of `resources`.
@@ -40,7 +46,7 @@ extern "C" {
 
 enum lt_result {
     LT_ANSWERED = 0,
-    LT_CAPACITY = 1,           /* a counter exceeds its capacity */
+    LT_CAPACITY = 1,           /* a counter exceeds its capacity, or the reclaims LT_MAX_RECLAIMS */
     LT_MALFORMED = 2,          /* a name that is not well formed, or over LT_MAX_NAME bytes */
     LT_FULL = 3,               /* no room for one more */
     LT_UNKNOWN_NUMBER = 4,     /* a number that names nothing */
@@ -49,9 +55,11 @@ enum lt_result {
                                   or a record that lacks the bound resource or does not match its pattern */
     LT_NO_BUDGET = 7,          /* a budget of 0 */
     LT_BAD_QUERY = 8,          /* words that are no query */
-    LT_DAMAGED = 9,            /* a word that a step needs is out of range */
+    LT_DAMAGED = 9,            /* a word that a step needs is out of range; for lt_reclaim: the store is not sound */
     LT_BAD_LINE = 10,          /* bytes that are no line */
-    LT_TOO_SHORT = 100         /* a lent counters, cursor or reply slice is too short */
+    LT_STALE_CURSOR = 13,      /* a cursor whose number of reclaims is not the counters' */
+    LT_RECLAIM_LIMIT = 14,     /* a reclaim after LT_MAX_RECLAIMS of them */
+    LT_TOO_SHORT = 100         /* a lent counters, cursor or reply slice has fewer words than are named here */
 };
 
 /* The limits. Tables may be longer, the rest of them is then not used. */
@@ -60,25 +68,28 @@ enum {
     LT_MAX_STATEMENTS = 65535,
     LT_MAX_TEXT = 1048576, /* bytes of all names, a closing zero for each included */
     LT_MAX_NAME = 255,     /* bytes of one name as it is spelled, its closing zero not included */
+    LT_MAX_RECLAIMS = 65535,
     LT_MAX_PATTERNS = 8,   /* of a query, and so the levels of its cursor */
     LT_VARIABLES = 16      /* of a query: 0 to 15 */
 };
 
 /* Words of the lent counters and of one record. */
-enum { LT_COUNTER_WORDS = 3, LT_RESOURCE_WORDS = 11, LT_STATEMENT_WORDS = 7 };
+enum { LT_COUNTER_WORDS = 4, LT_RESOURCE_WORDS = 11, LT_STATEMENT_WORDS = 7 };
 
 /* Where the words of a resource's record begin. First, count and live count are three words each, in the order of `lt_position`. */
 enum { LT_RESOURCE_FIRST = 0, LT_RESOURCE_COUNT = 3, LT_RESOURCE_OFFSET = 6, LT_RESOURCE_KIND = 7, LT_RESOURCE_LIVE = 8 };
 enum lt_position { LT_SUBJECT = 0, LT_PREDICATE = 1, LT_OBJECT = 2 };
 
-/* Words of a scan's cursor: subject, predicate, object (0 for any), chain (an `lt_chain`), next statement or 0; and of a scan's reply. */
-enum { LT_CURSOR_WORDS = 5, LT_SCAN_REPLY_WORDS = 3 };
+/* Words of a scan's cursor: subject, predicate, object (0 for any), chain (an `lt_chain`), next statement or 0, reclaims; and of a scan's
+ * reply. */
+enum { LT_CURSOR_WORDS = 6, LT_SCAN_REPLY_WORDS = 3 };
 
-/* Words of a query's cursor: an `lt_place`, levels entered, then chain and record for each level, zeros past those entered; and of a
- * query's reply: an `lt_step`, visits, the resource of each variable, 0 for one that the query does not use, all 0 unless found.
- * A cursor whose first word is no `lt_place` is LT_BAD_CURSOR. LT_WITHIN with 0 levels is the start. At the start and at the end the
- * words after the first are ignored, and within those past the levels entered. */
-enum { LT_QUERY_CURSOR_WORDS = 2 + 2 * LT_MAX_PATTERNS, LT_QUERY_REPLY_WORDS = 2 + LT_VARIABLES };
+/* Words of a query's cursor: an `lt_place`, levels entered, reclaims, then chain and record for each level, zeros past those entered; and
+ * of a query's reply: an `lt_step`, visits, the resource of each variable, 0 for one that the query does not use, all 0 unless found.
+ * A cursor whose first word is no `lt_place` is LT_BAD_CURSOR. LT_WITHIN with 0 levels is the start. Of the words after the first only
+ * the reclaims count at the start and at the end, and within those past the levels entered are ignored. The start is what lt_query_open
+ * writes; zeros are the start only in a store that was never reclaimed. */
+enum { LT_QUERY_CURSOR_WORDS = 3 + 2 * LT_MAX_PATTERNS, LT_QUERY_REPLY_WORDS = 2 + LT_VARIABLES };
 
 /* Words, of 64 bits, of a line's reply. */
 enum { LT_LINE_WORDS = 8 };
@@ -91,7 +102,8 @@ enum lt_line { LT_LINE_END = 0, LT_LINE_NOTHING = 1, LT_LINE_TRIPLE = 2 };
 enum lt_asserted { LT_NEW = 1, LT_ALREADY = 2, LT_REVIVED = 3 };
 
 /* What a next call did. Found: the reply holds one. Ended: no record remains, nor for further calls. Spent: `budget` records were
- * visited without one, and a record remains. After found and spent, call again with the same cursor for what follows. */
+ * visited without one, and a record remains. After found and spent, call again with the same cursor for what follows, as long as the
+ * store is not reclaimed. */
 enum lt_step { LT_FOUND = 1, LT_ENDED = 2, LT_SPENT = 3 };
 
 /* A query is three words a pattern: subject, predicate, object, each a resource's number or LT_VARIABLE(v), v below LT_VARIABLES. */
@@ -113,6 +125,8 @@ static inline const char *lt_strerror(uint32_t result)
     case LT_BAD_QUERY: return "the words are no query";
     case LT_DAMAGED: return "the tables are damaged";
     case LT_BAD_LINE: return "the line cannot be read";
+    case LT_STALE_CURSOR: return "the cursor has another number of reclaims than the store";
+    case LT_RECLAIM_LIMIT: return "no more reclaims";
     case LT_TOO_SHORT: return "a lent slice is too short";
     default: return "not a result of the store";
     }
@@ -132,7 +146,8 @@ uint32_t lt_name_kind(const uint8_t *name, size_t name_len, uint32_t *reply, siz
  * (the line's length if it stops short), zeros. */
 uint32_t lt_read_line(const uint8_t *text, size_t text_len, size_t at, uint64_t *reply, size_t reply_len);
 
-/* Whether the store is sound: every word of it is as entering, asserting and retracting leave it. reply 1: 1 or 0. It refuses nothing. */
+/* Whether the store is sound: every word of it is as entering, asserting, retracting and reclaiming leave it. reply 1: 1 or 0. It refuses
+ * nothing. */
 uint32_t lt_check(LT_STORE, uint32_t *reply, size_t reply_len);
 
 /* Finds a name, without the string ending. LT_CAPACITY, LT_MALFORMED (by the name as it is spelled), LT_DAMAGED. reply 1: its number, or
@@ -154,9 +169,9 @@ uint32_t lt_name(LT_STORE, uint32_t number, uint32_t *reply, size_t reply_len);
 /* Reads a statement. LT_CAPACITY, LT_UNKNOWN_NUMBER, LT_DAMAGED. reply 4: subject, predicate, object, 1 if it is retracted. */
 uint32_t lt_statement(LT_STORE, uint32_t number, uint32_t *reply, size_t reply_len);
 
-/* Asserts a triple; a retracted one is revived and keeps its old number. LT_CAPACITY, LT_UNKNOWN_NUMBER, LT_DAMAGED for a kind,
- * LT_KIND_NOT_PERMITTED, LT_DAMAGED (also for a live count above its count), LT_FULL. reply 2: an `lt_asserted`, the statement's number.
- * Writes counters, resources, statements. */
+/* Asserts a triple; a retracted one is revived and keeps its old number, but after a reclaim it is new. LT_CAPACITY, LT_UNKNOWN_NUMBER,
+ * LT_DAMAGED for a kind, LT_KIND_NOT_PERMITTED, LT_DAMAGED (also for a live count above its count), LT_FULL. reply 2: an `lt_asserted`,
+ * the statement's number. Writes counters, resources, statements. */
 uint32_t lt_assert(uint32_t *counters, size_t counters_len, uint32_t *resources, size_t resources_len, uint32_t *statements,
                    size_t statements_len, const uint32_t *index, size_t index_len, const uint8_t *text, size_t text_len,
                    uint32_t subject, uint32_t predicate, uint32_t object, uint32_t *reply, size_t reply_len);
@@ -167,12 +182,19 @@ uint32_t lt_retract(const uint32_t *counters, size_t counters_len, uint32_t *res
                     size_t statements_len, const uint32_t *index, size_t index_len, const uint8_t *text, size_t text_len,
                     uint32_t subject, uint32_t predicate, uint32_t object, uint32_t *reply, size_t reply_len);
 
+/* Gives back the room of retracted statements: the live ones move down in their order and are numbered from 1, chains and counts are built
+ * anew, names stay. LT_CAPACITY, LT_RECLAIM_LIMIT after 65,535 reclaims, LT_DAMAGED if the store is not sound. Cursors from before are
+ * LT_STALE_CURSOR from now on, and statement numbers may have changed. Writes counters, resources, statements. */
+uint32_t lt_reclaim(uint32_t *counters, size_t counters_len, uint32_t *resources, size_t resources_len, uint32_t *statements,
+                    size_t statements_len, const uint32_t *index, size_t index_len, const uint8_t *text, size_t text_len);
+
 /* Opens a scan of the statements that match a pattern, 0 for any. LT_CAPACITY, LT_UNKNOWN_NUMBER, LT_DAMAGED. Writes the cursor,
  * LT_CURSOR_WORDS. */
 uint32_t lt_scan_open(LT_STORE, uint32_t subject, uint32_t predicate, uint32_t object, uint32_t *cursor, size_t cursor_len);
 
 /* Next of a scan, visiting at most `budget` records, the newest statement (that of the highest number) first. LT_CAPACITY,
- * LT_BAD_CURSOR, LT_NO_BUDGET, LT_DAMAGED. reply LT_SCAN_REPLY_WORDS: an `lt_step`, the statement or 0, visits made. Writes the cursor. */
+ * LT_STALE_CURSOR, LT_BAD_CURSOR, LT_NO_BUDGET, LT_DAMAGED. reply LT_SCAN_REPLY_WORDS: an `lt_step`, the statement or 0, visits made.
+ * Writes the cursor. */
 uint32_t lt_scan_next(LT_STORE, uint32_t *cursor, size_t cursor_len, uint32_t budget, uint32_t *reply, size_t reply_len);
 
 /* Opens a query of up to LT_MAX_PATTERNS patterns. LT_CAPACITY, LT_BAD_QUERY. Writes the cursor, LT_QUERY_CURSOR_WORDS: the start. It
@@ -180,8 +202,8 @@ uint32_t lt_scan_next(LT_STORE, uint32_t *cursor, size_t cursor_len, uint32_t bu
 uint32_t lt_query_open(LT_STORE, const uint32_t *words, size_t words_len, uint32_t *cursor, size_t cursor_len);
 
 /* Next of a query: the resources for which every pattern is a live statement, visiting at most `budget` records; the newest statement
- * of the first pattern comes first. LT_CAPACITY, LT_BAD_QUERY, LT_BAD_CURSOR, LT_NO_BUDGET, LT_DAMAGED. reply LT_QUERY_REPLY_WORDS: an
- * `lt_step`, visits made, the resource of each variable. Writes the cursor. */
+ * of the first pattern comes first. LT_CAPACITY, LT_BAD_QUERY, LT_STALE_CURSOR, LT_BAD_CURSOR, LT_NO_BUDGET, LT_DAMAGED. reply
+ * LT_QUERY_REPLY_WORDS: an `lt_step`, visits made, the resource of each variable. Writes the cursor. */
 uint32_t lt_query_next(LT_STORE, const uint32_t *words, size_t words_len, uint32_t *cursor, size_t cursor_len, uint32_t budget,
                        uint32_t *reply, size_t reply_len);
 

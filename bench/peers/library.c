@@ -158,6 +158,36 @@ int peer_check(void *st)
     return (int)sound;
 }
 
+/* What is in use of the tables; the rest of the copy holds anything. */
+void *peer_copy(void *st)
+{
+    const store *s = st;
+    store *t = peer_open();
+    memcpy(t->counters, s->counters, sizeof t->counters);
+    memcpy(t->resources, s->resources, s->counters[0] * LT_RESOURCE_WORDS * sizeof *t->resources);
+    memcpy(t->statements, s->statements, s->counters[1] * LT_STATEMENT_WORDS * sizeof *t->statements);
+    memcpy(t->index, s->index, s->counters[0] * sizeof *t->index);
+    memcpy(t->text, s->text, s->counters[2]);
+    return t;
+}
+
+void peer_retract_each(void *st, size_t n, size_t step)
+{
+    store *s = st;
+    for (; n <= s->counters[1]; n += step) {
+        const uint32_t *triple = s->statements + LT_STATEMENT_WORDS * (n - 1);
+        uint32_t number;
+        must(lt_retract(LENT(s), triple[0], triple[1], triple[2], &number, 1));
+    }
+}
+
+size_t peer_reclaim(void *st)
+{
+    store *s = st;
+    must(lt_reclaim(LENT(s)));
+    return s->counters[1];
+}
+
 /* What a caller must lend for exactly this content. */
 size_t peer_bytes(void *st)
 {

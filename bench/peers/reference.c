@@ -127,6 +127,33 @@ int peer_check(void *st)
     return -1;
 }
 
+/* What is in use of the tables; the rest of the copy holds anything. */
+void *peer_copy(void *st)
+{
+    const store *s = &((db *)st)->s;
+    db *d = peer_open();
+    store *t = &d->s;
+    memcpy(t->res + 1, s->res + 1, s->R * sizeof *t->res);
+    memcpy(t->st + 1, s->st + 1, s->T * sizeof *t->st);
+    memcpy(t->index, s->index, s->R * sizeof *t->index);
+    memcpy(t->text, s->text, s->B);
+    t->R = s->R, t->T = s->T, t->B = s->B, t->reclaims = s->reclaims;
+    return d;
+}
+
+void peer_retract_each(void *st, size_t n, size_t step)
+{
+    store *s = &((db *)st)->s;
+    for (; n <= s->T; n += step) store_retract(s, s->st[n].part);
+}
+
+size_t peer_reclaim(void *st)
+{
+    store *s = &((db *)st)->s;
+    if (!store_reclaim(s)) abort();
+    return s->T;
+}
+
 /* What a caller must lend for exactly this content. */
 size_t peer_bytes(void *st)
 {

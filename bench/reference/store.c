@@ -1,7 +1,8 @@
-/* Paper 01's tables, with the live counts of paper 02, in plain C.
+/* Paper 01's tables, with the live counts and the reclaim of paper 02, in plain C.
  *
- * By itself it tests only what an answer depends on: refusals 2, 3, 4 and 5. With -DREFUSALS it makes the tests of refusals 1, 6, 7 and 9
- * as well, by abort, so that what they cost can be told from what the language costs.
+ * By itself it tests only what an answer depends on: refusals 2, 3, 4, 5 and 14. With -DREFUSALS it makes the tests of refusals 1, 6, 7, 9
+ * and 13 as well, by abort, so that what they cost can be told from what the language costs. Reclaim's 9, which is the whole soundness
+ * check, is not among them.
  */
 #include "store.h"
 #include "nt.h"
@@ -17,7 +18,8 @@
 /* Refusal 1. */
 static inline int over(const store *s)
 {
-    return s->R > MAX_RESOURCES || s->R > s->cap_R || s->T > MAX_STATEMENTS || s->T > s->cap_T || s->B > MAX_TEXT || s->B > s->cap_B;
+    return s->R > MAX_RESOURCES || s->R > s->cap_R || s->T > MAX_STATEMENTS || s->T > s->cap_T || s->B > MAX_TEXT || s->B > s->cap_B
+        || s->reclaims > MAX_RECLAIMS;
 }
 
 /* <0, 0, >0 as the stored name is below, equal to or above the given one; neither has a zero byte inside. */
@@ -77,7 +79,7 @@ uint32_t store_enter(store *s, const char *name, uint32_t len)
 /* The chain of the bound place with least count. */
 static inline listing pick(const store *s, uint32_t a, uint32_t b, uint32_t c)
 {
-    listing l = {{a, b, c}, 3, s->T};
+    listing l = {{a, b, c}, 3, s->T, s->reclaims};
     uint32_t least = UINT32_MAX;
     for (uint32_t p = 0; p < 3; p++) {
         if (!l.part[p]) continue;
@@ -114,7 +116,7 @@ static inline int bad_place(const store *s, const listing *l)
 
 int store_next(const store *s, listing *l, uint32_t budget, uint32_t *found, uint32_t *visits)
 {
-    REFUSE(over(s) || bad_place(s, l) || budget == 0);
+    REFUSE(over(s) || l->reclaims != s->reclaims || bad_place(s, l) || budget == 0);
     uint32_t n = l->next, v = 0;
     int answer = ENDED;
     while (n) {
@@ -154,6 +156,22 @@ static inline int unknown(const store *s, const uint32_t t[3])
     return t[0] - 1 >= s->R || t[1] - 1 >= s->R || t[2] - 1 >= s->R;
 }
 
+/* The triple as the next record, live and at the head of its chains. It may stand in that record already, or in a later one. */
+static inline uint32_t append(store *s, const uint32_t t[3])
+{
+    uint32_t n = ++s->T;
+    for (int p = 0; p < 3; p++) {
+        resource *r = &s->res[t[p]];
+        s->st[n].part[p] = t[p];
+        s->st[n].next[p] = r->first[p];
+        r->first[p] = n;
+        r->count[p]++;
+        r->live[p]++;
+    }
+    s->st[n].retracted = 0;
+    return n;
+}
+
 uint32_t store_assert(store *s, const uint32_t t[3])
 {
     if (unknown(s, t)) return 0;
@@ -167,17 +185,7 @@ uint32_t store_assert(store *s, const uint32_t t[3])
         return n;
     }
     if (s->T == s->cap_T) return 0;
-    n = ++s->T;
-    for (int p = 0; p < 3; p++) {
-        resource *r = &s->res[t[p]];
-        s->st[n].part[p] = t[p];
-        s->st[n].next[p] = r->first[p];
-        r->first[p] = n;
-        r->count[p]++;
-        r->live[p]++;
-    }
-    s->st[n].retracted = 0;
-    return n;
+    return append(s, t);
 }
 
 uint32_t store_retract(store *s, const uint32_t t[3])
@@ -189,4 +197,19 @@ uint32_t store_retract(store *s, const uint32_t t[3])
     s->st[n].retracted = 1;
     for (int p = 0; p < 3; p++) s->res[t[p]].live[p]--;
     return n;
+}
+
+int store_reclaim(store *s)
+{
+    REFUSE(over(s));
+    if (s->reclaims == MAX_RECLAIMS) return 0;
+    for (uint32_t r = 1; r <= s->R; r++)
+        for (int p = 0; p < 3; p++) s->res[r].first[p] = s->res[r].count[p] = s->res[r].live[p] = 0;
+    uint32_t before = s->T;
+    s->T = 0;
+    for (uint32_t n = 1; n <= before; n++)
+        if (!s->st[n].retracted) append(s, s->st[n].part);
+    memset(s->st + s->T + 1, 0, (before - s->T) * sizeof *s->st);
+    s->reclaims++;
+    return 1;
 }

@@ -1,10 +1,11 @@
-/* A relay's live count, its contacts by name, and a question: what an embedder of the store does, in the order in which a test set does it.
+/* A relay's live count, its contacts by name, a question, and a rewired relay: what an embedder of the store does, in the order in which a
+ * test set does it.
  *
  *     contacts FILE
  *
  * reads a file of N-Triples into tables of its own, tells how many live statements relay <r:21> is the subject of, lists what it trips,
- * and asks which breakers are tripped by a relay that trips <b:4>. Refused lines are told and passed over; any other refusal ends the
- * program with status 1.
+ * and asks which breakers are tripped by a relay that trips <b:4>. Then it rewires the relay from <b:4> to <b:9>, gets the room of the
+ * retracted statement back and lists again. Refused lines are told and passed over; any other refusal ends the program with status 1.
  */
 #include <stdio.h>
 #include <stdlib.h>
@@ -98,7 +99,8 @@ static void tell_live(const char *relay)
     printf("live statements of %s: %u\n", relay, (unsigned)record[LT_RESOURCE_LIVE + LT_SUBJECT]);
 }
 
-/* Lists the objects of a relay's statements, the newest first. The cursor is plain words: it may be kept while the store changes. */
+/* Lists the objects of a relay's statements, the newest first. The cursor is plain words: it may be kept while the store changes, up to the
+ * next reclaim. */
 static void list_contacts(const char *relay, const char *trips)
 {
     uint32_t cursor[LT_CURSOR_WORDS], step[LT_SCAN_REPLY_WORDS], triple[4];
@@ -140,6 +142,18 @@ static void ask_tripped_with(const char *breaker, const char *trips)
     }
 }
 
+/* Rewires a relay from one breaker to another. The retracted statement keeps its room until the store is reclaimed, as a set does when a
+ * table is full. From then on cursors are to be opened again, and a statement's number from before names another one or none. */
+static void rewire(const char *relay, const char *trips, const char *from, const char *to)
+{
+    uint32_t number, reply[2], statements_before = counters[1];
+    must(lt_retract(STORE, number_of(relay), number_of(trips), number_of(from), &number, 1), "retracting");
+    must(lt_reclaim(STORE), "reclaiming");
+    printf("rewired from %s to %s, statements given back: %u\n", from, to, (unsigned)(statements_before - counters[1]));
+    must(lt_enter(STORE, (const uint8_t *)to, strlen(to), &number, 1), to);
+    must(lt_assert(STORE, number_of(relay), number_of(trips), number, reply, LENGTH(reply)), "asserting");
+}
+
 int main(int argc, char **argv)
 {
     static uint8_t input[1 << 16];
@@ -162,6 +176,8 @@ int main(int argc, char **argv)
     tell_live("<r:21>");
     list_contacts("<r:21>", "<p:trips>");
     ask_tripped_with("<b:4>", "<p:trips>");
+    rewire("<r:21>", "<p:trips>", "<b:4>", "<b:9>");
+    list_contacts("<r:21>", "<p:trips>");
 
     /* A store that comes from a file or a wire is checked once; one made by this library's own calls is sound. */
     must(lt_check(STORE, &sound, 1), "checking");

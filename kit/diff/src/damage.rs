@@ -1,14 +1,15 @@
 //! Damages to a store: words that are wrong by themselves, and statements and names that are wrong although every link to them is right.
 
 use crate::plain::{
-    resource_at, statement_at, Lent, COUNT, COUNTER_WORDS, FIRST, FLAG, LIVE, NEXT, OFFSET, PLACES, RESOURCE_WORDS, STATEMENT_WORDS,
+    resource_at, statement_at, Lent, COUNT, COUNTER_WORDS, FIRST, FLAG, LEVELS, LIVE, NEXT, OFFSET, PLACES, RECLAIMS,
+    RESOURCE_WORDS, STATEMENT_WORDS,
 };
 use crate::random::Random;
 
 /// Damages a store in one to three places, mostly in the words of its records.
 pub fn damage(random: &mut Random, lent: &mut Lent) {
     for _ in 0..random.from_to(1, 3) {
-        match random.below(22) {
+        match random.below(24) {
             0..=10 => word(random, lent),
             11 => index(random, lent),
             12 => text(random, lent),
@@ -16,6 +17,7 @@ pub fn damage(random: &mut Random, lent: &mut Lent) {
             15 => length(random, lent),
             16 | 17 => statement(random, lent),
             18 | 19 => live_counts(random, lent),
+            20 | 21 => lent.counters[RECLAIMS] = random.late_reclaims(),
             _ => name(random, lent),
         }
     }
@@ -171,9 +173,8 @@ fn name(random: &mut Random, lent: &mut Lent) {
 
 /// Strikes out or damages records that a question's cursor has entered: flags, and the nexts on their chains.
 pub fn entered_records(random: &mut Random, lent: &mut Lent, cursor: &[u32]) {
-    for level in
-        cursor.get(2..).unwrap_or(&[]).chunks_exact(2).take(cursor.get(1).map_or(0, |levels| levels.saturating_sub(1)) as usize)
-    {
+    let entered = cursor.get(1).map_or(0, |levels| levels.saturating_sub(1)) as usize;
+    for level in cursor.get(LEVELS..).unwrap_or(&[]).chunks_exact(2).take(entered) {
         let (chain, n) = (level[0] as usize, level[1] as usize);
         if n == 0 || n > lent.statements.len() / STATEMENT_WORDS || random.one_in(2) {
             continue;

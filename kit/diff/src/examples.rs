@@ -3,8 +3,8 @@
 
 use crate::names::{kind_of, read_line, Line};
 use crate::plain::{
-    resource_at, statement_at, Call, Expected, Lent, COUNTER_WORDS, FLAG, KIND, LIVE, MAX_PATTERNS, NEXT, PLACES, RESOURCE_WORDS,
-    STATEMENT_WORDS, VARIABLES,
+    resource_at, statement_at, Call, Expected, Lent, COUNTER_WORDS, FLAG, KIND, LIVE, MAX_PATTERNS, MAX_RECLAIMS, NEXT, PLACES,
+    QUERY_CURSOR_WORDS, QUERY_RECLAIMS, RECLAIMS, RESOURCE_WORDS, SCAN_CHAIN, SCAN_RECLAIMS, STATEMENT_WORDS, VARIABLES,
 };
 use crate::random::Random;
 
@@ -97,12 +97,12 @@ fn run_out_chains() {
     let mut lent = store(&["<a>", "<b>", "<c>", "<d>"], &[[1, 2, 3], [1, 2, 4], [3, 2, 4]]);
     assert_eq!(call(&mut lent, Call::QueryOpen { words: words.clone() }).0, 0);
     assert_eq!(call(&mut lent, Call::QueryNext { words: words.clone(), budget: 1 }).1[..2], [3, 1]);
-    assert_eq!(lent.cursor[..7], [1, 2, 2, 3, 1, 0, 0]);
+    assert_eq!(lent.cursor[..8], [1, 2, 0, 2, 3, 1, 0, 0]);
 
     let mut lent = store(&["<a>", "<b>", "<c>", "<d>"], &[[1, 2, 4]]);
     assert_eq!(call(&mut lent, Call::QueryOpen { words: words.clone() }).0, 0);
     assert_eq!(call(&mut lent, Call::QueryNext { words, budget: 1 }).1[..2], [2, 1]);
-    assert_eq!(lent.cursor[..3], [2, 0, 0]);
+    assert_eq!(lent.cursor[..4], [2, 0, 0, 0]);
 }
 
 /// Decision 58: the level whose record was struck out is left for its chain's next, without a visit.
@@ -111,7 +111,7 @@ fn struck_out_since() {
     let words = vec![V, 2, V + 1, V + 1, 2, V + 2];
     let mut lent = store(&["<a>", "<b>", "<c>", "<d>"], &[[1, 2, 3], [2, 2, 1], [3, 2, 4]]);
     assert_eq!(call(&mut lent, Call::Retract { triple: [1, 2, 3] }), (0, vec![1]));
-    lent.cursor = [&[1, 2, 2, 1, 1, 3][..], &[0; 2 * (MAX_PATTERNS - 2)]].concat();
+    lent.cursor = [&[1, 2, 0, 2, 1, 1, 3][..], &[0; 2 * (MAX_PATTERNS - 2)]].concat();
     assert_eq!(call(&mut lent, Call::QueryNext { words, budget: 5 }).1[..2], [2, 0]);
 }
 
@@ -236,7 +236,7 @@ fn one_label_two_spellings() {
         let mut lent = fresh(4);
         assert_eq!(find(&mut lent, order[0]), (0, vec![0]));
         assert_eq!(enter(&mut lent, order[0]), (0, vec![1]));
-        assert_eq!((&lent.counters[..], &lent.text[..]), (&[1, 0, 4][..], &b"\"A\"\0"[..]));
+        assert_eq!((&lent.counters[..], &lent.text[..]), (&[1, 0, 4, 0][..], &b"\"A\"\0"[..]));
         assert_eq!((&lent.resources[..RESOURCE_WORDS], lent.index[0]), (&literal_record()[..], 1));
         for name in order {
             assert_eq!(find(&mut lent, name), (0, vec![1]));
@@ -249,7 +249,7 @@ fn one_label_two_spellings() {
     let mut lent = fresh(3);
     assert_eq!(enter(&mut lent, &spelled).0, 3);
     assert_eq!(enter(&mut lent, &format!("\"\"{ENDING}")), (0, vec![1]));
-    assert_eq!((&lent.counters[..], &lent.text[..]), (&[1, 0, 3][..], &b"\"\"\0"[..]));
+    assert_eq!((&lent.counters[..], &lent.text[..]), (&[1, 0, 3, 0][..], &b"\"\"\0"[..]));
     assert_eq!(find(&mut lent, "\"\""), (0, vec![1]));
 }
 
@@ -263,13 +263,13 @@ fn an_ending_within_255_bytes() {
     assert_eq!(find(&mut lent, &beyond).0, 2);
     assert_eq!(enter(&mut lent, &beyond).0, 2);
     assert_eq!(enter(&mut lent, &longest), (0, vec![1]));
-    assert_eq!(lent.counters, [1, 0, 213]);
+    assert_eq!(lent.counters, [1, 0, 213, 0]);
     assert_eq!(find(&mut lent, &format!("\"{}\"", "A".repeat(210))), (0, vec![1]));
     let mut lent = fresh(212);
     assert_eq!(enter(&mut lent, &longest).0, 3);
     let mut lent = fresh(214);
     assert_eq!(enter(&mut lent, &format!("\"{}\"", "A".repeat(211))), (0, vec![1]));
-    assert_eq!(lent.counters, [1, 0, 214]);
+    assert_eq!(lent.counters, [1, 0, 214, 0]);
     assert_eq!([find(&mut lent, &beyond).0, enter(&mut lent, &beyond).0], [2, 2]);
 }
 
@@ -288,7 +288,7 @@ fn no_string_ending() {
         assert_eq!(enter(&mut lent, "\"A\""), (0, vec![1]));
         assert_eq!(find(&mut lent, name), (0, vec![0]), "{name}");
         assert_eq!(enter(&mut lent, name), (0, vec![2]), "{name}");
-        assert_eq!(lent.counters, [2, 0, 4 + *length as u32 + 1], "{name}");
+        assert_eq!(lent.counters, [2, 0, 4 + *length as u32 + 1, 0], "{name}");
         assert_eq!(&lent.text[4..4 + length], name.as_bytes());
         assert_eq!(find(&mut lent, &format!("\"A\"{ENDING}")), (0, vec![1]), "{name}");
         assert_eq!(call(&mut lent, Call::Check), (0, vec![1]), "{name}");
@@ -337,7 +337,7 @@ fn lines_with_the_ending() {
 /// One literal as the text has it, and room for so many bytes more.
 fn holding(name: &str, room: usize) -> Lent {
     let mut lent = fresh(name.len() + 1 + room);
-    lent.counters = vec![1, 0, name.len() as u32 + 1];
+    lent.counters = vec![1, 0, name.len() as u32 + 1, 0];
     lent.resources[..RESOURCE_WORDS].copy_from_slice(&literal_record());
     lent.index[0] = 1;
     lent.text[..name.len()].copy_from_slice(name.as_bytes());
@@ -384,7 +384,7 @@ fn a_table_with_the_ending() {
         before.reply = vec![9];
         let mut after = before.clone();
         after.reply = vec![answer];
-        after.counters = vec![if answer == 2 { 2 } else { 1 }, 0, text_bytes];
+        after.counters = vec![if answer == 2 { 2 } else { 1 }, 0, text_bytes, 0];
         assert_eq!(asked.bounds_kept(&before, result, &after).is_ok(), kept, "{room} {result} {answer} {text_bytes}");
     }
 }
@@ -556,6 +556,286 @@ fn revived_past_its_count() {
     assert_eq!(live(&lent, 1), [[2, 2, 2]]);
     damaged(&mut lent, Call::Assert { triple });
     damaged(&mut lent, Call::Retract { triple });
+}
+
+/// Six statements of the bay, numbers 1, 3 and 6 retracted.
+fn rewired() -> Lent {
+    let mut lent =
+        store(&["<r:21>", "<p:trips>", "<b:4>", "<b:7>"], &[[1, 2, 3], [1, 2, 4], [3, 2, 1], [1, 2, 1], [4, 2, 3], [4, 2, 4]]);
+    for (triple, n) in [([1, 2, 3], 1), ([3, 2, 1], 3), ([4, 2, 4], 6)] {
+        assert_eq!(call(&mut lent, Call::Retract { triple }), (0, vec![n]));
+    }
+    lent
+}
+
+/// Paper 02, getting room back: the live statements in their order and numbered from 1, chains and counts anew, zeros in the words given
+/// up. Names, and the words past the records and past the resources, are as they were.
+#[test]
+fn room_back() {
+    let mut lent = rewired();
+    lent.resources.extend([7; RESOURCE_WORDS]);
+    lent.statements.extend([7; STATEMENT_WORDS]);
+    let before = lent.clone();
+    assert_eq!(call(&mut lent, Call::Reclaim), (0, vec![]));
+    assert_eq!(lent.counters, [4, 3, before.counters[2], 1]);
+    assert_eq!((&lent.index, &lent.text), (&before.index, &before.text));
+    let [first, second, third] = [[1, 2, 4, 0, 0, 0, 0], [1, 2, 1, 1, 1, 0, 0], [4, 2, 3, 0, 2, 0, 0]];
+    assert_eq!(lent.statements[..3 * STATEMENT_WORDS], [first, second, third].concat());
+    assert_eq!(lent.statements[3 * STATEMENT_WORDS..6 * STATEMENT_WORDS], [0; 3 * STATEMENT_WORDS]);
+    assert_eq!(lent.statements[6 * STATEMENT_WORDS..], [7; STATEMENT_WORDS]);
+    let resource = |n: u32| &lent.resources[resource_at(n)..][..RESOURCE_WORDS];
+    assert_eq!(resource(1), [2, 0, 2, 2, 0, 1, 0, 1, 2, 0, 1]);
+    assert_eq!(resource(2), [0, 3, 0, 0, 3, 0, 7, 1, 0, 3, 0]);
+    assert_eq!(resource(3), [0, 0, 3, 0, 0, 1, 17, 1, 0, 0, 1]);
+    assert_eq!(resource(4), [3, 0, 1, 1, 0, 1, 23, 1, 1, 0, 1]);
+    assert_eq!(lent.resources[4 * RESOURCE_WORDS..], before.resources[4 * RESOURCE_WORDS..]);
+    assert_eq!(call(&mut lent, Call::Check), (0, vec![1]));
+    assert_eq!(listed(&mut lent, [0, 2, 0]), (vec![3, 2, 1], 3));
+    assert_eq!(listed(&mut lent, [0, 0, 3]), (vec![3], 1));
+
+    // Nothing to drop: the number alone rises.
+    let mut again = lent.clone();
+    assert_eq!(call(&mut again, Call::Reclaim), (0, vec![]));
+    assert_eq!(again.counters, [4, 3, before.counters[2], 2]);
+    assert_eq!((&again.resources, &again.statements), (&lent.resources, &lent.statements));
+
+    // All retracted: no statement, every chain empty, names as they were.
+    for triple in [[1, 2, 4], [1, 2, 1], [4, 2, 3]] {
+        call(&mut lent, Call::Retract { triple });
+    }
+    assert_eq!(call(&mut lent, Call::Reclaim), (0, vec![]));
+    assert_eq!(lent.counters, [4, 0, before.counters[2], 2]);
+    assert_eq!(lent.statements[..6 * STATEMENT_WORDS], [0; 6 * STATEMENT_WORDS]);
+    assert!((1..=4).all(|n| lent.resources[resource_at(n)..][..6] == [0; 6]));
+    assert_eq!(live(&lent, 4), [[0; 3]; 4]);
+    assert_eq!(call(&mut lent, Call::Check), (0, vec![1]));
+    assert_eq!(find(&mut lent, "<b:7>"), (0, vec![4]));
+}
+
+/// Paper 02, getting room back: refused 3 and made again right after the next reclaim, an assert is new exactly if a record was dropped; a
+/// triple that was struck out is new.
+#[test]
+fn new_once_reclaimed() {
+    let absent = Call::Assert { triple: [4, 2, 1] };
+    let mut lent = rewired();
+    assert_eq!(call(&mut lent, absent.clone()).0, 3);
+    assert_eq!(call(&mut lent, Call::Reclaim).0, 0);
+    assert_eq!(call(&mut lent, absent.clone()), (0, vec![1, 4]));
+    assert_eq!(call(&mut lent, Call::Assert { triple: [1, 2, 3] }), (0, vec![1, 5]));
+    assert_eq!(call(&mut lent, Call::Assert { triple: [1, 2, 4] }), (0, vec![2, 1]));
+    assert_eq!(call(&mut lent, Call::Assert { triple: [4, 2, 4] }), (0, vec![1, 6]));
+    assert_eq!(call(&mut lent, Call::Check), (0, vec![1]));
+
+    let absent = Call::Assert { triple: [3, 2, 4] };
+    assert_eq!(call(&mut lent, absent.clone()).0, 3);
+    assert_eq!(call(&mut lent, Call::Reclaim).0, 0);
+    assert_eq!(call(&mut lent, absent.clone()).0, 3);
+    // A name that has no room is not helped.
+    let mut lent = rewired();
+    assert_eq!((enter(&mut lent, "<c>").1, enter(&mut lent, "<d>").1, enter(&mut lent, "<e>").0), (vec![5], vec![6], 3));
+    assert_eq!(call(&mut lent, Call::Reclaim).0, 0);
+    assert_eq!(enter(&mut lent, "<e>").0, 3);
+}
+
+/// Paper 02, getting room back: a plain list read alongside forgets its struck-out entries at the same moment.
+#[test]
+fn a_list_read_alongside() {
+    let mut random = Random::new(2);
+    let mut dropped = 0;
+    for _ in 0..300 {
+        let mut lent = store(&["<a>", "<b>", "<c>"], &[]);
+        let mut list: Vec<([u32; 3], bool)> = vec![];
+        for _ in 0..60 {
+            let triple = [0; 3].map(|_| random.from_to(1, 3) as u32);
+            let at = list.iter().position(|entry| entry.0 == triple);
+            match (random.below(12), at) {
+                (0, _) => {
+                    dropped += list.iter().filter(|entry| !entry.1).count();
+                    list.retain(|entry| entry.1);
+                    assert_eq!(call(&mut lent, Call::Reclaim), (0, vec![]));
+                }
+                (1..=5, _) => {
+                    let live = at.filter(|&at| list[at].1);
+                    live.into_iter().for_each(|at| list[at].1 = false);
+                    assert_eq!(call(&mut lent, Call::Retract { triple }), (0, vec![live.map_or(0, |at| at as u32 + 1)]));
+                }
+                (_, Some(at)) => {
+                    let status = if list[at].1 { 2 } else { 3 };
+                    list[at].1 = true;
+                    assert_eq!(call(&mut lent, Call::Assert { triple }), (0, vec![status, at as u32 + 1]));
+                }
+                (_, None) if list.len() == 6 => assert_eq!(call(&mut lent, Call::Assert { triple }).0, 3),
+                _ => {
+                    list.push((triple, true));
+                    assert_eq!(call(&mut lent, Call::Assert { triple }), (0, vec![1, list.len() as u32]));
+                }
+            }
+            let held: Vec<([u32; 3], bool)> = (1..=lent.t()).map(|n| (lent.triple(n), lent.flag(n) == 0)).collect();
+            assert_eq!((held, call(&mut lent, Call::Check)), (list.clone(), (0, vec![1])));
+        }
+    }
+    assert!(dropped > 500, "{dropped}");
+}
+
+/// Paper 02, getting room back: the order is 1, 14, 9, and a refusal writes nothing.
+#[test]
+fn reclaim_refused() {
+    let cases = [
+        (0, true, 0),
+        (0, false, 9),
+        (MAX_RECLAIMS - 1, true, 0),
+        (MAX_RECLAIMS - 1, false, 9),
+        (MAX_RECLAIMS, true, 14),
+        (MAX_RECLAIMS, false, 14),
+        (MAX_RECLAIMS + 1, true, 1),
+        (MAX_RECLAIMS + 1, false, 1),
+        (u32::MAX, true, 1),
+    ];
+    for (number, sound, result) in cases {
+        // A live count, a flag, a next, a name, the index: each is enough.
+        for way in 0..if sound { 1 } else { 5 } {
+            let mut lent = rewired();
+            lent.counters[RECLAIMS] = number;
+            match way {
+                _ if sound => {}
+                0 => set_live(&mut lent, 3, 0, 1),
+                1 => lent.statements[statement_at(6) + FLAG] = 2,
+                2 => lent.statements[statement_at(6) + NEXT] = 0,
+                3 => lent.text[1] = b'>',
+                _ => lent.index.swap(0, 1),
+            }
+            let before = lent.clone();
+            assert_eq!(call(&mut lent, Call::Check).1, [(sound && number <= MAX_RECLAIMS) as u32], "{number} {way}");
+            assert_eq!(call(&mut lent, Call::Reclaim), (result, vec![]), "{number} {way}");
+            if result != 0 {
+                lent.reply = before.reply.clone();
+                assert_eq!(lent, before);
+            } else {
+                assert_eq!((lent.t(), lent.reclaims()), (3, number + 1));
+            }
+        }
+    }
+    // A counter that exceeds its capacity comes first.
+    let mut lent = rewired();
+    lent.counters[RECLAIMS] = MAX_RECLAIMS;
+    lent.counters[1] = 7;
+    assert_eq!(call(&mut lent, Call::Reclaim).0, 1);
+}
+
+/// Paper 02, getting room back: a number of reclaims above 65,535 is 1 in every operation, and 65,535 in none but a reclaim.
+#[test]
+fn too_many_reclaims() {
+    let name = || b"<b:4>".to_vec();
+    let triple = [1, 2, 3];
+    for (number, refused) in [(MAX_RECLAIMS, false), (MAX_RECLAIMS + 1, true), (u32::MAX, true)] {
+        let mut lent = bay();
+        lent.counters[RECLAIMS] = number;
+        lent.cursor = vec![0, 0, 0, 0, 2, number];
+        let next = call(&mut lent, Call::ScanNext { budget: 1 }).0;
+        lent.cursor = [&[0, 0, number][..], &[0; 2 * MAX_PATTERNS]].concat();
+        let query_next = call(&mut lent, Call::QueryNext { words: vec![], budget: 1 }).0;
+        assert_eq!([next, query_next], [refused as u32; 2]);
+        let all = [
+            Call::Find { name: name() },
+            Call::Enter { name: name() },
+            Call::Name { number: 1 },
+            Call::Statement { number: 1 },
+            Call::Assert { triple },
+            Call::Retract { triple },
+            Call::ScanOpen { pattern: triple },
+            Call::QueryOpen { words: vec![] },
+        ];
+        for asked in all {
+            assert_eq!(call(&mut lent, asked.clone()).0, refused as u32, "{asked:?}");
+        }
+        assert_eq!(call(&mut lent, Call::Check), (0, vec![!refused as u32]));
+    }
+}
+
+/// Paper 02, getting room back, and what DECISIONS reads in it: a listing's place with another number is 13 after 1 and before 6 and 7,
+/// also one that has ended, and one whose chain is none.
+#[test]
+fn listings_left_open() {
+    let mut lent = bay();
+    assert_eq!(call(&mut lent, Call::ScanOpen { pattern: [1, 0, 0] }).0, 0);
+    assert_eq!(lent.cursor, [1, 0, 0, 1, 2, 0]);
+    let opened = lent.cursor.clone();
+    assert_eq!(call(&mut lent, Call::Reclaim).0, 0);
+    let refusal = |lent: &Lent, change: &dyn Fn(&mut Vec<u32>), budget: u32| {
+        let mut lent = lent.clone();
+        lent.cursor = opened.clone();
+        change(&mut lent.cursor);
+        let kept = lent.cursor.clone();
+        let answer = call(&mut lent, Call::ScanNext { budget });
+        assert!(answer.0 == 0 || answer.1 == [0; 3] && lent.cursor == kept);
+        answer.0
+    };
+    for budget in [0, 1] {
+        assert_eq!(refusal(&lent, &|_| (), budget), 13);
+        assert_eq!(refusal(&lent, &|cursor| cursor[SCAN_CHAIN + 1] = 0, budget), 13);
+        assert_eq!(refusal(&lent, &|cursor| cursor[SCAN_CHAIN] = 4, budget), 13);
+        assert_eq!(refusal(&lent, &|cursor| cursor[0] = 9, budget), 13);
+        for number in [2, MAX_RECLAIMS, MAX_RECLAIMS + 2, 1 + (1 << 16), u32::MAX] {
+            assert_eq!(refusal(&lent, &|cursor| cursor[SCAN_RECLAIMS] = number, budget), 13);
+        }
+    }
+    assert_eq!(refusal(&lent, &|cursor| cursor[SCAN_RECLAIMS] = 1, 1), 0);
+    assert_eq!(refusal(&lent, &|cursor| cursor[SCAN_RECLAIMS] = 1, 0), 7);
+    assert_eq!(refusal(&lent, &|cursor| cursor[3..].copy_from_slice(&[4, 2, 1]), 0), 6);
+    let mut over = lent.clone();
+    over.counters[1] = 7;
+    assert_eq!(refusal(&over, &|_| (), 0), 1);
+    // Opened again it goes on.
+    assert_eq!(call(&mut lent, Call::ScanOpen { pattern: [1, 0, 0] }).0, 0);
+    assert_eq!(lent.cursor, [1, 0, 0, 1, 2, 1]);
+    assert_eq!(call(&mut lent, Call::ScanNext { budget: 1 }), (0, vec![1, 2, 1]));
+    assert_eq!(lent.cursor, [1, 0, 0, 1, 1, 1]);
+}
+
+/// The same of a question: 13 after 8, at the start and at the end too, and where the first word or a chain is none. Zeros are the start
+/// in a store that was never reclaimed.
+#[test]
+fn questions_left_open() {
+    let words = vec![V, 2, V + 1];
+    let mut lent = bay();
+    assert_eq!(call(&mut lent, Call::QueryOpen { words: words.clone() }).0, 0);
+    assert_eq!(lent.cursor, [0; QUERY_CURSOR_WORDS]);
+    assert_eq!(call(&mut lent, Call::QueryNext { words: words.clone(), budget: 1 }).1[..4], [1, 1, 1, 4]);
+    let within = lent.cursor.clone();
+    assert_eq!(within[..6], [1, 1, 0, 2, 1, 0]);
+    assert_eq!(call(&mut lent, Call::Reclaim).0, 0);
+
+    let zeros = vec![0; QUERY_CURSOR_WORDS];
+    let with = |changes: &[(usize, u32)]| {
+        let mut cursor = within.clone();
+        changes.iter().for_each(|&(word, value)| cursor[word] = value);
+        cursor
+    };
+    let stale =
+        [zeros, within.clone(), with(&[(0, 2)]), with(&[(0, 3)]), with(&[(3, 4)]), with(&[(1, 9)]), with(&[(QUERY_RECLAIMS, 2)])];
+    for cursor in stale {
+        for budget in [0, 1] {
+            lent.cursor = cursor.clone();
+            assert_eq!(call(&mut lent, Call::QueryNext { words: words.clone(), budget }).0, 13, "{cursor:?}");
+            assert_eq!(lent.cursor, cursor);
+            assert_eq!(call(&mut lent, Call::QueryNext { words: vec![V], budget }).0, 8);
+            let t = std::mem::replace(&mut lent.counters[1], 7);
+            assert_eq!(call(&mut lent, Call::QueryNext { words: vec![V], budget }).0, 1);
+            lent.counters[1] = t;
+        }
+    }
+    // With its number the place is as before.
+    for (changes, budget, result) in [(&[][..], 1, 0), (&[], 0, 7), (&[(0, 3)], 0, 6), (&[(3, 4)], 0, 6), (&[(1, 9)], 0, 6)] {
+        lent.cursor = with(&[changes, &[(QUERY_RECLAIMS, 1)]].concat());
+        assert_eq!(call(&mut lent, Call::QueryNext { words: words.clone(), budget }).0, result, "{changes:?}");
+    }
+    assert_eq!(call(&mut lent, Call::QueryOpen { words: words.clone() }).0, 0);
+    assert_eq!(lent.cursor[..4], [0, 0, 1, 0]);
+    for (status, second) in [(1, 4), (1, 3), (2, 0), (2, 0)] {
+        let (result, reply) = call(&mut lent, Call::QueryNext { words: words.clone(), budget: 9 });
+        assert_eq!((result, reply[0], reply[3]), (0, status, second));
+    }
+    assert_eq!(lent.cursor[..4], [2, 0, 1, 0]);
 }
 
 /// Every choice of one live statement a pattern, the first pattern's deciding first, higher numbers first, that gives each variable one

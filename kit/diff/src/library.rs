@@ -79,6 +79,7 @@ pub fn make(call: &Call, lent: &Lent) -> Result<(u32, Lent), String> {
             Call::Statement { number } => store!(lt_statement, *number, out, out_len),
             Call::Assert { triple: [a, b, o] } => store!(lt_assert, *a, *b, *o, out, out_len),
             Call::Retract { triple: [a, b, o] } => store!(lt_retract, *a, *b, *o, out, out_len),
+            Call::Reclaim => store!(lt_reclaim),
             Call::ScanOpen { pattern: [a, b, o] } => store!(lt_scan_open, *a, *b, *o, at, at_len),
             Call::ScanNext { budget } => store!(lt_scan_next, at, at_len, *budget, out, out_len),
             Call::QueryOpen { .. } => store!(lt_query_open, words, words_len, at, at_len),

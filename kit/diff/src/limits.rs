@@ -1,11 +1,13 @@
-//! The limits of 65,535 records and 1,048,576 bytes of text: every function at them and one beyond, on tables that have room for more
-//! and hold what would be sound there, so that a limit that is not kept shows in the answer. And the room for a literal with the string
-//! ending, which is that for what is left of it; the live count of a chain of all statements; and resource tables about each whole record.
+//! The limits of 65,535 records, 1,048,576 bytes of text and 65,535 reclaims: every function at them and one beyond, on tables that have
+//! room for more and hold what would be sound there, so that a limit that is not kept shows in the answer. And the room for a literal with
+//! the string ending, which is that for what is left of it; the live count of a chain of all statements; and resource tables about each
+//! whole record.
 
 use crate::names::{MAX_NAME, STRING_ENDING};
 use crate::plain::{
-    resource_at, statement_at, Call, Lent, COUNT, COUNTER_WORDS, FIRST, FIRST_VARIABLE, FLAG, LIVE, LONGEST_REPLY, MAX_RECORDS,
-    MAX_TEXT, NEXT, OFFSET, QUERY_CURSOR_WORDS, RESOURCE_WORDS, SCAN_CURSOR_WORDS, STATEMENT_WORDS,
+    resource_at, statement_at, Call, Lent, COUNT, COUNTER_WORDS, FIRST, FIRST_VARIABLE, FLAG, LIVE, LONGEST_REPLY, MAX_RECLAIMS,
+    MAX_RECORDS, MAX_TEXT, NEXT, OFFSET, QUERY_CURSOR_WORDS, RECLAIMS, RESOURCE_WORDS, SCAN_CURSOR_WORDS, SCAN_NEXT,
+    STATEMENT_WORDS, WITHIN,
 };
 use crate::{Difference, Run};
 
@@ -48,7 +50,7 @@ fn store(lengths: &[usize], statements: u32) -> Lent {
         lent.text.extend_from_slice(name);
         lent.text.push(0);
     }
-    lent.counters.copy_from_slice(&[resources, statements, lent.text.len() as u32]);
+    lent.counters.copy_from_slice(&[resources, statements, lent.text.len() as u32, 0]);
     lent.text.resize(lent.text.len() + 300, 0);
     names.sort();
     names.iter().enumerate().for_each(|(k, (_, n))| lent.index[k] = *n);
@@ -89,10 +91,27 @@ impl Run {
         let mut beyond = long(all_text - 1);
         beyond.extend([127, 128]);
         self.every_function(store(&beyond, 300), LONG)?;
+        self.reclaims()?;
         self.window()?;
         self.endings()?;
         self.live_counts()?;
         self.resource_words()
+    }
+
+    /// The number of reclaims: one below the limit, at it, above it, and the highest; then the first two on tables that are not sound.
+    fn reclaims(&mut self) -> Result<(), Difference> {
+        for number in [MAX_RECLAIMS - 1, MAX_RECLAIMS, MAX_RECLAIMS + 1, u32::MAX] {
+            let mut lent = store(&[SHORT; 300], 300);
+            lent.counters[RECLAIMS] = number;
+            self.every_function(lent, SHORT)?;
+        }
+        for number in [MAX_RECLAIMS - 1, MAX_RECLAIMS] {
+            let lent = &mut store(&[SHORT; 300], 300);
+            lent.counters[RECLAIMS] = number;
+            lent.statements[statement_at(7) + FLAG] = 1;
+            self.compare(&Call::Reclaim, lent)?;
+        }
+        Ok(())
     }
 
     /// Labels with the string ending, where what is left of them, three bytes or as many as may be, lacks a byte of room, then just fits:
@@ -128,7 +147,8 @@ impl Run {
         for name in names {
             self.compare(&Call::Find { name: name.clone() }, lent)?;
         }
-        self.compare(&Call::Check, lent)
+        self.compare(&Call::Check, lent)?;
+        Ok(())
     }
 
     /// The live count of the predicate, which all statements have: about its count, 0 and 1, and the highest. Statements 1 and 6 are
@@ -147,7 +167,7 @@ impl Run {
             self.compare(&Call::Check, lent)?;
             self.compare(&Call::ScanOpen { pattern: [0, PREDICATE, 0] }, lent)?;
             self.compare(&Call::ScanNext { budget: u32::MAX }, lent)?;
-            lent.cursor[SCAN_CURSOR_WORDS - 1] = 6;
+            lent.cursor[SCAN_NEXT] = 6;
             self.compare(&Call::ScanNext { budget: 1 }, lent)?;
             // Of the two that are revived the second may bring it past its count; all after that is then refused.
             for call in [assert(2), retract(1), retract(2), absent(r), assert(1), assert(6), assert(3), retract(3), absent(r - 1)] {
@@ -187,10 +207,11 @@ impl Run {
         Ok(())
     }
 
-    /// Every function that takes tables, on numbers from the first to beyond the last; then those that fill the store up.
+    /// Every function that takes tables, on numbers from the first to beyond the last; then those that fill the store up, and those that
+    /// get room back.
     fn every_function(&mut self, mut lent: Lent, length: usize) -> Result<(), Difference> {
         let lent = &mut lent;
-        let [r, t] = [lent.r(), lent.t()];
+        let [r, t, reclaims] = [lent.r(), lent.t(), lent.reclaims()];
         self.compare(&Call::Check, lent)?;
         for name in [named(1, length), named(r, SHORT), named(0, length)] {
             self.compare(&Call::Find { name }, lent)?;
@@ -209,11 +230,11 @@ impl Run {
         let first = |place: usize, number: u32| lent.resources[resource_at(number) + FIRST + place];
         let [by_subject, by_predicate, by_object] = [first(0, subject), first(1, predicate), first(2, object)];
         let cursors = [
-            [0, 0, 0, 0, t],
-            [subject, 0, 0, 1, by_subject],
-            [0, predicate, 0, 2, by_predicate],
-            [0, 0, object, 3, by_object],
-            [subject, predicate, 7, 1, by_subject],
+            [0, 0, 0, 0, t, reclaims],
+            [subject, 0, 0, 1, by_subject, reclaims],
+            [0, predicate, 0, 2, by_predicate, reclaims],
+            [0, 0, object, 3, by_object, reclaims],
+            [subject, predicate, 7, 1, by_subject, reclaims],
         ];
         for cursor in cursors {
             lent.cursor[..SCAN_CURSOR_WORDS].copy_from_slice(&cursor);
@@ -223,7 +244,7 @@ impl Run {
             }
         }
         // An object that no statement has: the whole of the long chain is visited.
-        lent.cursor[..SCAN_CURSOR_WORDS].copy_from_slice(&[0, predicate, r - 1, 2, by_predicate]);
+        lent.cursor[..SCAN_CURSOR_WORDS].copy_from_slice(&[0, predicate, r - 1, 2, by_predicate, reclaims]);
         self.compare(&Call::ScanNext { budget: u32::MAX }, lent)?;
 
         // Two objects of one subject; the cursor is the start, then goes on within.
@@ -234,8 +255,8 @@ impl Run {
         for budget in [1, 1, 3, 700, u32::MAX] {
             self.compare(&Call::QueryNext { words: words.clone(), budget }, lent)?;
         }
-        lent.cursor[..6].copy_from_slice(&[1, 2, 3, t, 1, by_subject]);
-        self.compare(&Call::QueryNext { words, budget: 2 }, lent)?;
+        lent.cursor[..7].copy_from_slice(&[WITHIN, 2, reclaims, 3, t, 1, by_subject]);
+        self.compare(&Call::QueryNext { words: words.clone(), budget: 2 }, lent)?;
 
         // Retracted, retracted again, revived, live already: the first, a middle and the last statement.
         for n in [1, t / 2 + 1, t] {
@@ -253,6 +274,26 @@ impl Run {
         for name in [named(0, length), b"<a>".to_vec(), b"<b>".to_vec()] {
             self.compare(&Call::Enter { name }, lent)?;
         }
-        self.compare(&Call::Check, lent)
+        self.compare(&Call::Check, lent)?;
+
+        // Room again, with a listing of all left open: it is refused, and opened again it goes over what moved. What had no room is new,
+        // and so is the first statement, which was retracted. Then a reclaim that drops nothing.
+        let all = Call::ScanOpen { pattern: [0, PREDICATE, 0] };
+        self.compare(&all, lent)?;
+        self.compare(&Call::Reclaim, lent)?;
+        self.compare(&Call::ScanNext { budget: 1 }, lent)?;
+        self.compare(&Call::Check, lent)?;
+        self.compare(&all, lent)?;
+        for budget in [1, 2, u32::MAX] {
+            self.compare(&Call::ScanNext { budget }, lent)?;
+        }
+        for triple in [[1, PREDICATE, r - 2], [1, PREDICATE, r], triple(1, r), triple(t, r)] {
+            self.compare(&Call::Assert { triple }, lent)?;
+        }
+        self.compare(&Call::QueryOpen { words: words.clone() }, lent)?;
+        self.compare(&Call::Reclaim, lent)?;
+        self.compare(&Call::QueryNext { words, budget: 1 }, lent)?;
+        self.compare(&Call::Check, lent)?;
+        Ok(())
     }
 }

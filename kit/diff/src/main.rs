@@ -1,5 +1,6 @@
 //! The differential test: random calls through the C interface against the plain implementation in `plain.rs` and `names.rs`, which is
-//! written from paper 01, what paper 02 says of live counts and of the same label typed two ways, and `docs/DECISIONS.md` alone.
+//! written from paper 01, what paper 02 says of live counts, of getting room back and of the same label typed two ways, and
+//! `docs/DECISIONS.md` alone.
 //!
 //!     diff SEED CALLS SECONDS
 //!
@@ -7,8 +8,8 @@
 //! counters and every byte of the tables must be what the paper says; where find and enter meet a dictionary that is not sound, what
 //! the paper leaves open is bounded. The first difference is told with the seed, the call's number and both answers, and ends the run
 //! with status 1. A run that made fewer calls than it was to make, and fewer than a million, has failed too. At the end stands how many
-//! calls of each kind had each result, and how many met the string ending and live counts in which way; a run of 300,000 calls or more
-//! must have met all of these.
+//! calls of each kind had each result, and how many met the string ending, live counts and reclaims in which way; a run of 300,000 calls
+//! or more must have met all of these.
 
 mod damage;
 #[cfg(test)]
@@ -19,10 +20,14 @@ mod live;
 mod names;
 mod plain;
 mod random;
+mod reclaims;
 mod tally;
 
 use damage::damage;
-use plain::{Call, Expected, Lent, COUNTER_WORDS, PLACES, RESOURCE_WORDS, STATEMENT_WORDS};
+use plain::{
+    Call, Expected, Lent, COUNTER_WORDS, END, MAX_RECLAIMS, PLACES, QUERY_RECLAIMS, RECLAIMS, RESOURCE_WORDS, SCAN_NEXT,
+    SCAN_RECLAIMS, STATEMENT_WORDS, WITHIN,
+};
 use random::Random;
 use std::process::ExitCode;
 use std::time::{Duration, Instant};
@@ -37,7 +42,7 @@ const MIDDLE: usize = 300;
 /// A run that is to make so many calls or more has failed with fewer, also where its time is over.
 const LEAST: u64 = 1_000_000;
 
-/// Calls after which every result, and everything of the string ending and of live counts, must have been met.
+/// Calls after which every result, and everything of the string ending, of live counts and of reclaims, must have been met.
 const ENOUGH: u64 = 300_000;
 
 struct Run {
@@ -57,16 +62,18 @@ enum Phase {
     Damaged,
 }
 
-/// Open listings and questions: the words of a question, and the cursor.
+/// Open listings and questions: the words of a question, and the cursor; they stay over a reclaim. And a triple that was refused 3 on a
+/// sound store, no reclaim having been answered since.
 #[derive(Default)]
 struct Open {
     scans: Vec<Vec<u32>>,
     queries: Vec<(Vec<u32>, Vec<u32>)>,
+    no_room: Option<[u32; 3]>,
 }
 
 impl Run {
-    /// Makes one call both ways and compares.
-    fn compare(&mut self, call: &Call, lent: &mut Lent) -> Result<(), Difference> {
+    /// Makes one call both ways and compares: its result.
+    fn compare(&mut self, call: &Call, lent: &mut Lent) -> Result<u32, Difference> {
         self.made += 1;
         let before = lent.clone();
         let told = |what: String| {
@@ -91,11 +98,11 @@ impl Run {
             }
         }
         self.tally.count(call, result, &before, lent, expected == Expected::Bounded);
-        Ok(())
+        Ok(result)
     }
 
     /// Tables of up to a few records, or of some hundreds, some words short or over, holding anything. The counters are 0, with words past
-    /// them at times.
+    /// them at times; so is the number of reclaims, or it is close to its limit.
     fn tables(&mut self, middle: bool) -> Lent {
         let random = &mut self.random;
         if middle {
@@ -128,6 +135,9 @@ impl Run {
         if random.one_in(8) {
             lent.counters.extend([7, 8]);
         }
+        if random.one_in(12) {
+            lent.counters[RECLAIMS] = MAX_RECLAIMS - random.below(4) as u32;
+        }
         if !random.one_in(3) {
             for words in [&mut lent.resources, &mut lent.statements, &mut lent.index] {
                 words.iter_mut().for_each(|word| *word = random.wild(&[6]));
@@ -142,9 +152,10 @@ impl Run {
         let random = &mut self.random;
         let few = lent.counters[0] < 3;
         let choice = match phase {
+            Phase::Building if random.one_in(100) => 38,
             Phase::Building if random.one_in(if few { 2 } else { 4 }) => 0,
             Phase::Building => random.of(&[17, 17, 17, 31]),
-            Phase::Sound | Phase::Damaged => random.below(100),
+            Phase::Sound | Phase::Damaged => random.below(104),
         };
         let alone = |call| (call, vec![], None);
         match choice {
@@ -152,29 +163,27 @@ impl Run {
             12..=16 => alone(Call::Find { name: random.short_name(lent) }),
             17..=30 => alone(Call::Assert { triple: random.triple(lent) }),
             31..=37 => alone(Call::Retract { triple: random.triple(lent) }),
-            38..=40 => alone(Call::Name { number: random.resource(lent) }),
-            41..=43 => alone(Call::Statement { number: random.statement(lent) }),
-            44..=47 => alone(Call::Check),
-            48..=50 => alone(Call::NameKind { name: random.name() }),
-            51..=55 => {
+            38..=41 => alone(Call::Reclaim),
+            42..=44 => alone(Call::Name { number: random.resource(lent) }),
+            45..=47 => alone(Call::Statement { number: random.statement(lent) }),
+            48..=51 => alone(Call::Check),
+            52..=54 => alone(Call::NameKind { name: random.name() }),
+            55..=59 => {
                 let (line_text, at) = random.line_text();
                 alone(Call::ReadLine { line_text, at })
             }
-            56..=63 => (Call::ScanOpen { pattern: random.pattern(lent) }, vec![], None),
-            64..=75 => {
+            60..=67 => (Call::ScanOpen { pattern: random.pattern(lent) }, vec![], None),
+            68..=79 => {
                 let call = Call::ScanNext { budget: random.budget(lent, 0) };
                 if open.scans.is_empty() || random.one_in(5) {
                     return (call, random.scan_cursor(lent), None);
                 }
                 let which = random.below(open.scans.len());
                 let mut cursor = open.scans[which].clone();
-                if random.one_in(6) {
-                    random.damage(&mut cursor, &lent.counters, 1);
-                    return (call, cursor, None);
-                }
-                (call, cursor, Some(which))
+                let altered = random.alter_cursor(&mut cursor, SCAN_RECLAIMS, lent);
+                (call, cursor, (!altered).then_some(which))
             }
-            76..=80 => (Call::QueryOpen { words: random.words(lent) }, vec![], None),
+            80..=84 => (Call::QueryOpen { words: random.words(lent) }, vec![], None),
             _ => {
                 if open.queries.is_empty() || random.one_in(4) {
                     let words = random.words(lent);
@@ -184,16 +193,12 @@ impl Run {
                 let which = random.below(open.queries.len());
                 let (mut words, mut cursor) = open.queries[which].clone();
                 let budget = random.budget(lent, words.len() / PLACES);
-                let mut kept = Some(which);
-                if random.one_in(6) {
-                    random.damage(&mut cursor, &lent.counters, 1);
-                    kept = None;
-                }
+                let mut altered = random.alter_cursor(&mut cursor, QUERY_RECLAIMS, lent);
                 if random.one_in(20) {
                     words = random.words(lent);
-                    kept = None;
+                    altered = true;
                 }
-                (Call::QueryNext { words, budget }, cursor, kept)
+                (Call::QueryNext { words, budget }, cursor, (!altered).then_some(which))
             }
         }
     }
@@ -226,17 +231,36 @@ impl Run {
             lent.counters = whole;
             return Ok(());
         }
-        self.compare(&call, lent)?;
-
-        const KEPT: usize = 3;
-        if lent.cursor.len() < call.cursor_words() {
-            return Ok(());
+        let before = if matches!(call, Call::Reclaim) { lent.clone() } else { Lent::default() };
+        let result = self.compare(&call, lent)?;
+        if phase != Phase::Damaged {
+            match (&call, result) {
+                (Call::Reclaim, 0) => self.assert_again(&before, lent, open.no_room.take())?,
+                (Call::Assert { triple }, 3) if lent.sound() => open.no_room = Some(*triple),
+                _ => {}
+            }
         }
-        let cursor = lent.cursor[..call.cursor_words()].to_vec();
+        if lent.cursor.len() >= call.cursor_words() {
+            let cursor = lent.cursor[..call.cursor_words()].to_vec();
+            let stopped = phase != Phase::Damaged && result == 13;
+            self.keep(call, which, cursor, stopped, open);
+        }
+        Ok(())
+    }
+
+    /// What a call leaves of the open listings and questions: its cursor afterwards, in the place of the one it went on with.
+    fn keep(&mut self, call: Call, which: Option<usize>, cursor: Vec<u32>, stopped: bool, open: &mut Open) {
+        const KEPT: usize = 3;
+        // What has ended is asked again at times, then dropped; so, mostly at once, is what a reclaim has stopped.
+        let over = match call {
+            _ if stopped => !self.random.one_in(6),
+            Call::ScanNext { .. } if cursor[SCAN_NEXT] == 0 => self.random.one_in(2),
+            Call::QueryNext { .. } if cursor[0] == END => self.random.one_in(2),
+            _ => false,
+        };
         match (call, which) {
-            // What has ended is asked again at times, then dropped.
-            (Call::ScanNext { .. }, Some(which)) if cursor[4] == 0 && self.random.one_in(2) => drop(open.scans.remove(which)),
-            (Call::QueryNext { .. }, Some(which)) if cursor[0] == 2 && self.random.one_in(2) => drop(open.queries.remove(which)),
+            (Call::ScanNext { .. }, Some(which)) if over => drop(open.scans.remove(which)),
+            (Call::QueryNext { .. }, Some(which)) if over => drop(open.queries.remove(which)),
             (Call::ScanNext { .. }, Some(which)) => open.scans[which] = cursor,
             (Call::QueryNext { .. }, Some(which)) => open.queries[which].1 = cursor,
             // A refused opening leaves the cursor as it was, which is no cursor.
@@ -249,13 +273,12 @@ impl Run {
                 open.queries.truncate(KEPT);
             }
             // A cursor that was made up and accepted is gone on with, too.
-            (Call::QueryNext { words, .. }, None) if cursor[0] == 1 && self.random.one_in(2) => {
+            (Call::QueryNext { words, .. }, None) if cursor[0] == WITHIN && self.random.one_in(2) => {
                 open.queries.insert(0, (words, cursor));
                 open.queries.truncate(KEPT);
             }
             _ => {}
         }
-        Ok(())
     }
 
     /// A store from its first call on: names and statements, then calls of all kinds, between them some on damaged copies of it.

@@ -1,17 +1,20 @@
-//! The store, plainly: paper 01, "Tables and counters" and "Operations and refusals", and paper 02 on live counts and on the same label
-//! typed two ways, as read in `docs/DECISIONS.md`. Nothing here is meant to be fast. Every operation works on what is lent, as the
-//! library's does, so that the two can be compared byte by byte.
+//! The store, plainly: paper 01, "Tables and counters" and "Operations and refusals", and paper 02 on live counts, on getting room back and
+//! on the same label typed two ways, as read in `docs/DECISIONS.md`. Nothing here is meant to be fast. Every operation works on what is
+//! lent, as the library's does, so that the two can be compared byte by byte.
 //! Refusals are the `Err` of a `Result`, by their number.
 
 use crate::names::{has_ending, kind_of, read_line, without_ending, Line, MAX_NAME};
 
 pub const MAX_RECORDS: usize = 65_535;
 pub const MAX_TEXT: usize = 1_048_576;
+pub const MAX_RECLAIMS: u32 = 65_535;
 pub const MAX_PATTERNS: usize = 8;
 pub const VARIABLES: usize = 16;
 pub const FIRST_VARIABLE: u32 = 1 << 31;
 
-pub const COUNTER_WORDS: usize = 3;
+/// The counters: resources, statements, text bytes, reclaims so far.
+pub const COUNTER_WORDS: usize = 4;
+pub const RECLAIMS: usize = 3;
 /// A resource's record: first as subject, predicate and object, count as each, offset, kind, live count as each.
 pub const RESOURCE_WORDS: usize = 11;
 pub const FIRST: usize = 0;
@@ -25,9 +28,15 @@ pub const NEXT: usize = 3;
 pub const FLAG: usize = 6;
 /// Words of a pattern, and the places of a triple.
 pub const PLACES: usize = 3;
-pub const SCAN_CURSOR_WORDS: usize = 5;
-/// Start, within or end; the levels; a chain and a record for each.
-pub const QUERY_CURSOR_WORDS: usize = 2 + 2 * MAX_PATTERNS;
+/// A listing's place: its pattern, the chain, the next record, the reclaims.
+pub const SCAN_CURSOR_WORDS: usize = 6;
+pub const SCAN_CHAIN: usize = 3;
+pub const SCAN_NEXT: usize = 4;
+pub const SCAN_RECLAIMS: usize = 5;
+/// A question's place: start, within or end; the levels; the reclaims; a chain and a record for each level.
+pub const QUERY_CURSOR_WORDS: usize = 3 + 2 * MAX_PATTERNS;
+pub const QUERY_RECLAIMS: usize = 2;
+pub const LEVELS: usize = 3;
 /// Status, visits, a resource for each variable.
 const QUERY_REPLY_WORDS: usize = 2 + VARIABLES;
 const LINE_WORDS: usize = 8;
@@ -35,6 +44,11 @@ const LINE_WORDS: usize = 8;
 pub const LONGEST_REPLY: usize = QUERY_REPLY_WORDS;
 
 type QueryCursor = [u32; QUERY_CURSOR_WORDS];
+
+/// The first word of a question's place.
+pub const START: u32 = 0;
+pub const WITHIN: u32 = 1;
+pub const END: u32 = 2;
 
 /// Statuses of a next call and of assert.
 const FOUND: u32 = 1;
@@ -69,6 +83,7 @@ pub enum Call {
     Statement { number: u32 },
     Assert { triple: [u32; 3] },
     Retract { triple: [u32; 3] },
+    Reclaim,
     ScanOpen { pattern: [u32; 3] },
     ScanNext { budget: u32 },
     QueryOpen { words: Vec<u32> },
@@ -100,6 +115,9 @@ impl Lent {
     fn b(&self) -> u32 {
         self.counters[2]
     }
+    pub fn reclaims(&self) -> u32 {
+        self.counters[RECLAIMS]
+    }
 
     fn resource_capacity(&self) -> usize {
         (self.resources.len() / RESOURCE_WORDS).min(self.index.len()).min(MAX_RECORDS)
@@ -111,6 +129,10 @@ impl Lent {
         self.text.len().min(MAX_TEXT)
     }
     pub fn within_capacity(&self) -> bool {
+        self.tables_hold_counters() && self.reclaims() <= MAX_RECLAIMS
+    }
+    /// Whether the counters are within capacity, the number of reclaims apart.
+    pub fn tables_hold_counters(&self) -> bool {
         self.r() as usize <= self.resource_capacity()
             && self.t() as usize <= self.statement_capacity()
             && self.b() as usize <= self.text_capacity()
@@ -146,7 +168,7 @@ impl Lent {
     pub fn member(&self, n: u32, place: usize) -> u32 {
         self.statement_word(n, place)
     }
-    fn triple(&self, n: u32) -> [u32; 3] {
+    pub fn triple(&self, n: u32) -> [u32; 3] {
         [0, 1, 2].map(|place| self.member(n, place))
     }
     fn next(&self, n: u32, place: usize) -> u32 {
@@ -168,7 +190,7 @@ impl Lent {
 
     // ---- soundness
 
-    fn sound(&self) -> bool {
+    pub fn sound(&self) -> bool {
         self.sound_but_for_live_counts() && (0..PLACES).all(|place| self.live_counts_sound(place))
     }
 
@@ -424,6 +446,12 @@ impl Lent {
         if self.t() as usize == self.statement_capacity() {
             return Err(3);
         }
+        self.append(triple);
+        Ok((NEW, self.t()))
+    }
+
+    /// A triple as the next record, live and at the head of its three chains.
+    fn append(&mut self, triple: [u32; 3]) {
         let n = self.t() + 1;
         let firsts = [0, 1, 2].map(|place| self.first(triple[place], place));
         let record: [u32; STATEMENT_WORDS] = [triple[0], triple[1], triple[2], firsts[0], firsts[1], firsts[2], 0];
@@ -435,7 +463,6 @@ impl Lent {
         }
         self.change_live(triple, |live| live + 1);
         self.counters[1] = n;
-        Ok((NEW, n))
     }
 
     fn retract(&mut self, triple: [u32; 3]) -> Result<u32, u32> {
@@ -455,20 +482,52 @@ impl Lent {
         Ok(n)
     }
 
+    /// The triples of the records with a flag, in their order.
+    pub fn flagged(&self, flag: u32) -> Vec<[u32; 3]> {
+        (1..=self.t()).filter(|&n| self.flag(n) == flag).map(|n| self.triple(n)).collect()
+    }
+
+    /// Clears all records, and what resources say of them, then appends the live triples in their order.
+    fn reclaim(&mut self) -> Result<(), u32> {
+        self.capacity()?;
+        if self.reclaims() == MAX_RECLAIMS {
+            return Err(14);
+        }
+        if !self.sound() {
+            return Err(9);
+        }
+        let live = self.flagged(0);
+        let used = STATEMENT_WORDS * self.t() as usize;
+        self.statements[..used].fill(0);
+        for number in 1..=self.r() {
+            let record = &mut self.resources[resource_at(number)..][..RESOURCE_WORDS];
+            for word in [FIRST, COUNT, LIVE] {
+                record[word..word + PLACES].fill(0);
+            }
+        }
+        self.counters[1] = 0;
+        live.into_iter().for_each(|triple| self.append(triple));
+        self.counters[RECLAIMS] += 1;
+        Ok(())
+    }
+
     fn scan_open(&self, pattern: [u32; 3]) -> Result<[u32; SCAN_CURSOR_WORDS], u32> {
         self.capacity()?;
         if pattern.iter().any(|&number| number > self.r()) {
             return Err(4);
         }
         let (chain, first) = self.pick(pattern)?;
-        Ok([pattern[0], pattern[1], pattern[2], chain, first])
+        Ok([pattern[0], pattern[1], pattern[2], chain, first, self.reclaims()])
     }
 
     /// Status, statement, visits; and the cursor's next.
     fn scan_next(&self, budget: u32) -> Result<([u32; 3], u32), u32> {
         self.capacity()?;
         let bound = [self.cursor[0], self.cursor[1], self.cursor[2]];
-        let (chain, mut n) = (self.cursor[3], self.cursor[4]);
+        let (chain, mut n) = (self.cursor[SCAN_CHAIN], self.cursor[SCAN_NEXT]);
+        if self.cursor[SCAN_RECLAIMS] != self.reclaims() {
+            return Err(13);
+        }
         if bound.iter().any(|&number| number > self.r()) || self.place_refused(bound, chain, n) {
             return Err(6);
         }
@@ -498,12 +557,12 @@ impl Lent {
         words.len() % PLACES != 0 || words.len() > PLACES * MAX_PATTERNS || !words.iter().all(word_fits)
     }
 
-    fn query_open(&self, words: &[u32]) -> Result<(), u32> {
+    fn query_open(&self, words: &[u32]) -> Result<QueryCursor, u32> {
         self.capacity()?;
         if self.words_refused(words) {
             return Err(8);
         }
-        Ok(())
+        Ok(self.outside(START))
     }
 
     /// The solution with which a record matches a pattern under the variables bound so far, if it does. Its resources are known.
@@ -532,18 +591,21 @@ impl Lent {
         if self.words_refused(words) {
             return Err(8);
         }
+        if self.cursor[QUERY_RECLAIMS] != self.reclaims() {
+            return Err(13);
+        }
         let patterns: Vec<&[u32]> = words.chunks(PLACES).collect();
-        if self.cursor[0] > 2 || self.cursor[0] == 1 && self.cursor[1] as usize > patterns.len() {
+        if self.cursor[0] > END || self.cursor[0] == WITHIN && self.cursor[1] as usize > patterns.len() {
             return Err(6);
         }
 
         // The levels of the cursor: chain and record, and before each the variables that the earlier records bind.
         let mut levels: Vec<(u32, u32)> = vec![];
         let mut solutions: Vec<[u32; VARIABLES]> = vec![[0; VARIABLES]];
-        if self.cursor[0] == 1 {
+        if self.cursor[0] == WITHIN {
             let given = self.cursor[1] as usize;
             for k in 0..given {
-                let (chain, record) = (self.cursor[2 + 2 * k], self.cursor[3 + 2 * k]);
+                let (chain, record) = (self.cursor[LEVELS + 2 * k], self.cursor[LEVELS + 2 * k + 1]);
                 let bound = bound_places(patterns[k], &solutions[k]);
                 if k + 1 < given {
                     if self.chain_refused(bound, chain) || record == 0 || record > self.t() || !self.resources_known(record) {
@@ -559,14 +621,12 @@ impl Lent {
         if budget == 0 {
             return Err(7);
         }
-        let mut end = [0; QUERY_CURSOR_WORDS];
-        end[0] = 2;
-        let ended = |visits| Ok((ENDED, visits, [0; VARIABLES], end));
-        if self.cursor[0] == 2 {
+        let ended = |visits| Ok((ENDED, visits, [0; VARIABLES], self.outside(END)));
+        if self.cursor[0] == END {
             return ended(0);
         }
         if patterns.is_empty() {
-            return Ok((FOUND, 0, [0; VARIABLES], end));
+            return Ok((FOUND, 0, [0; VARIABLES], self.outside(END)));
         }
         if levels.is_empty() {
             levels.push(self.pick(bound_places(patterns[0], &solutions[0]))?);
@@ -589,7 +649,7 @@ impl Lent {
                 let (_, deepest) = levels[levels.len() - 1];
                 let above = &levels[..levels.len() - 1];
                 if deepest != 0 || above.iter().any(|&(chain, n)| self.after(chain, n) != 0) {
-                    return Ok((SPENT, visits, [0; VARIABLES], within(&levels)));
+                    return Ok((SPENT, visits, [0; VARIABLES], self.within(&levels)));
                 }
                 return ended(visits);
             }
@@ -610,7 +670,7 @@ impl Lent {
                 Some(solution) if self.flag(n) == 0 => {
                     if k + 1 == patterns.len() {
                         levels[k].1 = self.after(chain, n);
-                        return Ok((FOUND, visits, solution, within(&levels)));
+                        return Ok((FOUND, visits, solution, self.within(&levels)));
                     }
                     levels.push(self.pick(bound_places(patterns[k + 1], &solution))?);
                     solutions.push(solution);
@@ -618,6 +678,25 @@ impl Lent {
                 _ => levels[k].1 = self.after(chain, n),
             }
         }
+    }
+
+    /// The start or the end of a question.
+    fn outside(&self, place: u32) -> QueryCursor {
+        let mut cursor = [0; QUERY_CURSOR_WORDS];
+        cursor[0] = place;
+        cursor[QUERY_RECLAIMS] = self.reclaims();
+        cursor
+    }
+
+    /// A question's place within.
+    fn within(&self, levels: &[(u32, u32)]) -> QueryCursor {
+        let mut cursor = self.outside(WITHIN);
+        cursor[1] = levels.len() as u32;
+        for (k, &(chain, record)) in levels.iter().enumerate() {
+            cursor[LEVELS + 2 * k] = chain;
+            cursor[LEVELS + 2 * k + 1] = record;
+        }
+        cursor
     }
 }
 
@@ -627,17 +706,6 @@ fn bound_places(pattern: &[u32], solution: &[u32; VARIABLES]) -> [u32; 3] {
         word if word >= FIRST_VARIABLE => solution[(word - FIRST_VARIABLE) as usize],
         word => word,
     })
-}
-
-fn within(levels: &[(u32, u32)]) -> QueryCursor {
-    let mut cursor = [0; QUERY_CURSOR_WORDS];
-    cursor[0] = 1;
-    cursor[1] = levels.len() as u32;
-    for (k, &(chain, record)) in levels.iter().enumerate() {
-        cursor[2 + 2 * k] = chain;
-        cursor[3 + 2 * k] = record;
-    }
-    cursor
 }
 
 /// Writes an answer's words at the front of a slice, or zeros beside a refusal, and gives the result's number.
@@ -689,7 +757,7 @@ impl Call {
             Call::ScanNext { .. } => 3,
             Call::Statement { .. } => 4,
             Call::QueryNext { .. } => QUERY_REPLY_WORDS,
-            Call::ReadLine { .. } | Call::ScanOpen { .. } | Call::QueryOpen { .. } => 0,
+            Call::ReadLine { .. } | Call::Reclaim | Call::ScanOpen { .. } | Call::QueryOpen { .. } => 0,
         }
     }
 
@@ -724,16 +792,17 @@ impl Call {
             Call::Statement { number } => lent.statement(*number).map(|words| words.to_vec()),
             Call::Assert { triple } => lent.assert(*triple).map(|(status, n)| vec![status, n]),
             Call::Retract { triple } => lent.retract(*triple).map(|n| vec![n]),
+            Call::Reclaim => lent.reclaim().map(|()| vec![]),
             Call::ScanOpen { pattern } => lent.scan_open(*pattern).map(|cursor| {
                 lent.cursor[..SCAN_CURSOR_WORDS].copy_from_slice(&cursor);
                 vec![]
             }),
             Call::ScanNext { budget } => lent.scan_next(*budget).map(|(words, next)| {
-                lent.cursor[4] = next;
+                lent.cursor[SCAN_NEXT] = next;
                 words.to_vec()
             }),
-            Call::QueryOpen { words } => lent.query_open(words).map(|()| {
-                lent.cursor[..QUERY_CURSOR_WORDS].fill(0);
+            Call::QueryOpen { words } => lent.query_open(words).map(|cursor| {
+                lent.cursor[..QUERY_CURSOR_WORDS].copy_from_slice(&cursor);
                 vec![]
             }),
             Call::QueryNext { words, budget } => lent.query_next(words, *budget).map(|(status, visits, solution, cursor)| {

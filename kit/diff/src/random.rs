@@ -1,7 +1,7 @@
 //! Random numbers from a seed (splitmix64), and the random values that calls are made of.
 
 use crate::names::{quoted_and_suffix, MAX_NAME, STRING_ENDING};
-use crate::plain::{Lent, FIRST_VARIABLE, MAX_PATTERNS, PLACES, RESOURCE_WORDS, STATEMENT_WORDS, VARIABLES};
+use crate::plain::{Lent, FIRST_VARIABLE, MAX_PATTERNS, MAX_RECLAIMS, PLACES, RESOURCE_WORDS, STATEMENT_WORDS, VARIABLES};
 
 pub struct Random {
     state: u64,
@@ -129,14 +129,44 @@ impl Random {
         words
     }
 
+    /// A number of reclaims about the limit of them.
+    pub fn late_reclaims(&mut self) -> u32 {
+        match self.below(8) {
+            0..=2 => MAX_RECLAIMS - 1,
+            3..=5 => MAX_RECLAIMS,
+            6 => MAX_RECLAIMS + 1,
+            _ => self.of(&[MAX_RECLAIMS + 2, FIRST_VARIABLE, u32::MAX]),
+        }
+    }
+
+    /// A cursor's number of reclaims that is mostly another one than the store's.
+    pub fn other_reclaims(&mut self, lent: &Lent) -> u32 {
+        match self.below(8) {
+            0..=2 => lent.reclaims().wrapping_add(1),
+            3..=5 => lent.reclaims().wrapping_sub(1),
+            6 => self.late_reclaims(),
+            _ => self.wild(&lent.counters),
+        }
+    }
+
+    /// The number of reclaims for a cursor that is made up.
+    fn cursor_reclaims(&mut self, lent: &Lent) -> u32 {
+        if self.one_in(10) {
+            self.other_reclaims(lent)
+        } else {
+            lent.reclaims()
+        }
+    }
+
     pub fn scan_cursor(&mut self, lent: &Lent) -> Vec<u32> {
         let pattern = self.pattern(lent);
-        vec![pattern[0], pattern[1], pattern[2], self.below(5) as u32, self.statement(lent)]
+        let (chain, next) = (self.below(5) as u32, self.statement(lent));
+        vec![pattern[0], pattern[1], pattern[2], chain, next, self.cursor_reclaims(lent)]
     }
 
     pub fn query_cursor(&mut self, lent: &Lent, patterns: usize) -> Vec<u32> {
         let levels = self.below(patterns + 2);
-        let mut cursor = vec![self.of(&[0, 1, 1, 1, 1, 1, 1, 1, 2, 3]), levels as u32];
+        let mut cursor = vec![self.of(&[0, 1, 1, 1, 1, 1, 1, 1, 2, 3]), levels as u32, self.cursor_reclaims(lent)];
         for level in 0..MAX_PATTERNS {
             // Mostly the chains that a question of variables takes: all records first, then any place.
             let chain = if level == 0 && self.one_in(2) { 0 } else { self.below(4) as u32 };
@@ -148,6 +178,18 @@ impl Random {
             cursor[self.below(2)] = self.wild(&lent.counters);
         }
         cursor
+    }
+
+    /// Alters a cursor that was kept, at times: one of its words, or its number of reclaims. Whether it did.
+    pub fn alter_cursor(&mut self, cursor: &mut [u32], reclaims: usize, lent: &Lent) -> bool {
+        let (word, number) = (self.one_in(6), self.one_in(16));
+        if word {
+            self.damage(cursor, &lent.counters, 1);
+        }
+        if number {
+            cursor[reclaims] = self.other_reclaims(lent);
+        }
+        word || number
     }
 
     /// Damages some words of a slice.

@@ -1,24 +1,26 @@
-//! How many calls of each kind had each result, and how many met the string ending and live counts in which way.
+//! How many calls of each kind had each result, and how many met the string ending, live counts and reclaims in which way.
 
 use crate::live;
 use crate::names::{quoted_and_suffix, MAX_NAME, STRING_ENDING};
 use crate::plain::{Call, Lent};
+use crate::reclaims;
 use std::collections::BTreeMap;
 use std::fmt;
 
 type Counts = BTreeMap<(&'static str, String), u64>;
 
-/// Calls by function and result; where the paper only bounds the answer, apart from the others. Then those that meet the string ending, and
-/// those that meet live counts, by function and how.
+/// Calls by function and result; where the paper only bounds the answer, apart from the others. Then those that meet the string ending,
+/// those that meet live counts and those that meet reclaims, by function and how.
 #[derive(Default)]
 pub struct Tally {
     calls: Counts,
     endings: Counts,
     live_counts: Counts,
+    reclaims: Counts,
 }
 
 /// Every function with the results that the paper gives it. Find and enter may answer 9, and need not.
-const RESULTS: [(&str, &[&str]); 13] = [
+const RESULTS: [(&str, &[&str]); 14] = [
     ("lt_name_kind", &["kind 1", "kind 2", "kind 3", "refused 2", "refused 100"]),
     ("lt_read_line", &["end", "nothing", "triple", "refused 10", "refused 100"]),
     ("lt_check", &["sound", "not sound", "refused 100"]),
@@ -28,10 +30,14 @@ const RESULTS: [(&str, &[&str]); 13] = [
     ("lt_statement", &["answered", "refused 1", "refused 4", "refused 9", "refused 100"]),
     ("lt_assert", &["new", "already", "revived", "refused 1", "refused 3", "refused 4", "refused 5", "refused 9", "refused 100"]),
     ("lt_retract", &["a number", "0", "refused 1", "refused 4", "refused 9", "refused 100"]),
+    ("lt_reclaim", &["answered", "refused 1", "refused 9", "refused 14", "refused 100"]),
     ("lt_scan_open", &["answered", "refused 1", "refused 4", "refused 9", "refused 100"]),
-    ("lt_scan_next", &["found", "ended", "spent", "refused 1", "refused 6", "refused 7", "refused 9", "refused 100"]),
+    ("lt_scan_next", &["found", "ended", "spent", "refused 1", "refused 6", "refused 7", "refused 9", "refused 13", "refused 100"]),
     ("lt_query_open", &["answered", "refused 1", "refused 8", "refused 100"]),
-    ("lt_query_next", &["found", "ended", "spent", "refused 1", "refused 6", "refused 7", "refused 8", "refused 9", "refused 100"]),
+    (
+        "lt_query_next",
+        &["found", "ended", "spent", "refused 1", "refused 6", "refused 7", "refused 8", "refused 9", "refused 13", "refused 100"],
+    ),
 ];
 
 /// Well formed with the string ending, but for its length.
@@ -74,6 +80,7 @@ fn function(call: &Call) -> &'static str {
         Call::Statement { .. } => "lt_statement",
         Call::Assert { .. } => "lt_assert",
         Call::Retract { .. } => "lt_retract",
+        Call::Reclaim => "lt_reclaim",
         Call::ScanOpen { .. } => "lt_scan_open",
         Call::ScanNext { .. } => "lt_scan_next",
         Call::QueryOpen { .. } => "lt_query_open",
@@ -94,7 +101,7 @@ pub fn label(call: &Call, result: u32, lent: &Lent) -> String {
         Call::Find { .. } | Call::Enter { .. } | Call::Retract { .. } => number(lent.reply[0]),
         Call::Assert { .. } => ["", "new", "already", "revived"][lent.reply[0] as usize],
         Call::ScanNext { .. } | Call::QueryNext { .. } => ["", "found", "ended", "spent"][lent.reply[0] as usize],
-        Call::Name { .. } | Call::Statement { .. } | Call::ScanOpen { .. } | Call::QueryOpen { .. } => "answered",
+        Call::Name { .. } | Call::Statement { .. } | Call::Reclaim | Call::ScanOpen { .. } | Call::QueryOpen { .. } => "answered",
     }
     .to_string()
 }
@@ -199,6 +206,14 @@ impl Tally {
             let ways = live::met(call, result, &own, before, after, bounded);
             ways.into_iter().for_each(|label| one_more(&mut self.live_counts, label));
         }
+        if call.takes_tables() && result != 100 {
+            reclaims::met(call, result, &own, before, after).into_iter().for_each(|label| one_more(&mut self.reclaims, label));
+        }
+    }
+
+    /// Counts a call by what came before it: how it meets a reclaim.
+    pub fn count_after_reclaim(&mut self, call: &Call, label: &str) {
+        *self.reclaims.entry((function(call), label.to_string())).or_default() += 1;
     }
 
     /// What did not occur.
@@ -206,8 +221,9 @@ impl Tally {
         let results = RESULTS.iter().map(|row| (row, &self.calls, ""));
         let endings = ENDINGS.iter().map(|row| (row, &self.endings, "with the string ending "));
         let live_counts = live::WAYS.iter().map(|row| (row, &self.live_counts, "with a live count "));
+        let reclaims = reclaims::WAYS.iter().map(|row| (row, &self.reclaims, "with reclaims "));
         let mut missing = vec![];
-        for (&(function, labels), counts, with) in results.chain(endings).chain(live_counts) {
+        for (&(function, labels), counts, with) in results.chain(endings).chain(live_counts).chain(reclaims) {
             let absent = labels.iter().filter(|label| !counts.contains_key(&(function, label.to_string())));
             missing.extend(absent.map(|label| format!("{function} {with}{label}")));
         }
@@ -231,6 +247,8 @@ impl fmt::Display for Tally {
         writeln!(f, "with the string ending, or close to it:")?;
         table(f, &ENDINGS, &self.endings)?;
         writeln!(f, "with live counts:")?;
-        table(f, &live::WAYS, &self.live_counts)
+        table(f, &live::WAYS, &self.live_counts)?;
+        writeln!(f, "with reclaims:")?;
+        table(f, &reclaims::WAYS, &self.reclaims)
     }
 }

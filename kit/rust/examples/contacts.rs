@@ -1,10 +1,10 @@
-//! A relay's live count, its contacts by name, and a question: the Rust twin of `kit/c/contacts.c`, with the same output.
+//! A relay's live count, its contacts by name, a question, and a rewired relay: the Rust twin of `kit/c/contacts.c`, with the same output.
 //!
 //!     contacts FILE
 //!
 //! reads a file of N-Triples into tables of its own, tells how many live statements relay <r:21> is the subject of, lists what it trips,
-//! and asks which breakers are tripped by a relay that trips <b:4>. Refused lines are told and passed over; any other refusal ends the
-//! program with status 1.
+//! and asks which breakers are tripped by a relay that trips <b:4>. Then it rewires the relay from <b:4> to <b:9>, gets the room of the
+//! retracted statement back and lists again. Refused lines are told and passed over; any other refusal ends the program with status 1.
 
 use lemontiller::{Error, Line, Lines, Outcome, Position, Question, ResourceId, Store, Term};
 use lemontiller::{COUNTER_WORDS, RESOURCE_WORDS, STATEMENT_WORDS};
@@ -92,6 +92,19 @@ fn ask_tripped_with(store: &Store, breaker: &str, trips: &str) -> Result<(), Str
     Ok(())
 }
 
+/// Rewires a relay from one breaker to another. The retracted statement keeps its room until the store is reclaimed, as a set does when a
+/// table is full. From then on cursors are to be opened again, and a statement's number from before names another one or none.
+fn rewire(store: &mut Store, relay: &str, trips: &str, from: &str, to: &str) -> Result<(), String> {
+    let (relay, trips, breaker) = (number_of(store, relay)?, number_of(store, trips)?, number_of(store, from)?);
+    let before = store.counters().statements;
+    store.retract(relay, trips, breaker).map_err(|error| error.to_string())?;
+    store.reclaim().map_err(|error| error.to_string())?;
+    println!("rewired from {from} to {to}, statements given back: {}", before - store.counters().statements);
+    let breaker = store.enter(to.as_bytes()).map_err(|error| format!("{to}: {error}"))?;
+    store.assert(relay, trips, breaker).map_err(|error| error.to_string())?;
+    Ok(())
+}
+
 fn run(path: &str) -> Result<(), String> {
     let input = fs::read(path).map_err(|error| format!("{path}: {error}"))?;
     let mut counters = [0; COUNTER_WORDS];
@@ -107,6 +120,8 @@ fn run(path: &str) -> Result<(), String> {
     tell_live(&store, "<r:21>")?;
     list_contacts(&store, "<r:21>", "<p:trips>")?;
     ask_tripped_with(&store, "<b:4>", "<p:trips>")?;
+    rewire(&mut store, "<r:21>", "<p:trips>", "<b:4>", "<b:9>")?;
+    list_contacts(&store, "<r:21>", "<p:trips>")?;
 
     // A store that comes from a file or a wire is checked once; one made by this library's own calls is sound.
     println!("{}", if store.is_sound() { "sound" } else { "not sound" });

@@ -1,4 +1,4 @@
-//! The thirteen functions of `include/lemontiller.h` as they are: pointers, lengths in elements, and a result. The header has a sentence
+//! The fourteen functions of `include/lemontiller.h` as they are: pointers, lengths in elements, and a result. The header has a sentence
 //! for each. Pointers may not be null, also at length 0 (those of a slice never are), and slices that are written may not overlap others.
 
 /// Declares store functions, each after the five slices with which it begins. `mut` marks the slices that the function writes.
@@ -30,6 +30,7 @@ store_functions! {
     lt_statement(const const const const const; number: u32, reply: *mut u32, reply_len: usize);
     lt_assert(mut mut mut const const; subject: u32, predicate: u32, object: u32, reply: *mut u32, reply_len: usize);
     lt_retract(const mut mut const const; subject: u32, predicate: u32, object: u32, reply: *mut u32, reply_len: usize);
+    lt_reclaim(mut mut mut const const;);
     lt_scan_open(const const const const const; subject: u32, predicate: u32, object: u32, cursor: *mut u32, cursor_len: usize);
     lt_scan_next(const const const const const; cursor: *mut u32, cursor_len: usize, budget: u32, reply: *mut u32, reply_len: usize);
     lt_query_open(const const const const const; words: *const u32, words_len: usize, cursor: *mut u32, cursor_len: usize);

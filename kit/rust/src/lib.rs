@@ -1,7 +1,7 @@
 //! The Lemontiller store for Rust, `std` only. A [`Store`] holds the five slices that the caller lends, so the borrow checker sees to it
 //! that one table is not lent twice, that nothing is written while a scan or a solution is read through an iterator, and that a name
 //! does not outlive its text. Refusals are values of [`Error`], slices that are too short among them. Cursors are plain arrays, which the
-//! caller may keep while the store changes.
+//! caller may keep while the store changes, up to the next [`Store::reclaim`].
 //!
 //! A literal that has the string ending, `^^<http://www.w3.org/2001/XMLSchema#string>`, is the literal without it: entering, finding and
 //! reading a line drop it. The 255 bytes that a name may have are those of the name as spelled.
@@ -16,7 +16,7 @@ pub mod ffi;
 mod tests;
 
 /// Words of the counters, of a resource's record and of a statement's.
-pub const COUNTER_WORDS: usize = 3;
+pub const COUNTER_WORDS: usize = 4;
 pub const RESOURCE_WORDS: usize = 11;
 pub const STATEMENT_WORDS: usize = 7;
 
@@ -28,12 +28,16 @@ pub const MAX_PATTERNS: usize = 8;
 pub const VARIABLES: usize = 16;
 const FIRST_VARIABLE: u32 = 1 << 31;
 
-pub const SCAN_CURSOR_WORDS: usize = 5;
-pub const QUERY_CURSOR_WORDS: usize = 2 + 2 * MAX_PATTERNS;
+/// The most reclaims of a store.
+pub const MAX_RECLAIMS: u32 = 65_535;
+
+pub const SCAN_CURSOR_WORDS: usize = 6;
+pub const QUERY_CURSOR_WORDS: usize = 3 + 2 * MAX_PATTERNS;
 const QUERY_REPLY_WORDS: usize = 2 + VARIABLES;
 const LINE_WORDS: usize = 8;
 
-/// Where a scan or a question stands. All zeros is the start of a question.
+/// Where a scan or a question stands, with the store's number of reclaims at the opening: with any other it is [`Error::StaleCursor`].
+/// So the start of a question is what [`Store::query_open`] gives, and zeros are no start once the store has been reclaimed.
 pub type ScanCursor = [u32; SCAN_CURSOR_WORDS];
 pub type QueryCursor = [u32; QUERY_CURSOR_WORDS];
 
@@ -53,6 +57,9 @@ pub enum Error {
     BadLine {
         offset: usize,
     },
+    /// The cursor is from before a reclaim: open it again.
+    StaleCursor,
+    ReclaimLimit,
     TooShort,
 }
 
@@ -70,6 +77,8 @@ impl Error {
             Error::BadQuery => 8,
             Error::Damaged => 9,
             Error::BadLine { .. } => 10,
+            Error::StaleCursor => 13,
+            Error::ReclaimLimit => 14,
             Error::TooShort => 100,
         }
     }
@@ -88,6 +97,8 @@ impl Error {
             8 => Error::BadQuery,
             9 => Error::Damaged,
             10 => Error::BadLine { offset },
+            13 => Error::StaleCursor,
+            14 => Error::ReclaimLimit,
             100 => Error::TooShort,
             _ => unreachable!("the store gives no result {number}"),
         })
@@ -107,6 +118,8 @@ impl fmt::Display for Error {
             Error::BadQuery => write!(f, "the words are no query"),
             Error::Damaged => write!(f, "the tables are damaged"),
             Error::BadLine { offset } => write!(f, "the line cannot be read, byte {offset}"),
+            Error::StaleCursor => write!(f, "the cursor has another number of reclaims than the store"),
+            Error::ReclaimLimit => write!(f, "no more reclaims"),
             Error::TooShort => write!(f, "a lent slice is too short"),
         }
     }
@@ -135,12 +148,13 @@ pub enum Position {
     Object,
 }
 
-/// How much of the tables is in use.
+/// How much of the tables is in use, and how often the store was reclaimed.
 #[derive(Clone, Copy, Debug, PartialEq, Eq)]
 pub struct Counters {
     pub resources: u32,
     pub statements: u32,
     pub text: u32,
+    pub reclaims: u32,
 }
 
 #[derive(Clone, Copy, Debug, PartialEq, Eq)]
@@ -368,10 +382,11 @@ impl<'a> Store<'a> {
     }
 
     pub fn counters(&self) -> Counters {
-        Counters { resources: self.counters[0], statements: self.counters[1], text: self.counters[2] }
+        let [resources, statements, text, reclaims] = [0, 1, 2, 3].map(|word| self.counters[word]);
+        Counters { resources, statements, text, reclaims }
     }
 
-    /// Whether every word of the store is as entering, asserting and retracting leave it. So no name in it has the string ending.
+    /// Whether every word of the store is as entering, asserting, retracting and reclaiming leave it. So no name in it has the string ending.
     pub fn is_sound(&self) -> bool {
         let mut reply = [0u32; 1];
         reading!(lt_check, self, reply.as_mut_ptr(), reply.len()).is_ok() && reply[0] == 1
@@ -440,6 +455,13 @@ impl<'a> Store<'a> {
         Ok((reply[0] != 0).then_some(StatementId(reply[0])))
     }
 
+    /// Gives back the room of retracted statements: the live ones move down in their order and are numbered from 1, names stay. Every
+    /// [`StatementId`] from before may name another statement or none, and every cursor is [`Error::StaleCursor`]. A store that is not
+    /// sound is [`Error::Damaged`]; after [`MAX_RECLAIMS`] it is [`Error::ReclaimLimit`].
+    pub fn reclaim(&mut self) -> Result<(), Error> {
+        writing!(lt_reclaim, self)
+    }
+
     /// Opens a scan of the live statements with the resources given, `None` for any; a number of 0 is [`Error::UnknownNumber`].
     pub fn scan_open(&self, pattern: [Option<ResourceId>; 3]) -> Result<ScanCursor, Error> {
         let [subject, predicate, object] = pattern.map(number_or_any);
@@ -455,7 +477,7 @@ impl<'a> Store<'a> {
         Ok(Step::of(reply[0], StatementId(reply[1]), reply[2]))
     }
 
-    /// Opens a question of up to [`MAX_PATTERNS`] patterns.
+    /// Opens a question of up to [`MAX_PATTERNS`] patterns: the start.
     pub fn query_open(&self, question: &Question) -> Result<QueryCursor, Error> {
         let words = &question.words;
         let mut cursor = [0; QUERY_CURSOR_WORDS];

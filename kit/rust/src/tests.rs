@@ -29,7 +29,7 @@ fn names_come_back() {
         assert_eq!(store.find(b"<b:7>"), Ok(Some(ids[3])));
         assert_eq!(store.find(b"<b:8>"), Ok(None));
         assert_eq!(store.name(ids[3]), Ok(&b"<b:7>"[..]));
-        assert_eq!(store.counters(), Counters { resources: 4, statements: 2, text: 7 + 10 + 6 + 6 });
+        assert_eq!(store.counters(), Counters { resources: 4, statements: 2, text: 7 + 10 + 6 + 6, reclaims: 0 });
         assert!(store.is_sound());
     })
 }
@@ -93,7 +93,7 @@ fn live_counts_of_any_tables() {
     });
     // The word as it is, also where nothing else is right. One word less and the record is not there.
     let mut resources: [u32; RESOURCE_WORDS] = std::array::from_fn(|word| u32::MAX - word as u32);
-    let (mut counters, mut index) = ([1, 0, 0], [0; 2]);
+    let (mut counters, mut index) = ([1, 0, 0, 0], [0; 2]);
     let store = Store::new(&mut counters, &mut resources, &mut [], &mut index, &mut []).unwrap();
     assert_eq!(live(&store, ResourceId(1)), [8, 9, 10].map(|word| u32::MAX - word));
     let short = &mut resources[..RESOURCE_WORDS - 1];
@@ -102,7 +102,7 @@ fn live_counts_of_any_tables() {
         assert_eq!(store.live(ResourceId(number), Position::Object), Err(Error::Capacity));
     }
     // Of the counters each one is tested.
-    for over in [[2, 0, 0], [u32::MAX, 0, 0], [1, 1, 0], [1, 0, 1]] {
+    for over in [[2, 0, 0, 0], [u32::MAX, 0, 0, 0], [1, 1, 0, 0], [1, 0, 1, 0], [1, 0, 0, MAX_RECLAIMS + 1]] {
         let mut counters = over;
         let store = Store::new(&mut counters, &mut resources, &mut [], &mut index, &mut []).unwrap();
         assert_eq!(store.live(ResourceId(1), Position::Subject), Err(Error::Capacity));
@@ -121,6 +121,88 @@ fn a_cursor_outlives_a_change() {
         store.retract(relay, trips, ResourceId(4)).unwrap();
         assert_eq!(store.scan_next(&mut opened, 1), Ok(Step { outcome: Outcome::Spent, visits: 1 }));
     })
+}
+
+#[test]
+fn a_reclaim_gives_room_back() {
+    with_bay(|store, [relay, trips, b4, b7]| {
+        // Statements 3 and 4, the room's last, then 1 and 3 retracted: 2 and 4 are 1 and 2 from now on.
+        assert_eq!(store.assert(relay, trips, relay), Ok(Asserted::New(StatementId(3))));
+        assert_eq!(store.assert(b4, trips, b7), Ok(Asserted::New(StatementId(4))));
+        assert_eq!(store.assert(b7, trips, b4), Err(Error::Full));
+        store.retract(relay, trips, b4).unwrap();
+        store.retract(relay, trips, relay).unwrap();
+        let before = store.counters();
+        assert_eq!(store.reclaim(), Ok(()));
+        assert_eq!(store.counters(), Counters { statements: 2, reclaims: 1, ..before });
+        assert_eq!(store.scan([None; 3]).unwrap().collect::<Vec<_>>(), [Ok(StatementId(2)), Ok(StatementId(1))]);
+        assert_eq!(store.statement(StatementId(1)).unwrap().object, b7);
+        assert_eq!([relay, trips, b4, b7].map(|id| live(store, id)), [[1, 0, 0], [0, 2, 0], [1, 0, 0], [0, 0, 2]]);
+        assert_eq!(store.statements[2 * STATEMENT_WORDS..], [0; 2 * STATEMENT_WORDS]);
+        assert_eq!(store.find(b"<b:4>"), Ok(Some(b4)));
+        assert!(store.is_sound());
+
+        // What had no room has it, and what was retracted is new.
+        assert_eq!(store.assert(b7, trips, b4), Ok(Asserted::New(StatementId(3))));
+        assert_eq!(store.assert(relay, trips, b4), Ok(Asserted::New(StatementId(4))));
+        // Nothing to drop: it is a reclaim all the same.
+        assert_eq!((store.reclaim(), store.counters().reclaims, store.counters().statements), (Ok(()), 2, 4));
+    })
+}
+
+#[test]
+fn cursors_end_with_a_reclaim() {
+    with_bay(|store, [relay, _, _, _]| {
+        let question = Question::new(&[[Term::Variable(0), Term::Variable(1), Term::Variable(2)]]);
+        let (opened, mut scan) = (store.scan_open([Some(relay), None, None]).unwrap(), store.scan_open([None; 3]).unwrap());
+        let (start, mut query) = (store.query_open(&question).unwrap(), store.query_open(&question).unwrap());
+        assert_eq!((opened[SCAN_CURSOR_WORDS - 1], start), (0, [0; QUERY_CURSOR_WORDS]));
+        assert!(store.scan_next(&mut scan, 9).is_ok() && store.query_next(&question, &mut query, 9).is_ok());
+        let (mut ended, mut end) = (scan, query);
+        while store.scan_next(&mut ended, 9).unwrap().outcome != Outcome::Ended {}
+        while store.query_next(&question, &mut end, 9).unwrap().outcome != Outcome::Ended {}
+        store.reclaim().unwrap();
+        for cursor in [opened, scan, ended] {
+            for budget in [0, 9] {
+                let mut kept = cursor;
+                assert_eq!((store.scan_next(&mut kept, budget), kept), (Err(Error::StaleCursor), cursor));
+            }
+        }
+        for cursor in [start, query, end] {
+            for budget in [0, 9] {
+                let mut kept = cursor;
+                assert_eq!((store.query_next(&question, &mut kept, budget), kept), (Err(Error::StaleCursor), cursor));
+            }
+        }
+        let mut again = store.query_open(&question).unwrap();
+        assert_eq!(again[..4], [0, 0, 1, 0]);
+        assert!(store.query_next(&question, &mut again, 9).is_ok());
+        assert_eq!((store.ask(&question).unwrap().count(), store.scan([None; 3]).unwrap().count()), (2, 2));
+    })
+}
+
+#[test]
+fn a_reclaim_may_be_refused() {
+    let (mut resources, mut statements) = ([1, 1, 1, 1, 1, 1, 0, 1, 0, 0, 0], [1, 1, 1, 0, 0, 0, 1]);
+    let (mut index, mut text) = ([1], *b"<a>\0");
+    for (reclaims, after, answer) in [
+        (0, [1, 0, 4, 1], Ok(())),
+        (MAX_RECLAIMS - 1, [1, 0, 4, MAX_RECLAIMS], Ok(())),
+        (MAX_RECLAIMS, [1, 1, 4, MAX_RECLAIMS], Err(Error::ReclaimLimit)),
+        (MAX_RECLAIMS + 1, [1, 1, 4, MAX_RECLAIMS + 1], Err(Error::Capacity)),
+    ] {
+        let (mut counters, mut resources, mut statements) = ([1, 1, 4, reclaims], resources, statements);
+        let mut store = Store::new(&mut counters, &mut resources, &mut statements, &mut index, &mut text).unwrap();
+        assert_eq!(store.reclaim(), answer);
+        assert_eq!(counters, after);
+        assert_eq!(statements, if answer.is_ok() { [0; STATEMENT_WORDS] } else { [1, 1, 1, 0, 0, 0, 1] });
+    }
+    // A live count of a retracted statement.
+    resources[LIVE] = 1;
+    let mut counters = [1, 1, 4, 0];
+    let mut store = Store::new(&mut counters, &mut resources, &mut statements, &mut index, &mut text).unwrap();
+    assert_eq!(store.reclaim(), Err(Error::Damaged));
+    assert_eq!((counters, statements), ([1, 1, 4, 0], [1, 1, 1, 0, 0, 0, 1]));
 }
 
 #[test]
@@ -174,7 +256,7 @@ fn a_number_of_0_is_not_any() {
         assert_eq!(store.scan_open([Some(relay), Some(trips), Some(ResourceId(0))]), Err(Error::UnknownNumber));
         assert_eq!(store.scan([Some(relay), Some(trips), None]).unwrap().count(), 2);
     });
-    let mut over = [1, 0, 0];
+    let mut over = [1, 0, 0, 0];
     let store = Store::new(&mut over, &mut [], &mut [], &mut [], &mut []).unwrap();
     assert_eq!(store.scan_open([Some(ResourceId(0)), None, None]), Err(Error::Capacity));
 }
@@ -202,7 +284,7 @@ fn a_resource_is_not_a_variable() {
 
 #[test]
 fn damage_is_a_value_and_ends_an_iterator() {
-    let (mut counters, mut resources, mut statements) = ([1, 1, 4], [1, 1, 1, 1, 1, 1, 0, 1, 1, 1, 1], [1, 1, 1, 0, 0, 0, 2]);
+    let (mut counters, mut resources, mut statements) = ([1, 1, 4, 0], [1, 1, 1, 1, 1, 1, 0, 1, 1, 1, 1], [1, 1, 1, 0, 0, 0, 2]);
     let (mut index, mut text) = ([1], *b"<a>\0");
     let store = Store::new(&mut counters, &mut resources, &mut statements, &mut index, &mut text).unwrap();
     assert!(!store.is_sound());
@@ -212,13 +294,13 @@ fn damage_is_a_value_and_ends_an_iterator() {
 
 #[test]
 fn short_slices_are_values() {
-    let mut two = [0; COUNTER_WORDS - 1];
-    assert_eq!(Store::new(&mut two, &mut [], &mut [], &mut [], &mut []).err(), Some(Error::TooShort));
+    let mut three = [0; COUNTER_WORDS - 1];
+    assert_eq!(Store::new(&mut three, &mut [], &mut [], &mut [], &mut []).err(), Some(Error::TooShort));
     with_bay(|store, _| {
         let cursor = store.scan_open([None; 3]).unwrap();
-        let mut short = cursor[..4].to_vec();
+        let mut short = cursor[..SCAN_CURSOR_WORDS - 1].to_vec();
         assert_eq!(store.scan_next(&mut short, 1), Err(Error::TooShort));
-        assert_eq!(short, cursor[..4]);
+        assert_eq!(short, cursor[..SCAN_CURSOR_WORDS - 1]);
         let question = Question::new(&[]);
         assert_eq!(store.query_next(&question, &mut [0; QUERY_CURSOR_WORDS - 1], 1), Err(Error::TooShort));
         let mut long = [cursor.as_slice(), &[77]].concat();
@@ -238,7 +320,7 @@ fn empty_tables_have_pointers() {
     assert_eq!(store.enter(b"<a>"), Err(Error::Full));
     assert_eq!(store.find(&[]), Err(Error::Malformed));
     assert_eq!(store.scan([None; 3]).unwrap().count(), 0);
-    let mut over = [1, 0, 0];
+    let mut over = [1, 0, 0, 0];
     let store = Store::new(&mut over, &mut [], &mut [], &mut [], &mut []).unwrap();
     assert_eq!(store.find(b"<a>"), Err(Error::Capacity));
     assert_eq!(Lines::new(&[]).next(), None);
@@ -267,7 +349,7 @@ fn a_label_typed_two_ways_is_one() {
         assert_eq!(store.enter(b"\"A\""), Ok(label));
         assert_eq!((store.find(spelled), store.find(b"\"A\"")), (Ok(Some(label)), Ok(Some(label))));
         assert_eq!(store.name(label), Ok(&b"\"A\""[..]));
-        assert_eq!(store.counters(), Counters { resources: 5, statements: 2, text: 7 + 10 + 6 + 6 + 4 });
+        assert_eq!(store.counters(), Counters { resources: 5, statements: 2, text: 7 + 10 + 6 + 6 + 4, reclaims: 0 });
         assert_eq!(store.assert(relay, trips, label), Ok(Asserted::New(StatementId(3))));
         assert!(store.is_sound());
     });
@@ -278,7 +360,7 @@ fn a_label_typed_two_ways_is_one() {
     assert_eq!((lines.next(), lines.position()), (None, text.len()));
     assert_eq!(name_kind(spelled), Ok(Kind::Literal));
 
-    let (mut counters, mut resources, mut index, mut held) = ([1, 0, 47], [0, 0, 0, 0, 0, 0, 0, 3, 0, 0, 0], [1], [0; 47]);
+    let (mut counters, mut resources, mut index, mut held) = ([1, 0, 47, 0], [0, 0, 0, 0, 0, 0, 0, 3, 0, 0, 0], [1], [0; 47]);
     held[..46].copy_from_slice(spelled);
     let store = Store::new(&mut counters, &mut resources, &mut [], &mut index, &mut held).unwrap();
     assert!(!store.is_sound());
@@ -287,13 +369,13 @@ fn a_label_typed_two_ways_is_one() {
 #[test]
 fn every_refusal_has_its_number_and_text() {
     let mut texts = Vec::new();
-    for number in (1..=10).chain([100]) {
+    for number in (1..=10).chain([13, 14, 100]) {
         let error = Error::result_of(number, 0).unwrap_err();
         assert_eq!(error.number(), number);
         texts.push(error.to_string());
     }
     texts.sort();
     texts.dedup();
-    assert_eq!(texts.len(), 11);
+    assert_eq!(texts.len(), 13);
     assert_eq!(Error::result_of(0, 0), Ok(()));
 }

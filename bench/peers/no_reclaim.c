@@ -1,0 +1,16 @@
+/* For peers that give room back by themselves: no reclaim is offered. */
+#include "bench.h"
+
+void *peer_copy(void *st)
+{
+    (void)st;
+    return NULL;
+}
+
+void peer_retract_each(void *st, size_t n, size_t step) { (void)st, (void)n, (void)step; }
+
+size_t peer_reclaim(void *st)
+{
+    (void)st;
+    return 0;
+}
