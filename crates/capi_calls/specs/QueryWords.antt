@@ -77,7 +77,7 @@ misspelt now (NotOpened e) = e
 -- next from a cursor's words: 1; 8; 13; 6, also where they tell none; 7; 9
 unfoldable pub nextQueryFrom : Counters → Tables → List ℕ → List ℕ → ℕ → QueryAnswer
 nextQueryFrom c m ws w b =
-    cond (spelt w) (nextQueryOf c m ws (queryCursorOf w) b) 
+    cond (spelt w) (nextQueryOf c m ws (queryCursorOf w) b)
     (packed 0 (refused (misspelt (eqb (word w 2) (c .generation)) ((openQueryOf c m ws) .opening))))
 
 -- ---- the words of a cursor and of a reply, written from the first on; words past them keep their values
