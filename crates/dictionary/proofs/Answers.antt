@@ -2,14 +2,14 @@
 -- one law for each way out of the code. Assumes nothing.
 use mathlib.Core.Path.{_≡_, refl, sym, ap, _∙_, subst}
 use mathlib.Core.Logic.{_≢_}
-use mathlib.Core.Bool.{Bool, true, false, cond, _&&_, false≢true, true≢false}
+use mathlib.Core.Bool.{Bool, true, false, cond, _&&_, false≢true, true≢false, and-true}
 use mathlib.Core.List.{List, [], _∷_, _++_}
 use Prim.Native.Nat.{ℕ, suc, zero, _+_, _-_, _*_, _/_, _<_, _≤_}
 use native.Mathlib.Omega.{arith}
 use lib.ListN.{length}
 use lib.Seq.{sets}
 use lib.Dec.{eqb, leb, ltb}
-use borrow.Author.Tests.{lt-ltb, le-ltb, ltb-true, ltb-false}
+use borrow.Author.Tests.{lt-ltb, le-ltb, ltb-true, ltb-false, le-leb}
 use Rattle.term.specs.Scanner.{kindOf, firstKindOf}
 use Rattle.term.specs.Canonical.{canonical}
 use Rattle.store.specs.declared.Counters.{Counters}
@@ -21,7 +21,7 @@ use Rattle.store.specs.declared.Lookup.{Lookup}
 use Rattle.store.specs.declared.Lookup.the-variants.{Number, Absent, Refused as NotFound}
 use Rattle.store.specs.declared.Interned.{Interned}
 use Rattle.store.specs.declared.Interned.the-variants.{Number as Id, Refused as NotInterned}
-use Rattle.store.specs.Tables.{Tables, tables, after, fits, word, resourceCapacity, statementCapacity, textCapacity, maxResources, resourceWords}
+use Rattle.store.specs.Tables.{Tables, tables, after, fits, word, resourceCapacity, statementCapacity, textCapacity, maxResources, maxReclaims, resourceWords}
 use Rattle.store.specs.Reading.{inRange}
 use Rattle.store.specs.Model.{wellFormed}
 use Rattle.store.specs.Dictionary.{Named, PlaceWithin, indexPlaceOf, foundAs, findOf, FindAnswer, roomFor, oneNameMore, freshRecord, withName, internAs, internOf, InternWrites, InternAnswer}
@@ -93,7 +93,9 @@ module _ (c : Counters) (m : Tables) where
   pub room-grown : (w : List ℕ) → fits c m ≡ true → roomFor c m w ≡ fits (oneNameMore c w) m
   unfolding fits roomFor
   room-grown w f =
-      let t = and-l (leb (c .statements) (statementCapacity m)) _ (and-r (leb (c .resources) (resourceCapacity m)) _ f) in rw t
+      let t = and-l (leb (c .statements) (statementCapacity m)) _ (and-r (leb (c .resources) (resourceCapacity m)) _ f) in
+      let g = le-leb (c .generation) maxReclaims (fits-room c m f .few-reclaims) in
+      rw (t, g, and-true (leb (c .text + length w + 1) (textCapacity m)))
 
   pub roomy : (w : List ℕ) (k : ℕ) → fits (oneNameMore c w) m ≡ true → k ≤ c .resources
       → Roomy c (m .resources) (m .index) (m .text) w k

@@ -4,7 +4,7 @@ use mathlib.Core.Path.{_≡_, sym, ap}
 use mathlib.Core.Bool.{true, _&&_}
 use Prim.Native.Nat.{ℕ, _≤_}
 use lib.Dec.{leb}
-use borrow.Author.Tests.{leb-true, ne-eqb}
+use borrow.Author.Tests.{leb-true, eq-eqb, ne-eqb}
 use Rattle.store.specs.declared.Counters.{Counters}
 use Rattle.store.specs.declared.Triple.{Triple}
 use Rattle.store.specs.declared.ScanCursor.{ScanCursor}
@@ -33,8 +33,8 @@ module _ (c : Counters) (m : Tables) (q : ScanCursor) where
       let k = chainOk (q .chain) (q .pattern) in
       leb-true (q .next .0) (c .statements) (and-l l r (and-r k (l && r) (and-r (within (c .resources) (q .pattern)) (k && (l && r)) e)))
 
-  pub next-walk : (a : Walked) (b : ℕ) → fits c m ≡ true → cursorOk c m q ≡ true → (b ≡ 0 → ⊥)
+  pub next-walk : (a : Walked) (b : ℕ) → fits c m ≡ true → q .generation ≡ c .generation → cursorOk c m q ≡ true → (b ≡ 0 → ⊥)
       → stepOf a ≡ walk (linkOf (m .statements) (q .chain)) (visitable (c .resources) (m .statements) (q .chain) (q .pattern)) (hits LiveMatch (m .statements) (q .pattern)) b (q .next .0)
       → nextOf c m q b ≡ scannedAs q (stepOf a)
   unfolding nextOf walkFrom hits
-  next-walk a b f k h w = rw (f, k, ne-eqb b 0 h) (ap (scannedAs q) (sym w))
+  next-walk a b f g k h w = rw (f, eq-eqb (q .generation) (c .generation) g, k, ne-eqb b 0 h) (ap (scannedAs q) (sym w))

@@ -1,7 +1,8 @@
 // Pattern scans (paper 01, "Open a listing", "Next of a listing").
 //
 // Each operation takes the counters and all four tables and answers on any words in them, and on any cursor: what it
-// answers is its definition in `store`. Refusals are tested in the paper's order. Nothing is written.
+// answers is its definition in `store`. Refusals are tested in the paper's order: open 1, 4, 9; next 1, 13, 6, 7, 9. Nothing
+// is written.
 use chain::pick::chain_ok;
 use chain::pick::pick_chain;
 use chain::pick::pickable;
@@ -23,10 +24,10 @@ ghost use mathlib.Core.Path.{_≡_};
 ghost use Prim.Native.Nat.{ℕ, _*_, _≤_};
 ghost use lib.ListN.{length};
 ghost use Rattle.store.specs.Tables.{tables, statementWords};
-ghost use Rattle.store.specs.Scan.{cursorAt, openOf, nextOf};
+ghost use Rattle.store.specs.Scan.{cursorIn, openOf, nextOf};
 ghost use Rattle.scan.specs.Cursors.{CursorTested};
 
-// Open a pattern scan: the cursor before the first record of the bound position of least count.
+// Open a pattern scan: the cursor before the first record of the bound position of least count, of the store's generation.
 pub fn scan_open(
     c: Counters,
     resources: &[u32],
@@ -53,6 +54,7 @@ pub fn scan_open(
         pattern: x,
         chain: chain,
         next: StatementId(first),
+        generation: c.generation,
     })
 }
 
@@ -75,16 +77,17 @@ fn cursor_ok(c: Counters, statements: &[u32], q: ScanCursor) -> bool
     record_ok(statements, chain, x, q.next.0)
 }
 
-// The cursor with another next record.
+// The cursor with another next record, of the same generation.
 fn moved(q: ScanCursor, next: StatementId) -> ScanCursor
-    ensures { λ r. ⌜ r ≡ cursorAt (q .pattern) (q .chain) (next .0) ⌝ }
+    ensures { λ r. ⌜ r ≡ cursorIn (q .generation) (q .pattern) (q .chain) (next .0) ⌝ }
 {
     let mut m = q;
     m.next = next;
     m
 }
 
-// Next of a pattern scan: the first live match within the budget, or that the chain or the budget has ended.
+// Next of a pattern scan: the first live match within the budget, or that the chain or the budget has ended. A cursor of
+// another generation is refused before the rest of it is tested: a reclaim numbers statements anew.
 pub fn scan_next(
     c: Counters,
     resources: &[u32],
@@ -99,6 +102,9 @@ pub fn scan_next(
 {
     if !fits(c, resources, statements, index, text) {
         return Scanned::Refused(Refusal::Capacity);
+    }
+    if q.generation != c.generation {
+        return Scanned::Refused(Refusal::StaleCursor);
     }
     if !cursor_ok(c, statements, q) {
         return Scanned::Refused(Refusal::BadCursor);

@@ -2,7 +2,7 @@ use Rattle.table.proofs.Branches.{passed, failed}
 use native.Mathlib.Omega.{arith}
 use mathlib.Core.Path.{sym, _∙_, ap}
 use denote.Ref.{now}
-use borrow.Author.Tests.{eq-eqb}
+use borrow.Author.Tests.{eq-eqb, ne-eqb}
 use Rattle.table.proofs.Capacity.{fits-room}
 use Rattle.scan.proofs.Cursors.{cursor-within, next-walk}
 use Rattle.chain_walk.specs.Walks.{stepOf}
@@ -26,28 +26,34 @@ returns : tie.Need-returns
 unfolding nextOf
 returns c = simp (failed (c .before .fits2 .ensures) (c .if1 .taken))
 
-cursor-ok-requires : tie.Need-cursor-ok-requires
-cursor-ok-requires c κs = let a = c .before .before .before .before .before .before .args in
-    let m = tables (now (a .resources)) (now (a .statements)) (now (a .index)) (now (a .text)) in fits-room (a .c) m (passed (c .before .fits2 .ensures) (c .if1 .left)) .in-statements
-
 returns-2 : tie.Need-returns-2
 unfolding nextOf
 returns-2 c =
-    let a = c .before .before .before .before .before .before .before .before .args in
-    rw (passed (c .before .before .before .fits2 .ensures) (c .before .before .if1 .left), failed (c .before .cursor-ok .ensures .tells (now (a .resources)) (now (a .index)) (now (a .text))) (c .if2 .taken))
+    let a = c .before .before .before .before .before .before .before .before .before .args in
+    rw (passed (c .before .before .before .before .fits2 .ensures) (c .before .before .before .if1 .left), ne-eqb (a .q .generation) (a .c .generation) (λ e. omega arith))
+
+cursor-ok-requires : tie.Need-cursor-ok-requires
+cursor-ok-requires c κs = let a = c .before .before .before .before .before .before .before .before .before .args in
+    let m = tables (now (a .resources)) (now (a .statements)) (now (a .index)) (now (a .text)) in fits-room (a .c) m (passed (c .before .before .before .before .fits2 .ensures) (c .before .before .before .if1 .left)) .in-statements
 
 returns-3 : tie.Need-returns-3
 unfolding nextOf
 returns-3 c =
-    let a = c .before .before .before .before .before .before .before .before .before .args in
-    rw (passed (c .before .before .before .before .fits2 .ensures) (c .before .before .before .if1 .left), passed (c .before .before .cursor-ok .ensures .tells (now (a .resources)) (now (a .index)) (now (a .text))) (c .before .if2 .left), eq-eqb _ _ (c .if3 .taken))
+    let a = c .before .before .before .before .before .before .before .before .before .before .before .args in
+    rw (passed (c .before .before .before .before .before .before .fits2 .ensures) (c .before .before .before .before .before .if1 .left), eq-eqb (a .q .generation) (a .c .generation) (omega arith), failed (c .before .cursor-ok .ensures .tells (now (a .resources)) (now (a .index)) (now (a .text))) (c .if3 .taken))
+
+returns-4 : tie.Need-returns-4
+unfolding nextOf
+returns-4 c =
+    let a = c .before .before .before .before .before .before .before .before .before .before .before .before .args in
+    rw (passed (c .before .before .before .before .before .before .before .fits2 .ensures) (c .before .before .before .before .before .before .if1 .left), eq-eqb (a .q .generation) (a .c .generation) (omega arith), passed (c .before .before .cursor-ok .ensures .tells (now (a .resources)) (now (a .index)) (now (a .text))) (c .before .if3 .left), eq-eqb _ _ (c .if4 .taken))
 
 walk-requires : tie.Need-walk-requires
 walk-requires c κs =
-    let a = c .before .before .before .before .before .before .before .before .before .before .args in
+    let a = c .before .before .before .before .before .before .before .before .before .before .before .before .before .args in
     let m = tables (now (a .resources)) (now (a .statements)) (now (a .index)) (now (a .text)) in
-    let f = passed (c .before .before .before .before .before .fits2 .ensures) (c .before .before .before .before .if1 .left) in
-    let k = cursor-within (a .c) m (a .q) (passed (c .before .before .before .cursor-ok .ensures .tells (now (a .resources)) (now (a .index)) (now (a .text))) (c .before .before .if2 .left)) in
+    let f = passed (c .before .before .before .before .before .before .before .before .fits2 .ensures) (c .before .before .before .before .before .before .before .if1 .left) in
+    let k = cursor-within (a .c) m (a .q) (passed (c .before .before .before .cursor-ok .ensures .tells (now (a .resources)) (now (a .index)) (now (a .text))) (c .before .before .if3 .left)) in
     let s = fits-room (a .c) m f .in-statements in
     omega arith
 
@@ -72,21 +78,21 @@ moved-requires-3 c κs = search needs
 enum-told : tie.Need-enum-told
 enum-told c = search needs
 
-returns-4 : tie.Need-returns-4
-returns-4 c = let a = c .before .before .before .before .before .before .before .before .before .before .before .before .before .before .before .args in
-    let m = tables (now (a .resources)) (now (a .statements)) (now (a .index)) (now (a .text)) in rw (c .moved .ensures) (sym (next-walk (a .c) m (a .q) (c .before .before .before .before .walk .result) (a .budget) (passed (c .before .before .before .before .before .before .before .before .before .before .fits2 .ensures) (c .before .before .before .before .before .before .before .before .before .if1 .left)) (passed (c .before .before .before .before .before .before .before .before .cursor-ok .ensures .tells (now (a .resources)) (now (a .index)) (now (a .text))) (c .before .before .before .before .before .before .before .if2 .left)) (c .before .before .before .before .before .before .if3 .left) (c .before .before .before .before .walk .ensures) ∙ ap (λ (w : Walked). scannedAs (a .q) (stepOf w)) (c .before .before .n .given .1)))
-
 returns-5 : tie.Need-returns-5
-returns-5 c = let a = c .before .before .before .before .before .before .before .before .before .before .before .before .before .before .before .args in
-    let m = tables (now (a .resources)) (now (a .statements)) (now (a .index)) (now (a .text)) in rw (c .moved2 .ensures) (sym (next-walk (a .c) m (a .q) (c .before .before .before .before .walk .result) (a .budget) (passed (c .before .before .before .before .before .before .before .before .before .before .fits2 .ensures) (c .before .before .before .before .before .before .before .before .before .if1 .left)) (passed (c .before .before .before .before .before .before .before .before .cursor-ok .ensures .tells (now (a .resources)) (now (a .index)) (now (a .text))) (c .before .before .before .before .before .before .before .if2 .left)) (c .before .before .before .before .before .before .if3 .left) (c .before .before .before .before .walk .ensures) ∙ ap (λ (w : Walked). scannedAs (a .q) (stepOf w)) (c .before .before .visits .given .1)))
+returns-5 c = let a = c .before .before .before .before .before .before .before .before .before .before .before .before .before .before .before .before .before .before .args in
+    let m = tables (now (a .resources)) (now (a .statements)) (now (a .index)) (now (a .text)) in rw (c .moved .ensures) (sym (next-walk (a .c) m (a .q) (c .before .before .before .before .walk .result) (a .budget) (passed (c .before .before .before .before .before .before .before .before .before .before .before .before .before .fits2 .ensures) (c .before .before .before .before .before .before .before .before .before .before .before .before .if1 .left)) (omega arith) (passed (c .before .before .before .before .before .before .before .before .cursor-ok .ensures .tells (now (a .resources)) (now (a .index)) (now (a .text))) (c .before .before .before .before .before .before .before .if3 .left)) (c .before .before .before .before .before .before .if4 .left) (c .before .before .before .before .walk .ensures) ∙ ap (λ (w : Walked). scannedAs (a .q) (stepOf w)) (c .before .before .n .given .1)))
 
 returns-6 : tie.Need-returns-6
-returns-6 c = let a = c .before .before .before .before .before .before .before .before .before .before .before .before .before .before .before .args in
-    let m = tables (now (a .resources)) (now (a .statements)) (now (a .index)) (now (a .text)) in rw (c .moved3 .ensures) (sym (next-walk (a .c) m (a .q) (c .before .before .before .before .walk .result) (a .budget) (passed (c .before .before .before .before .before .before .before .before .before .before .fits2 .ensures) (c .before .before .before .before .before .before .before .before .before .if1 .left)) (passed (c .before .before .before .before .before .before .before .before .cursor-ok .ensures .tells (now (a .resources)) (now (a .index)) (now (a .text))) (c .before .before .before .before .before .before .before .if2 .left)) (c .before .before .before .before .before .before .if3 .left) (c .before .before .before .before .walk .ensures) ∙ ap (λ (w : Walked). scannedAs (a .q) (stepOf w)) (c .before .before .visits2 .given .1)))
+returns-6 c = let a = c .before .before .before .before .before .before .before .before .before .before .before .before .before .before .before .before .before .before .args in
+    let m = tables (now (a .resources)) (now (a .statements)) (now (a .index)) (now (a .text)) in rw (c .moved2 .ensures) (sym (next-walk (a .c) m (a .q) (c .before .before .before .before .walk .result) (a .budget) (passed (c .before .before .before .before .before .before .before .before .before .before .before .before .before .fits2 .ensures) (c .before .before .before .before .before .before .before .before .before .before .before .before .if1 .left)) (omega arith) (passed (c .before .before .before .before .before .before .before .before .cursor-ok .ensures .tells (now (a .resources)) (now (a .index)) (now (a .text))) (c .before .before .before .before .before .before .before .if3 .left)) (c .before .before .before .before .before .before .if4 .left) (c .before .before .before .before .walk .ensures) ∙ ap (λ (w : Walked). scannedAs (a .q) (stepOf w)) (c .before .before .visits .given .1)))
 
 returns-7 : tie.Need-returns-7
-returns-7 c = let a = c .before .before .before .before .before .before .before .before .before .before .before .before .before .args in
-    let m = tables (now (a .resources)) (now (a .statements)) (now (a .index)) (now (a .text)) in sym (next-walk (a .c) m (a .q) (c .before .before .walk .result) (a .budget) (passed (c .before .before .before .before .before .before .before .before .fits2 .ensures) (c .before .before .before .before .before .before .before .if1 .left)) (passed (c .before .before .before .before .before .before .cursor-ok .ensures .tells (now (a .resources)) (now (a .index)) (now (a .text))) (c .before .before .before .before .before .if2 .left)) (c .before .before .before .before .if3 .left) (c .before .before .walk .ensures) ∙ ap (λ (w : Walked). scannedAs (a .q) (stepOf w)) (c .enum-told .given .1))
+returns-7 c = let a = c .before .before .before .before .before .before .before .before .before .before .before .before .before .before .before .before .before .before .args in
+    let m = tables (now (a .resources)) (now (a .statements)) (now (a .index)) (now (a .text)) in rw (c .moved3 .ensures) (sym (next-walk (a .c) m (a .q) (c .before .before .before .before .walk .result) (a .budget) (passed (c .before .before .before .before .before .before .before .before .before .before .before .before .before .fits2 .ensures) (c .before .before .before .before .before .before .before .before .before .before .before .before .if1 .left)) (omega arith) (passed (c .before .before .before .before .before .before .before .before .cursor-ok .ensures .tells (now (a .resources)) (now (a .index)) (now (a .text))) (c .before .before .before .before .before .before .before .if3 .left)) (c .before .before .before .before .before .before .if4 .left) (c .before .before .before .before .walk .ensures) ∙ ap (λ (w : Walked). scannedAs (a .q) (stepOf w)) (c .before .before .visits2 .given .1)))
+
+returns-8 : tie.Need-returns-8
+returns-8 c = let a = c .before .before .before .before .before .before .before .before .before .before .before .before .before .before .before .before .args in
+    let m = tables (now (a .resources)) (now (a .statements)) (now (a .index)) (now (a .text)) in sym (next-walk (a .c) m (a .q) (c .before .before .walk .result) (a .budget) (passed (c .before .before .before .before .before .before .before .before .before .before .before .fits2 .ensures) (c .before .before .before .before .before .before .before .before .before .before .if1 .left)) (omega arith) (passed (c .before .before .before .before .before .before .cursor-ok .ensures .tells (now (a .resources)) (now (a .index)) (now (a .text))) (c .before .before .before .before .before .if3 .left)) (c .before .before .before .before .if4 .left) (c .before .before .walk .ensures) ∙ ap (λ (w : Walked). scannedAs (a .q) (stepOf w)) (c .enum-told .given .1))
 
 pub scan-next-spec : {M : Type 1} → statement M
 scan-next-spec =
@@ -94,9 +100,10 @@ scan-next-spec =
     (tie.spec
     fits-requires
     returns
-    cursor-ok-requires
     returns-2
+    cursor-ok-requires
     returns-3
+    returns-4
     walk-requires
     enum-known-n
     moved-requires
@@ -105,7 +112,7 @@ scan-next-spec =
     enum-known-visits-2
     moved-requires-3
     enum-told
-    returns-4
     returns-5
     returns-6
-    returns-7)
+    returns-7
+    returns-8)
