@@ -156,15 +156,21 @@ pub fn written(levels: [Level; MAX_PATTERNS], d: u32) -> [Level; MAX_PATTERNS]
     out
 }
 
-// The cursor of d levels.
-pub fn cursor_of(progress: Progress, levels: [Level; MAX_PATTERNS], d: u32) -> QueryCursor
+// The cursor of d levels, with the number of reclaims.
+pub fn cursor_of(
+    generation: u32,
+    progress: Progress,
+    levels: [Level; MAX_PATTERNS],
+    d: u32,
+) -> QueryCursor
     requires { ⌜ d ≤ maxPatterns ⌝ }
-    ensures { λ q. ⌜ q ≡ cursorWith progress (levelsOf levels d) ⌝ }
+    ensures { λ q. ⌜ q ≡ cursorWith generation progress (levelsOf levels d) ⌝ }
 {
     let w = written(levels, d);
     QueryCursor {
         progress: progress,
         depth: d,
+        generation: generation,
         levels: w,
     }
 }

@@ -2,7 +2,7 @@
 // number and copies nothing (paper 01, "Next of a question").
 //
 // A turn of the walk leaves the deepest level, visits its record, or enters the next pattern; each is a function here,
-// and so are the replies that a walk ends with.
+// and so are the replies that a walk ends with. A reply's cursor has the number of reclaims that it is given.
 use chain::pick::pick_chain;
 use chain::pick::pickable;
 use chain::pick::start_of;
@@ -39,7 +39,7 @@ ghost use Rattle.chain_walk.specs.declared.walk.Sought.the-variants.{LiveMatch}
 ghost use Rattle.chain.specs.Chains.{PatternHeld};
 ghost use Rattle.chain_walk.specs.Walks.{visitOf};
 ghost use Rattle.graph.specs.Query.{maxPatterns, patternsOf, pattern, under, noLevel, levelsOf, inside, level, refused};
-ghost use Rattle.graph.specs.Query.{ended, found, answered, packed, cursorWith};
+ghost use Rattle.graph.specs.Query.{ended, found, answered, packed, cursorAt, cursorWith};
 ghost use Rattle.pattern_level.specs.Levels.{QueryOk, LevelsHeld};
 ghost use Rattle.query_stack.specs.Stack.{deepest, entered, standAs, poppedAs, enteredAs, metAt, NextHeld};
 ghost use Rattle.query_stack.specs.Stack.{triedAs, overAs};
@@ -81,40 +81,41 @@ pub fn level(chain: Chain, n: u32) -> Level
 }
 
 // A cursor with no levels.
-pub fn no_levels(progress: Progress) -> QueryCursor
-    ensures { λ q. ⌜ q ≡ cursorWith progress [] ⌝ }
+pub fn no_levels(generation: u32, progress: Progress) -> QueryCursor
+    ensures { λ q. ⌜ q ≡ cursorWith generation progress [] ⌝ }
 {
     let none = level(Chain::All, 0);
     let levels = [none; MAX_PATTERNS];
-    cursor_of(progress, levels, 0)
+    cursor_of(generation, progress, levels, 0)
 }
 
-// A refusal: zeros beside it.
+// A refusal: zeros beside it, whatever the number of reclaims.
 pub fn refused(e: Refusal) -> QueryAnswer
-    ensures { λ a. ⌜ a ≡ packed (refused e) ⌝ }
+    ensures { λ a. ⌜ a ≡ packed 0 (refused e) ⌝ }
 {
     QueryAnswer {
         step: QueryStep::Refused(e),
         visits: 0,
         solution: none_bound(),
-        cursor: no_levels(Progress::Start),
+        cursor: no_levels(0, Progress::Start),
     }
 }
 
 // No solution is left: the end.
-pub fn ended(visits: u32) -> QueryAnswer
-    ensures { λ a. ⌜ a ≡ packed (ended visits) ⌝ }
+pub fn ended(generation: u32, visits: u32) -> QueryAnswer
+    ensures { λ a. ⌜ a ≡ packed generation (ended visits) ⌝ }
 {
     QueryAnswer {
         step: QueryStep::Ended,
         visits: visits,
         solution: none_bound(),
-        cursor: no_levels(Progress::End),
+        cursor: no_levels(generation, Progress::End),
     }
 }
 
 // Found or spent: a solution, or zeros, and the place.
 pub fn standing(
+    generation: u32,
     step: QueryStep,
     visits: u32,
     solution: Solution,
@@ -123,13 +124,13 @@ pub fn standing(
 ) -> QueryAnswer
     requires { ⌜ top < maxPatterns ⌝ }
     ensures { λ a. ⌜ a ≡ answered step visits (solution .values)
-        (inside (getD levels top noLevel) (levelsOf levels top)) ⌝ }
+        (cursorAt generation (inside (getD levels top noLevel) (levelsOf levels top))) ⌝ }
 {
     QueryAnswer {
         step: step,
         visits: visits,
         solution: solution,
-        cursor: cursor_of(Progress::Within, levels, top + 1),
+        cursor: cursor_of(generation, Progress::Within, levels, top + 1),
     }
 }
 
@@ -243,25 +244,39 @@ pub fn tried(
 }
 
 // The budget is spent: ended where no chain has a record left. Chains that have run out stay in the place.
-pub fn out_of_budget(statements: &[u32], q: Stack, visits: u32) -> QueryAnswer
+pub fn out_of_budget(generation: u32, statements: &[u32], q: Stack, visits: u32) -> QueryAnswer
     requires { ⌜ (q .top < maxPatterns) × LevelsHeld (now statements) (q .levels) (q .top) ⌝ }
-    ensures { λ a. ⌜ a ≡ packed (overAs (now (statements .entry)) q visits) ⌝ }
+    ensures { λ a. ⌜ a ≡ packed generation (overAs (now (statements .entry)) q visits) ⌝ }
 {
     let levels = q.levels;
     if remains(statements, levels, q.top) {
-        return standing(QueryStep::Spent, visits, none_bound(), levels, q.top);
+        return standing(
+            generation,
+            QueryStep::Spent,
+            visits,
+            none_bound(),
+            levels,
+            q.top,
+        );
     }
-    ended(visits)
+    ended(generation, visits)
 }
 
 // A whole solution is found: the stack has bound it.
-pub fn whole(s: Stack, visits: u32) -> QueryAnswer
+pub fn whole(generation: u32, s: Stack, visits: u32) -> QueryAnswer
     requires { ⌜ s .top < maxPatterns ⌝ }
-    ensures { λ a. ⌜ a ≡ packed (found (s .bound .values) visits (inside (deepest s) (entered s))) ⌝ }
+    ensures { λ a. ⌜ a ≡ packed generation (found (s .bound .values) visits (inside (deepest s) (entered s))) ⌝ }
 {
     let solution = s.bound;
     let levels = s.levels;
-    standing(QueryStep::Found, visits, solution, levels, s.top)
+    standing(
+        generation,
+        QueryStep::Found,
+        visits,
+        solution,
+        levels,
+        s.top,
+    )
 }
 
 // A level at another record of its chain.

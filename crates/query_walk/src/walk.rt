@@ -31,14 +31,14 @@ pub fn walk(
 ) -> QueryAnswer
     requires { ⌜ Ready (c .resources) (c .statements) (now resources) (now statements) (now words)
         × Stands (c .resources) (c .statements) (now statements) (now words) from ⌝ }
-    ensures { λ a. ⌜ a ≡ packed (walk (c .resources) (c .statements) (now (resources .entry))
+    ensures { λ a. ⌜ a ≡ packed (c .generation) (walk (c .resources) (c .statements) (now (resources .entry))
         (now (statements .entry)) (patternsOf (now (words .entry))) budget (deepest from) (entered from) 0) ⌝ }
 {
     let mut q = from;
     let mut visits: u32 = 0;
     'walk: loop {
         if visits == budget {
-            return out_of_budget(statements, q, visits);
+            return out_of_budget(c.generation, statements, q, visits);
         }
         let l = loop {
             let l = q.levels[q.top as usize];
@@ -46,7 +46,7 @@ pub fn walk(
                 break l;
             }
             if q.top == 0 {
-                return ended(visits);
+                return ended(c.generation, visits);
             }
             let m = popped(statements, words, q);
             let b = m.bound;
@@ -94,5 +94,5 @@ pub fn walk(
             }
         }
     }
-    whole(q, visits)
+    whole(c.generation, q, visits)
 }

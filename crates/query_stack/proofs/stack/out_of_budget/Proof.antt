@@ -1,5 +1,5 @@
 use mathlib.Core.Path.{ap, _∙_}
-use Rattle.graph.specs.Query.{packed, answered, inside, Bindings}
+use Rattle.graph.specs.Query.{packed, answered, cursorAt, inside, Bindings}
 use Rattle.graph.specs.declared.QueryStep.the-variants.{Spent}
 use Rattle.query_stack.specs.Stack.{deepest, entered}
 use borrow.Author.Needs.{needs}
@@ -21,7 +21,8 @@ returns c =
     let a = c .before .before .before .before .before .before .args in
     rw (← c .before .before .before .remains .ensures, c .before .before .if1 .taken)
     (c .standing .ensures
-    ∙ ap (λ (z : Bindings). answered Spent (a .visits) z (inside (deepest (a .q)) (entered (a .q))))
+    ∙ ap (λ (z : Bindings). answered Spent (a .visits) z
+    (cursorAt (a .generation) (inside (deepest (a .q)) (entered (a .q)))))
     (c .before .none-bound .ensures))
 
 ended-requires : tie.Need-ended-requires

@@ -1,4 +1,4 @@
-use Rattle.graph.specs.Query.{packed, cursorAt}
+use Rattle.graph.specs.Query.{packed}
 use Rattle.query_stack.proofs.Stacks.{answer-is}
 use borrow.Author.Needs.{needs}
 use Rattle.query_stack.proofs.stack.refused.Statement.{statement}
@@ -11,7 +11,7 @@ no-levels-requires : tie.Need-no-levels-requires
 no-levels-requires c κs = search needs
 
 returns : tie.Need-returns
-unfolding packed cursorAt
+unfolding packed
 returns c = answer-is _ _ (c .before .none-bound .result) _ (c .no-levels .result) _
     (c .before .none-bound .ensures) (c .no-levels .ensures)
 

@@ -58,7 +58,7 @@ returns c =
     let if1 = c .before .if1 in
     let r = a .c .resources in let t = a .c .statements in let res = a .resources .now in
     let stm = a .statements .now in let ws = a .words .now in let k = pre .0 in
-    out-of-budget .ensures ∙ ap packed (sym (walk .inv .2 ∙ walk-over r t res stm (patternsOf ws)
+    out-of-budget .ensures ∙ ap (packed (a .c .generation)) (sym (walk .inv .2 ∙ walk-over r t res stm (patternsOf ws)
     (deepest (walk .q)) (entered (walk .q)) (walk .visits) (a .budget - walk .visits) (let z = if1 .taken in
     omega arith)))
 
@@ -109,7 +109,7 @@ returns-2 c =
     let ended = c .ended in
     let r = a .c .resources in let t = a .c .statements in let res = a .resources .now in
     let stm = a .statements .now in let ws = a .words .now in let k = pre .0 in
-    ended .ensures ∙ ap packed (sym (walk .inv .2 ∙ runs-out r t res stm ws k (a .budget) (walk .visits)
+    ended .ensures ∙ ap (packed (a .c .generation)) (sym (walk .inv .2 ∙ runs-out r t res stm ws k (a .budget) (walk .visits)
     (walk .inv .0) (if1 .left) (walk .q) (loop .q) (loop .inv .0) (loop .inv .1) (if3 .taken) (if2 .left)))
 
 popped-requires : tie.Need-popped-requires Inv-loop μ-loop Inv-walk μ-walk
@@ -224,6 +224,7 @@ refused-requires : tie.Need-refused-requires Inv-loop μ-loop Inv-walk μ-walk
 refused-requires c κs = search needs
 
 returns-3 : tie.Need-returns-3 Inv-loop μ-loop Inv-walk μ-walk
+unfolding packed
 returns-3 c =
     let a = c .before .before .before .before .before .before .before .before .before .before .before .before
     .before .before .args in
@@ -238,7 +239,7 @@ returns-3 c =
     let refused = c .refused in
     let r = a .c .resources in let t = a .c .statements in let res = a .resources .now in
     let stm = a .statements .now in let ws = a .words .now in let k = pre .0 in
-    refused .ensures ∙ ap packed (sym (walk .inv .2 ∙ sees-torn r t res stm ws k (a .budget) (walk .visits)
+    refused .ensures ∙ ap (packed (a .c .generation)) (sym (walk .inv .2 ∙ sees-torn r t res stm ws k (a .budget) (walk .visits)
     (walk .inv .0) (if1 .left) (walk .q) (loop .q) (loop .inv .0) (loop .inv .1) (if2 .taken)
     (sym (seen .ensures) ∙ enum-told .given .1)))
 
@@ -400,6 +401,7 @@ refused-requires-2 : tie.Need-refused-requires-2 Inv-loop μ-loop Inv-walk μ-wa
 refused-requires-2 c κs = search needs
 
 returns-4 : tie.Need-returns-4 Inv-loop μ-loop Inv-walk μ-walk
+unfolding packed
 returns-4 c =
     let a = c .before .before .before .before .before .before .before .before .before .before .before .before
     .before .before .before .before .before .before .before .before .before .before .before .args in
@@ -421,7 +423,7 @@ returns-4 c =
     let refused2 = c .refused2 in
     let r = a .c .resources in let t = a .c .statements in let res = a .resources .now in
     let stm = a .statements .now in let ws = a .words .now in let k = pre .0 in
-    refused2 .ensures ∙ ap packed (sym (walk .inv .2 ∙ tried-damaged r t res stm ws k (a .budget) (walk .visits)
+    refused2 .ensures ∙ ap (packed (a .c .generation)) (sym (walk .inv .2 ∙ tried-damaged r t res stm ws k (a .budget) (walk .visits)
     (walk .inv .0) (if1 .left) (walk .q) (loop .q) (loop .inv .0) (loop .inv .1) (if2 .taken) (tried .result)
     (n2 .given .0 .0) (sym (seen .ensures) ∙ n2 .given .1) (tried .ensures) (enum-told2 .given .1)))
 
@@ -509,7 +511,7 @@ returns-5 c =
     let whole = c .whole in
     let r = a .c .resources in let t = a .c .statements in let res = a .resources .now in
     let stm = a .statements .now in let ws = a .words .now in let k = pre .0 in
-    whole .ensures ∙ ap packed (sym (walk .inv .2 ∙ tried-whole r t res stm ws k (a .budget) (walk .visits)
+    whole .ensures ∙ ap (packed (a .c .generation)) (sym (walk .inv .2 ∙ tried-whole r t res stm ws k (a .budget) (walk .visits)
     (walk .inv .0) (if1 .left) (walk .q) (loop .q) (loop .inv .0) (loop .inv .1) (if2 .taken) (tried .result)
     (n2 .given .0 .0) (sym (seen .ensures) ∙ n2 .given .1) (tried .ensures) (enum-told4 .given .1)))
 
