@@ -42,10 +42,14 @@ pub record Linkable (res : List ℕ) (p : Position) (y : ℕ) : Type 0 where
   pub grows : countAt res p y ≤ maxStatements
   pub live-grows : liveAt res p y ≤ maxStatements
 
--- what the store of a new record asks: resources that can be linked, and counters within the limit
-pub record Appendable (c : Counters) (res : List ℕ) (x : Triple) : Type 0 where
-  pub few : c .statements ≤ maxStatements
+-- what linking record t + 1 asks: t within the limit, and resources that can be linked
+pub record AllLinkable (t : ℕ) (res : List ℕ) (x : Triple) : Type 0 where
+  pub few : t ≤ maxStatements
   pub each : (p : Position) → Linkable res p (at p x)
+
+-- what the store of a new record asks
+abbrev pub Appendable : Counters → List ℕ → Triple → Type 0
+Appendable c res x = AllLinkable (c .statements) res x
 
 -- ---- steps that read or write fewer tables than the operation has: their contracts hold whatever the other tables are
 

@@ -30,7 +30,7 @@ ghost use Rattle.store.specs.Tables.{statementWords, maxStatements};
 ghost use Rattle.store.specs.Statement.{appendRecord, linkFirst, linkRecord, tallyAt, tally, counting};
 ghost use Rattle.table.specs.Held.{StatementHeld, TripleHeld};
 ghost use Rattle.statement_record.specs.Records.{flagged, moved, Movable, Tallyable, AllTallyable};
-ghost use Rattle.statement_record.specs.Records.{Linkable, Appendable, Appended, Revived, Struck};
+ghost use Rattle.statement_record.specs.Records.{Linkable, AllLinkable, Appendable, Appended, Revived, Struck};
 
 // The flag of record n.
 pub fn set_flag(statements: &mut [u32], n: u32, flag: u32)
@@ -121,11 +121,10 @@ pub fn link_first(resources: &mut [u32], p: Position, t: u32, y: u32)
 }
 
 // Record t + 1 at the head of its three chains.
-pub fn link_record(resources: &mut [u32], c: Counters, x: Triple)
-    requires { ⌜ Appendable c (now resources) x ⌝ }
-    ensures { λ _. ⌜ now (resources .exit) ≡ linkRecord (c .statements) x (now (resources .entry)) ⌝ }
+pub fn link_record(resources: &mut [u32], t: u32, x: Triple)
+    requires { ⌜ AllLinkable t (now resources) x ⌝ }
+    ensures { λ _. ⌜ now (resources .exit) ≡ linkRecord t x (now (resources .entry)) ⌝ }
 {
-    let t = c.statements;
     link_first(resources, Position::Subject, t, x.subject.0);
     link_first(resources, Position::Predicate, t, x.predicate.0);
     link_first(resources, Position::Object, t, x.object.0);
@@ -151,7 +150,7 @@ pub fn append(c: Counters, resources: &mut [u32], statements: &mut [u32], x: Tri
         return Asserted::Refused(Refusal::Full);
     }
     write_record(resources, statements, c.statements, x);
-    link_record(resources, c, x);
+    link_record(resources, c.statements, x);
     let n = c.statements + 1;
     let mut d = c;
     d.statements = n;

@@ -15,10 +15,10 @@ link-first-requires c κs = (c .before .before .pre .each Subject, c .before .be
 
 link-first-requires-2 : tie.Need-link-first-requires-2
 link-first-requires-2 c κs = let a = c .before .before .before .before .before .before .args in let e = c .before .before .before .before .before .before .pre .each in
-    (rw (c .before .before .before .link-first .ensures) (link-keeps Subject (a .c .statements) (a .x .subject .0) (now (a .resources)) (e Subject .resource-in) Predicate (a .x .predicate .0) (λ e. omega arith) (e Predicate)), c .before .before .before .before .before .before .pre .few)
+    (rw (c .before .before .before .link-first .ensures) (link-keeps Subject (a .t) (a .x .subject .0) (now (a .resources)) (e Subject .resource-in) Predicate (a .x .predicate .0) (λ e. omega arith) (e Predicate)), c .before .before .before .before .before .before .pre .few)
 
 link-first-requires-3 : tie.Need-link-first-requires-3
-link-first-requires-3 c κs = let a = c .before .before .before .before .before .before .before .before .before .before .args in let t = a .c .statements in let e = c .before .before .before .before .before .before .before .before .before .before .pre .each in
+link-first-requires-3 c κs = let a = c .before .before .before .before .before .before .before .before .before .before .args in let t = a .t in let e = c .before .before .before .before .before .before .before .before .before .before .pre .each in
     let k = link-keeps Subject t (a .x .subject .0) (now (a .resources)) (e Subject .resource-in) in
     (rw (c .before .before .before .link-first2 .ensures, c .before .before .before .before .before .before .before .link-first .ensures) (link-keeps Predicate t (a .x .predicate .0) _ (k Predicate (a .x .predicate .0) (λ e. omega arith) (e Predicate) .resource-in) Object (a .x .object .0) (λ e. omega arith) (k Object (a .x .object .0) (λ e. omega arith) (e Object))), c .before .before .before .before .before .before .before .before .before .before .pre .few)
 
