@@ -2,7 +2,8 @@
 // Nothing is written.
 //
 // The words are passed at each call, and the cursor holds none of them: a cursor of another query, or of another
-// store, is judged by refusal 6 alone. Refusals, in the order tested: open 1, 8; next 1, 8, 6, 7, 9.
+// store with as many reclaims, is judged by refusal 6 alone. Refusals, in the order tested: open 1, 8; next 1, 8, 13,
+// 6, 7, 9.
 use crate::resume::resume;
 use graph::Opening;
 use graph::Progress;
@@ -22,7 +23,8 @@ ghost use Rattle.graph.specs.Query.{openQueryOf, nextQueryOf};
 
 pub mod resume;
 
-// Open a query: 1; 8 if the words are no query; else the cursor before the first solution.
+// Open a query: 1; 8 if the words are no query; else the cursor before the first solution, with the number of reclaims.
+// Beside a refusal the cursor is zero.
 pub fn query_open(
     c: Counters,
     resources: &[u32],
@@ -34,27 +36,26 @@ pub fn query_open(
     ensures { λ a. ⌜ a ≡ openQueryOf c (tables (now (resources .entry)) (now (statements .entry))
         (now (index .entry)) (now (text .entry))) (now (words .entry)) ⌝ }
 {
-    let cursor = no_levels(Progress::Start);
     if !fits(c, resources, statements, index, text) {
         return QueryOpened {
             opening: Opening::Refused(Refusal::Capacity),
-            cursor: cursor,
+            cursor: no_levels(0, Progress::Start),
         };
     }
     if !words_ok(c.resources, words) {
         return QueryOpened {
             opening: Opening::Refused(Refusal::BadQuery),
-            cursor: cursor,
+            cursor: no_levels(0, Progress::Start),
         };
     }
     QueryOpened {
         opening: Opening::Opened,
-        cursor: cursor,
+        cursor: no_levels(c.generation, Progress::Start),
     }
 }
 
-// Next of a query: 1; 8; 6; 7 if the budget is 0; 9; else found, ended or spent, with the visits made and the cursor
-// from now on.
+// Next of a query: 1; 8; 13 if the cursor, at the start and at the end too, has another number of reclaims; 6; 7 if the
+// budget is 0; 9; else found, ended or spent, with the visits made and the cursor from now on.
 pub fn query_next(
     c: Counters,
     resources: &[u32],
@@ -73,6 +74,9 @@ pub fn query_next(
     }
     if !words_ok(c.resources, words) {
         return refused(Refusal::BadQuery);
+    }
+    if q.generation != c.generation {
+        return refused(Refusal::StaleCursor);
     }
     let m = place_ok(c, statements, words, q);
     if !m.hit {

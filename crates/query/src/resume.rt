@@ -46,7 +46,7 @@ pub fn begin(
     budget: u32,
 ) -> QueryAnswer
     requires { ⌜ Ready (c .resources) (c .statements) (now resources) (now statements) (now words) ⌝ }
-    ensures { λ a. ⌜ a ≡ packed (resume (c .resources) (c .statements) (now (resources .entry))
+    ensures { λ a. ⌜ a ≡ packed (c .generation) (resume (c .resources) (c .statements) (now (resources .entry))
         (now (statements .entry)) (patternsOf (now (words .entry))) start budget) ⌝ }
 {
     if patterns(words) == 0 {
@@ -54,10 +54,10 @@ pub fn begin(
             step: QueryStep::Found,
             visits: 0,
             solution: none_bound(),
-            cursor: no_levels(Progress::End),
+            cursor: no_levels(c.generation, Progress::End),
         };
     }
-    let bare = no_levels(Progress::Start);
+    let bare = no_levels(0, Progress::Start);
     let mut levels = bare.levels;
     let m = enter(c.statements, resources, words, 0, none_bound());
     let b = m.bound;
@@ -132,7 +132,7 @@ pub fn go_on(
         × (placeOk (now statements) (patternsOf (now words)) (c .resources) (c .statements)
         (inside (getD levels top noLevel) (levelsOf levels top)) ≡ true)
         × (b .values ≡ binds (now statements) (patternsOf (now words)) (levelsOf levels top)) ⌝ }
-    ensures { λ a. ⌜ a ≡ packed (resume (c .resources) (c .statements) (now (resources .entry))
+    ensures { λ a. ⌜ a ≡ packed (c .generation) (resume (c .resources) (c .statements) (now (resources .entry))
         (now (statements .entry)) (patternsOf (now (words .entry)))
         (inside (getD levels top noLevel) (levelsOf levels top)) budget) ⌝ }
 {
@@ -156,7 +156,7 @@ pub fn resume(
     requires { ⌜ Ready (c .resources) (c .statements) (now resources) (now statements) (now words)
         × (placeOk (now statements) (patternsOf (now words)) (c .resources) (c .statements) (placeOf q) ≡ true)
         × Handed (now statements) (patternsOf (now words)) q b ⌝ }
-    ensures { λ a. ⌜ a ≡ packed (resume (c .resources) (c .statements) (now (resources .entry))
+    ensures { λ a. ⌜ a ≡ packed (c .generation) (resume (c .resources) (c .statements) (now (resources .entry))
         (now (statements .entry)) (patternsOf (now (words .entry))) (placeOf q) budget) ⌝ }
 {
     let progress = q.progress;
@@ -178,6 +178,6 @@ pub fn resume(
                 budget,
             )
         }
-        Progress::End => ended(0),
+        Progress::End => ended(c.generation, 0),
     }
 }

@@ -40,7 +40,7 @@ returns c =
     let r = a .c .resources in let t = a .c .statements in let res = a .resources .now in
     let stm = a .statements .now in let ws = a .words .now in let k = pre in
     answer-is _ _ (none-bound .result) _ (no-levels .result) _ (none-bound .ensures) (no-levels .ensures) ∙ ap
-    packed (sym (begin-none r t res stm ws (a .budget) (sym (patterns .ensures) ∙ if1 .taken)))
+    (packed (a .c .generation)) (sym (begin-none r t res stm ws (a .budget) (sym (patterns .ensures) ∙ if1 .taken)))
 
 no-levels-requires-2 : tie.Need-no-levels-requires-2
 no-levels-requires-2 c κs = search needs
@@ -127,6 +127,7 @@ refused-requires-2 : tie.Need-refused-requires-2
 refused-requires-2 c κs = search needs
 
 returns-2 : tie.Need-returns-2
+unfolding packed
 returns-2 c =
     let a = c .before .before .before .before .before .before .before .before .before .before .before .before
     .before .before .before .before .args in
@@ -144,7 +145,7 @@ returns-2 c =
     let stm = a .statements .now in let ws = a .words .now in let k = pre in
     let z : length (patternsOf ws) ≡ 0 → ⊥ = λ y. if1 .left (patterns .ensures ∙ y) in
     let size = ap (λ (x : QueryCursor). length (x .levels)) (no-levels2 .ensures) ∙ written-length [] in
-    refused .ensures ∙ ap packed (sym (begin-damaged r t res stm ws (a .budget) k z (no-levels2 .result .levels)
+    refused .ensures ∙ ap (packed (a .c .generation)) (sym (begin-damaged r t res stm ws (a .budget) k z (no-levels2 .result .levels)
     size (none-bound2 .result) (none-bound2 .ensures) (enter .result) (enter .ensures) (enum-told .given .1)))
 
 returns-3 : tie.Need-returns-3
@@ -165,10 +166,11 @@ returns-3 c =
     let stm = a .statements .now in let ws = a .words .now in let k = pre in
     let z : length (patternsOf ws) ≡ 0 → ⊥ = λ y. if1 .left (patterns .ensures ∙ y) in
     let size = ap (λ (x : QueryCursor). length (x .levels)) (no-levels2 .ensures) ∙ written-length [] in
-    walk .ensures ∙ ap packed (sym (begin-onward r t res stm ws (a .budget) k z (no-levels2 .result .levels) size
+    walk .ensures ∙ ap (packed (a .c .generation)) (sym (begin-onward r t res stm ws (a .budget) k z (no-levels2 .result .levels) size
     (none-bound2 .result) (none-bound2 .ensures) (enter .result) (enter .ensures) (enum-told2 .given .1)))
 
 returns-4 : tie.Need-returns-4
+unfolding packed
 returns-4 c =
     let a = c .before .before .before .before .before .before .before .before .before .before .before .before
     .before .before .before .before .args in
@@ -186,7 +188,7 @@ returns-4 c =
     let stm = a .statements .now in let ws = a .words .now in let k = pre in
     let z : length (patternsOf ws) ≡ 0 → ⊥ = λ y. if1 .left (patterns .ensures ∙ y) in
     let size = ap (λ (x : QueryCursor). length (x .levels)) (no-levels2 .ensures) ∙ written-length [] in
-    refused2 .ensures ∙ ap packed (sym (begin-whole r t res stm ws (a .budget) k z (no-levels2 .result .levels)
+    refused2 .ensures ∙ ap (packed (a .c .generation)) (sym (begin-whole r t res stm ws (a .budget) k z (no-levels2 .result .levels)
     size (none-bound2 .result) (none-bound2 .ensures) (enter .result) (enter .ensures) (enum-told3 .given .1)))
 
 pub begin-spec : {M : Type 1} → statement M

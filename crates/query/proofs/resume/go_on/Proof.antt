@@ -24,6 +24,7 @@ refused-requires : tie.Need-refused-requires
 refused-requires c κs = search needs
 
 returns : tie.Need-returns
+unfolding packed
 returns c =
     let a = c .before .before .before .before .before .before .args in let r = a .c .resources in
     let t = a .c .statements in let res = a .resources .now in let stm = a .statements .now in
@@ -31,7 +32,7 @@ returns c =
     let ps = patternsOf ws in let ls = a .levels in
     let ok = c .before .before .before .before .before .before .pre .1 in
     c .refused .ensures
-    ∙ ap packed (sym (resume-damaged r t res stm ps (getD ls (a .top) noLevel) (levelsOf ls (a .top)) (a .budget)
+    ∙ ap (packed (a .c .generation)) (sym (resume-damaged r t res stm ps (getD ls (a .top) noLevel) (levelsOf ls (a .top)) (a .budget)
     (sym (c .before .before .intact .ensures) ∙ not-true (c .before .before .intact .result) (c .before .if1 .taken))))
 
 pruned-requires : tie.Need-pruned-requires
@@ -68,7 +69,7 @@ returns-2 c =
     ∙ not-false (c .before .before .before .intact .result) (c .before .before .if1 .left) in
     let s = c .before .pruned .result in
     c .walk .ensures
-    ∙ ap packed (sym (resume-inside r t res stm ps (getD ls (a .top) noLevel) (levelsOf ls (a .top)) (a .budget) s e
+    ∙ ap (packed (a .c .generation)) (sym (resume-inside r t res stm ps (getD ls (a .top) noLevel) (levelsOf ls (a .top)) (a .budget) s e
     (pruned-top r t res stm ws k ls (a .top) ok e s (c .before .pruned .ensures))
     (pruned-up r t res stm ws k ls (a .top) ok e s (c .before .pruned .ensures))))
 
