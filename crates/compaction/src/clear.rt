@@ -1,0 +1,56 @@
+// Words set to 0: the links and counts of every resource before the sweep, the records given up after it.
+ghost use mathlib.Core.Path.{_≡_};
+ghost use Prim.Native.Nat.{_+_, _-_, _*_, _≤_};
+ghost use lib.ListN.{length, replicate};
+ghost use lib.Seq.{sets};
+ghost use Rattle.store.specs.Tables.{resourceWords, statementWords};
+ghost use Rattle.store.specs.Reclaim.{unlinked, blanked};
+ghost use Rattle.table.specs.Held.{ResourceHeld};
+ghost use Rattle.compaction.specs.Steps.{unlinkedOne};
+
+// The n words from `start` on.
+pub fn zero(words: &mut [u32], start: usize, n: usize)
+    requires { ⌜ start + n ≤ length (now words) ⌝ }
+    ensures { λ _. ⌜ now (words .exit) ≡ sets (now (words .entry)) start (replicate n 0) ⌝ }
+{
+    let mut i = 0;
+    while i < n {
+        words[start + i] = 0;
+        i += 1;
+    }
+}
+
+// Firsts, counts and live counts of resource y; its offset and kind stand between them.
+pub fn unlink_one(resources: &mut [u32], y: u32)
+    requires { ⌜ ResourceHeld (now resources) y ⌝ }
+    ensures { λ _. ⌜ now (resources .exit) ≡ unlinkedOne (y - 1) (now (resources .entry)) ⌝ }
+{
+    let start = table::RESOURCE_WORDS * (y as usize - 1);
+    zero(resources, start, table::OFFSET);
+    zero(
+        resources,
+        start + table::LIVE,
+        table::RESOURCE_WORDS - table::LIVE,
+    );
+}
+
+// The same of all r resources.
+pub fn unlink_all(resources: &mut [u32], r: u32)
+    requires { ⌜ resourceWords * r ≤ length (now resources) ⌝ }
+    ensures { λ _. ⌜ now (resources .exit) ≡ unlinked r (now (resources .entry)) ⌝ }
+{
+    let mut y: u32 = 0;
+    while y < r {
+        y += 1;
+        unlink_one(resources, y);
+    }
+}
+
+// The records t + 1 to n.
+pub fn blank(statements: &mut [u32], t: u32, n: u32)
+    requires { ⌜ (t ≤ n) × (statementWords * n ≤ length (now statements)) ⌝ }
+    ensures { λ _. ⌜ now (statements .exit) ≡ blanked t n (now (statements .entry)) ⌝ }
+{
+    let start = table::STATEMENT_WORDS * t as usize;
+    zero(statements, start, table::STATEMENT_WORDS * (n - t) as usize);
+}
