@@ -1,14 +1,18 @@
 -- What the two calls over queries come to once the lent slices are long enough, for each way out of the code. Assumes nothing.
 use mathlib.Core.Path.{_≡_, sym, _∙_}
 use mathlib.Core.Bool.{true, false}
+use mathlib.Core.Logic.{_≢_}
 use mathlib.Core.List.{List}
 use Prim.Native.Nat.{ℕ, _≤_}
 use lib.ListN.{length}
 use lib.Dec.{eqb}
-use borrow.Author.Tests.{le-ltb, ne-eqb}
+use borrow.Author.Tests.{le-ltb, eq-eqb, ne-eqb}
 use Rattle.store.specs.declared.Counters.{Counters}
 use Rattle.store.specs.declared.Refusal.{Refusal}
-use Rattle.store.specs.Tables.{Tables}
+use Rattle.store.specs.declared.Refusal.the-variants.{BadCursor, StaleCursor}
+use Rattle.store.specs.Tables.{Tables, word}
+use Rattle.graph.specs.declared.Opening.{Opening}
+use Rattle.graph.specs.declared.Opening.the-variants.{Opened}
 use Rattle.graph.specs.declared.QueryOpened.{QueryOpened}
 use Rattle.graph.specs.declared.QueryAnswer.{QueryAnswer}
 use Rattle.graph.specs.Query.{refused, packed, openQueryOf, nextQueryOf}
@@ -24,12 +28,20 @@ module _ (c : Counters) (m : Tables) (ws w : List ℕ) (b : ℕ) where
   unfolding nextQueryFrom
   from-told {a} s e = simp (s, e)
 
-  pub from-none : {o : QueryOpened} {a : QueryAnswer} (e : Refusal) → spelt w ≡ false → o ≡ openQueryOf c m ws → misspelt (o .opening) ≡ e
-      → a ≡ packed (refused e) → a ≡ nextQueryFrom c m ws w b
+  pub from-none : {o : QueryOpened} {a : QueryAnswer} (e : Refusal) → spelt w ≡ false → o ≡ openQueryOf c m ws
+      → misspelt (eqb (word w 2) (c .generation)) (o .opening) ≡ e → a ≡ packed 0 (refused e) → a ≡ nextQueryFrom c m ws w b
   unfolding nextQueryFrom
   from-none {o} {a} e s eo em ea =
       let z : openQueryOf c m ws ≡ o = sym eo in
       simp (s, z, em, ea)
+
+-- a query, and words that tell no cursor: the number of reclaims decides
+module _ (c : Counters) (w : List ℕ) {o : Opening} where
+  pub misspelt-stale : o ≡ Opened → word w 2 ≢ c .generation → misspelt (eqb (word w 2) (c .generation)) o ≡ StaleCursor
+  misspelt-stale eo ne = simp (eo, ne-eqb (word w 2) (c .generation) ne)
+
+  pub misspelt-bad : o ≡ Opened → word w 2 ≡ c .generation → misspelt (eqb (word w 2) (c .generation)) o ≡ BadCursor
+  misspelt-bad eo e = simp (eo, eq-eqb (word w 2) (c .generation) e)
 
 module _ (cw w ws : List ℕ) (m : Tables) {o : QueryOpened} {c : Counters} {r : ℕ} where
   pub open-refused : c ≡ countersOf cw → o ≡ openQueryOf c m ws → r ≡ openingRefusal (o .opening) → (r ≡ 0 → ⊥)

@@ -4,6 +4,7 @@ use lib.Dec.{eqb}
 use mathlib.Core.Bool.{false}
 use mathlib.Core.List.{List}
 use Prim.Native.Nat.{ℕ, _<_, _≤_}
+use native.Mathlib.Omega.{arith}
 use lib.ListN.{length, set}
 use borrow.Author.Tests.{lt-ltb, le-ltb, ne-eqb}
 use Rattle.store.specs.declared.Counters.{Counters}
@@ -13,6 +14,8 @@ use Rattle.store.specs.declared.Scanned.{Scanned}
 use Rattle.store.specs.declared.Asserted.{Asserted}
 use Rattle.store.specs.declared.Interned.{Interned}
 use Rattle.store.specs.declared.Interned.the-variants.{Refused as NotInterned}
+use Rattle.store.specs.declared.Reclaimed.{Reclaimed}
+use Rattle.store.specs.declared.Reclaimed.the-variants.{Done, Refused as NotReclaimed}
 use Rattle.store.specs.declared.Refusal.{Refusal}
 use Rattle.store.specs.declared.Refusal.the-variants.{Capacity}
 use Rattle.store.specs.declared.ScanCursor.{ScanCursor}
@@ -22,10 +25,11 @@ use Rattle.store.specs.Tables.{Tables, after}
 use Rattle.store.specs.Statement.{retractOf, assertOf}
 use Rattle.store.specs.Scan.{openOf}
 use Rattle.store.specs.Dictionary.{InternAnswer}
+use Rattle.store.specs.Reclaim.{ReclaimAnswer}
 use Rattle.store.specs.Values.{refusalNumber, scannedValues, assertedValues, internedValues}
 use Rattle.capi_calls.specs.declared.Answer.{Answer}
 use Rattle.capi_calls.specs.Words.{tooShort, counterWords, countersOf, cursorWords, retractAnswer, withCursor, lent, done, wrote, nextFrom, scannedAnswer, assertAnswer, enterAnswer, withCounters}
-use Rattle.capi_calls.specs.Calls.{retractCall, openCall, nextCall, assertCall, enterAs, EnterCall}
+use Rattle.capi_calls.specs.Calls.{retractCall, openCall, nextCall, assertCall, enterAs, EnterCall, reclaimAs, ReclaimCall}
 use Rattle.capi_calls.proofs.Unanswered.{refuses}
 use Rattle.capi.proofs.Lent.{no-counters, no-reply, some-room}
 
@@ -140,3 +144,33 @@ enter-answered cw w {name} {m} {m′} {r} {c} {d} {a} {cw′} ec es ea eo ed ew 
       exact = λ _. rw (← ec) es;
       kept = some-room cw 1 w h k;
     }
+
+pub reclaim-no-counters : (cw : List ℕ) {m : Tables} → length cw < counterWords → ReclaimCall cw m m (done tooShort cw)
+unfolding reclaimAs
+reclaim-no-counters cw h = record {
+  reclaimed = NotReclaimed Capacity;
+  told = simp (lt-ltb (length cw) counterWords h);
+  exact = λ k. absurd (omega arith);
+  kept = λ _. refl;
+}
+
+module _ (cw : List ℕ) {m m′ : Tables} {r : Reclaimed} {c : Counters} where
+  pub reclaim-refused : {e : Refusal} {n : ℕ} → c ≡ countersOf cw → ReclaimAnswer c m m′ r → r ≡ NotReclaimed e → n ≡ refusalNumber e
+      → counterWords ≤ length cw → ReclaimCall cw m m′ (done n cw)
+  unfolding reclaimAs
+  reclaim-refused {e} {n} ec ea er en h = record {
+    reclaimed = r;
+    told = simp (le-ltb (length cw) counterWords h, er, refuses e, en);
+    exact = λ _. rw (← ec) ea;
+    kept = λ k. absurd (omega arith);
+  }
+
+  pub reclaim-done : {d : Counters} {cw′ : List ℕ} → c ≡ countersOf cw → ReclaimAnswer c m m′ r → r ≡ Done d → cw′ ≡ withCounters cw d
+      → counterWords ≤ length cw → ReclaimCall cw m m′ (done 0 cw′)
+  unfolding reclaimAs
+  reclaim-done {d} {cw′} ec ea er ew h = record {
+    reclaimed = r;
+    told = simp (le-ltb (length cw) counterWords h, er, ew);
+    exact = λ _. rw (← ec) ea;
+    kept = λ k. absurd (omega arith);
+  }

@@ -1,9 +1,10 @@
 // The store for C: every public operation under a plain name, on numbers and slices.
 //
-// A slice is a pointer and a length in elements. A store function begins with five of them: counters (R, T, B), resources, statements,
-// index (words of 32 bits) and text (bytes). What a function gives back is 0 where it answers, the paper's refusal number, or 100 where a
-// lent counters, cursor or reply slice is too short; then nothing is written. Beside a refusal the reply's words are 0. Words past those
-// that a reply names keep their values. The contracts are one equation each with the definitions in `specs/Calls.antt` of `capi_calls`.
+// A slice is a pointer and a length in elements. A store function begins with five of them: counters (R, T, B, the reclaims so far),
+// resources, statements, index (words of 32 bits) and text (bytes). What a function gives back is 0 where it answers, the paper's refusal
+// number, or 100 where a lent counters, cursor or reply slice is too short; then nothing is written. Beside a refusal the reply's words
+// are 0. Words past those that a reply names keep their values. The contracts are one equation each with the definitions in
+// `specs/Calls.antt` of `capi_calls`.
 use capi_calls::COUNTER_WORDS;
 use capi_calls::CURSOR_WORDS;
 use capi_calls::TOO_SHORT;
@@ -36,6 +37,7 @@ ghost use Rattle.capi_calls.specs.Words.{done, wrote};
 ghost use Rattle.capi_calls.specs.Calls.{kindCall, CheckCall, FindCall, nameCall, statementCall, lineCall, retractCall, openCall, nextCall, assertCall, EnterCall};
 
 pub mod queries;
+pub mod reclaim;
 
 // The kind of a name: 1 an IRI, 2 a blank node, 3 a literal; refusal 2 where it is malformed.
 #[no_mangle]

@@ -27,7 +27,7 @@ ghost use Rattle.capi_calls.specs.Words.{done};
 ghost use Rattle.capi_calls.specs.QueryWords.{queryCursorWords, nextQueryFrom};
 ghost use Rattle.capi_calls.specs.QueryCalls.{queryOpenCall, queryNextCall};
 
-// Next of a query from a cursor's words. Words that tell no cursor are refused 6, after refusals 1 and 8.
+// Next of a query from a cursor's words. Words that tell no cursor are refused 6, after refusals 1, 8 and 13.
 fn query_from(
     c: Counters,
     resources: &[u32],
@@ -48,12 +48,17 @@ fn query_from(
     let o = query_open(c, resources, statements, index, text, words);
     let opening = o.opening;
     match opening {
-        Opening::Opened => refused(Refusal::BadCursor),
         Opening::Refused(e) => refused(e),
+        Opening::Opened => {
+            if cursor[2] != c.generation {
+                return refused(Refusal::StaleCursor);
+            }
+            refused(Refusal::BadCursor)
+        }
     }
 }
 
-// Open a query: the cursor at the start, which stays as it was beside a refusal (1, 8).
+// Open a query: the cursor at the start, with the number of reclaims, which stays as it was beside a refusal (1, 8).
 #[no_mangle]
 pub extern "C" fn lt_query_open(
     counters: &[u32],
@@ -84,7 +89,8 @@ pub extern "C" fn lt_query_open(
     0
 }
 
-// Next of a query: status, visits, the number of each variable; the cursor moves on, and stays as it was beside a refusal (1, 8, 6, 7, 9).
+// Next of a query: status, visits, the number of each variable; the cursor moves on, and stays as it was beside a refusal (1, 8, 13, 6,
+// 7, 9).
 #[no_mangle]
 pub extern "C" fn lt_query_next(
     counters: &[u32],

@@ -1,24 +1,26 @@
 -- A query cursor that is written is read back as it was, its words tell one, and the words past it stay; every cursor that is answered
 -- fills the slots. Assumes nothing.
 use mathlib.Core.Path.{_≡_, refl, sym, ap, ap₂, _∙_}
-use mathlib.Core.Bool.{true}
+use mathlib.Core.Bool.{true, cond}
 use mathlib.Core.List.{List, [], _∷_, _++_}
 use Prim.Native.Nat.{ℕ, zero, suc, _+_, _*_, _≤_, _<_}
 use native.Mathlib.Omega.{arith}
 use lib.ListN.{length, getD, take, drop}
 use lib.Seq.{sets, sets-eq, drop-at, drop-cons, take-all}
-use lib.Dec.{leb}
+use lib.Dec.{eqb, leb}
 use borrow.Author.Tests.{leb-true, le-leb}
 use Rattle.store.specs.declared.Chain.{Chain}
-use Rattle.store.specs.Tables.{word}
-use Rattle.store.proofs.Tests.{decide}
+use Rattle.store.specs.declared.Refusal.the-variants.{StaleCursor}
+use Rattle.store.specs.Tables.{word, fits}
+use Rattle.store.proofs.Tests.{decide, cond-all}
 use Rattle.graph.specs.declared.Level.{Level}
 use Rattle.graph.specs.declared.Progress.{Progress}
 use Rattle.graph.specs.declared.Progress.the-variants.{Start, Within, End}
 use Rattle.graph.specs.declared.QueryCursor.{QueryCursor}
+use Rattle.graph.specs.declared.QueryOpened.{QueryOpened}
 use Rattle.graph.specs.Query.{maxPatterns, variables, Bindings, level, noLevel}
 use Rattle.graph.specs.Query.{Place, start, inside, finish, cursorAt, Answer, refused, found, ended, spent, packed, answerOf, placeOf}
-use Rattle.graph.specs.Query.{openQueryOf, nextQueryOf}
+use Rattle.graph.specs.Query.{wordsOk, openQueryOf, stale, nextQueryOf}
 use Rattle.graph.specs.Values.{queryValues}
 use Rattle.graph.proofs.Laws.{written-length}
 use Rattle.integrity.proofs.Ranges.{all-of}
@@ -88,56 +90,61 @@ chains-low ls rest j (suc n) (suc i) h =
 slots-few : (d : ℕ) → slotsOf d ≤ maxPatterns
 slots-few d = decide (leb d maxPatterns) (λ e. rw e (leb-true d maxPatterns e)) (λ e. rw e (omega arith))
 
-spelt-as : (p : Progress) (d : ℕ) (xs : List ℕ) → ((i : ℕ) → i < maxPatterns → leb (word xs (2 * i)) 3 ≡ true)
-    → spelt (progressWord p ∷ d ∷ xs) ≡ true
+spelt-as : (p : Progress) (d g : ℕ) (xs : List ℕ) → ((i : ℕ) → i < maxPatterns → leb (word xs (2 * i)) 3 ≡ true)
+    → spelt (progressWord p ∷ d ∷ g ∷ xs) ≡ true
 unfolding spelt
-spelt-as Start d xs h = refl
-spelt-as Within d xs h =
+spelt-as Start d g xs h = refl
+spelt-as Within d g xs h =
     let few = slots-few d in
-    all-of (chainSpelt (1 ∷ d ∷ xs)) (slotsOf d)
-    (λ i k. let q : 2 + 2 * i ≡ suc (suc (2 * i)) = omega arith in rw q (h i (omega arith)))
-spelt-as End d xs h = refl
+    all-of (chainSpelt (1 ∷ d ∷ g ∷ xs)) (slotsOf d)
+    (λ i k. let q : 3 + 2 * i ≡ suc (suc (suc (2 * i))) = omega arith in rw q (h i (omega arith)))
+spelt-as End d g xs h = refl
 
 -- ---- the whole cursor, the whole reply
 
-abbrev cursor : Progress → ℕ → List Level → QueryCursor
-cursor p d z = record { progress = p; depth = d; levels = z }
+abbrev cursor : Progress → ℕ → ℕ → List Level → QueryCursor
+cursor p d g z = record { progress = p; depth = d; generation = g; levels = z }
 
 pub query-cursors-kept : QueryCursorsKept
 query-cursors-kept w q h k =
     let xs = levelWords (q .levels) 0 maxPatterns in
     let rest = drop queryCursorWords w in
-    let vs = progressWord (q .progress) ∷ q .depth ∷ xs in
+    let vs = progressWord (q .progress) ∷ q .depth ∷ q .generation ∷ xs in
     let size : length vs ≡ queryCursorWords = let e = levels-size (q .levels) 0 maxPatterns in omega arith in
     let e : withQueryCursor w q ≡ vs ++ rest = in-front vs w queryCursorWords size h in
-    let up : levelsFrom (vs ++ rest) 2 maxPatterns ≡ q .levels
-    = levels-on (progressWord (q .progress)) (q .depth ∷ xs ++ rest) 1 maxPatterns ∙ levels-on (q .depth) (xs ++ rest) 0 maxPatterns
+    let up : levelsFrom (vs ++ rest) 3 maxPatterns ≡ q .levels
+    = levels-on (progressWord (q .progress)) (q .depth ∷ q .generation ∷ xs ++ rest) 2 maxPatterns
+    ∙ levels-on (q .depth) (q .generation ∷ xs ++ rest) 1 maxPatterns ∙ levels-on (q .generation) (xs ++ rest) 0 maxPatterns
     ∙ levels-back (q .levels) rest 0 maxPatterns (omega arith) ∙ take-all maxPatterns (q .levels) (omega arith) in
     record {
-      same = ap queryCursorOf e ∙ ap₂ (λ (p : Progress) (z : List Level). cursor p (q .depth) z) (progress-back (q .progress)) up;
-      spelt-again = ap spelt e ∙ spelt-as (q .progress) (q .depth) (xs ++ rest) (λ i. chains-low (q .levels) rest 0 maxPatterns i);
+      same = ap queryCursorOf e ∙ ap₂ (λ (p : Progress) (z : List Level). cursor p (q .depth) (q .generation) z) (progress-back (q .progress)) up;
+      spelt-again = ap spelt e ∙ spelt-as (q .progress) (q .depth) (q .generation) (xs ++ rest) (λ i. chains-low (q .levels) rest 0 maxPatterns i);
       rest-kept = kept vs w queryCursorWords size h;
     }
 
-place-full : (q : Place) → length ((cursorAt q) .levels) ≡ maxPatterns
+place-full : (g : ℕ) (q : Place) → length ((cursorAt g q) .levels) ≡ maxPatterns
 unfolding cursorAt
-place-full start = written-length []
-place-full (inside l up) = written-length (l ∷ up)
-place-full finish = written-length []
+place-full g start = written-length []
+place-full g (inside l up) = written-length (l ∷ up)
+place-full g finish = written-length []
 
-answer-full : (a : Answer) → length ((packed a) .cursor .levels) ≡ maxPatterns
+answer-full : (g : ℕ) (a : Answer) → length ((packed g a) .cursor .levels) ≡ maxPatterns
 unfolding packed
-answer-full (refused e) = place-full start
-answer-full (found b v q) = place-full q
-answer-full (ended v) = place-full finish
-answer-full (spent v q) = place-full q
+answer-full g (refused e) = written-length []
+answer-full g (found b v q) = place-full g q
+answer-full g (ended v) = place-full g finish
+answer-full g (spent v q) = place-full g q
 
 pub query-cursors-full : QueryCursorsFull
 unfolding openQueryOf nextQueryFrom nextQueryOf
 query-cursors-full c m ws w b =
-    let told = answer-full (answerOf c m ws (placeOf (queryCursorOf w)) b) in
-    let none = answer-full (refused (misspelt ((openQueryOf c m ws) .opening))) in
-    (written-length [], decide (spelt w) (λ e. rw e told) (λ e. rw e none))
+    let q = queryCursorOf w in
+    let none = answer-full 0 (refused (misspelt (eqb (q .generation) (c .generation)) ((openQueryOf c m ws) .opening))) in
+    let told = answer-full (c .generation) (cond (stale c m ws q) (refused StaleCursor) (answerOf c m ws (placeOf q) b)) in
+    let full : QueryOpened → Type 0 = λ o. length (o .cursor .levels) ≡ maxPatterns in (
+      cond-all full (fits c m) _ _ (cond-all full (wordsOk (c .resources) ws) _ _ (written-length []) (written-length [])) (written-length []),
+      decide (spelt w) (λ e. rw e told) (λ e. rw e none),
+    )
 
 pub query-replies-kept : QueryRepliesKept
 query-replies-kept w a h =

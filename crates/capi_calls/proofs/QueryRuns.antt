@@ -15,7 +15,7 @@ use Rattle.graph.specs.declared.Progress.the-variants.{Within}
 use Rattle.graph.specs.Query.{patternsOf, wordOk, allOk, wordsOk, valueOf, under, bind, match, level, noLevel, recordAt, past, struck}
 use Rattle.graph.specs.Query.{intact, anyStruck, pruned, settle, remains, nextPattern, binds, asked, enteredOk, placeOk, enter, hit}
 use Rattle.graph.specs.Query.{tried, visit, walk, begun, resume, answerOf, levelsOf, insideOf, placeAs, written, cursorAt, openQueryOf}
-use Rattle.graph.specs.Query.{maxPatterns, variables, packed, nextQueryOf}
+use Rattle.graph.specs.Query.{maxPatterns, variables, packed, stale, nextQueryOf}
 use Rattle.integrity.specs.Tests.{allBelow}
 use Rattle.capi_calls.specs.Words.{lent}
 use Rattle.capi_calls.specs.QueryWords.{queryCursorWords, queryReplyWords, queryCursorOf, levelsFrom, spelt, nextQueryFrom, levelWords, numbersFrom}
@@ -29,9 +29,12 @@ v n = 2147483648 + n
 abbrev resource : ℕ → ℕ → ℕ → ℕ → ℕ → ℕ → List ℕ → List ℕ
 resource a b c d e f rest = a ∷ b ∷ c ∷ d ∷ e ∷ f ∷ 0 ∷ 1 ∷ 99 ∷ 99 ∷ 99 ∷ rest
 
--- 1 = (1,2,3), 2 = (1,2,4), as the loading program's example leaves them; no text is needed
+-- 1 = (1,2,3), 2 = (1,2,4), as the loading program's example leaves them, after g reclaims; after five. No text is needed.
+abbrev countersIn : ℕ → List ℕ
+countersIn g = 4 ∷ 2 ∷ 0 ∷ g ∷ 77 ∷ []
+
 abbrev counters : List ℕ
-counters = 4 ∷ 2 ∷ 0 ∷ 77 ∷ []
+counters = countersIn 5
 
 abbrev two : Tables
 two = tables
@@ -42,9 +45,13 @@ two = tables
 abbrev about : List ℕ
 about = 1 ∷ v 0 ∷ v 1 ∷ []
 
--- two words, then the slots of the first two levels, x in each slot past them; a word past the cursor's
+-- two words, g reclaims, then the slots of the first two levels, x in each slot past them; a word past the cursor's
+abbrev cursorIn : ℕ → ℕ → ℕ → ℕ → ℕ → ℕ → ℕ → ℕ → List ℕ
+cursorIn g p d a b e f x = p ∷ d ∷ g ∷ a ∷ b ∷ e ∷ f ∷ (replicate (queryCursorWords - 7) x ++ (55 ∷ []))
+
+-- of the store's five reclaims
 abbrev cursor : ℕ → ℕ → ℕ → ℕ → ℕ → ℕ → ℕ → List ℕ
-cursor p d a b e f x = p ∷ d ∷ a ∷ b ∷ e ∷ f ∷ (replicate (queryCursorWords - 6) x ++ (55 ∷ []))
+cursor p d a b e f x = cursorIn 5 p d a b e f x
 
 -- a reply's first four words, zeros, a word past the reply's
 abbrev reply : ℕ → ℕ → ℕ → ℕ → List ℕ
@@ -59,6 +66,7 @@ told : queryCursorOf (cursor 1 2 3 7 0 9 0)
     ≡ record {
       progress = Within;
       depth = 2;
+      generation = 5;
       levels = level (By Object) 7 ∷ level All 9 ∷ replicate (maxPatterns - 2) noLevel;
     }
 unfolding levelsFrom
@@ -105,8 +113,8 @@ abbrev refusal : ℕ → List ℕ → ℕ × (List ℕ × List ℕ)
 refusal r q = says r q (reply 0 0 0 0)
 
 pub record Calling : Type 0 where
-  -- open writes the start, zeros in each slot; no query is refused 8, and a short cursor stays as it was
-  pub opens : opened about (cursor 9 9 9 9 9 9 9) ≡ (0, cursor 0 0 0 0 0 0 0)
+  -- open writes the start and the number of reclaims, zeros in each slot; no query is refused 8, and a short cursor stays as it was
+  pub opens : opened about (cursorIn 9 9 9 9 9 9 9 9) ≡ (0, cursor 0 0 0 0 0 0 0)
   pub open-no-query : opened (1 ∷ 0 ∷ 1 ∷ []) (cursor 9 9 9 9 9 9 9) ≡ (8, cursor 9 9 9 9 9 9 9)
   pub open-short : opened about (replicate (queryCursorWords - 1) 9) ≡ (100, replicate (queryCursorWords - 1) 9)
   -- the newest first, then on along the subject's chain, spent, ended
@@ -122,18 +130,32 @@ pub record Calling : Type 0 where
   pub chain-word : next about (cursor 1 1 4 1 0 0 0) 0 ≡ refusal 6 (cursor 1 1 4 1 0 0 0)
   pub levels : next about (cursor 1 (suc maxPatterns) 1 1 1 1 1) 0 ≡ refusal 6 (cursor 1 (suc maxPatterns) 1 1 1 1 1)
   pub no-budget : next about (cursor 1 1 1 1 4 4 4) 0 ≡ refusal 7 (cursor 1 1 1 1 4 4 4)
+  -- a cursor of another number of reclaims, at the start and at the end too: 13, before 6 in each of its ways, and before 7
+  pub stale-within : next about (cursorIn 4 1 1 1 1 0 0 0) 5 ≡ refusal 13 (cursorIn 4 1 1 1 1 0 0 0)
+  pub stale-start : next about (cursorIn 6 0 0 0 0 0 0 0) 5 ≡ refusal 13 (cursorIn 6 0 0 0 0 0 0 0)
+  pub stale-end : next about (cursorIn 4 2 0 0 0 0 0 0) 5 ≡ refusal 13 (cursorIn 4 2 0 0 0 0 0 0)
+  pub stale-first-word : next about (cursorIn 4 3 0 0 0 0 0 0) 0 ≡ refusal 13 (cursorIn 4 3 0 0 0 0 0 0)
+  pub stale-chain-word : next about (cursorIn 4 1 1 4 1 0 0 0) 0 ≡ refusal 13 (cursorIn 4 1 1 4 1 0 0 0)
+  pub stale-place : next about (cursorIn 4 1 1 1 3 0 0 0) 0 ≡ refusal 13 (cursorIn 4 1 1 1 3 0 0 0)
+  -- 8 before 13, where words tell a cursor and where they tell none
+  pub stale-no-query : next (1 ∷ 0 ∷ 1 ∷ []) (cursorIn 4 0 0 0 0 0 0 0) 0 ≡ refusal 8 (cursorIn 4 0 0 0 0 0 0 0)
+  pub stale-neither : next (1 ∷ 0 ∷ 1 ∷ []) (cursorIn 4 3 0 0 0 0 0 0) 0 ≡ refusal 8 (cursorIn 4 3 0 0 0 0 0 0)
+  -- zeros are the start of a store never reclaimed, and of no other
+  pub zeros-start : queryNextCall (countersIn 0) two about (cursorIn 0 0 0 0 0 0 0 0) 1 blank ≡ says 0 (cursorIn 0 1 1 1 1 0 0 0) (reply 1 1 2 4)
+  pub zeros-stale : queryNextCall (countersIn 1) two about (cursorIn 0 0 0 0 0 0 0 0) 1 blank ≡ refusal 13 (cursorIn 0 0 0 0 0 0 0 0)
   -- counters, cursor, reply
-  pub no-counters : queryNextCall (4 ∷ 2 ∷ []) two about [] 1 [] ≡ says 100 [] []
+  pub no-counters : queryNextCall (4 ∷ 2 ∷ 0 ∷ []) two about [] 1 [] ≡ says 100 [] []
   pub no-cursor : queryNextCall counters two about (replicate (queryCursorWords - 1) 0) 1 [] ≡ says 100 (replicate (queryCursorWords - 1) 0) []
   pub no-reply : queryNextCall counters two about (replicate queryCursorWords 0) 1 (replicate (queryReplyWords - 1) 9)
       ≡ says 100 (replicate queryCursorWords 0) (replicate (queryReplyWords - 1) 9)
-  -- counters above what the tables hold are refused 1, before all else
-  pub no-room : queryNextCall (5 ∷ 2 ∷ 0 ∷ []) two (1 ∷ []) (cursor 3 0 0 0 0 0 0) 0 blank ≡ refusal 1 (cursor 3 0 0 0 0 0 0)
+  -- counters above what the tables hold, or above the most reclaims, are refused 1, before all else
+  pub no-room : queryNextCall (5 ∷ 2 ∷ 0 ∷ 5 ∷ []) two (1 ∷ []) (cursorIn 4 3 0 0 0 0 0 0) 0 blank ≡ refusal 1 (cursorIn 4 3 0 0 0 0 0 0)
+  pub many-reclaims : queryNextCall (countersIn 65536) two about (cursorIn 4 0 0 0 0 0 0 0) 0 blank ≡ refusal 1 (cursorIn 4 0 0 0 0 0 0 0)
 
 calls : Calling
 unfolding queryOpenCall queryNextCall lent nextQueryFrom spelt allBelow levelsFrom levelWords numbersFrom wordOk allOk wordsOk patternsOf
     valueOf under bind match recordAt past struck intact anyStruck pruned settle remains nextPattern binds asked enteredOk placeOk
-    enter hit tried visit walk begun resume answerOf levelsOf insideOf placeAs written cursorAt openQueryOf packed nextQueryOf known
+    enter hit tried visit walk begun resume answerOf levelsOf insideOf placeAs written cursorAt openQueryOf packed stale nextQueryOf known
     better pick termAt nextAt flagAt tripleAt firstAt countAt linkOf startOf sits visitable pickChain pickable chainOk recordOk fits
 calls =
     record {
@@ -151,8 +173,19 @@ calls =
       chain-word = refl;
       levels = refl;
       no-budget = refl;
+      stale-within = refl;
+      stale-start = refl;
+      stale-end = refl;
+      stale-first-word = refl;
+      stale-chain-word = refl;
+      stale-place = refl;
+      stale-no-query = refl;
+      stale-neither = refl;
+      zeros-start = refl;
+      zeros-stale = refl;
       no-counters = refl;
       no-cursor = refl;
       no-reply = refl;
       no-room = refl;
+      many-reclaims = refl;
     }

@@ -8,15 +8,17 @@ use Prim.Native.Nat.{ℕ, zero, suc, _+_, _*_, _≤_, _<_}
 use native.Mathlib.Omega.{arith}
 use lib.ListN.{length, getD, drop}
 use lib.Seq.{sets-eq}
-use lib.Dec.{ltb}
+use lib.Dec.{eqb, ltb}
 use borrow.Author.Tests.{ltb-false}
 use Rattle.store.specs.declared.Counters.{Counters}
-use Rattle.store.specs.Tables.{Tables, word}
-use Rattle.store.proofs.Tests.{decide}
+use Rattle.store.specs.declared.Refusal.the-variants.{StaleCursor}
+use Rattle.store.specs.Tables.{Tables, word, fits}
+use Rattle.store.proofs.Tests.{decide, cond-all}
 use Rattle.graph.specs.declared.Level.{Level}
 use Rattle.graph.specs.declared.QueryCursor.{QueryCursor}
-use Rattle.graph.specs.Query.{maxPatterns, noLevel, Place, start, inside, finish, cursorAt, Answer, refused, found, ended, spent}
-use Rattle.graph.specs.Query.{packed, answerOf, placeOf, openQueryOf, nextQueryOf}
+use Rattle.graph.specs.declared.QueryOpened.{QueryOpened}
+use Rattle.graph.specs.Query.{maxPatterns, noLevel, wordsOk, startCursor, Place, start, inside, finish, cursorAt, Answer, refused, found, ended, spent}
+use Rattle.graph.specs.Query.{packed, answerOf, placeOf, openQueryOf, stale, nextQueryOf}
 use Rattle.graph.proofs.Laws.{written-past}
 use Rattle.capi_calls.specs.Words.{counterWords, tooShort, countersOf, chainWord, done, lent}
 use Rattle.capi_calls.specs.QueryWords.{queryCursorWords, queryReplyWords, progressWord, queryCursorOf, spelt, misspelt, nextQueryFrom}
@@ -30,28 +32,34 @@ record Clear (q : QueryCursor) : Type 0 where
   unused : (i : ℕ) → q .depth ≤ i → getD (q .levels) i noLevel ≡ noLevel
   entered : progressWord (q .progress) ≢ 1 → q .depth ≡ 0
 
-place-clear : (p : Place) → Clear (cursorAt p)
-unfolding cursorAt
-place-clear start = record { unused = written-past []; entered = λ _. refl }
-place-clear (inside l up) = record { unused = written-past (l ∷ up); entered = λ h. absurd (h refl) }
-place-clear finish = record { unused = written-past []; entered = λ _. refl }
+start-clear : (g : ℕ) → Clear (startCursor g)
+start-clear g = record { unused = written-past []; entered = λ _. refl }
 
-answer-clear : (a : Answer) → Clear ((packed a) .cursor)
+place-clear : (g : ℕ) (p : Place) → Clear (cursorAt g p)
+unfolding cursorAt
+place-clear g start = start-clear g
+place-clear g (inside l up) = record { unused = written-past (l ∷ up); entered = λ h. absurd (h refl) }
+place-clear g finish = record { unused = written-past []; entered = λ _. refl }
+
+answer-clear : (g : ℕ) (a : Answer) → Clear ((packed g a) .cursor)
 unfolding packed
-answer-clear (refused e) = place-clear start
-answer-clear (found b v p) = place-clear p
-answer-clear (ended v) = place-clear finish
-answer-clear (spent v p) = place-clear p
+answer-clear g (refused e) = start-clear 0
+answer-clear g (found b v p) = place-clear g p
+answer-clear g (ended v) = place-clear g finish
+answer-clear g (spent v p) = place-clear g p
 
 opened-clear : (c : Counters) (m : Tables) (ws : List ℕ) → Clear ((openQueryOf c m ws) .cursor)
-unfolding openQueryOf cursorAt
-opened-clear c m ws = place-clear start
+unfolding openQueryOf
+opened-clear c m ws =
+    let clear : QueryOpened → Type 0 = λ o. Clear (o .cursor) in
+    cond-all clear (fits c m) _ _ (cond-all clear (wordsOk (c .resources) ws) _ _ (start-clear (c .generation)) (start-clear 0)) (start-clear 0)
 
 next-clear : (c : Counters) (m : Tables) (ws q : List ℕ) (b : ℕ) → Clear ((nextQueryFrom c m ws q b) .cursor)
 unfolding nextQueryFrom nextQueryOf
 next-clear c m ws q b =
-    let told = answer-clear (answerOf c m ws (placeOf (queryCursorOf q)) b) in
-    let none = answer-clear (refused (misspelt ((openQueryOf c m ws) .opening))) in
+    let p = queryCursorOf q in
+    let told = answer-clear (c .generation) (cond (stale c m ws p) (refused StaleCursor) (answerOf c m ws (placeOf p) b)) in
+    let none = answer-clear 0 (refused (misspelt (eqb (p .generation) (c .generation)) ((openQueryOf c m ws) .opening))) in
     decide (spelt q) (λ e. rw e told) (λ e. rw e none)
 
 -- ---- its words
@@ -76,24 +84,24 @@ record-at ls rest j (suc n) (suc i) h =
     let e : j + suc i ≡ suc j + i = omega arith in
     rw (q, e) (record-at ls rest (suc j) n i (omega arith))
 
-told-blank : (p d : ℕ) (ls : List Level) (rest : List ℕ) → ((i : ℕ) → d ≤ i → getD ls i noLevel ≡ noLevel) → (p ≢ 1 → d ≡ 0)
-    → SlotsBlank (p ∷ d ∷ levelWords ls 0 maxPatterns ++ rest)
-told-blank p d ls rest none out =
+told-blank : (p d g : ℕ) (ls : List Level) (rest : List ℕ) → ((i : ℕ) → d ≤ i → getD ls i noLevel ≡ noLevel) → (p ≢ 1 → d ≡ 0)
+    → SlotsBlank (p ∷ d ∷ g ∷ levelWords ls 0 maxPatterns ++ rest)
+told-blank p d g ls rest none out =
     record {
-      chain-blank = λ i h k. let q : 2 + 2 * i ≡ suc (suc (2 * i)) = omega arith in
+      chain-blank = λ i h k. let q : 3 + 2 * i ≡ suc (suc (suc (2 * i))) = omega arith in
           rw q (chain-at ls rest 0 maxPatterns i k ∙ ap (λ (l : Level). chainWord (l .chain)) (none (0 + i) (omega arith)));
-      record-blank = λ i h k. let q : 3 + 2 * i ≡ suc (suc (suc (2 * i))) = omega arith in
+      record-blank = λ i h k. let q : 4 + 2 * i ≡ suc (suc (suc (suc (2 * i)))) = omega arith in
           rw q (record-at ls rest 0 maxPatterns i k ∙ ap (λ (l : Level). l .statement .0) (none (0 + i) (omega arith)));
       outside-blank = out;
     }
 
 words-blank : (w : List ℕ) (q : QueryCursor) → queryCursorWords ≤ length w → Clear q → SlotsBlank (withQueryCursor w q)
 words-blank w q h c =
-    let vs = progressWord (q .progress) ∷ q .depth ∷ levelWords (q .levels) 0 maxPatterns in
+    let vs = progressWord (q .progress) ∷ q .depth ∷ q .generation ∷ levelWords (q .levels) 0 maxPatterns in
     let rest = drop (0 + length vs) w in
     let k : 0 + length vs ≤ length w = let e = levels-size (q .levels) 0 maxPatterns in omega arith in
     let e : withQueryCursor w q ≡ vs ++ rest = sets-eq vs w 0 k in
-    rw e (told-blank (progressWord (q .progress)) (q .depth) (q .levels) rest (c .unused) (c .entered))
+    rw e (told-blank (progressWord (q .progress)) (q .depth) (q .generation) (q .levels) rest (c .unused) (c .entered))
 
 -- ---- the calls
 

@@ -1,10 +1,12 @@
--- Closed runs of the calls on a store of two names, <a> and <b>, each computed to its result and the words after it. They pin the order of
+-- Closed runs of the calls on a store of two names, <a> and <b>, after three reclaims, each computed to its result and the words after it. They pin the order of
 -- the words, which stands on both sides of the contracts. Every lent slice has a word more than is named, and keeps it. Assumes nothing.
 use mathlib.Core.Path.{_≡_, refl}
 use mathlib.Core.List.{List, [], _∷_}
 use Prim.Native.Nat.{ℕ, _-_}
 use Rattle.store.specs.declared.Interned.the-variants.{Number as Id}
 use Rattle.store.specs.declared.Lookup.the-variants.{Number}
+use Rattle.store.specs.declared.Reclaimed.the-variants.{Refused as NotReclaimed}
+use Rattle.store.specs.declared.Refusal.the-variants.{Capacity, Damaged}
 use Rattle.store.specs.Triple.{triple, known, within, same, agrees, permitted, below}
 use Rattle.store.specs.Tables.{Tables, tables, fits, termAt, nextAt, flagAt, tripleAt, firstAt, countAt, offsetAt, kindAt, liveAt}
 use Rattle.store.specs.Walk.{entryAt, pickChain, pickable, startOf, linkOf, sits, visitable, walk}
@@ -12,14 +14,19 @@ use Rattle.store.specs.Model.{matches, pick, better}
 use Rattle.store.specs.Statement.{seek, countable, locate, tallyAt, tally, counting, appendRecord, linkFirst, linkRecord, kinded, asserting, assertOf}
 use Rattle.store.specs.Statement.{retracting, retractOf}
 use Rattle.store.specs.Scan.{openOf, chainOk, recordOk, cursorOk, walkFrom, nextOf}
+use Rattle.store.specs.Reclaim.{unlinked, sweepOne, sweep, blanked, sweptOf, reclaimOf}
 use Rattle.store.specs.Reading.{inRange, statementOf, zeroFrom, nameSpanOf}
-use Rattle.capi_calls.specs.Words.{lent, done, wrote, nextFrom}
-use Rattle.capi_calls.specs.Calls.{findAs, enterAs, nameCall, statementCall, retractCall, openCall, nextCall, assertCall}
+use Rattle.capi_calls.specs.Words.{countersOf, lent, done, wrote, misread, nextFrom}
+use Rattle.capi_calls.specs.Calls.{findAs, enterAs, nameCall, statementCall, retractCall, openCall, nextCall, assertCall, reclaimAs}
 
 -- ---- the store before <a> <b> <a> . and after it; its two statement records hold anything
 
+-- after g reclaims; after three
+abbrev countersIn : ℕ → ℕ → List ℕ
+countersIn g t = 2 ∷ t ∷ 8 ∷ g ∷ 77 ∷ []
+
 abbrev counters : ℕ → List ℕ
-counters t = 2 ∷ t ∷ 8 ∷ 77 ∷ []
+counters t = countersIn 3 t
 
 abbrev names : List ℕ
 names = 60 ∷ 97 ∷ 62 ∷ 0 ∷ 60 ∷ 98 ∷ 62 ∷ 0 ∷ []
@@ -96,28 +103,101 @@ finds : findAs (counters 1) (5 ∷ 66 ∷ []) (Number (record { 0 = 2 })) ≡ do
 unfolding lent findAs
 finds = refl
 
-enters : enterAs (counters 1) (5 ∷ 66 ∷ []) (Id (record { 0 = 3 }) (record { resources = 3; statements = 1; text = 12 }))
-    ≡ beside 0 (3 ∷ 1 ∷ 12 ∷ 77 ∷ []) (3 ∷ 66 ∷ [])
+enters : enterAs (counters 1) (5 ∷ 66 ∷ []) (Id (record { 0 = 3 }) (record { resources = 3; statements = 1; text = 12; generation = 3 }))
+    ≡ beside 0 (3 ∷ 1 ∷ 12 ∷ 3 ∷ 77 ∷ []) (3 ∷ 66 ∷ [])
 unfolding lent enterAs
 enters = refl
 
 -- ---- a scan: opened at the subject's chain; found, ended past a retracted statement, at its end, no budget, a chain word above 3
 
-opens : openCall (counters 1) (holding 0) (triple 1 0 0) (5 ∷ 5 ∷ 5 ∷ 5 ∷ 5 ∷ 88 ∷ []) ≡ done 0 (1 ∷ 0 ∷ 0 ∷ 1 ∷ 1 ∷ 88 ∷ [])
+-- a cursor of g reclaims; of the store's three
+abbrev cursorIn : ℕ → ℕ → ℕ → ℕ → ℕ → ℕ → List ℕ
+cursorIn g s p o k n = s ∷ p ∷ o ∷ k ∷ n ∷ g ∷ 88 ∷ []
+
+abbrev cursor : ℕ → ℕ → ℕ → ℕ → ℕ → List ℕ
+cursor s p o k n = cursorIn 3 s p o k n
+
+opens : openCall (counters 1) (holding 0) (triple 1 0 0) (cursorIn 5 5 5 5 5 5) ≡ done 0 (1 ∷ 0 ∷ 0 ∷ 1 ∷ 1 ∷ 3 ∷ 88 ∷ [])
 unfolding fits known within same agrees permitted below termAt nextAt flagAt tripleAt firstAt countAt kindAt matches pick better entryAt pickChain pickable startOf linkOf sits visitable walk openOf lent openCall
 opens = refl
 
-nexts : nextCall (counters 1) (holding 0) (1 ∷ 0 ∷ 0 ∷ 1 ∷ 1 ∷ 88 ∷ []) 5 (5 ∷ 5 ∷ 5 ∷ 66 ∷ [])
-    ∷ nextCall (counters 1) (holding 1) (1 ∷ 0 ∷ 0 ∷ 1 ∷ 1 ∷ 88 ∷ []) 5 (5 ∷ 5 ∷ 5 ∷ 66 ∷ [])
-    ∷ nextCall (counters 1) (holding 0) (0 ∷ 1 ∷ 0 ∷ 2 ∷ 0 ∷ 88 ∷ []) 1 (5 ∷ 5 ∷ 5 ∷ 66 ∷ [])
-    ∷ nextCall (counters 1) (holding 0) (1 ∷ 0 ∷ 0 ∷ 1 ∷ 1 ∷ 88 ∷ []) 0 (5 ∷ 5 ∷ 5 ∷ 66 ∷ [])
-    ∷ nextCall (counters 1) (holding 0) (1 ∷ 0 ∷ 0 ∷ 4 ∷ 1 ∷ 88 ∷ []) 5 (5 ∷ 5 ∷ 5 ∷ 66 ∷ [])
+abbrev nextIn : ℕ → ℕ → List ℕ → ℕ → ℕ × (List ℕ × List ℕ)
+nextIn g flag q b = nextCall (countersIn g 1) (holding flag) q b (5 ∷ 5 ∷ 5 ∷ 66 ∷ [])
+
+abbrev refusal : ℕ → List ℕ → ℕ × (List ℕ × List ℕ)
+refusal r q = beside r q (0 ∷ 0 ∷ 0 ∷ 66 ∷ [])
+
+nexts : nextIn 3 0 (cursor 1 0 0 1 1) 5
+    ∷ nextIn 3 1 (cursor 1 0 0 1 1) 5
+    ∷ nextIn 3 0 (cursor 0 1 0 2 0) 1
+    ∷ nextIn 3 0 (cursor 1 0 0 1 1) 0
+    ∷ nextIn 3 0 (cursor 1 0 0 4 1) 5
     ∷ []
-    ≡ beside 0 (1 ∷ 0 ∷ 0 ∷ 1 ∷ 0 ∷ 88 ∷ []) (1 ∷ 1 ∷ 1 ∷ 66 ∷ [])
-    ∷ beside 0 (1 ∷ 0 ∷ 0 ∷ 1 ∷ 0 ∷ 88 ∷ []) (2 ∷ 0 ∷ 1 ∷ 66 ∷ [])
-    ∷ beside 0 (0 ∷ 1 ∷ 0 ∷ 2 ∷ 0 ∷ 88 ∷ []) (2 ∷ 0 ∷ 0 ∷ 66 ∷ [])
-    ∷ beside 7 (1 ∷ 0 ∷ 0 ∷ 1 ∷ 1 ∷ 88 ∷ []) (0 ∷ 0 ∷ 0 ∷ 66 ∷ [])
-    ∷ beside 6 (1 ∷ 0 ∷ 0 ∷ 4 ∷ 1 ∷ 88 ∷ []) (0 ∷ 0 ∷ 0 ∷ 66 ∷ [])
+    ≡ beside 0 (cursor 1 0 0 1 0) (1 ∷ 1 ∷ 1 ∷ 66 ∷ [])
+    ∷ beside 0 (cursor 1 0 0 1 0) (2 ∷ 0 ∷ 1 ∷ 66 ∷ [])
+    ∷ beside 0 (cursor 0 1 0 2 0) (2 ∷ 0 ∷ 0 ∷ 66 ∷ [])
+    ∷ refusal 7 (cursor 1 0 0 1 1)
+    ∷ refusal 6 (cursor 1 0 0 4 1)
     ∷ []
-unfolding fits known within same agrees permitted below termAt nextAt flagAt tripleAt firstAt countAt kindAt matches pick better entryAt pickChain pickable startOf linkOf sits visitable walk chainOk recordOk cursorOk walkFrom nextOf nextFrom nextCall
+unfolding fits known within same agrees permitted below termAt nextAt flagAt tripleAt firstAt countAt kindAt matches pick better entryAt pickChain pickable startOf linkOf sits visitable walk chainOk recordOk cursorOk walkFrom nextOf misread nextFrom nextCall
 nexts = refl
+
+-- Another number of reclaims is 13: at a cursor that was good, at the end, before a chain that is none and a chain word above 3, both 6
+-- and with no budget; more reclaims than the maximum are 1 before all of these.
+stale-nexts : nextIn 3 0 (cursorIn 2 1 0 0 1 1) 5
+    ∷ nextIn 0 0 (cursorIn 1 1 0 0 1 0) 5
+    ∷ nextIn 3 0 (cursorIn 4 1 0 0 2 1) 0
+    ∷ nextIn 3 0 (cursorIn 2 1 0 0 4 1) 0
+    ∷ nextIn 65536 0 (cursorIn 2 1 0 0 4 1) 0
+    ∷ nextIn 65536 0 (cursorIn 65536 1 0 0 1 1) 5
+    ∷ nextIn 65535 0 (cursorIn 65535 1 0 0 1 1) 5
+    ∷ []
+    ≡ refusal 13 (cursorIn 2 1 0 0 1 1)
+    ∷ refusal 13 (cursorIn 1 1 0 0 1 0)
+    ∷ refusal 13 (cursorIn 4 1 0 0 2 1)
+    ∷ refusal 13 (cursorIn 2 1 0 0 4 1)
+    ∷ refusal 1 (cursorIn 2 1 0 0 4 1)
+    ∷ refusal 1 (cursorIn 65536 1 0 0 1 1)
+    ∷ beside 0 (cursorIn 65535 1 0 0 1 0) (1 ∷ 1 ∷ 1 ∷ 66 ∷ [])
+    ∷ []
+unfolding fits known within same agrees permitted below termAt nextAt flagAt tripleAt firstAt countAt kindAt matches pick better entryAt pickChain pickable startOf linkOf sits visitable walk chainOk recordOk cursorOk walkFrom nextOf misread nextFrom nextCall
+stale-nexts = refl
+
+-- ---- reclaim: a retracted statement dropped, a live one kept, past the maximum, above it, damaged as answered, counters too short
+
+-- the names alone, and the words of the record given up are 0
+abbrev dropped : Tables
+dropped =
+    tables (resource 0 0 0 0 0 0 0 0 0 0 (resource 0 0 0 0 0 0 4 0 0 0 []))
+    (0 ∷ 0 ∷ 0 ∷ 0 ∷ 0 ∷ 0 ∷ 0 ∷ 9 ∷ 9 ∷ 9 ∷ 9 ∷ 9 ∷ 9 ∷ 9 ∷ []) (1 ∷ 2 ∷ []) names
+
+-- the tables, the result and the counters
+abbrev reclaims : List ℕ → Tables → Tables × (ℕ × List ℕ)
+reclaims cw m = let a = reclaimOf (countersOf cw) m in (a .0, reclaimAs cw (a .1))
+
+abbrev reclaimed : Tables → ℕ → List ℕ → Tables × (ℕ × List ℕ)
+reclaimed m r cw = (m, (r, cw))
+
+reclaim-calls : reclaims (counters 1) (holding 1)
+    ∷ reclaims (counters 1) (holding 0)
+    ∷ reclaims (countersIn 65534 1) (holding 1)
+    ∷ reclaims (countersIn 65535 1) (holding 1)
+    ∷ reclaims (countersIn 65536 1) (holding 1)
+    ∷ reclaims (counters 3) (holding 1)
+    ∷ []
+    ≡ reclaimed dropped 0 (2 ∷ 0 ∷ 8 ∷ 4 ∷ 77 ∷ [])
+    ∷ reclaimed (holding 0) 0 (2 ∷ 1 ∷ 8 ∷ 4 ∷ 77 ∷ [])
+    ∷ reclaimed dropped 0 (2 ∷ 0 ∷ 8 ∷ 65535 ∷ 77 ∷ [])
+    ∷ reclaimed (holding 1) 14 (countersIn 65535 1)
+    ∷ reclaimed (holding 1) 1 (countersIn 65536 1)
+    ∷ reclaimed (holding 1) 1 (counters 3)
+    ∷ []
+unfolding fits termAt flagAt tripleAt firstAt countAt liveAt tallyAt tally appendRecord linkFirst linkRecord unlinked sweepOne sweep blanked sweptOf reclaimOf reclaimAs
+reclaim-calls = refl
+
+reclaims-as-answered : reclaimAs (counters 1) (NotReclaimed Damaged)
+    ∷ reclaimAs (2 ∷ 1 ∷ 8 ∷ []) (NotReclaimed Capacity)
+    ∷ []
+    ≡ done 9 (counters 1) ∷ done 100 (2 ∷ 1 ∷ 8 ∷ []) ∷ []
+unfolding reclaimAs
+reclaims-as-answered = refl

@@ -24,12 +24,12 @@ plainA = 34 ∷ 65 ∷ 34 ∷ []
 abbrev longA : List ℕ
 longA = plainA ++ stringEnding
 
--- no name yet, and "A" entered; the words past the counters' three keep their values
+-- no name yet, and "A" entered, both after two reclaims; the word past the counters' four keeps its value
 abbrev none : List ℕ
-none = 0 ∷ 0 ∷ 0 ∷ 77 ∷ []
+none = 0 ∷ 0 ∷ 0 ∷ 2 ∷ 77 ∷ []
 
 abbrev one : List ℕ
-one = 1 ∷ 0 ∷ 4 ∷ 77 ∷ []
+one = 1 ∷ 0 ∷ 4 ∷ 2 ∷ 77 ∷ []
 
 abbrev empty : Tables
 empty = tables (replicate resourceWords 9) [] (9 ∷ []) (replicate 4 9)

@@ -1,14 +1,16 @@
 -- A call that is not answered leaves counters, cursor and tables as they were, and zeros in its reply, or the reply too where it is lent
 -- too little. Assumes nothing.
-use mathlib.Core.Path.{_≡_, refl, ap, _∙_}
+use mathlib.Core.Path.{_≡_, refl, sym, ap, _∙_}
 use mathlib.Core.Logic.{_≢_}
 use mathlib.Core.Bool.{Bool, true, false, cond}
 use mathlib.Core.List.{List}
-use Prim.Native.Nat.{ℕ}
+use Prim.Native.Nat.{ℕ, _≤_}
+use native.Mathlib.Omega.{arith}
 use lib.ListN.{length}
-use lib.Dec.{eqb, ltb}
+use lib.Dec.{eqb, leb, ltb}
+use Rattle.store.specs.declared.Counters.{Counters}
 use Rattle.store.specs.declared.Refusal.{Refusal}
-use Rattle.store.specs.declared.Refusal.the-variants.{Capacity, Malformed, Full, UnknownNumber, KindNotPermitted, BadCursor, NoBudget, BadQuery, Damaged, BadLine}
+use Rattle.store.specs.declared.Refusal.the-variants.{Capacity, Malformed, Full, UnknownNumber, KindNotPermitted, BadCursor, NoBudget, BadQuery, Damaged, BadLine, StaleCursor, ReclaimLimit}
 use Rattle.store.specs.declared.Lookup.{Lookup}
 use Rattle.store.specs.declared.Lookup.the-variants.{Number, Absent, Refused as NotFound}
 use Rattle.store.specs.declared.NameRead.{NameRead}
@@ -21,25 +23,30 @@ use Rattle.store.specs.declared.Asserted.{Asserted}
 use Rattle.store.specs.declared.Asserted.the-variants.{New, Already, Revived, Refused as NotAsserted}
 use Rattle.store.specs.declared.Retracted.{Retracted}
 use Rattle.store.specs.declared.Retracted.the-variants.{Number as Struck, Absent as NotLive, Refused as NotRetracted}
+use Rattle.store.specs.declared.Reclaimed.{Reclaimed}
+use Rattle.store.specs.declared.Reclaimed.the-variants.{Done, Refused as NotReclaimed}
 use Rattle.store.specs.declared.ScanOpened.{ScanOpened}
 use Rattle.store.specs.declared.ScanOpened.the-variants.{Cursor, Refused as NotOpened}
 use Rattle.store.specs.declared.Scanned.{Scanned}
 use Rattle.store.specs.declared.Scanned.the-variants.{Found, Ended, Spent, Refused as NotScanned}
-use Rattle.store.specs.Tables.{Tables, after}
+use Rattle.store.specs.Tables.{Tables, after, fits, maxReclaims, resourceCapacity, statementCapacity, textCapacity}
 use Rattle.store.specs.Statement.{assertOf, retractOf}
+use Rattle.store.specs.Reclaim.{ReclaimAnswer}
 use Rattle.store.specs.Scan.{openOf}
 use Rattle.store.specs.Reading.{nameSpanOf, statementOf}
 use Rattle.store.specs.Values.{refusalNumber}
-use Rattle.store.proofs.Tests.{decide}
+use Rattle.store.proofs.Tests.{decide, three, and-r}
 use Rattle.graph.specs.declared.QueryOpened.{QueryOpened}
 use Rattle.graph.specs.declared.QueryAnswer.{QueryAnswer}
-use Rattle.graph.specs.Query.{Answer, refused, found, ended, spent, packed, answerOf, placeOf, openQueryOf, nextQueryOf}
+use Rattle.graph.specs.Query.{Answer, refused, found, ended, spent, packed, answerOf, placeOf, openQueryOf, stale, nextQueryOf}
 use Rattle.graph.specs.Values.{queryOpenedValues}
-use borrow.Author.Tests.{ne-eqb}
-use Rattle.store.proofs.Cases.{assert-refused, retract-refused}
-use Rattle.capi_calls.specs.Words.{tooShort, counterWords, cursorWords, countersOf, lent, roomy, done, wrote, one, two, four, lookupAnswer, nameAnswer, statementAnswer, retractAs, openedAs, scannedAs, assertAs, enteredAs, nextFrom}
-use Rattle.capi_calls.specs.Calls.{findAs, nameCall, statementCall, retractCall, openCall, nextCall, assertCall, enterAs}
-use Rattle.capi_calls.specs.Claims.{bare, bareBeside, bareStore, UnansweredFind, UnansweredName, UnansweredStatement, UnansweredRetract, UnansweredAssert, UnansweredEnter, UnansweredOpen, UnansweredNext}
+use borrow.Author.Tests.{ne-eqb, leb-true, ltb-true, ltb-false}
+use Rattle.store.proofs.Cases.{assert-refused, retract-refused, reclaim-refused}
+use Rattle.integrity.specs.Check.{checkOf}
+use Rattle.integrity.proofs.Decides.{check-decides}
+use Rattle.capi_calls.specs.Words.{tooShort, counterWords, cursorWords, countersOf, lent, roomy, done, wrote, one, two, four, lookupAnswer, nameAnswer, statementAnswer, retractAs, openedAs, scannedAs, assertAs, enteredAs, reclaimedAs, nextFrom}
+use Rattle.capi_calls.specs.Calls.{findAs, nameCall, statementCall, retractCall, openCall, nextCall, assertCall, enterAs, reclaimAs}
+use Rattle.capi_calls.specs.Claims.{bare, bareBeside, bareStore, UnansweredFind, UnansweredName, UnansweredStatement, UnansweredRetract, UnansweredAssert, UnansweredEnter, UnansweredReclaim, UnansweredOpen, UnansweredNext}
 use Rattle.capi_calls.specs.Claims.{UnansweredQueryOpen, UnansweredQueryNext}
 use Rattle.capi_calls.specs.QueryWords.{queryCursorWords, queryReplyWords, queryCursorOf, spelt, misspelt, nextQueryFrom, numbersFrom}
 use Rattle.capi_calls.specs.QueryCalls.{queryOpenedAs, queryOpenCall, queryAnsweredAs, queryNextCall}
@@ -57,6 +64,8 @@ refuses NoBudget = refl
 refuses BadQuery = refl
 refuses Damaged = refl
 refuses BadLine = refl
+refuses StaleCursor = refl
+refuses ReclaimLimit = refl
 
 -- nor the number of a slice too short
 not-short : (e : Refusal) → eqb (refusalNumber e) tooShort ≡ false
@@ -70,6 +79,8 @@ not-short NoBudget = refl
 not-short BadQuery = refl
 not-short Damaged = refl
 not-short BadLine = refl
+not-short StaleCursor = refl
+not-short ReclaimLimit = refl
 
 -- what holds of both, holds of a call
 both : {A : Type 0} (P : A → Type 0) (b : Bool) {s a : A} → P s → P a → P (cond b s a)
@@ -176,6 +187,51 @@ unanswered-enter cw m m′ name w z f h =
           (f .kept),
     )
 
+reclaimed-bare : (cw : List ℕ) (a : Reclaimed) → (reclaimedAs cw a) .0 ≢ 0 → reclaimedAs cw a ≡ done ((reclaimedAs cw a) .0) cw
+reclaimed-bare cw (Done d) h = absurd (h refl)
+reclaimed-bare cw (NotReclaimed e) h = rw (refuses e)
+
+-- the last test of refusal 1
+few-reclaims : (c : Counters) (m : Tables) → fits c m ≡ true → c .generation ≤ maxReclaims
+unfolding fits
+few-reclaims c m e =
+    leb-true (c .generation) maxReclaims
+    (and-r (leb (c .text) (textCapacity m)) _
+    (and-r (leb (c .statements) (statementCapacity m)) _ (and-r (leb (c .resources) (resourceCapacity m)) _ e)))
+
+-- the check decides which clause of the answer holds
+reclaim-kept : (c : Counters) (m m′ : Tables) (e : Refusal) → ReclaimAnswer c m m′ (NotReclaimed e) → m′ ≡ m
+reclaim-kept c m m′ e f =
+    let tables-of : Tables × Reclaimed → Tables = λ z. z .0 in
+    let reply-of : Tables × Reclaimed → Reclaimed = λ z. z .1 in
+    decide (fits c m)
+    (λ a. three (c .generation) maxReclaims
+    (λ g. decide (checkOf c m)
+    (λ y. let k = f .exact ((check-decides c m) .0 y) g in ap tables-of k ∙ reclaim-refused c m e (sym (ap reply-of k)))
+    (λ n. ap tables-of (f .unsound a g (λ s. never (sym n ∙ (check-decides c m) .1 s)))))
+    (λ g. ap tables-of (f .limit a g))
+    (λ g. absurd (omega (arith, few-reclaims c m a, g))))
+    (λ a. ap tables-of (f .capacity a))
+
+reclaimed-kept : (cw : List ℕ) (c : Counters) (m m′ : Tables) (a : Reclaimed) → ReclaimAnswer c m m′ a → (reclaimedAs cw a) .0 ≢ 0 → m′ ≡ m
+reclaimed-kept cw c m m′ (Done d) f h = absurd (h refl)
+reclaimed-kept cw c m m′ (NotReclaimed e) f h = reclaim-kept c m m′ e f
+
+pub unanswered-reclaim : UnansweredReclaim
+unfolding reclaimAs
+unanswered-reclaim cw m m′ z f h =
+    let a = f .reclaimed in
+    let short = ltb (length cw) counterWords in
+    let g : z .0 ≢ 0 → z ≡ done (z .0) cw =
+    rw (f .told) (both (λ (y : ℕ × List ℕ). y .0 ≢ 0 → y ≡ done (y .0) cw) short (λ _. refl) (reclaimed-bare cw a)) in (
+      g h,
+      decide short
+          (λ r. f .kept (ltb-true (length cw) counterWords r))
+          (λ r. let k : z ≡ reclaimedAs cw a = f .told ∙ rw r in
+          reclaimed-kept cw (countersOf cw) m m′ a (f .exact (ltb-false (length cw) counterWords r))
+          (λ e. h (ap (λ (y : ℕ × List ℕ). y .0) k ∙ e))),
+    )
+
 -- ---- cursors
 
 opened-bare : (q : List ℕ) (a : ScanOpened) → (openedAs q a) .0 ≢ 0 → openedAs q a ≡ done ((openedAs q a) .0) q
@@ -213,13 +269,13 @@ unanswered-query-open cw m ws q =
     (query-opened-bare q (openQueryOf (countersOf cw) m ws))
 
 -- a refusal has no status, no visits and nothing bound
-query-bare : (q w : List ℕ) (a : Answer) → (queryAnsweredAs q w (packed a)) .0 ≢ 0
-    → queryAnsweredAs q w (packed a) ≡ bareBeside queryReplyWords q w ((queryAnsweredAs q w (packed a)) .0)
+query-bare : (q w : List ℕ) (g : ℕ) (a : Answer) → (queryAnsweredAs q w (packed g a)) .0 ≢ 0
+    → queryAnsweredAs q w (packed g a) ≡ bareBeside queryReplyWords q w ((queryAnsweredAs q w (packed g a)) .0)
 unfolding packed numbersFrom
-query-bare q w (refused e) h = rw (not-short e, refuses e)
-query-bare q w (found b v p) h = absurd (h refl)
-query-bare q w (ended v) h = absurd (h refl)
-query-bare q w (spent v p) h = absurd (h refl)
+query-bare q w g (refused e) h = rw (not-short e, refuses e)
+query-bare q w g (found b v p) h = absurd (h refl)
+query-bare q w g (ended v) h = absurd (h refl)
+query-bare q w g (spent v p) h = absurd (h refl)
 
 query-answered-bare : (cw : List ℕ) (m : Tables) (ws q : List ℕ) (b : ℕ) (w : List ℕ)
     → (queryAnsweredAs q w (nextQueryFrom (countersOf cw) m ws q b)) .0 ≢ 0
@@ -227,10 +283,12 @@ query-answered-bare : (cw : List ℕ) (m : Tables) (ws q : List ℕ) (b : ℕ) (
     ≡ bareBeside queryReplyWords q w ((queryAnsweredAs q w (nextQueryFrom (countersOf cw) m ws q b)) .0)
 unfolding nextQueryFrom nextQueryOf
 query-answered-bare cw m ws q b w =
+    let c = countersOf cw in
+    let p = queryCursorOf q in
     both (λ (a : QueryAnswer). (queryAnsweredAs q w a) .0 ≢ 0 → queryAnsweredAs q w a ≡ bareBeside queryReplyWords q w ((queryAnsweredAs q w a) .0))
     (spelt q)
-    (query-bare q w (answerOf (countersOf cw) m ws (placeOf (queryCursorOf q)) b))
-    (query-bare q w (refused (misspelt ((openQueryOf (countersOf cw) m ws) .opening))))
+    (query-bare q w (c .generation) (cond (stale c m ws p) (refused StaleCursor) (answerOf c m ws (placeOf p) b)))
+    (query-bare q w 0 (refused (misspelt (eqb (p .generation) (c .generation)) ((openQueryOf c m ws) .opening))))
 
 pub unanswered-query-next : UnansweredQueryNext
 unfolding queryNextCall

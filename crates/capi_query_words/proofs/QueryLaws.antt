@@ -19,21 +19,21 @@ use Rattle.capi_calls.specs.QueryWords.{levelWords, numbersFrom}
 -- the first i slots read, the others blank
 unfoldable pub filled : List ℕ → ℕ → List Level
 filled w zero = replicate maxPatterns noLevel
-filled w (suc i) = set (filled w i) i (levelAt w (2 + 2 * i))
+filled w (suc i) = set (filled w i) i (levelAt w (3 + 2 * i))
 
 pub filled-none : (w : List ℕ) → filled w 0 ≡ replicate maxPatterns noLevel
 unfolding filled
 filled-none w = refl
 
-pub filled-more : (w : List ℕ) (i : ℕ) (l : Level) → l ≡ level (chainOf (word w (2 + 2 * i))) (word w (3 + 2 * i))
+pub filled-more : (w : List ℕ) (i : ℕ) (l : Level) → l ≡ level (chainOf (word w (3 + 2 * i))) (word w (4 + 2 * i))
     → filled w (i + 1) ≡ set (filled w i) i l
 unfolding filled
 filled-more w i l e =
     let q : i + 1 ≡ suc i = omega arith in
-    let k : 3 + 2 * i ≡ suc (2 + 2 * i) = omega arith in
+    let k : 4 + 2 * i ≡ suc (3 + 2 * i) = omega arith in
     rw (q, filled, e, k)
 
-pub filled-all : (w : List ℕ) → filled w maxPatterns ≡ levelsFrom w 2 maxPatterns
+pub filled-all : (w : List ℕ) → filled w maxPatterns ≡ levelsFrom w 3 maxPatterns
 unfolding filled levelsFrom
 filled-all w = refl
 
@@ -46,17 +46,17 @@ spelt-within w {d} {r} e ed er = er ∙ ap (allBelow (chainSpelt w)) ed ∙ rw e
 
 pub levels-more : (w : List ℕ) (ls : List Level) (i : ℕ) (k n : ℕ) → i < maxPatterns → k ≡ chainWord ((getD ls i noLevel) .chain)
     → n ≡ (getD ls i noLevel) .statement .0
-    → sets w (2 + 2 * i) (levelWords ls i (maxPatterns - i))
-    ≡ sets (set (set w (2 + 2 * i) k) (3 + 2 * i) n) (2 + 2 * (i + 1)) (levelWords ls (i + 1) (maxPatterns - (i + 1)))
+    → sets w (3 + 2 * i) (levelWords ls i (maxPatterns - i))
+    ≡ sets (set (set w (3 + 2 * i) k) (4 + 2 * i) n) (3 + 2 * (i + 1)) (levelWords ls (i + 1) (maxPatterns - (i + 1)))
 unfolding levelWords
 levels-more w ls i k n h e f =
     let a : maxPatterns - i ≡ suc (maxPatterns - (i + 1)) = omega arith in
-    let b : 3 + 2 * i ≡ suc (2 + 2 * i) = omega arith in
-    let d : 2 + 2 * (i + 1) ≡ suc (suc (2 + 2 * i)) = omega arith in
+    let b : 4 + 2 * i ≡ suc (3 + 2 * i) = omega arith in
+    let d : 3 + 2 * (i + 1) ≡ suc (suc (3 + 2 * i)) = omega arith in
     let g : i + 1 ≡ suc i = omega arith in
     rw (a, levelWords, b, d, g, e, f)
 
-pub levels-over : (w : List ℕ) (ls : List Level) (i : ℕ) → maxPatterns ≤ i → sets w (2 + 2 * i) (levelWords ls i (maxPatterns - i)) ≡ w
+pub levels-over : (w : List ℕ) (ls : List Level) (i : ℕ) → maxPatterns ≤ i → sets w (3 + 2 * i) (levelWords ls i (maxPatterns - i)) ≡ w
 unfolding levelWords
 levels-over w ls i h = let a : maxPatterns - i ≡ 0 = omega arith in rw (a, levelWords)
 

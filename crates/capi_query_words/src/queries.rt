@@ -1,9 +1,10 @@
 // A query's cursor and its reply as words.
 //
-// A cursor's words are its progress (0 start, 1 within, 2 end), the levels entered, then chain and record of each of `MAX_PATTERNS`
-// levels, zeros past those entered. A first word above 2, or the chain of an entered level above 3, tells no cursor and is refused 6;
-// slots past the levels entered are ignored, and so are all slots at the start and at the end. A reply's words are its status (1 found,
-// 2 ended, 3 spent), the visits, and the number of each of the `VARIABLES` variables, 0 for one not used.
+// A cursor's words are its progress (0 start, 1 within, 2 end), the levels entered, the number of reclaims, then chain and record of each
+// of `MAX_PATTERNS` levels, zeros past those entered. A first word above 2, or the chain of an entered level above 3, tells no cursor and
+// is refused 6, or 13 where the third word is not the store's; slots past the levels entered are ignored, and so are all slots at the
+// start and at the end. A reply's words are its status (1 found, 2 ended, 3 spent), the visits, and the number of each of the `VARIABLES`
+// variables, 0 for one not used.
 use capi_words::replies::chain_of;
 use capi_words::replies::chain_word;
 use graph::Level;
@@ -54,14 +55,14 @@ fn progress_word(progress: Progress) -> u32
 // The levels in a cursor's slots. A chain's word above 3 reads as none: it stands in a slot that is ignored, or `spelt` has refused it.
 fn levels_of(words: &[u32]) -> [Level; MAX_PATTERNS]
     requires { ⌜ queryCursorWords ≤ length (now words) ⌝ }
-    ensures { λ r. ⌜ r ≡ levelsFrom (now (words .entry)) 2 maxPatterns ⌝ }
+    ensures { λ r. ⌜ r ≡ levelsFrom (now (words .entry)) 3 maxPatterns ⌝ }
 {
     let none = level(Chain::All, 0);
     let mut out = [none; MAX_PATTERNS];
     let mut i: usize = 0;
     while i < MAX_PATTERNS {
-        let chain = chain_of(words[2 + 2 * i]);
-        let l = level(chain, words[3 + 2 * i]);
+        let chain = chain_of(words[3 + 2 * i]);
+        let l = level(chain, words[4 + 2 * i]);
         out[i] = l;
         i += 1;
     }
@@ -78,6 +79,7 @@ pub fn query_cursor_of(words: &[u32]) -> QueryCursor
     QueryCursor {
         progress: progress,
         depth: words[1],
+        generation: words[2],
         levels: levels,
     }
 }
@@ -100,7 +102,7 @@ fn chains_spelt(words: &[u32], d: usize) -> bool
 {
     let mut i: usize = 0;
     while i < d {
-        if words[2 + 2 * i] > 3 {
+        if words[3 + 2 * i] > 3 {
             return false;
         }
         i += 1;
@@ -108,7 +110,7 @@ fn chains_spelt(words: &[u32], d: usize) -> bool
     true
 }
 
-// Whether words tell a cursor; where not, next refuses 6.
+// Whether words tell a cursor; where not, next refuses 6, or 13 for another number of reclaims.
 pub fn spelt(words: &[u32]) -> bool
     requires { ⌜ queryCursorWords ≤ length (now words) ⌝ }
     ensures { λ r. ⌜ r ≡ spelt (now (words .entry)) ⌝ }
@@ -126,15 +128,15 @@ pub fn spelt(words: &[u32]) -> bool
 // Writes chain and record of each level into a cursor's slots.
 fn put_levels(words: &mut [u32], levels: [Level; MAX_PATTERNS])
     requires { ⌜ queryCursorWords ≤ length (now words) ⌝ }
-    ensures { λ _. ⌜ now (words .exit) ≡ sets (now (words .entry)) 2 (levelWords levels 0 maxPatterns) ⌝ }
+    ensures { λ _. ⌜ now (words .exit) ≡ sets (now (words .entry)) 3 (levelWords levels 0 maxPatterns) ⌝ }
 {
     let mut i: usize = 0;
     while i < MAX_PATTERNS {
         let l = levels[i];
         let chain = l.chain;
         let k = chain_word(chain);
-        words[2 + 2 * i] = k;
-        words[3 + 2 * i] = l.statement.0;
+        words[3 + 2 * i] = k;
+        words[4 + 2 * i] = l.statement.0;
         i += 1;
     }
 }
@@ -149,6 +151,7 @@ pub fn put_query_cursor(words: &mut [u32], q: QueryCursor)
     let k = progress_word(progress);
     words[0] = k;
     words[1] = q.depth;
+    words[2] = q.generation;
     put_levels(words, levels);
 }
 

@@ -225,6 +225,7 @@ fn no_cursor() -> ScanCursor
         pattern: none,
         chain: Chain::All,
         next: StatementId(0),
+        generation: 0,
     }
 }
 

@@ -39,6 +39,7 @@ pub fn put_cursor(words: &mut [u32], q: ScanCursor)
     words[2] = x.object.0;
     words[3] = chain;
     words[4] = q.next.0;
+    words[5] = q.generation;
 }
 
 // The counters that the first words tell.
@@ -50,6 +51,7 @@ pub fn counters_of(words: &[u32]) -> Counters
         resources: words[0],
         statements: words[1],
         text: words[2],
+        generation: words[3],
     }
 }
 
@@ -61,6 +63,7 @@ pub fn put_counters(words: &mut [u32], c: Counters)
     words[0] = c.resources;
     words[1] = c.statements;
     words[2] = c.text;
+    words[3] = c.generation;
 }
 
 // The cursor that words tell, whose chain word is at most 3.
@@ -72,10 +75,11 @@ fn cursor_of(words: &[u32]) -> ScanCursor
         pattern: triple_of(words[0], words[1], words[2]),
         chain: chain_of(words[3]),
         next: StatementId(words[4]),
+        generation: words[5],
     }
 }
 
-// Next of a pattern scan from a cursor's words. A chain word above 3 is refused 6, after refusal 1.
+// Next of a pattern scan from a cursor's words. A chain word above 3 is refused 6, after refusals 1 and 13.
 pub fn next_from(
     c: Counters,
     resources: &[u32],
@@ -89,10 +93,13 @@ pub fn next_from(
     ensures { λ r. ⌜ r ≡ nextFrom c (tables (now (resources .entry)) (now (statements .entry)) (now (index .entry)) (now (text .entry))) (now (words .entry)) budget ⌝ }
 {
     if words[3] > 3 {
-        if table::fits(c, resources, statements, index, text) {
-            return Scanned::Refused(Refusal::BadCursor);
+        if !table::fits(c, resources, statements, index, text) {
+            return Scanned::Refused(Refusal::Capacity);
         }
-        return Scanned::Refused(Refusal::Capacity);
+        if words[5] != c.generation {
+            return Scanned::Refused(Refusal::StaleCursor);
+        }
+        return Scanned::Refused(Refusal::BadCursor);
     }
     let q = cursor_of(words);
     scan::scan_next(c, resources, statements, index, text, q, budget)

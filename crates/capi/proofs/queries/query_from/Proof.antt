@@ -1,11 +1,14 @@
 -- `capi::queries::query_from` meets its contract. Assumes nothing.
-use Rattle.capi.proofs.QueryWrites.{from-told, from-none}
+use Rattle.capi.proofs.QueryWrites.{from-told, from-none, misspelt-stale, misspelt-bad}
 use Rattle.capi_calls.specs.QueryWords.{misspelt}
 use Rattle.graph.specs.Query.{nextQueryOf}
 use Rattle.graph.specs.declared.QueryCursor.{QueryCursor}
-use Rattle.store.specs.declared.Refusal.the-variants.{BadCursor}
-use Rattle.store.specs.Tables.{tables}
-use mathlib.Core.Path.{sym, ap, _∙_}
+use Rattle.store.specs.declared.Refusal.the-variants.{BadCursor, StaleCursor}
+use Rattle.store.specs.Tables.{tables, word}
+use mathlib.Core.Path.{_≡_, sym, ap, _∙_}
+use mathlib.Core.Logic.{_≢_}
+use native.Mathlib.Omega.{arith}
+use lib.Dec.{eqb}
 use borrow.Author.Needs.{needs}
 use Rattle.capi.proofs.queries.query_from.Statement.{statement}
 use Rattle.capi.proofs.queries.query_from.Tie as tie
@@ -38,27 +41,36 @@ returns c =
 query-open-requires : tie.Need-query-open-requires
 query-open-requires c κs = search needs
 
-enum-told : tie.Need-enum-told
-enum-told c = search needs
+enum-known-opening : tie.Need-enum-known-opening
+enum-known-opening c = search needs
 
 refused-requires : tie.Need-refused-requires
 refused-requires c κs = search needs
 
-enum-known-opening : tie.Need-enum-known-opening
-enum-known-opening c = search needs
+enum-told : tie.Need-enum-told
+enum-told c = search needs
+
+shared-slice-read-if2 : tie.Need-shared-slice-read-if2
+shared-slice-read-if2 c = search needs
 
 refused-requires-2 : tie.Need-refused-requires-2
 refused-requires-2 c κs = search needs
 
 returns-2 : tie.Need-returns-2
 returns-2 c =
-    let a = c .before .before .before .before .before .before .before .before .before .before .before .before .args in
-    let spelt = c .before .before .before .before .before .spelt in
-    let if1 = c .before .before .before .before .if1 in
-    let query-open = c .before .before .before .query-open in
-    let enum-told = c .before .enum-told in
-    let refused = c .refused in
-    from-none (a .c) (tables (a .resources .now) (a .statements .now) (a .index .now) (a .text .now)) (a .words .now) (a .cursor .now) (a .budget) BadCursor (sym (spelt .ensures) ∙ if1 .left) (query-open .ensures) (ap misspelt (enum-told .given .1)) (refused .ensures)
+    let a = c .before .before .before .before .before .before .before .before .before .before .before .before .before .before .before .args in
+    let spelt = c .before .before .before .before .before .before .before .before .spelt in
+    let if1 = c .before .before .before .before .before .before .before .if1 in
+    let query-open = c .before .before .before .before .before .before .query-open in
+    let enum-told = c .before .before .before .before .enum-told in
+    let if2 = c .before .if2 in
+    let refused2 = c .refused2 in
+    let ne : word (a .cursor .now) 2 ≢ a .c .generation = λ e. omega arith in
+    from-none (a .c) (tables (a .resources .now) (a .statements .now) (a .index .now) (a .text .now)) (a .words .now) (a .cursor .now) (a .budget) StaleCursor (sym (spelt .ensures) ∙ if1 .left) (query-open .ensures)
+    (misspelt-stale (a .c) (a .cursor .now) (enum-told .given .1) ne) (refused2 .ensures)
+
+refused-requires-3 : tie.Need-refused-requires-3
+refused-requires-3 c κs = search needs
 
 returns-3 : tie.Need-returns-3
 returns-3 c =
@@ -67,8 +79,22 @@ returns-3 c =
     let if1 = c .before .before .before .before .before .if1 in
     let query-open = c .before .before .before .before .query-open in
     let opening = c .before .before .opening in
-    let refused2 = c .refused2 in
-    from-none (a .c) (tables (a .resources .now) (a .statements .now) (a .index .now) (a .text .now)) (a .words .now) (a .cursor .now) (a .budget) _ (sym (spelt .ensures) ∙ if1 .left) (query-open .ensures) (ap misspelt (opening .given .1)) (refused2 .ensures)
+    let refused = c .refused in
+    from-none (a .c) (tables (a .resources .now) (a .statements .now) (a .index .now) (a .text .now)) (a .words .now) (a .cursor .now) (a .budget) _ (sym (spelt .ensures) ∙ if1 .left) (query-open .ensures)
+    (ap (misspelt (eqb (word (a .cursor .now) 2) (a .c .generation))) (opening .given .1)) (refused .ensures)
+
+returns-4 : tie.Need-returns-4
+returns-4 c =
+    let a = c .before .before .before .before .before .before .before .before .before .before .before .before .before .before .before .args in
+    let spelt = c .before .before .before .before .before .before .before .before .spelt in
+    let if1 = c .before .before .before .before .before .before .before .if1 in
+    let query-open = c .before .before .before .before .before .before .query-open in
+    let enum-told = c .before .before .before .before .enum-told in
+    let if2 = c .before .if2 in
+    let refused3 = c .refused3 in
+    let e : word (a .cursor .now) 2 ≡ a .c .generation = omega arith in
+    from-none (a .c) (tables (a .resources .now) (a .statements .now) (a .index .now) (a .text .now)) (a .words .now) (a .cursor .now) (a .budget) BadCursor (sym (spelt .ensures) ∙ if1 .left) (query-open .ensures)
+    (misspelt-bad (a .c) (a .cursor .now) (enum-told .given .1) e) (refused3 .ensures)
 
 pub query-from-spec : {M : Type 1} → statement M
 query-from-spec =
@@ -79,9 +105,12 @@ query-from-spec =
     query-next-requires
     returns
     query-open-requires
-    enum-told
-    refused-requires
     enum-known-opening
+    refused-requires
+    enum-told
+    shared-slice-read-if2
     refused-requires-2
     returns-2
-    returns-3)
+    refused-requires-3
+    returns-3
+    returns-4)

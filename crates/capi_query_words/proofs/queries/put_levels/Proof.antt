@@ -15,7 +15,7 @@ use Rattle.capi_query_words.proofs.queries.put_levels.Lts as lts
 use Rattle.capi_words.proofs.replies.chain_word.Reads as chain-word-reads
 
 abbrev Inv-loop : tie.InvT-loop
-Inv-loop words₀ levels i₀ words i = (i ≤ maxPatterns) × (length words ≡ length words₀) × (sets words₀ 2 (levelWords levels 0 maxPatterns) ≡ sets words (2 + 2 * i) (levelWords levels i (maxPatterns - i)))
+Inv-loop words₀ levels i₀ words i = (i ≤ maxPatterns) × (length words ≡ length words₀) × (sets words₀ 3 (levelWords levels 0 maxPatterns) ≡ sets words (3 + 2 * i) (levelWords levels i (maxPatterns - i)))
 
 abbrev μ-loop : tie.MeasureT-loop
 μ-loop words₀ levels i₀ words i = maxPatterns - i

@@ -19,6 +19,9 @@ slice-write-words c = search needs
 slice-write-words-2 : tie.Need-slice-write-words-2
 slice-write-words-2 c = simp length-set (omega arith)
 
+slice-write-words-3 : tie.Need-slice-write-words-3
+slice-write-words-3 c = simp length-set (omega arith)
+
 put-levels-requires : tie.Need-put-levels-requires
 put-levels-requires c κs = search needs
 
@@ -40,6 +43,7 @@ put-query-cursor-spec =
     progress-word-requires
     slice-write-words
     slice-write-words-2
+    slice-write-words-3
     put-levels-requires
     same-length
     returns)

@@ -19,10 +19,13 @@ levels-of-requires c κs = search needs
 shared-slice-read-t5 : tie.Need-shared-slice-read-t5
 shared-slice-read-t5 c = search needs
 
+shared-slice-read-t8 : tie.Need-shared-slice-read-t8
+shared-slice-read-t8 c = search needs
+
 returns : tie.Need-returns
 returns c =
-    let progress-of = c .before .before .progress-of in
-    let levels-of = c .before .levels-of in
+    let progress-of = c .before .before .before .progress-of in
+    let levels-of = c .before .before .levels-of in
     simp (levels-of .ensures, progress-of .ensures)
 
 pub query-cursor-of-spec : {M : Type 1} → statement M
@@ -33,4 +36,5 @@ query-cursor-of-spec =
     progress-of-requires
     levels-of-requires
     shared-slice-read-t5
+    shared-slice-read-t8
     returns)

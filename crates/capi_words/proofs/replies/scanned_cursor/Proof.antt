@@ -26,10 +26,10 @@ returns : tie.Need-returns
 returns c = simp (c .before .a .given .1)
 
 returns-2 : tie.Need-returns-2
-returns-2 c = search needs
+returns-2 c = simp (c .before .a2 .given .1)
 
 returns-3 : tie.Need-returns-3
-returns-3 c = search needs
+returns-3 c = simp (c .before .a3 .given .1)
 
 returns-4 : tie.Need-returns-4
 returns-4 c = search needs

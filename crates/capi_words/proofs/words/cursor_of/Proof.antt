@@ -29,8 +29,11 @@ chain-of-requires c κs = search needs
 shared-slice-read-t13 : tie.Need-shared-slice-read-t13
 shared-slice-read-t13 c = search needs
 
+shared-slice-read-t16 : tie.Need-shared-slice-read-t16
+shared-slice-read-t16 c = search needs
+
 returns : tie.Need-returns
-returns c = simp (c .before .chain-of .ensures, c .before .before .before .triple-of .ensures)
+returns c = simp (c .before .before .chain-of .ensures, c .before .before .before .before .triple-of .ensures)
 
 pub cursor-of-spec : {M : Type 1} → statement M
 cursor-of-spec =
@@ -43,4 +46,5 @@ cursor-of-spec =
     shared-slice-read-chain-of
     chain-of-requires
     shared-slice-read-t13
+    shared-slice-read-t16
     returns)

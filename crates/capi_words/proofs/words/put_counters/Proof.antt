@@ -15,7 +15,10 @@ slice-write-words-2 : tie.Need-slice-write-words-2
 slice-write-words-2 c = simp length-set (omega arith)
 
 slice-write-words-3 : tie.Need-slice-write-words-3
-slice-write-words-3 c = search needs
+slice-write-words-3 c = simp length-set (omega arith)
+
+slice-write-words-4 : tie.Need-slice-write-words-4
+slice-write-words-4 c = simp length-set (omega arith)
 
 same-length : tie.Need-same-length
 same-length c = search needs
@@ -26,4 +29,4 @@ returns c = search needs
 pub put-counters-spec : {M : Type 1} → statement M
 put-counters-spec =
     tie.close
-    (tie.spec slice-write-words slice-write-words-2 slice-write-words-3 same-length returns)
+    (tie.spec slice-write-words slice-write-words-2 slice-write-words-3 slice-write-words-4 same-length returns)

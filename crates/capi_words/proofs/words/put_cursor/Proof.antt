@@ -27,6 +27,9 @@ slice-write-words-4 c = simp length-set (omega arith)
 slice-write-words-5 : tie.Need-slice-write-words-5
 slice-write-words-5 c = simp length-set (omega arith)
 
+slice-write-words-6 : tie.Need-slice-write-words-6
+slice-write-words-6 c = simp length-set (omega arith)
+
 same-length : tie.Need-same-length
 same-length c = search needs
 
@@ -43,5 +46,6 @@ put-cursor-spec =
     slice-write-words-3
     slice-write-words-4
     slice-write-words-5
+    slice-write-words-6
     same-length
     returns)
