@@ -21,12 +21,11 @@ use Rattle.store.specs.Model.{Entry, Listing, Model, Capacities, Taken, 
 use Rattle.store.specs.Model.{spent as stopped, Call, open′, next, freshModel, entry, matches, onChain, holders}
 use Rattle.store.specs.Model.{pick, pickModel, listing, cursorOf, noListing, leaving, take-off, takenValues}
 use Rattle.store.specs.Model.{takeFrom, turn, openModel, nextModel, callModel, modelReplies, modelAfter}
-use Rattle.store.specs.Scan.{nextOf}
 use Rattle.store.specs.History.{Store, freshStore, capacitiesOf, callStore, storeReplies, storeAfter}
 use Rattle.store.specs.Claims.{Opening, storeThen, opened, Accepted, openingNumber, chainThen, storeNow, visitsOf}
 use Rattle.store.specs.Claims.{visitsSoFar, restNow, reached, liveNow, nextNow, Latest, NoneOf, Exhausts}
 use Rattle.store.specs.Claims.{Shortest, unbound, bound, statementsIn, Finds, EndsOrSpends, VisitsAddUp}
-use Rattle.store.specs.Claims.{takenSoFar, reclaimsIn, reclaimsSince, Unreclaimed, NoneIsMissed, ReadsOnWithBudget, StaleAfterReclaim, StaleRefused}
+use Rattle.store.specs.Claims.{takenSoFar, reclaimsIn, reclaimsSince, Unreclaimed, NoneIsMissed, ReadsOnWithBudget, StaleAfterReclaim}
 use Rattle.store.proofs.Tests.{decide, off-lt, and-r}
 use Rattle.store.proofs.Falling.{Falling, below-falling, below-in, all-pass}
 use Rattle.store.proofs.Picking.{Picked, pick-picks, Bound, pick-bound}
@@ -70,10 +69,6 @@ taken-accepted : (g : Listing) (z : Taken) → (takenValues g z) .refusal ≡ 0
 taken-accepted g (took n v r) = refl
 taken-accepted g (emptied v) = refl
 taken-accepted g (stopped v r) = refl
-
-pub stale-refused : StaleRefused
-unfolding nextOf
-stale-refused c m q b e n = rw (e, ne-eqb (q .generation) (c .generation) n)
 
 -- a next is refused exactly without a budget or after a reclaim
 next-stale : (s : Model) (j b : ℕ) → (openingOf s j) .generation ≢ s .generation → (nextModel s j b) .1 ≡ refusedWith 13

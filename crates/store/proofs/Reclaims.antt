@@ -122,8 +122,19 @@ module _ (c : Counters) (m : Tables) (S : Sound c m) (g : c .generation < maxRec
         text = refl;
       }
 
+-- the cursors have no part in it
 pub reclaim-keeps : ReclaimKeeps
-reclaim-keeps c m S g = keeps c m S g
+unfolding callStore
+reclaim-keeps s S g =
+    let K = keeps (s .counters) (s .tables) S g in
+    record {
+      sound = K .sound;
+      names = K .names;
+      statements = K .statements;
+      generation = K .generation;
+      cursors = refl;
+      all-live = K .all-live;
+    }
 
 pub reclaim-words : ReclaimWords
 reclaim-words c m S g =

@@ -7,12 +7,14 @@ use Rattle.store.specs.Claims.{RefusalsChangeNothing, Finds, EndsOrSpend
 use Rattle.store.specs.Claims.{WithinMeans, SameMeans, MatchesMeans, PermittedMeans, BelowMeans, PicksLeast}
 use Rattle.store.specs.Claims.{RefusalsAreBare, NoneIsMissed, FirstIsHighest, ReadsOnWithBudget, StaleAfterReclaim, StaleRefused}
 use Rattle.store.specs.Claims.{LiveCountsShown, LiveCountsAgree, LiveAboveCount, LiveCountOfZero, ScansDoNotLook}
-use Rattle.store.specs.Claims.{ReclaimKeeps, ReclaimWords, ForgetsRetracted, RoomAgain}
+use Rattle.store.specs.Claims.{ReclaimKeeps, ReclaimWords, ForgetsRetracted, RoomAgain, FitsMeans, CapacityFirst, NumberCounts}
+use Rattle.store.specs.Claims.{UnstruckMeans, ReclaimRefuses}
 use Rattle.store.proofs.Histories.{history-agrees, fresh-agrees}
 use Rattle.store.proofs.Kept.{tidy-history, tidy-fresh, agreeing-sound}
 use Rattle.store.proofs.Held.{agreeing-holds, sound-agrees, sound-tidy}
 use Rattle.store.proofs.Openings as openings
 use Rattle.store.proofs.Reclaims as reclaims
+use Rattle.store.proofs.Limits as limits
 use Rattle.store.proofs.Refusals as refusals
 use Rattle.store.proofs.LiveCounts as live
 use Rattle.store.proofs.RoundTrips as trips
@@ -37,6 +39,12 @@ sound-stores-agree c m S calls =
 pub fresh-is-sound : FreshIsSound
 fresh-is-sound m = agreeing-sound (capacitiesOf m) (freshStore m) freshModel (fresh-agrees m) tidy-fresh
 
+pub fits-means : FitsMeans
+fits-means = limits.fits-means
+
+pub capacity-first : CapacityFirst
+capacity-first = limits.capacity-first
+
 pub refusals-change-nothing : RefusalsChangeNothing
 refusals-change-nothing = refusals.refusals-change-nothing
 
@@ -49,7 +57,7 @@ pub stale-after-reclaim : StaleAfterReclaim
 stale-after-reclaim = openings.stale-after-reclaim
 
 pub stale-refused : StaleRefused
-stale-refused = openings.stale-refused
+stale-refused = limits.stale-refused
 
 pub finds : Finds
 finds = openings.finds
@@ -84,6 +92,15 @@ pub scans-do-not-look : ScansDoNotLook
 scans-do-not-look = live.scans-do-not-look
 
 -- ---- reclaim
+
+pub number-counts : NumberCounts
+number-counts = limits.number-counts
+
+pub unstruck-means : UnstruckMeans
+unstruck-means = limits.unstruck-means
+
+pub reclaim-refuses : ReclaimRefuses
+reclaim-refuses = limits.reclaim-refuses
 
 pub reclaim-keeps : ReclaimKeeps
 reclaim-keeps = reclaims.reclaim-keeps

@@ -24,14 +24,16 @@ use Rattle.store.specs.declared.NameRead.the-variants.{Span}
 use Rattle.store.specs.declared.Lookup.the-variants.{Number}
 use Rattle.store.specs.Triple.{at, known, within, same, agrees, permitted, below, head0, prev}
 use Rattle.store.specs.Tables.{Tables, after, word, off, freshCounters, maxReclaims, statementWords, resourceWords, fits}
-use Rattle.store.specs.Tables.{flagAt, countAt, offsetAt, kindAt, liveAt}
-use Rattle.store.specs.Values.{Values, refusedWith}
+use Rattle.store.specs.Tables.{flagAt, countAt, offsetAt, kindAt, liveAt, resourceCapacity, statementCapacity, textCapacity}
+use Rattle.store.specs.Values.{Values, refusedWith, reclaimedValues}
 use Rattle.store.specs.Model.{Entry, Model, Form, Call, intern, assert, retract, open′, next, reclaim, freshModel, totals, entry}
 use Rattle.store.specs.Model.{Capacities, wellFormed, internModel, matches, holders, pick, cursorOf, unstruck, modelReplies}
 use Rattle.store.specs.Model.{modelAfter}
 use Rattle.store.specs.Walk.{entryAt}
 use Rattle.store.specs.Statement.{locate, kinded, assertOf, retractOf}
 use Rattle.store.specs.Scan.{openOf, nextOf}
+use Rattle.store.specs.declared.Reclaimed.{Reclaimed}
+use Rattle.store.specs.Reclaim.{ReclaimAnswer}
 use Rattle.store.specs.Reading.{nameSpanOf}
 use Rattle.store.specs.Dictionary.{nameAt, findOf, internOf}
 use Rattle.store.specs.Soundness.{Sound}
@@ -91,7 +93,15 @@ SoundStoresAgree = (c : Counters) (m : Tables) → Sound c m → (calls : List C
 abbrev pub FreshIsSound : Type 0
 FreshIsSound = (m : Tables) → Sound freshCounters m
 
--- A refused call changes nothing, on any store.
+-- Refusal 1: a counter above its capacity, or more than 65,535 reclaims; every call tests it first, on any store.
+abbrev pub FitsMeans : Type 0
+FitsMeans = (c : Counters) (m : Tables) → fits c m ≡ true
+    ↔ (c .resources ≤ resourceCapacity m) × (c .statements ≤ statementCapacity m) × (c .text ≤ textCapacity m) × (c .generation ≤ 65535)
+
+abbrev pub CapacityFirst : Type 0
+CapacityFirst = (s : Store) (a : Call) → fits (s .counters) (s .tables) ≡ false → (callStore s a) .1 ≡ refusedWith 1
+
+-- A refused call changes nothing, on any store. (Of the program's reclaim on unsound tables `ReclaimRefuses` says so.)
 abbrev pub RefusalsChangeNothing : Type 0
 RefusalsChangeNothing = (s : Store) (a : Call) → (callStore s a) .1 .refusal ≢ 0 → (callStore s a) .0 ≡ s
 
@@ -205,10 +215,10 @@ ReadsOnWithBudget = (o : Opening) → Accepted o → (b : ℕ) → (nextNow o b)
 abbrev pub StaleAfterReclaim : Type 0
 StaleAfterReclaim = (o : Opening) → Accepted o → 0 < reclaimsSince o → (b : ℕ) → nextNow o b ≡ refusedWith 13
 
--- On any tables a cursor with another number of reclaims is refused 13 where 1 is not refused, whatever the budget.
+-- On any tables a next is refused 13 exactly where 1 is not refused and the cursor has another number of reclaims, whatever the budget.
 abbrev pub StaleRefused : Type 0
-StaleRefused = (c : Counters) (m : Tables) (q : ScanCursor) (b : ℕ) → fits c m ≡ true → q .generation ≢ c .generation
-    → nextOf c m q b ≡ NotScanned StaleCursor
+StaleRefused = (c : Counters) (m : Tables) (q : ScanCursor) (b : ℕ)
+    → nextOf c m q b ≡ NotScanned StaleCursor ↔ (fits c m ≡ true) × (q .generation ≢ c .generation)
 
 -- A listing read on and not refused finds a record exactly when its budget reaches a live match, as of that call, among
 -- the records there at its opening and not yet passed, and gives the latest of these.
@@ -302,6 +312,28 @@ ScansDoNotLook = (c : Counters) (m m′ : Tables) → SameButLive m m′
 abbrev pub storeAt : Tables → List Call → Store
 storeAt m calls = storeAfter (freshStore m) calls
 
+-- The number in the counters is that of the reclaims answered so far.
+abbrev pub NumberCounts : Type 0
+NumberCounts = (m : Tables) (calls : List Call)
+    → (storeAt m calls) .counters .generation ≡ reclaimsIn calls (storeReplies (freshStore m) calls)
+
+-- The entries that are not struck out are kept in their order: one entry is kept or not, and two lists one after the other are kept one
+-- after the other.
+abbrev pub UnstruckMeans : Type 0
+UnstruckMeans = ((e : Entry) → unstruck (e ∷ []) ≡ cond (e .retracted) [] (e ∷ []))
+    × ((l r : List Entry) → unstruck (l ++ r) ≡ unstruck l ++ unstruck r)
+
+-- What is refused, on any tables, by the paper's numbers and in its order: 1, 14, 9; nothing is written then.
+pub record RefusedInOrder (c : Counters) (m m′ : Tables) (a : Reclaimed) : Type 0 where
+  pub one : fits c m ≡ false → (reclaimedValues a) .refusal ≡ 1
+  pub fourteen : fits c m ≡ true → c .generation ≡ 65535 → (reclaimedValues a) .refusal ≡ 14
+  pub nine : fits c m ≡ true → c .generation < 65535 → (reclaimedValues a) .refusal ≡ 9 ↔ (Sound c m → ⊥)
+  pub answered : Sound c m → c .generation < 65535 → (reclaimedValues a) .refusal ≡ 0
+  pub kept : (reclaimedValues a) .refusal ≢ 0 → m′ ≡ m
+
+abbrev pub ReclaimRefuses : Type 0
+ReclaimRefuses = (c : Counters) (m m′ : Tables) (a : Reclaimed) → ReclaimAnswer c m m′ a → RefusedInOrder c m m′ a
+
 -- On a sound store an answered reclaim leaves a sound one of the same names and of the live statements in their order.
 pub record Compacted (s s′ : Store) : Type 0 where
   pub sound : Sound (s′ .counters) (s′ .tables)
@@ -313,8 +345,8 @@ pub record Compacted (s s′ : Store) : Type 0 where
       → liveAt (s′ .tables .resources) p y ≡ countAt (s′ .tables .resources) p y
 
 abbrev pub ReclaimKeeps : Type 0
-ReclaimKeeps = (c : Counters) (m : Tables) → Sound c m → c .generation < maxReclaims
-    → Compacted (store c m []) ((callStore (store c m []) reclaim) .0)
+ReclaimKeeps = (s : Store) → Sound (s .counters) (s .tables) → s .counters .generation < maxReclaims
+    → Compacted s ((callStore s reclaim) .0)
 
 -- The words: those of the records given up are 0; those past the old T and past R, offsets and kinds, index and text
 -- stay.

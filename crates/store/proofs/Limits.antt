@@ -1,0 +1,169 @@
+-- Limits and what is refused for them: refusal 1 and that it comes first, 13 of a listing, the refusals of a reclaim, the number of
+-- reclaims; and that a reclaim keeps the order. Assumes nothing.
+use mathlib.Core.Path.{_≡_, refl, sym, ap, _∙_}
+use mathlib.Core.Logic.{_≢_}
+use mathlib.Core.Bool.{Bool, true, false, cond, true≢false}
+use mathlib.Core.List.{List, [], _∷_, _++_}
+use mathlib.Core.Option.{Option, none, some}
+use Prim.Native.Nat.{ℕ, _≤_, _<_}
+use native.Mathlib.Omega.{arith}
+use lib.Dec.{eqb, leb, ltb}
+use borrow.Author.Tests.{eq-eqb, ne-eqb, leb-true, le-leb, lt-ltb, ltb-true, ltb-false}
+use Rattle.store.specs.declared.Counters.{Counters}
+use Rattle.store.specs.declared.ScanCursor.{ScanCursor}
+use Rattle.store.specs.declared.Refusal.{Refusal}
+use Rattle.store.specs.declared.Refusal.the-variants.{Capacity, Damaged, ReclaimLimit, StaleCursor}
+use Rattle.store.specs.declared.Scanned.{Scanned}
+use Rattle.store.specs.declared.Scanned.the-variants.{Refused as NotScanned}
+use Rattle.store.specs.declared.Reclaimed.{Reclaimed}
+use Rattle.store.specs.declared.Reclaimed.the-variants.{Done, Refused as NotReclaimed}
+use Rattle.store.specs.Tables.{Tables, after, fits, maxReclaims, resourceCapacity, statementCapacity, textCapacity}
+use Rattle.store.specs.Values.{refusalNumber, scannedValues, reclaimedValues}
+use Rattle.store.specs.Model.{Entry, Call, intern, assert, retract, open′, next, reclaim, byValue, lent, freshModel, unstruck}
+use Rattle.store.specs.Dictionary.{internOf}
+use Rattle.store.specs.Walk.{Step, found, ended, spent}
+use Rattle.store.specs.Statement.{assertOf, retractOf, assertLentOf, retractLentOf}
+use Rattle.store.specs.Scan.{openOf, cursorOk, walkFrom, scannedAs, nextOf}
+use Rattle.store.specs.Reclaim.{reclaimOf, ReclaimAnswer}
+use Rattle.store.specs.Soundness.{Sound}
+use Rattle.store.specs.History.{Store, freshStore, capacitiesOf, callStore}
+use Rattle.store.specs.Claims.{FitsMeans, CapacityFirst, StaleRefused, NumberCounts, UnstruckMeans, RefusedInOrder, ReclaimRefuses}
+use Rattle.store.proofs.Tests.{decide, and-l, and-r, and-of}
+use Rattle.store.proofs.Histories.{history-agrees, fresh-agrees}
+use Rattle.store.proofs.Visits.{generation-after}
+
+-- ---- refusal 1
+
+pub fits-means : FitsMeans
+unfolding fits
+fits-means c m = (there, back)
+  where
+    there : fits c m ≡ true
+        → (c .resources ≤ resourceCapacity m) × (c .statements ≤ statementCapacity m) × (c .text ≤ textCapacity m) × (c .generation ≤ 65535)
+    there e =
+        let f = and-r (leb (c .resources) (resourceCapacity m)) _ e in
+        let g = and-r (leb (c .statements) (statementCapacity m)) _ f in (
+          leb-true (c .resources) (resourceCapacity m) (and-l _ _ e),
+          leb-true (c .statements) (statementCapacity m) (and-l _ _ f),
+          leb-true (c .text) (textCapacity m) (and-l _ _ g),
+          leb-true (c .generation) maxReclaims (and-r (leb (c .text) (textCapacity m)) _ g),
+        )
+
+    back : (c .resources ≤ resourceCapacity m) × (c .statements ≤ statementCapacity m) × (c .text ≤ textCapacity m) × (c .generation ≤ 65535)
+        → fits c m ≡ true
+    back h =
+        rw (
+          le-leb (c .resources) (resourceCapacity m) (h .0),
+          le-leb (c .statements) (statementCapacity m) (h .1),
+          le-leb (c .text) (textCapacity m) (h .2),
+          le-leb (c .generation) maxReclaims (h .3),
+        )
+
+pub capacity-first : CapacityFirst
+unfolding callStore internOf assertOf retractOf assertLentOf retractLentOf openOf nextOf reclaimOf
+capacity-first s (intern w) e = rw e
+capacity-first s (assert byValue x) e = rw e
+capacity-first s (assert lent x) e = rw e
+capacity-first s (retract byValue x) e = rw e
+capacity-first s (retract lent x) e = rw e
+capacity-first s (open′ x) e = rw e
+capacity-first s (next j b) e = rw e
+capacity-first s reclaim e = rw e
+
+-- ---- the number of reclaims
+
+pub number-counts : NumberCounts
+number-counts m calls =
+    let H = history-agrees (capacitiesOf m) (freshStore m) freshModel (fresh-agrees m) calls in
+    rw (H .0) (omega (arith, H .1 .generation, generation-after (capacitiesOf m) freshModel calls))
+
+-- ---- the entries kept
+
+append-kept : (l r : List Entry) → unstruck (l ++ r) ≡ unstruck l ++ unstruck r
+unfolding unstruck
+append-kept [] r = refl
+append-kept (e ∷ l) r = decide (e .retracted) (λ d. rw (d, append-kept l r)) (λ d. rw (d, append-kept l r))
+
+pub unstruck-means : UnstruckMeans
+unfolding unstruck
+unstruck-means = (λ e. refl, append-kept)
+
+-- ---- refusal 13 of a listing
+
+step-not : (q : ScanCursor) (z : Option Step) → (scannedValues (scannedAs q z)) .refusal ≢ 13
+step-not q none h = absurd (omega (arith, h))
+step-not q (some (found n v r)) h = absurd (omega (arith, h))
+step-not q (some (ended v)) h = absurd (omega (arith, h))
+step-not q (some (spent v r)) h = absurd (omega (arith, h))
+
+-- from a cursor of the store's own number
+own-not : (c : Counters) (m : Tables) (q : ScanCursor) (b : ℕ) → eqb (q .generation) (c .generation) ≡ true
+    → (scannedValues (nextOf c m q b)) .refusal ≢ 13
+unfolding nextOf
+own-not c m q b d =
+    decide (fits c m)
+    (λ a. rw (a, d) (decide (cursorOk c m q)
+    (λ o. rw o (decide (eqb b 0) (λ z. rw z (λ h. absurd (omega (arith, h)))) (λ z. rw z (step-not q (walkFrom c m q b)))))
+    (λ o. rw o (λ h. absurd (omega (arith, h))))))
+    (λ a. rw a (λ h. absurd (omega (arith, h))))
+
+stale-there : (c : Counters) (m : Tables) (q : ScanCursor) (b : ℕ) → nextOf c m q b ≡ NotScanned StaleCursor → fits c m ≡ true
+unfolding nextOf
+stale-there c m q b = decide (fits c m) (λ a h. a) (λ a. rw a (λ h. absurd (capacity-not h)))
+  where
+    capacity-not : NotScanned Capacity ≡ NotScanned StaleCursor → ⊥
+    capacity-not h = let x : _≡_ {A = ℕ} 1 13 = ap (λ (a : Scanned). (scannedValues a) .refusal) h in omega arith
+
+stale-back : (c : Counters) (m : Tables) (q : ScanCursor) (b : ℕ) → fits c m ≡ true → q .generation ≢ c .generation
+    → nextOf c m q b ≡ NotScanned StaleCursor
+unfolding nextOf
+stale-back c m q b a n = rw (a, ne-eqb (q .generation) (c .generation) n)
+
+pub stale-refused : StaleRefused
+stale-refused c m q b = (
+  λ h. (
+    stale-there c m q b h,
+    λ g. own-not c m q b (eq-eqb (q .generation) (c .generation) g) (ap (λ (a : Scanned). (scannedValues a) .refusal) h),
+  ),
+  λ h. stale-back c m q b (h .0) (h .1),
+)
+
+-- ---- what a reclaim refuses
+
+reclaim-done : (c : Counters) (m : Tables) → fits c m ≡ true → c .generation < maxReclaims
+    → (reclaimedValues ((reclaimOf c m) .1)) .refusal ≡ 0
+unfolding reclaimOf
+reclaim-done c m e g = rw (e, lt-ltb (c .generation) maxReclaims g)
+
+pub reclaim-refuses : ReclaimRefuses
+reclaim-refuses c m m′ a A = record {
+  one = λ e. told Capacity (A .capacity e);
+  fourteen = λ e g. told ReclaimLimit (A .limit e g);
+  nine = λ e g. (λ h S. done-not S g h, λ n. told Damaged (A .unsound e g n));
+  answered = done;
+  kept = kept;
+}
+  where
+    told : (r : Refusal) → after m′ a ≡ after m (NotReclaimed r) → (reclaimedValues a) .refusal ≡ refusalNumber r
+    told r h = ap (λ (z : Tables × Reclaimed). (reclaimedValues (z .1)) .refusal) h
+
+    same : (r : Refusal) → after m′ a ≡ after m (NotReclaimed r) → m′ ≡ m
+    same r h = ap (λ (z : Tables × Reclaimed). z .0) h
+
+    done : Sound c m → c .generation < 65535 → (reclaimedValues a) .refusal ≡ 0
+    done S g = ap (λ (z : Tables × Reclaimed). (reclaimedValues (z .1)) .refusal) (A .exact S g) ∙ reclaim-done c m (S .capacity) g
+
+    done-not : Sound c m → c .generation < 65535 → (reclaimedValues a) .refusal ≡ 9 → ⊥
+    done-not S g h = let x : _≡_ {A = ℕ} 0 9 = sym (done S g) ∙ h in omega arith
+
+    below : fits c m ≡ true → c .generation < 65535 → (reclaimedValues a) .refusal ≢ 0 → m′ ≡ m
+    below e g n = same Damaged (A .unsound e g (λ S. n (done S g)))
+
+    kept : (reclaimedValues a) .refusal ≢ 0 → m′ ≡ m
+    kept n =
+        decide (fits c m)
+        (λ e. decide (ltb (c .generation) maxReclaims)
+        (λ g. below e (ltb-true (c .generation) maxReclaims g) n)
+        (λ g. same ReclaimLimit
+        (A .limit e (omega (arith, ltb-false (c .generation) maxReclaims g, (fits-means c m .0 e) .3)))))
+        (λ e. same Capacity (A .capacity e))
