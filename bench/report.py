@@ -43,7 +43,7 @@ OPERATIONS = [
     ('sweep-all', 'reclaim without the check, all retracted', 'a statement'),
 ]
 # A time that is the difference of two is told where it is at least this part of the greater.
-TOLD = 0.1
+TOLD = 0.05
 
 
 def read_rounds(path):
@@ -128,7 +128,7 @@ def main():
             % (statistics.median(spread), spread[int(0.95 * len(spread))], twice[0], twice[-1], statistics.median(twice)), '']
 
     out += ['## The library against the C reference', '', 'Ratio of times. The reference has no soundness check, and makes none when it reclaims. The library\'s time for a reclaim '
-            'without the check is that of the reclaim less that of the check: where it is less than a tenth of the whole, none is told.', '']
+            'without the check is that of the reclaim less that of the check: where it is less than a twentieth of the whole, none is told.', '']
     rows = []
     for metric, title, unit in OPERATIONS:
         if ('reference', workloads[0], metric) not in least:

@@ -160,15 +160,18 @@ static inline int unknown(const store *s, const uint32_t t[3])
 static inline uint32_t append(store *s, const uint32_t t[3])
 {
     uint32_t n = ++s->T;
+    statement *to = &s->st[n];
+    resource *res = s->res;
+#pragma GCC unroll 3
     for (int p = 0; p < 3; p++) {
-        resource *r = &s->res[t[p]];
-        s->st[n].part[p] = t[p];
-        s->st[n].next[p] = r->first[p];
+        resource *r = &res[t[p]];
+        to->part[p] = t[p];
+        to->next[p] = r->first[p];
         r->first[p] = n;
         r->count[p]++;
         r->live[p]++;
     }
-    s->st[n].retracted = 0;
+    to->retracted = 0;
     return n;
 }
 
@@ -203,12 +206,11 @@ int store_reclaim(store *s)
 {
     REFUSE(over(s));
     if (s->reclaims == MAX_RECLAIMS) return 0;
-    for (uint32_t r = 1; r <= s->R; r++)
-        for (int p = 0; p < 3; p++) s->res[r].first[p] = s->res[r].count[p] = s->res[r].live[p] = 0;
+    for (resource *r = s->res + 1, *end = r + s->R; r < end; r++) *r = (resource){.offset = r->offset, .kind = r->kind};
     uint32_t before = s->T;
     s->T = 0;
-    for (uint32_t n = 1; n <= before; n++)
-        if (!s->st[n].retracted) append(s, s->st[n].part);
+    for (statement *t = s->st + 1, *end = t + before; t < end; t++)
+        if (!t->retracted) append(s, t->part);
     memset(s->st + s->T + 1, 0, (before - s->T) * sizeof *s->st);
     s->reclaims++;
     return 1;
