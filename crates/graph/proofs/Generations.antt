@@ -1,19 +1,25 @@
 -- The number of reclaims in a query's cursor: a cursor with the store's own number is read on from its place, one with another number is
 -- refused 13 (`StaleClaim`). Assumes nothing.
-use mathlib.Core.Path.{_≡_, refl}
-use mathlib.Core.Bool.{Bool, true, false, cond, not, _&&_}
+use mathlib.Core.Path.{_≡_, refl, sym, ap, _∙_}
+use mathlib.Core.Logic.{_≢_, inr}
+use mathlib.Core.Bool.{Bool, true, false, cond, not, _&&_, true≢false}
 use mathlib.Core.List.{List}
 use Prim.Native.Nat.{ℕ}
+use native.Mathlib.Omega.{arith}
 use lib.Dec.{eqb}
 use borrow.Author.Tests.{eq-eqb, ne-eqb}
 use Rattle.store.specs.declared.Counters.{Counters}
 use Rattle.store.specs.declared.Refusal.the-variants.{StaleCursor}
 use Rattle.store.specs.Tables.{Tables, fits}
-use Rattle.store.proofs.Tests.{decide}
+use Rattle.store.proofs.Tests.{decide, and-l, and-r}
 use Rattle.graph.specs.declared.QueryCursor.{QueryCursor}
+use Rattle.graph.specs.declared.QueryStep.the-variants.{Refused}
+use Rattle.graph.specs.declared.QueryAnswer.{QueryAnswer}
 use Rattle.graph.specs.Query.{wordsOk, Place, start, inside, finish, Answer, refused, found, ended, spent, answerOf}
 use Rattle.graph.specs.Query.{placeOf, cursorAt, packed, stale, nextQueryOf}
+use Rattle.graph.specs.Values.{stepRefusal, queryValues}
 use Rattle.graph.specs.Claims.{Unrefused, StaleClaim}
+use Rattle.graph.proofs.Refusals.{answer-not, number-not}
 
 pub cursor-number : (g : ℕ) (q : Place) → (cursorAt g q) .generation ≡ g
 unfolding cursorAt
@@ -67,6 +73,32 @@ module _ (c : Counters) (m : Tables) (ws : List ℕ) (q : QueryCursor) where
       (λ e. rw e (λ n. absurd (unrefused-answer (c .generation) (refused StaleCursor) n)))
       (λ e. rw e (λ n. (refl, unrefused-answer (c .generation) (answerOf c m ws (placeOf q) b) n)))
 
-pub stale-refused : StaleClaim
+-- ---- refusal 13
+
+pub stale-step : (c : Counters) (m : Tables) (ws : List ℕ) (q : QueryCursor) (b : ℕ) → fits c m ≡ true
+    → wordsOk (c .resources) ws ≡ true → q .generation ≢ c .generation → (nextQueryOf c m ws q b) .step ≡ Refused StaleCursor
 unfolding nextQueryOf stale packed
-stale-refused c m ws q b f w n = rw (f, w, ne-eqb (q .generation) (c .generation) n)
+stale-step c m ws q b f w n = rw (f, w, ne-eqb (q .generation) (c .generation) n)
+
+stale-when : (c : Counters) (m : Tables) (ws : List ℕ) (q : QueryCursor) (b : ℕ)
+    → (queryValues (nextQueryOf c m ws q b)) .refusal ≡ 13 → stale c m ws q ≡ true
+stale-when c m ws q b h =
+    decide (stale c m ws q) (λ e. e)
+    (λ e. absurd (number-not 13 (c .generation) (answerOf c m ws (placeOf q) b) (omega arith)
+    (answer-not 13 (omega arith) (omega arith) (omega arith) (omega arith) c m ws (placeOf q) b (inr (omega arith)))
+    (sym (ap (λ (a : QueryAnswer). stepRefusal (a .step)) (read-on c m ws q b e)) ∙ h)))
+
+stale-means : (c : Counters) (m : Tables) (ws : List ℕ) (q : QueryCursor) → stale c m ws q ≡ true
+    → (fits c m ≡ true) × (wordsOk (c .resources) ws ≡ true) × (q .generation ≢ c .generation)
+unfolding stale
+stale-means c m ws q e = (
+  and-l _ _ e,
+  and-l _ _ (and-r (fits c m) _ e),
+  λ d. true≢false (sym e ∙ own-number c m ws q d),
+)
+
+pub stale-refused : StaleClaim
+stale-refused c m ws q b = (
+  λ h. stale-means c m ws q (stale-when c m ws q b h),
+  λ h. ap stepRefusal (stale-step c m ws q b (h .0) (h .1) (h .2)),
+)

@@ -1,4 +1,5 @@
 pub mod Laws
+pub mod Refusals
 pub mod Generations
 pub mod Bind
 pub mod Solve

@@ -2,7 +2,7 @@
 -- the cursor's place (`NextClaim`); a cursor answered is never refused 6 later (`KeptClaim`), and is refused 13 once a reclaim was answered
 -- since (`ReclaimedClaim`); with no change between, budgets add up (`SplitClaim`). Assumes nothing.
 use mathlib.Core.Path.{_≡_, refl, sym, ap, _∙_, fun-ext}
-use mathlib.Core.Logic.{_≢_}
+use mathlib.Core.Logic.{_≢_, inl}
 use mathlib.Core.Bool.{Bool, true, false, cond, true≢false, false≢true}
 use mathlib.Core.List.{List, [], _∷_}
 use Prim.Native.Nat.{ℕ, zero, suc, _+_, _-_, _<_}
@@ -12,9 +12,7 @@ use lib.Dec.{eqb, ltb}
 use borrow.Author.Tests.{eqb-true, eqb-false, eq-eqb, ltb-true, ne-eqb}
 use Rattle.store.specs.declared.Counters.{Counters}
 use Rattle.store.specs.declared.ScanCursor.{ScanCursor}
-use Rattle.store.specs.declared.Refusal.{Refusal}
-use Rattle.store.specs.declared.Refusal.the-variants.{Capacity, Malformed, Full, UnknownNumber, KindNotPermitted}
-use Rattle.store.specs.declared.Refusal.the-variants.{BadCursor, NoBudget, BadQuery, Damaged, BadLine, StaleCursor, ReclaimLimit}
+use Rattle.store.specs.declared.Refusal.the-variants.{BadCursor, Damaged, StaleCursor}
 use Rattle.store.specs.Tables.{Tables, fits}
 use Rattle.store.specs.Model.{Call}
 use Rattle.store.specs.History.{Store, store, storeReplies, storeAfter}
@@ -35,7 +33,8 @@ use Rattle.graph.specs.Order.{numbersOn, atOrAfter, keep, onwardsOf}
 use Rattle.graph.specs.Claims.{Unrefused, statementsIn, AllInOrder, accepted, onwardsFrom, Answers, NextClaim}
 use Rattle.graph.specs.Claims.{KeptClaim, ReclaimedClaim, moreVisits, SplitClaim}
 use Rattle.graph.proofs.Laws.{Shallow, place-cursor, walk-ended, walk-bad, walk-go, walk-whole}
-use Rattle.graph.proofs.Generations.{cursor-number, NotRefused, packed-number, own-number, read-on, unrefused-read, stale-refused}
+use Rattle.graph.proofs.Refusals.{says, answer-not, step-not}
+use Rattle.graph.proofs.Generations.{cursor-number, NotRefused, packed-number, own-number, read-on, unrefused-read, stale-step}
 use Rattle.graph.proofs.Solve.{statements, descending-nodup}
 use Rattle.graph.proofs.Reading.{Reached, Outcome, walk-outcome, intact-ok, pruned-same}
 use Rattle.graph.proofs.Place.{fromPlace, Gives, any-place, place-keeps}
@@ -177,88 +176,6 @@ passed c m ws q b =
 
 -- ---- refusal 6 is given by its test alone
 
-abbrev isSix : Refusal → Bool
-isSix Capacity = false
-isSix Malformed = false
-isSix Full = false
-isSix UnknownNumber = false
-isSix KindNotPermitted = false
-isSix BadCursor = true
-isSix NoBudget = false
-isSix BadQuery = false
-isSix Damaged = false
-isSix BadLine = false
-isSix StaleCursor = false
-isSix ReclaimLimit = false
-
-abbrev saysSix : Answer → Bool
-saysSix (refused e) = isSix e
-saysSix (found s v q) = false
-saysSix (ended v) = false
-saysSix (spent v q) = false
-
-module _ (r t : ℕ) (res stm : List ℕ) (ps : List QueryPattern) where
-  walk-not-six : (b : ℕ) (l : Level) (up : List Level) (v : ℕ) → saysSix (walk r t res stm ps b l up v) ≡ false
-  walk-not-six zero l up v = unfold walk in (decide (remains stm l up) (λ e. rw e) (λ e. rw e))
-  walk-not-six (suc b) l up v = one (settle stm l up) refl (λ l up v. walk-not-six b l up v)
-    where
-      two : (n : Level) (top : List Level) → settle stm l up ≡ n ∷ top → (g : Turn) → visit r t res stm ps n top ≡ g
-          → ((l : Level) (up : List Level) (v : ℕ) → saysSix (walk r t res stm ps b l up v) ≡ false)
-          → saysSix (walk r t res stm ps (suc b) l up v) ≡ false
-      two n top e bad d ih = rw (walk-bad r t res stm ps l up v b n top e d)
-      two n top e (go n′ top′) d ih = rw (walk-go r t res stm ps l up v b n top n′ top′ e d) (ih n′ top′ (v + 1))
-      two n top e (whole s n′ top′) d ih = rw (walk-whole r t res stm ps l up v b n top s n′ top′ e d)
-
-      one : (k : List Level) → settle stm l up ≡ k
-          → ((l : Level) (up : List Level) (v : ℕ) → saysSix (walk r t res stm ps b l up v) ≡ false)
-          → saysSix (walk r t res stm ps (suc b) l up v) ≡ false
-      one [] e ih = rw (walk-ended r t res stm ps l up v b e)
-      one (n ∷ top) e ih = two n top e (visit r t res stm ps n top) refl ih
-
-  begun-not-six : (b : ℕ) (g : Turn) → saysSix (begun r t res stm ps b g) ≡ false
-  unfolding begun
-  begun-not-six b bad = refl
-  begun-not-six b (go l up) = walk-not-six b l up 0
-  begun-not-six b (whole s l up) = refl
-
-  resume-not-six : (q : Place) (b : ℕ) → saysSix (resume r t res stm ps q b) ≡ false
-  unfolding resume
-  resume-not-six start b =
-      decide (eqb (length ps) 0) (λ e. rw e) (λ e. rw e (begun-not-six b (enter r t res stm ps [])))
-  resume-not-six (inside l up) b =
-      decide (intact stm up) (λ e. rw e (walk-not-six b ((pruned stm l up) .0) ((pruned stm l up) .1) 0)) (λ e. rw e)
-  resume-not-six finish b = refl
-
-not-six : (c : Counters) (m : Tables) (ws : List ℕ) (q : Place) (b : ℕ)
-    → placeOk (m .statements) (patternsOf ws) (c .resources) (c .statements) q ≡ true
-    → saysSix (answerOf c m ws q b) ≡ false
-unfolding answerOf
-not-six c m ws q b o =
-    decide (fits c m)
-    (λ f. decide (wordsOk (c .resources) ws)
-    (λ w. decide (eqb b 0)
-    (λ z. rw (f, w, o, z))
-    (λ z. rw (f, w, o, z)
-    (resume-not-six (c .resources) (c .statements) (m .resources) (m .statements) (patternsOf ws) q b)))
-    (λ w. rw (f, w)))
-    (λ f. rw f)
-
-isRefused : QueryStep → Bool
-isRefused Found = false
-isRefused Ended = false
-isRefused Spent = false
-isRefused (Refused e) = true
-
-refusal-is : (e : Refusal) → Refused e ≡ Refused BadCursor → e ≡ BadCursor
-refusal-is e d = cc
-
-six-step : (g : ℕ) (a : Answer) → saysSix a ≡ false → (packed g a) .step ≢ Refused BadCursor
-unfolding packed isRefused
-six-step g (refused e) n d = true≢false (sym (ap isSix (refusal-is e d)) ∙ n)
-six-step g (found s v q) n d = false≢true (ap isRefused d)
-six-step g (ended v) n d = false≢true (ap isRefused d)
-six-step g (spent v q) n d = false≢true (ap isRefused d)
-
 -- the place that an answer stands for is accepted
 place-after : (c : Counters) (m : Tables) (ws : List ℕ) (q : Place) (b : ℕ) (a : Answer)
     → Gives (c .resources) (c .statements) (m .resources) (m .statements) (patternsOf ws) q b a
@@ -279,11 +196,12 @@ module _ (c : Counters) (m : Tables) (ws : List ℕ) (q : QueryCursor) (b : ℕ)
   never-six : placeOk (m .statements) (patternsOf ws) (c .resources) (c .statements) (placeOf q) ≡ true
       → (nextQueryOf c m ws q b) .step ≢ Refused BadCursor
   unfolding nextQueryOf
-  never-six o = six-step (c .generation) outcome
-      (cond-all (λ (a : Answer). saysSix a ≡ false) (stale c m ws q) _ _ refl (not-six c m ws (placeOf q) b o))
+  never-six o = step-not (c .generation) outcome BadCursor (omega arith)
+      (cond-all (λ (a : Answer). says 6 a ≡ false) (stale c m ws q) _ _ refl
+      (answer-not 6 (omega arith) (omega arith) (omega arith) (omega arith) c m ws (placeOf q) b (inl o)))
 
   -- with another number: 1, 8 or 13
-  other-not-six : q .generation ≢ c .generation → saysSix outcome ≡ false
+  other-not-six : q .generation ≢ c .generation → says 6 outcome ≡ false
   unfolding stale answerOf
   other-not-six n =
       decide (fits c m)
@@ -294,7 +212,7 @@ module _ (c : Counters) (m : Tables) (ws : List ℕ) (q : QueryCursor) (b : ℕ)
 
   other-never-six : q .generation ≢ c .generation → (nextQueryOf c m ws q b) .step ≢ Refused BadCursor
   unfolding nextQueryOf
-  other-never-six n = six-step (c .generation) outcome (other-not-six n)
+  other-never-six n = step-not (c .generation) outcome BadCursor (omega arith) (other-not-six n)
 
 -- ---- a cursor answered, after any calls
 
@@ -353,7 +271,7 @@ module _ (c : Counters) (m : Tables) (S : Sound c m) (ws : List ℕ) (q : QueryC
     gone : 0 < reclaimed → (nextQueryOf (then .counters) (then .tables) ws now b′) .step ≡ Refused StaleCursor
     gone h =
         let o = calls-onward (store c m qs) calls in
-        stale-refused (then .counters) (then .tables) ws now b′ (calls-sound (store c m qs) S calls .capacity)
+        stale-step (then .counters) (then .tables) ws now b′ (calls-sound (store c m qs) S calls .capacity)
         (words-more (c .resources) (then .counters .resources) ws (o .1) (tests .words))
         (λ d. omega (arith, o .0, now-number, d, h))
 

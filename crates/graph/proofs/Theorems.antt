@@ -1,12 +1,13 @@
 -- Every claim of `specs/Claims.antt` with its proof: a declaration of each type. Assumes nothing.
 use Rattle.graph.specs.Claims.{GraphClaim, WordsClaim, ReadingClaim, NextClaim, KeptClaim, BudgetClaim, SplitClaim}
-use Rattle.graph.specs.Claims.{StaleClaim, ReclaimedClaim}
+use Rattle.graph.specs.Claims.{StaleClaim, RefusalsBare, ReclaimedClaim}
 use Rattle.graph.specs.Claims.{ScanClaim, LiveCountClaim, QueriesDoNotLook}
 use Rattle.graph.specs.Claims.{WriteClaim, LoadClaim}
 use Rattle.graph.proofs.Names as names
 use Rattle.graph.proofs.Accepted as accepted
 use Rattle.graph.proofs.Calls as calls
 use Rattle.graph.proofs.Generations as generations
+use Rattle.graph.proofs.Refusals as refusals
 use Rattle.graph.proofs.Onwards as onwards
 use Rattle.graph.proofs.Budget as budget
 use Rattle.graph.proofs.Scans as scans
@@ -30,6 +31,9 @@ cursor-kept = onwards.cursor-kept
 
 pub stale-refused : StaleClaim
 stale-refused = generations.stale-refused
+
+pub refusals-bare : RefusalsBare
+refusals-bare = refusals.refusals-bare
 
 pub reclaimed-refused : ReclaimedClaim
 reclaimed-refused = onwards.reclaimed-refused

@@ -1,5 +1,5 @@
--- The claims of demand 2 (paper 01) as types, each but the last of part 6 with soundness as its only hypothesis on the tables: the live
--- statements are an RDF graph; a query read through gives exactly the solution mappings of SPARQL 1.1; a call from
+-- The claims of demand 2 (paper 01; 02, note 6) as types, each with soundness as its only hypothesis on the tables, but those that say
+-- "on any tables": the live statements are an RDF graph; a query read through gives exactly the solution mappings of SPARQL 1.1; a call from
 -- any accepted cursor answers from the solutions that hold; budgets add up; a pattern scan read through gives exactly
 -- the live triples that match, and a live count says how many; what each write does to the graph. A query
 -- does not look at live counts. Assumes nothing.
@@ -16,6 +16,7 @@ use Rattle.store.specs.declared.Position.the-variants.{Subject, Predicate, Obje
 use Rattle.store.specs.declared.Counters.{Counters}
 use Rattle.store.specs.declared.Triple.{Triple}
 use Rattle.store.specs.declared.ScanCursor.{ScanCursor}
+use Rattle.store.specs.declared.Refusal.{Refusal}
 use Rattle.store.specs.declared.Refusal.the-variants.{BadCursor, StaleCursor}
 use Rattle.store.specs.declared.ScanOpened.the-variants.{Cursor}
 use Rattle.store.specs.declared.Scanned.{Scanned}
@@ -37,8 +38,9 @@ use Rattle.graph.specs.declared.QueryStep.the-variants.{Found, Ended, Sp
 use Rattle.graph.specs.declared.QueryAnswer.{QueryAnswer}
 use Rattle.graph.specs.Work.{workOf}
 use Rattle.graph.specs.Query.{maxPatterns, variables, firstVariable, wordsOk, patternsOf, Bindings, placeOf}
-use Rattle.graph.specs.Query.{placeOk, startCursor, openQueryOf}
+use Rattle.graph.specs.Query.{unbound, placeOk, startCursor, answered, openQueryOf}
 use Rattle.graph.specs.Query.{nextQueryOf, readOn}
+use Rattle.graph.specs.Values.{queryValues}
 use Rattle.graph.specs.Order.{Descending, NoDuplicates, statementsOf, onwardsOf}
 use Rattle.graph.specs.Meaning.{Term, RdfTriple, termAt, Graph, IsGraph, Mapping, Solves}
 use Rattle.graph.specs.Graph.{named, LiveAt, graphOf, queryOf, mappingOf}
@@ -198,11 +200,19 @@ KeptClaim = (c : Counters) (m : Tables) → Sound c m → (ws : List ℕ) (q : Q
     → (qs : List ScanCursor) (calls : List Call) (b′ : ℕ) → let s = storeAfter (store c m qs) calls in
     (nextQueryOf (s .counters) (s .tables) ws ((nextQueryOf c m ws q b) .cursor) b′) .step ≢ Refused BadCursor
 
--- On any tables a cursor with another number of reclaims, at the start and at the end too, is refused 13 where 1 and 8 are not refused,
--- whatever the budget.
+-- On any tables a next is refused 13 exactly where 1 and 8 are not refused and the cursor, at the start and at the end too, has another
+-- number of reclaims, whatever the budget.
 abbrev pub StaleClaim : Type 0
-StaleClaim = (c : Counters) (m : Tables) (ws : List ℕ) (q : QueryCursor) (b : ℕ) → fits c m ≡ true → wordsOk (c .resources) ws ≡ true
-    → q .generation ≢ c .generation → (nextQueryOf c m ws q b) .step ≡ Refused StaleCursor
+StaleClaim = (c : Counters) (m : Tables) (ws : List ℕ) (q : QueryCursor) (b : ℕ)
+    → (queryValues (nextQueryOf c m ws q b)) .refusal ≡ 13
+    ↔ (fits c m ≡ true) × (wordsOk (c .resources) ws ≡ true) × (q .generation ≢ c .generation)
+
+-- Beside a refusal stand zeros, on any tables: no visits, no solution, the cursor zero, its number too.
+abbrev pub RefusalsBare : Type 0
+RefusalsBare = (c : Counters) (m : Tables) (ws : List ℕ)
+    → ((q : QueryCursor) (b : ℕ) (e : Refusal) → (nextQueryOf c m ws q b) .step ≡ Refused e
+    → nextQueryOf c m ws q b ≡ answered (Refused e) 0 unbound (startCursor 0))
+    × ((openQueryOf c m ws) .opening ≢ Opened → (openQueryOf c m ws) .cursor ≡ startCursor 0)
 
 -- A cursor that a next call answered is refused 13 once a reclaim was answered since, whatever else was called.
 abbrev pub ReclaimedClaim : Type 0

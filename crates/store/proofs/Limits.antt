@@ -2,7 +2,7 @@
 -- reclaims; and that a reclaim keeps the order. Assumes nothing.
 use mathlib.Core.Path.{_≡_, refl, sym, ap, _∙_}
 use mathlib.Core.Logic.{_≢_}
-use mathlib.Core.Bool.{Bool, true, false, cond, true≢false}
+use mathlib.Core.Bool.{Bool, true, false, cond}
 use mathlib.Core.List.{List, [], _∷_, _++_}
 use mathlib.Core.Option.{Option, none, some}
 use Prim.Native.Nat.{ℕ, _≤_, _<_}
@@ -12,13 +12,11 @@ use borrow.Author.Tests.{eq-eqb, ne-eqb, leb-true, le-leb, lt-ltb, ltb-true, ltb
 use Rattle.store.specs.declared.Counters.{Counters}
 use Rattle.store.specs.declared.ScanCursor.{ScanCursor}
 use Rattle.store.specs.declared.Refusal.{Refusal}
-use Rattle.store.specs.declared.Refusal.the-variants.{Capacity, Damaged, ReclaimLimit, StaleCursor}
-use Rattle.store.specs.declared.Scanned.{Scanned}
-use Rattle.store.specs.declared.Scanned.the-variants.{Refused as NotScanned}
+use Rattle.store.specs.declared.Refusal.the-variants.{Capacity, Damaged, ReclaimLimit}
 use Rattle.store.specs.declared.Reclaimed.{Reclaimed}
 use Rattle.store.specs.declared.Reclaimed.the-variants.{Done, Refused as NotReclaimed}
 use Rattle.store.specs.Tables.{Tables, after, fits, maxReclaims, resourceCapacity, statementCapacity, textCapacity}
-use Rattle.store.specs.Values.{refusalNumber, scannedValues, reclaimedValues}
+use Rattle.store.specs.Values.{Values, refusalNumber, scannedValues, reclaimedValues}
 use Rattle.store.specs.Model.{Entry, Call, intern, assert, retract, open′, next, reclaim, byValue, lent, freshModel, unstruck}
 use Rattle.store.specs.Dictionary.{internOf}
 use Rattle.store.specs.Walk.{Step, found, ended, spent}
@@ -107,25 +105,23 @@ own-not c m q b d =
     (λ o. rw o (λ h. absurd (omega (arith, h))))))
     (λ a. rw a (λ h. absurd (omega (arith, h))))
 
-stale-there : (c : Counters) (m : Tables) (q : ScanCursor) (b : ℕ) → nextOf c m q b ≡ NotScanned StaleCursor → fits c m ≡ true
+-- by the paper's number
+pub stale-when : (c : Counters) (m : Tables) (q : ScanCursor) (b : ℕ) → (scannedValues (nextOf c m q b)) .refusal ≡ 13
+    → (fits c m ≡ true) × (q .generation ≢ c .generation)
 unfolding nextOf
-stale-there c m q b = decide (fits c m) (λ a h. a) (λ a. rw a (λ h. absurd (capacity-not h)))
+stale-when c m q b h = (
+  decide (fits c m) (λ a. a) (λ a. absurd (first a h)),
+  λ g. own-not c m q b (eq-eqb (q .generation) (c .generation) g) h,
+)
   where
-    capacity-not : NotScanned Capacity ≡ NotScanned StaleCursor → ⊥
-    capacity-not h = let x : _≡_ {A = ℕ} 1 13 = ap (λ (a : Scanned). (scannedValues a) .refusal) h in omega arith
-
-stale-back : (c : Counters) (m : Tables) (q : ScanCursor) (b : ℕ) → fits c m ≡ true → q .generation ≢ c .generation
-    → nextOf c m q b ≡ NotScanned StaleCursor
-unfolding nextOf
-stale-back c m q b a n = rw (a, ne-eqb (q .generation) (c .generation) n)
+    first : fits c m ≡ false → (scannedValues (nextOf c m q b)) .refusal ≢ 13
+    first a = rw a (λ h. absurd (omega (arith, h)))
 
 pub stale-refused : StaleRefused
+unfolding nextOf
 stale-refused c m q b = (
-  λ h. (
-    stale-there c m q b h,
-    λ g. own-not c m q b (eq-eqb (q .generation) (c .generation) g) (ap (λ (a : Scanned). (scannedValues a) .refusal) h),
-  ),
-  λ h. stale-back c m q b (h .0) (h .1),
+  λ h. stale-when c m q b (ap (λ (v : Values). v .refusal) h),
+  λ h. rw (h .0, ne-eqb (q .generation) (c .generation) (h .1)),
 )
 
 -- ---- what a reclaim refuses

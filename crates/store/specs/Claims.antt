@@ -16,16 +16,15 @@ use Rattle.store.specs.declared.Chain.the-variants.{All, By}
 use Rattle.store.specs.declared.Triple.{Triple}
 use Rattle.store.specs.declared.ResourceId.{ResourceId}
 use Rattle.store.specs.declared.ScanCursor.{ScanCursor}
-use Rattle.store.specs.declared.Refusal.the-variants.{Damaged, StaleCursor}
+use Rattle.store.specs.declared.Refusal.the-variants.{Damaged}
 use Rattle.store.specs.declared.Asserted.the-variants.{Refused as NotAsserted}
 use Rattle.store.specs.declared.Retracted.the-variants.{Refused as NotRetracted}
-use Rattle.store.specs.declared.Scanned.the-variants.{Refused as NotScanned}
 use Rattle.store.specs.declared.NameRead.the-variants.{Span}
 use Rattle.store.specs.declared.Lookup.the-variants.{Number}
 use Rattle.store.specs.Triple.{at, known, within, same, agrees, permitted, below, head0, prev}
 use Rattle.store.specs.Tables.{Tables, after, word, off, freshCounters, maxReclaims, statementWords, resourceWords, fits}
 use Rattle.store.specs.Tables.{flagAt, countAt, offsetAt, kindAt, liveAt, resourceCapacity, statementCapacity, textCapacity}
-use Rattle.store.specs.Values.{Values, refusedWith, reclaimedValues}
+use Rattle.store.specs.Values.{Values, refusedWith, scannedValues, reclaimedValues}
 use Rattle.store.specs.Model.{Entry, Model, Form, Call, intern, assert, retract, open′, next, reclaim, freshModel, totals, entry}
 use Rattle.store.specs.Model.{Capacities, wellFormed, internModel, matches, holders, pick, cursorOf, unstruck, modelReplies}
 use Rattle.store.specs.Model.{modelAfter}
@@ -218,7 +217,7 @@ StaleAfterReclaim = (o : Opening) → Accepted o → 0 < reclaimsSince o → (b 
 -- On any tables a next is refused 13 exactly where 1 is not refused and the cursor has another number of reclaims, whatever the budget.
 abbrev pub StaleRefused : Type 0
 StaleRefused = (c : Counters) (m : Tables) (q : ScanCursor) (b : ℕ)
-    → nextOf c m q b ≡ NotScanned StaleCursor ↔ (fits c m ≡ true) × (q .generation ≢ c .generation)
+    → scannedValues (nextOf c m q b) ≡ refusedWith 13 ↔ (fits c m ≡ true) × (q .generation ≢ c .generation)
 
 -- A listing read on and not refused finds a record exactly when its budget reaches a live match, as of that call, among
 -- the records there at its opening and not yet passed, and gives the latest of these.

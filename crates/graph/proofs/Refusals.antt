@@ -1,0 +1,131 @@
+-- What a query's next is refused for: the walk refuses 9 alone, and before it each refusal is given by its own test; beside a refusal
+-- stand zeros. On any tables. Assumes nothing.
+use mathlib.Core.Path.{_≡_, refl, sym, ap, _∙_}
+use mathlib.Core.Logic.{_≢_, _⊎_, inl, inr}
+use mathlib.Core.Bool.{Bool, true, false, cond, true≢false, false≢true}
+use mathlib.Core.List.{List, [], _∷_}
+use Prim.Native.Nat.{ℕ, zero, suc, _+_}
+use native.Mathlib.Omega.{arith}
+use lib.ListN.{length}
+use lib.Dec.{eqb}
+use borrow.Author.Tests.{eq-eqb, ne-eqb}
+use Rattle.store.specs.declared.Counters.{Counters}
+use Rattle.store.specs.declared.Refusal.{Refusal}
+use Rattle.store.specs.Tables.{Tables, fits}
+use Rattle.store.specs.Values.{refusalNumber}
+use Rattle.store.proofs.Tests.{decide}
+use Rattle.graph.specs.declared.QueryPattern.{QueryPattern}
+use Rattle.graph.specs.declared.Level.{Level}
+use Rattle.graph.specs.declared.QueryStep.{QueryStep}
+use Rattle.graph.specs.declared.QueryStep.the-variants.{Found, Ended, Spent, Refused}
+use Rattle.graph.specs.Query.{wordsOk, patternsOf, unbound, Place, start, inside, finish, Turn, bad, go, whole, Answer, refused}
+use Rattle.graph.specs.Query.{found, ended, spent, settle, remains, intact, pruned, placeOk, enter, visit, walk, begun, resume}
+use Rattle.graph.specs.Query.{answerOf, startCursor, answered, packed, openQueryOf, nextQueryOf}
+use Rattle.graph.specs.Values.{stepRefusal}
+use Rattle.graph.specs.Claims.{RefusalsBare}
+use Rattle.graph.proofs.Laws.{walk-ended, walk-bad, walk-go, walk-whole}
+
+-- the answer is the refusal of this number
+abbrev pub says : ℕ → Answer → Bool
+says k (refused e) = eqb (refusalNumber e) k
+says k (found s v q) = false
+says k (ended v) = false
+says k (spent v q) = false
+
+-- ---- which refusals there are
+
+module _ (k : ℕ) (nine : 9 ≢ k) where
+  module _ (r t : ℕ) (res stm : List ℕ) (ps : List QueryPattern) where
+    walk-not : (b : ℕ) (l : Level) (up : List Level) (v : ℕ) → says k (walk r t res stm ps b l up v) ≡ false
+    walk-not zero l up v = unfold walk in (decide (remains stm l up) (λ e. rw e) (λ e. rw e))
+    walk-not (suc b) l up v = one (settle stm l up) refl (λ l up v. walk-not b l up v)
+      where
+        two : (n : Level) (top : List Level) → settle stm l up ≡ n ∷ top → (g : Turn) → visit r t res stm ps n top ≡ g
+            → ((l : Level) (up : List Level) (v : ℕ) → says k (walk r t res stm ps b l up v) ≡ false)
+            → says k (walk r t res stm ps (suc b) l up v) ≡ false
+        two n top e bad d ih = rw (walk-bad r t res stm ps l up v b n top e d) (ne-eqb 9 k nine)
+        two n top e (go n′ top′) d ih = rw (walk-go r t res stm ps l up v b n top n′ top′ e d) (ih n′ top′ (v + 1))
+        two n top e (whole s n′ top′) d ih = rw (walk-whole r t res stm ps l up v b n top s n′ top′ e d)
+
+        one : (x : List Level) → settle stm l up ≡ x
+            → ((l : Level) (up : List Level) (v : ℕ) → says k (walk r t res stm ps b l up v) ≡ false)
+            → says k (walk r t res stm ps (suc b) l up v) ≡ false
+        one [] e ih = rw (walk-ended r t res stm ps l up v b e)
+        one (n ∷ top) e ih = two n top e (visit r t res stm ps n top) refl ih
+
+    begun-not : (b : ℕ) (g : Turn) → says k (begun r t res stm ps b g) ≡ false
+    unfolding begun
+    begun-not b bad = ne-eqb 9 k nine
+    begun-not b (go l up) = walk-not b l up 0
+    begun-not b (whole s l up) = ne-eqb 9 k nine
+
+    resume-not : (q : Place) (b : ℕ) → says k (resume r t res stm ps q b) ≡ false
+    unfolding resume
+    resume-not start b =
+        decide (eqb (length ps) 0) (λ e. rw e) (λ e. rw e (begun-not b (enter r t res stm ps [])))
+    resume-not (inside l up) b =
+        decide (intact stm up) (λ e. rw e (walk-not b ((pruned stm l up) .0) ((pruned stm l up) .1) 0)) (λ e. rw e (ne-eqb 9 k nine))
+    resume-not finish b = refl
+
+  module _ (one : 1 ≢ k) (eight : 8 ≢ k) (seven : 7 ≢ k) where
+    -- 1, 8, 7 and 9 are other numbers, and the place is accepted or 6 is another
+    pub answer-not : (c : Counters) (m : Tables) (ws : List ℕ) (q : Place) (b : ℕ)
+        → (placeOk (m .statements) (patternsOf ws) (c .resources) (c .statements) q ≡ true) ⊎ (6 ≢ k)
+        → says k (answerOf c m ws q b) ≡ false
+    unfolding answerOf
+    answer-not c m ws q b six =
+        decide (fits c m)
+        (λ f. decide (wordsOk (c .resources) ws)
+        (λ w. decide (placeOk (m .statements) (patternsOf ws) (c .resources) (c .statements) q)
+        (λ o. decide (eqb b 0)
+        (λ z. rw (f, w, o, z) (ne-eqb 7 k seven))
+        (λ z. rw (f, w, o, z)
+        (resume-not (c .resources) (c .statements) (m .resources) (m .statements) (patternsOf ws) q b)))
+        (λ o. rw (f, w, o) (ne-eqb 6 k (refused-place o six))))
+        (λ w. rw (f, w) (ne-eqb 8 k eight)))
+        (λ f. rw f (ne-eqb 1 k one))
+      where
+        refused-place : placeOk (m .statements) (patternsOf ws) (c .resources) (c .statements) q ≡ false
+            → (placeOk (m .statements) (patternsOf ws) (c .resources) (c .statements) q ≡ true) ⊎ (6 ≢ k) → 6 ≢ k
+        refused-place o (inl a) = absurd (true≢false (sym a ∙ o))
+        refused-place o (inr n) = n
+
+-- ---- the step, and zeros beside it
+
+isRefused : QueryStep → Bool
+isRefused Found = false
+isRefused Ended = false
+isRefused Spent = false
+isRefused (Refused e) = true
+
+refusal-is : (e r : Refusal) → Refused e ≡ Refused r → e ≡ r
+refusal-is e r d = cc
+
+-- by the paper's number
+pub number-not : (k g : ℕ) (a : Answer) → 0 ≢ k → says k a ≡ false → stepRefusal ((packed g a) .step) ≢ k
+unfolding packed
+number-not k g (refused e) z n d = true≢false (sym (eq-eqb (refusalNumber e) k d) ∙ n)
+number-not k g (found s v q) z n d = z d
+number-not k g (ended v) z n d = z d
+number-not k g (spent v q) z n d = z d
+
+pub step-not : (g : ℕ) (a : Answer) (r : Refusal) → 0 ≢ refusalNumber r → says (refusalNumber r) a ≡ false
+    → (packed g a) .step ≢ Refused r
+step-not g a r z n d = number-not (refusalNumber r) g a z n (ap stepRefusal d)
+
+bare-answer : (g : ℕ) (a : Answer) (e : Refusal) → (packed g a) .step ≡ Refused e
+    → packed g a ≡ answered (Refused e) 0 unbound (startCursor 0)
+unfolding packed isRefused
+bare-answer g (refused r) e d = rw (refusal-is r e d)
+bare-answer g (found s v q) e d = absurd (false≢true (ap isRefused d))
+bare-answer g (ended v) e d = absurd (false≢true (ap isRefused d))
+bare-answer g (spent v q) e d = absurd (false≢true (ap isRefused d))
+
+pub refusals-bare : RefusalsBare
+unfolding nextQueryOf openQueryOf
+refusals-bare c m ws = (
+  λ q b e d. bare-answer (c .generation) _ e d,
+  decide (fits c m)
+      (λ f. rw f (decide (wordsOk (c .resources) ws) (λ w. rw w (λ n. absurd (n refl))) (λ w. rw w (λ n. refl))))
+      (λ f. rw f (λ n. refl)),
+)
