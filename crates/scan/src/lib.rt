@@ -27,7 +27,7 @@ ghost use Rattle.store.specs.Tables.{tables, statementWords};
 ghost use Rattle.store.specs.Scan.{cursorIn, openOf, nextOf};
 ghost use Rattle.scan.specs.Cursors.{CursorTested};
 
-// Open a pattern scan: the cursor before the first record of the bound position of least count, of the store's generation.
+// Open a pattern scan: a cursor of the store's generation, before the first record of the bound position of least count.
 pub fn scan_open(
     c: Counters,
     resources: &[u32],
@@ -58,7 +58,7 @@ pub fn scan_open(
     })
 }
 
-// Whether a next call takes the cursor; where not, it refuses 6.
+// Whether a next call takes a cursor of the store's generation; where not, it refuses 6.
 fn cursor_ok(c: Counters, statements: &[u32], q: ScanCursor) -> bool
     requires { ⌜ statementWords * c .statements ≤ length (now statements) ⌝ }
     ensures { λ b. ⌜ CursorTested c (now (statements .entry)) q b ⌝ }
