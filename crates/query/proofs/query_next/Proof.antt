@@ -58,7 +58,8 @@ place-ok-requires c κs =
     let m = tables (a .resources .now) (a .statements .now) (a .index .now) (a .text .now) in
     let k = ready-of (a .c) m (a .words .now) (sym (c .before .before .before .before .before .before .fits2 .ensures)
     ∙ not-false (c .before .before .before .before .before .before .fits2 .result) (c .before .before .before .before .before .if1 .left))
-    (sym (c .before .before .before .before .words-ok .ensures) ∙ not-false (c .before .before .before .before .words-ok .result) (c .before .before .before .if2 .left)) in (
+    (sym (c .before .before .before .before .words-ok .ensures)
+    ∙ not-false (c .before .before .before .before .words-ok .result) (c .before .before .before .if2 .left)) in (
       ready-query (a .c .resources) (a .c .statements) (a .resources .now) (a .statements .now)
           (a .words .now) k,
       k .in-statements,
