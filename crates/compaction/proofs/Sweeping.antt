@@ -4,7 +4,7 @@ use mathlib.Core.Path.{_≡_, sym, ap, _∙_}
 use mathlib.Core.Logic.{_≢_, _↔_}
 use mathlib.Core.Bool.{Bool, true, false, not, true≢false}
 use mathlib.Core.List.{List}
-use Prim.Native.Nat.{ℕ, suc, _+_, _-_, _*_, _≤_, _<_}
+use Prim.Native.Nat.{ℕ, suc, _+_, _-_, _≤_, _<_}
 use native.Mathlib.Omega.{arith}
 use native.Mathlib.Numerals.{add-one}
 use borrow.Author.Tests.{eq-eqb, ne-eqb, not-true, not-false}
@@ -26,11 +26,12 @@ module _ (n t : ℕ) (res stm : List ℕ) where
   unfolding sweepOne
   step-passed e = rw (eq-eqb (flagAt stm (n - 1)) 1 e)
 
-  pub step-moved : flagAt stm (n - 1) ≢ 1
-      → swept (t + 1) (linkRecord t (tripleAt stm (n - 1)) res) (appendRecord t (tripleAt stm (n - 1)) res stm)
+  -- k, the code's number of live ones then
+  pub step-moved : (k : ℕ) → k ≡ suc t → flagAt stm (n - 1) ≢ 1
+      → swept k (linkRecord t (tripleAt stm (n - 1)) res) (appendRecord t (tripleAt stm (n - 1)) res stm)
       ≡ sweepOne (n - 1) (swept t res stm)
   unfolding sweepOne
-  step-moved e = rw (add-one t, ne-eqb (flagAt stm (n - 1)) 1 e)
+  step-moved k d e = rw (d, ne-eqb (flagAt stm (n - 1)) 1 e)
 
 -- ---- a turn
 
@@ -104,7 +105,9 @@ module _ (c : Counters) (m : Tables) (a : fits c m ≡ true) (b : c .generation 
   unfolding sweptOf
   done-at z e = rw e (answer-done c m a b S)
 
-  pub done : (k : ℕ) (res stm : List ℕ)
+  -- g, the code's number of reclaims then
+  pub done : (k g : ℕ) (res stm : List ℕ) → g ≡ suc (c .generation)
       → swept k res stm ≡ compacted (c .resources) (c .statements) (m .resources) (m .statements)
-      → ReclaimAnswer c m (tables res stm (m .index) (m .text)) (Done (reclaimedCounters c (swept k res stm)))
-  done k res stm e = done-at (swept k res stm) e
+      → ReclaimAnswer c m (tables res stm (m .index) (m .text))
+      (Done (record { resources = c .resources; statements = k; text = c .text; generation = g }))
+  done k g res stm d e = rw d (done-at (swept k res stm) e)

@@ -1,6 +1,6 @@
 -- What each step of a reclaim comes to, and what the sweep asks of the tables at each record. Assumes nothing.
 use mathlib.Core.List.{List}
-use Prim.Native.Nat.{ℕ, suc, _+_, _-_, _*_, _≤_, _<_}
+use Prim.Native.Nat.{ℕ, suc, _+_, _-_, _*_, _<_}
 use lib.ListN.{replicate}
 use lib.Seq.{sets}
 use Rattle.store.specs.Tables.{resourceWords, tripleAt}

@@ -17,14 +17,17 @@ sweep-requires : tie.Need-sweep-requires
 sweep-requires c κs =
     let a = c .before .before .before .before .before .before .before .before .args in
     let pre = c .before .before .before .before .before .before .before .before .pre in
-    cleared-sweepable (a .r) (a .t) (now (a .resources)) (now (a .statements)) (pre .0) _ (c .before .before .before .before .unlink-all .ensures) (pre .1)
+    let the-unlink-all = c .before .before .before .before .unlink-all in
+    cleared-sweepable (a .r) (a .t) (now (a .resources)) (now (a .statements)) (pre .0) _ (the-unlink-all .ensures) (pre .1)
 
 blank-requires : tie.Need-blank-requires
 blank-requires c κs =
     let a = c .before .before .before .before .before .before .before .before .before .before .before .before .before .before .args in
-    let pre = c .before .before .before .before .before .before .before .before .before .before .before .before .before .before .pre in (
-      swept-few (a .r) (a .t) (now (a .resources)) (now (a .statements)) (pre .0) _ (c .before .before .before .before .before .before .before .before .before .before .unlink-all .ensures) _ _ _
-          (c .before .before .before .before .before .sweep .ensures),
+    let pre = c .before .before .before .before .before .before .before .before .before .before .before .before .before .before .pre in
+    let the-unlink-all = c .before .before .before .before .before .before .before .before .before .before .unlink-all in
+    let the-sweep = c .before .before .before .before .before .sweep in (
+      swept-few (a .r) (a .t) (now (a .resources)) (now (a .statements)) (pre .0) _ (the-unlink-all .ensures) _ _ _
+          (the-sweep .ensures),
       omega (arith, pre .0 .fit-statements),
     )
 
@@ -38,8 +41,11 @@ returns : tie.Need-returns
 returns c =
     let a = c .before .before .before .before .before .before .before .before .before .before .before .before .before .before .before .before .before .args in
     let pre = c .before .before .before .before .before .before .before .before .before .before .before .before .before .before .before .before .before .pre in
-    swept-done (a .r) (a .t) (now (a .resources)) (now (a .statements)) (pre .0) _ (c .before .before .before .before .before .before .before .before .before .before .before .before .before .unlink-all .ensures) _ _ _
-    (c .before .before .before .before .before .before .before .before .sweep .ensures) _ (c .before .before .blank .ensures)
+    let the-unlink-all = c .before .before .before .before .before .before .before .before .before .before .before .before .before .unlink-all in
+    let the-sweep = c .before .before .before .before .before .before .before .before .sweep in
+    let the-blank = c .before .before .blank in
+    swept-done (a .r) (a .t) (now (a .resources)) (now (a .statements)) (pre .0) _ (the-unlink-all .ensures) _ _ _
+    (the-sweep .ensures) _ (the-blank .ensures)
 
 pub compact-spec : {M : Type 1} → statement M
 compact-spec =

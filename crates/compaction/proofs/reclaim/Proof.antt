@@ -1,11 +1,11 @@
-use Rattle.store.specs.Tables.{Tables, tables}
+use Rattle.store.specs.Tables.{tables, fits}
+use Rattle.store.specs.Soundness.{Sound}
 use Rattle.store.proofs.SweepLaws.{answer-capacity, answer-limit, answer-unsound}
 use Rattle.table.proofs.Branches.{passed, failed}
 use Rattle.table.proofs.Capacity.{fits-room}
 use Rattle.compaction.proofs.Sweeping.{check-yes, check-no, done}
 use denote.Ref.{now}
 use native.Mathlib.Omega.{arith}
-use native.Mathlib.Numerals.{add-one}
 use borrow.Author.Needs.{needs}
 use Rattle.compaction.proofs.reclaim.Statement.{statement}
 use Rattle.compaction.proofs.reclaim.Tie as tie
@@ -28,7 +28,9 @@ returns : tie.Need-returns
 returns c =
     let a = c .before .before .before .before .before .before .before .before .args in
     let m = tables (now (a .resources)) (now (a .statements)) (now (a .index)) (now (a .text)) in
-    answer-capacity (a .c) m (failed (c .before .fits2 .ensures) (c .if1 .taken))
+    let the-fits2 = c .before .fits2 in
+    let if1 = c .if1 in
+    answer-capacity (a .c) m (failed {t = fits (a .c) m} (the-fits2 .ensures) (if1 .taken))
 
 same-length-3 : tie.Need-same-length-3
 same-length-3 c = search needs
@@ -40,7 +42,11 @@ returns-2 : tie.Need-returns-2
 returns-2 c =
     let a = c .before .before .before .before .before .before .before .before .before .before .args in
     let m = tables (now (a .resources)) (now (a .statements)) (now (a .index)) (now (a .text)) in
-    answer-limit (a .c) m (passed (c .before .before .before .fits2 .ensures) (c .before .before .if1 .left)) (c .if2 .taken)
+    let the-fits2 = c .before .before .before .fits2 in
+    let if1 = c .before .before .if1 in
+    let if2 = c .if2 in
+    let fit = passed {t = fits (a .c) m} (the-fits2 .ensures) (if1 .left) in
+    answer-limit (a .c) m fit (if2 .taken)
 
 check-requires : tie.Need-check-requires
 check-requires c κs = search needs
@@ -55,15 +61,26 @@ returns-3 : tie.Need-returns-3
 returns-3 c =
     let a = c .before .before .before .before .before .before .before .before .before .before .before .before .before .before .args in
     let m = tables (now (a .resources)) (now (a .statements)) (now (a .index)) (now (a .text)) in
-    answer-unsound (a .c) m (passed (c .before .before .before .before .before .before .before .fits2 .ensures) (c .before .before .before .before .before .before .if1 .left)) (c .before .before .before .before .if2 .left)
-    (check-no (c .before .check .ensures) (c .if3 .taken))
+    let the-fits2 = c .before .before .before .before .before .before .before .fits2 in
+    let if1 = c .before .before .before .before .before .before .if1 in
+    let if2 = c .before .before .before .before .if2 in
+    let the-check = c .before .check in
+    let if3 = c .if3 in
+    let fit = passed {t = fits (a .c) m} (the-fits2 .ensures) (if1 .left) in
+    answer-unsound (a .c) m fit (if2 .left) (check-no {P = Sound (a .c) m} (the-check .ensures) (if3 .taken))
 
 compact-requires : tie.Need-compact-requires
 compact-requires c κs =
     let a = c .before .before .before .before .before .before .before .before .before .before .before .before .before .before .before .before .args in
     let m = tables (now (a .resources)) (now (a .statements)) (now (a .index)) (now (a .text)) in
-    let room = fits-room (a .c) m (passed (c .before .before .before .before .before .before .before .before .before .fits2 .ensures) (c .before .before .before .before .before .before .before .before .if1 .left)) in
-    (check-yes (c .before .before .before .check .ensures) (c .before .before .if3 .left) .linked, room .few-statements)
+    let the-fits2 = c .before .before .before .before .before .before .before .before .before .fits2 in
+    let if1 = c .before .before .before .before .before .before .before .before .if1 in
+    let the-check = c .before .before .before .check in
+    let if3 = c .before .before .if3 in
+    let fit = passed {t = fits (a .c) m} (the-fits2 .ensures) (if1 .left) in (
+      check-yes {P = Sound (a .c) m} (the-check .ensures) (if3 .left) .linked,
+      fits-room (a .c) m fit .few-statements,
+    )
 
 add-d : tie.Need-add-d
 add-d c = search needs
@@ -78,9 +95,15 @@ returns-4 : tie.Need-returns-4
 returns-4 c =
     let a = c .before .before .before .before .before .before .before .before .before .before .before .before .before .before .before .before .before .before .before .before .before .before .args in
     let m = tables (now (a .resources)) (now (a .statements)) (now (a .index)) (now (a .text)) in
-    rw (add-one (a .c .generation))
-    (done (a .c) m (passed (c .before .before .before .before .before .before .before .before .before .before .before .before .before .before .before .fits2 .ensures) (c .before .before .before .before .before .before .before .before .before .before .before .before .before .before .if1 .left)) (c .before .before .before .before .before .before .before .before .before .before .before .before .if2 .left)
-    (check-yes (c .before .before .before .before .before .before .before .before .before .check .ensures) (c .before .before .before .before .before .before .before .before .if3 .left)) _ _ _ (c .before .before .before .before .before .compact .ensures))
+    let the-fits2 = c .before .before .before .before .before .before .before .before .before .before .before .before .before .before .before .fits2 in
+    let if1 = c .before .before .before .before .before .before .before .before .before .before .before .before .before .before .if1 in
+    let if2 = c .before .before .before .before .before .before .before .before .before .before .before .before .if2 in
+    let the-check = c .before .before .before .before .before .before .before .before .before .check in
+    let if3 = c .before .before .before .before .before .before .before .before .if3 in
+    let the-compact = c .before .before .before .before .before .compact in
+    let fit = passed {t = fits (a .c) m} (the-fits2 .ensures) (if1 .left) in
+    done (a .c) m fit (if2 .left) (check-yes {P = Sound (a .c) m} (the-check .ensures) (if3 .left)) _ _ _ _ (omega arith)
+    (the-compact .ensures)
 
 pub reclaim-spec : {M : Type 1} → statement M
 reclaim-spec =

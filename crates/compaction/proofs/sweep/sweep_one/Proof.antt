@@ -21,7 +21,9 @@ same-length c = search needs
 returns : tie.Need-returns
 returns c =
     let a = c .before .before .before .before .before .args in
-    step-passed (a .n) (a .t) (now (a .resources)) (now (a .statements)) (sym (c .before .flag-at .ensures) ∙ c .if1 .taken)
+    let the-flag-at = c .before .flag-at in
+    let if1 = c .if1 in
+    step-passed (a .n) (a .t) (now (a .resources)) (now (a .statements)) (sym (the-flag-at .ensures) ∙ if1 .taken)
 
 triple-at-requires : tie.Need-triple-at-requires
 triple-at-requires c κs = search needs
@@ -47,8 +49,14 @@ same-length-3 c = search needs
 returns-2 : tie.Need-returns-2
 returns-2 c =
     let a = c .before .before .before .before .before .before .before .before .before .before .before .before .before .before .before .before .args in
-    rw (c .before .before .link-record .ensures, c .before .before .before .before .before .before .write-record .ensures, c .before .before .before .before .before .before .before .before .before .triple-at .ensures)
-    (step-moved (a .n) (a .t) (now (a .resources)) (now (a .statements)) (λ e. c .before .before .before .before .before .before .before .before .before .before .before .if1 .left (c .before .before .before .before .before .before .before .before .before .before .before .before .flag-at .ensures ∙ e)))
+    let the-flag-at = c .before .before .before .before .before .before .before .before .before .before .before .before .flag-at in
+    let if1 = c .before .before .before .before .before .before .before .before .before .before .before .if1 in
+    let the-triple-at = c .before .before .before .before .before .before .before .before .before .triple-at in
+    let the-write-record = c .before .before .before .before .before .before .write-record in
+    let the-link-record = c .before .before .link-record in
+    rw (the-link-record .ensures, the-write-record .ensures, the-triple-at .ensures)
+    (step-moved (a .n) (a .t) (now (a .resources)) (now (a .statements)) _ (omega arith)
+    (λ e. if1 .left (the-flag-at .ensures ∙ e)))
 
 pub sweep-one-spec : {M : Type 1} → statement M
 sweep-one-spec =
