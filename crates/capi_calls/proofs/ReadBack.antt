@@ -24,8 +24,15 @@ counters-read-back (x ∷ y ∷ z ∷ []) c h = absurd (omega arith)
 counters-read-back (x ∷ y ∷ z ∷ g ∷ w) c h = refl
 
 pub counters-keep-the-rest : CountersKeepTheRest
-counters-keep-the-rest w c =
-    (simp length-set, λ i h. rw (past _ 3 i (c .generation) (omega arith), past _ 2 i (c .text) (omega arith), past _ 1 i (c .statements) (omega arith), past _ 0 i (c .resources) (omega arith)))
+counters-keep-the-rest w c = (
+  simp length-set,
+  λ i h. rw (
+    past _ 3 i (c .generation) (omega arith),
+    past _ 2 i (c .text) (omega arith),
+    past _ 1 i (c .statements) (omega arith),
+    past _ 0 i (c .resources) (omega arith),
+  ),
+)
 
 -- ---- a cursor
 
@@ -45,5 +52,14 @@ cursors-read-back (x ∷ y ∷ z ∷ k ∷ n ∷ []) q h = absurd (omega arith)
 cursors-read-back (x ∷ y ∷ z ∷ k ∷ n ∷ g ∷ w) q h = rw ((chains-read-back (q .chain)) .1)
 
 pub cursors-keep-the-rest : CursorsKeepTheRest
-cursors-keep-the-rest w q =
-    (simp length-set, λ i h. rw (past _ 5 i (q .generation) (omega arith), past _ 4 i (q .next .0) (omega arith), past _ 3 i (chainWord (q .chain)) (omega arith), past _ 2 i (q .pattern .object .0) (omega arith), past _ 1 i (q .pattern .predicate .0) (omega arith), past _ 0 i (q .pattern .subject .0) (omega arith)))
+cursors-keep-the-rest w q = (
+  simp length-set,
+  λ i h. rw (
+    past _ 5 i (q .generation) (omega arith),
+    past _ 4 i (q .next .0) (omega arith),
+    past _ 3 i (chainWord (q .chain)) (omega arith),
+    past _ 2 i (q .pattern .object .0) (omega arith),
+    past _ 1 i (q .pattern .predicate .0) (omega arith),
+    past _ 0 i (q .pattern .subject .0) (omega arith),
+  ),
+)

@@ -1,5 +1,6 @@
--- Closed runs of the calls on a store of two names, <a> and <b>, after three reclaims, each computed to its result and the words after it. They pin the order of
--- the words, which stands on both sides of the contracts. Every lent slice has a word more than is named, and keeps it. Assumes nothing.
+-- Closed runs of the calls on a store of two names, <a> and <b>, after three reclaims, each computed to its result and the words after
+-- it. They pin the order of the words, which stands on both sides of the contracts, and of the refusals. Every lent slice has a word more
+-- than is named, and keeps it. Assumes nothing.
 use mathlib.Core.Path.{_≡_, refl}
 use mathlib.Core.List.{List, [], _∷_}
 use Prim.Native.Nat.{ℕ, _-_}

@@ -66,7 +66,8 @@ returns-2 c =
     let if2 = c .before .if2 in
     let refused2 = c .refused2 in
     let ne : word (a .cursor .now) 2 ≢ a .c .generation = λ e. omega arith in
-    from-none (a .c) (tables (a .resources .now) (a .statements .now) (a .index .now) (a .text .now)) (a .words .now) (a .cursor .now) (a .budget) StaleCursor (sym (spelt .ensures) ∙ if1 .left) (query-open .ensures)
+    from-none (a .c) (tables (a .resources .now) (a .statements .now) (a .index .now) (a .text .now)) (a .words .now) (a .cursor .now)
+    (a .budget) StaleCursor (sym (spelt .ensures) ∙ if1 .left) (query-open .ensures)
     (misspelt-stale (a .c) (a .cursor .now) (enum-told .given .1) ne) (refused2 .ensures)
 
 refused-requires-3 : tie.Need-refused-requires-3
@@ -80,7 +81,8 @@ returns-3 c =
     let query-open = c .before .before .before .before .query-open in
     let opening = c .before .before .opening in
     let refused = c .refused in
-    from-none (a .c) (tables (a .resources .now) (a .statements .now) (a .index .now) (a .text .now)) (a .words .now) (a .cursor .now) (a .budget) _ (sym (spelt .ensures) ∙ if1 .left) (query-open .ensures)
+    from-none (a .c) (tables (a .resources .now) (a .statements .now) (a .index .now) (a .text .now)) (a .words .now) (a .cursor .now)
+    (a .budget) _ (sym (spelt .ensures) ∙ if1 .left) (query-open .ensures)
     (ap (misspelt (eqb (word (a .cursor .now) 2) (a .c .generation))) (opening .given .1)) (refused .ensures)
 
 returns-4 : tie.Need-returns-4
@@ -93,7 +95,8 @@ returns-4 c =
     let if2 = c .before .if2 in
     let refused3 = c .refused3 in
     let e : word (a .cursor .now) 2 ≡ a .c .generation = omega arith in
-    from-none (a .c) (tables (a .resources .now) (a .statements .now) (a .index .now) (a .text .now)) (a .words .now) (a .cursor .now) (a .budget) BadCursor (sym (spelt .ensures) ∙ if1 .left) (query-open .ensures)
+    from-none (a .c) (tables (a .resources .now) (a .statements .now) (a .index .now) (a .text .now)) (a .words .now) (a .cursor .now)
+    (a .budget) BadCursor (sym (spelt .ensures) ∙ if1 .left) (query-open .ensures)
     (misspelt-bad (a .c) (a .cursor .now) (enum-told .given .1) e) (refused3 .ensures)
 
 pub query-from-spec : {M : Type 1} → statement M
