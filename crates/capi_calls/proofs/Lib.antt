@@ -5,3 +5,4 @@ pub mod SpelledRuns
 pub mod QueryRuns
 pub mod QueryBack
 pub mod QuerySlots
+pub mod Stale

@@ -3,20 +3,24 @@
 -- the reply too. The definitions of `Words`, `Calls` and `QueryCalls` stand on both sides of the contracts, so these say of them what they come to.
 -- Declared in `proofs/ReadBack.antt` and `proofs/Unanswered.antt`. Assumes nothing.
 use mathlib.Core.Path.{_≡_}
-use mathlib.Core.Logic.{_≢_}
-use mathlib.Core.Bool.{cond}
+use mathlib.Core.Logic.{_≢_, _↔_}
+use mathlib.Core.Bool.{true, cond}
 use mathlib.Core.List.{List}
-use Prim.Native.Nat.{ℕ, zero, suc, _≤_}
+use Prim.Native.Nat.{ℕ, zero, suc, _≤_, _<_}
 use lib.ListN.{length, set}
 use lib.Dec.{eqb}
 use Rattle.store.specs.declared.Counters.{Counters}
 use Rattle.store.specs.declared.Chain.{Chain}
 use Rattle.store.specs.declared.ScanCursor.{ScanCursor}
 use Rattle.store.specs.declared.Triple.{Triple}
-use Rattle.store.specs.Tables.{Tables, word}
+use Rattle.store.specs.declared.Reclaimed.the-variants.{Done}
+use Rattle.store.specs.Tables.{Tables, word, fits, after}
+use Rattle.store.specs.Soundness.{Sound}
+use Rattle.store.specs.Reclaim.{reclaimOf}
+use Rattle.graph.specs.Query.{wordsOk}
 use Rattle.capi_calls.specs.Words.{counterWords, cursorWords, tooShort, countersOf, withCounters, cursorOf, withCursor, chainOf, chainWord, done, wrote}
 use Rattle.capi_calls.specs.Calls.{FindCall, nameCall, statementCall, retractCall, openCall, nextCall, assertCall, EnterCall, ReclaimCall}
-use Rattle.capi_calls.specs.QueryWords.{queryReplyWords}
+use Rattle.capi_calls.specs.QueryWords.{queryCursorWords, queryReplyWords}
 use Rattle.capi_calls.specs.QueryCalls.{queryOpenCall, queryNextCall}
 
 -- ---- counters
@@ -100,3 +104,27 @@ UnansweredQueryOpen = (cw : List ℕ) (m : Tables) (ws q : List ℕ) → (queryO
 abbrev pub UnansweredQueryNext : Type 0
 UnansweredQueryNext = (cw : List ℕ) (m : Tables) (ws q : List ℕ) (b : ℕ) (w : List ℕ) → (queryNextCall cw m ws q b w) .0 ≢ 0
     → queryNextCall cw m ws q b w ≡ bareBeside queryReplyWords q w ((queryNextCall cw m ws q b w) .0)
+
+-- ---- the number of reclaims
+
+-- `lt_scan_next` is refused 13 exactly where 1 is not refused and the cursor's sixth word is not the counters' fourth, whatever its other
+-- words hold.
+abbrev pub StaleWords : Type 0
+StaleWords = (cw : List ℕ) (m : Tables) (q : List ℕ) (b : ℕ) (w : List ℕ) → 4 ≤ length cw → 6 ≤ length q → 3 ≤ length w
+    → (nextCall cw m q b w) .0 ≡ 13 ↔ (fits (countersOf cw) m ≡ true) × (word q 5 ≢ word cw 3)
+
+-- So is `lt_query_next` where 1 and 8 are not refused, by the third word.
+abbrev pub StaleQueryWords : Type 0
+StaleQueryWords = (cw : List ℕ) (m : Tables) (ws q : List ℕ) (b : ℕ) (w : List ℕ) → 4 ≤ length cw → queryCursorWords ≤ length q
+    → queryReplyWords ≤ length w → (queryNextCall cw m ws q b w) .0 ≡ 13
+    ↔ (fits (countersOf cw) m ≡ true) × (wordsOk (word cw 0) ws ≡ true) × (word q 2 ≢ word cw 3)
+
+-- `lt_reclaim` on a sound store below the maximum: the counters' words tell the answer, the fourth one more.
+pub record Reclaims (cw : List ℕ) (m m′ : Tables) (z : ℕ × List ℕ) : Type 0 where
+  pub result : z .0 ≡ 0
+  pub tables : after m′ (Done (countersOf (z .1))) ≡ reclaimOf (countersOf cw) m
+  pub number : word (z .1) 3 ≡ suc (word cw 3)
+
+abbrev pub AnsweredReclaim : Type 0
+AnsweredReclaim = (cw : List ℕ) (m m′ : Tables) (z : ℕ × List ℕ) → ReclaimCall cw m m′ z → 4 ≤ length cw → Sound (countersOf cw) m
+    → word cw 3 < 65535 → Reclaims cw m m′ z

@@ -5,7 +5,7 @@ use mathlib.Core.Logic.{_≢_}
 use mathlib.Core.Bool.{Bool, true, false, cond}
 use mathlib.Core.List.{List, [], _∷_, _++_}
 use mathlib.Core.Option.{Option, none, some}
-use Prim.Native.Nat.{ℕ, _≤_, _<_}
+use Prim.Native.Nat.{ℕ, suc, _≤_, _<_}
 use native.Mathlib.Omega.{arith}
 use lib.Dec.{eqb, leb, ltb}
 use borrow.Author.Tests.{eq-eqb, ne-eqb, leb-true, le-leb, lt-ltb, ltb-true, ltb-false}
@@ -126,10 +126,16 @@ stale-refused c m q b = (
 
 -- ---- what a reclaim refuses
 
-reclaim-done : (c : Counters) (m : Tables) → fits c m ≡ true → c .generation < maxReclaims
+-- answered: the refusal is 0, the number one more
+pub reclaim-done : (c : Counters) (m : Tables) → fits c m ≡ true → c .generation < maxReclaims
     → (reclaimedValues ((reclaimOf c m) .1)) .refusal ≡ 0
 unfolding reclaimOf
 reclaim-done c m e g = rw (e, lt-ltb (c .generation) maxReclaims g)
+
+pub reclaim-number : (c : Counters) (m : Tables) → fits c m ≡ true → c .generation < maxReclaims
+    → (reclaimedValues ((reclaimOf c m) .1)) .counters .generation ≡ suc (c .generation)
+unfolding reclaimOf
+reclaim-number c m e g = rw (e, lt-ltb (c .generation) maxReclaims g)
 
 pub reclaim-refuses : ReclaimRefuses
 reclaim-refuses c m m′ a A = record {
