@@ -1,30 +1,27 @@
 -- The number of reclaims in the words that C lends: 13 by it alone, before every 6, and one more after a reclaim. Assumes nothing.
 use mathlib.Core.Path.{_≡_, refl, sym, ap, _∙_}
 use mathlib.Core.Logic.{_≢_, _↔_}
-use mathlib.Core.Bool.{Bool, true, false, cond, true≢false}
+use mathlib.Core.Bool.{true, true≢false}
 use mathlib.Core.List.{List}
-use Prim.Native.Nat.{ℕ, suc, _≤_, _<_}
+use Prim.Native.Nat.{ℕ, _≤_, _<_}
 use native.Mathlib.Omega.{arith}
 use lib.ListN.{length}
-use lib.Dec.{eqb, leb, ltb}
+use lib.Dec.{eqb, leb}
 use borrow.Author.Tests.{eq-eqb, eqb-true, eqb-false, le-ltb}
 use Rattle.store.specs.declared.Counters.{Counters}
-use Rattle.store.specs.declared.Refusal.{Refusal}
 use Rattle.store.specs.declared.Reclaimed.{Reclaimed}
 use Rattle.store.specs.declared.Reclaimed.the-variants.{Done, Refused as NotReclaimed}
 use Rattle.store.specs.Tables.{Tables, after, word, fits, maxReclaims}
 use Rattle.store.specs.Values.{Values, refusalNumber, scannedValues, reclaimedValues}
-use Rattle.store.specs.Scan.{nextOf}
-use Rattle.store.specs.Soundness.{Sound}
-use Rattle.store.specs.Reclaim.{reclaimOf, ReclaimAnswer}
+use Rattle.store.specs.Reclaim.{reclaimOf}
 use Rattle.store.proofs.Tests.{decide}
 use Rattle.store.proofs.Limits.{stale-when, reclaim-done, reclaim-number}
 use Rattle.store.proofs.Theorems as store-claims
-use Rattle.graph.specs.Query.{wordsOk, openQueryOf, nextQueryOf, packed, refused}
+use Rattle.graph.specs.Query.{wordsOk, openQueryOf, packed}
 use Rattle.graph.specs.Values.{queryValues}
 use Rattle.graph.proofs.Theorems as graph-claims
-use Rattle.capi_calls.specs.Words.{counterWords, cursorWords, countersOf, cursorOf, withCounters, misread, nextFrom, reclaimedAs}
-use Rattle.capi_calls.specs.Calls.{nextCall, ReclaimCall, reclaimAs}
+use Rattle.capi_calls.specs.Words.{counterWords, cursorWords, countersOf, cursorOf, misread, nextFrom, reclaimedAs}
+use Rattle.capi_calls.specs.Calls.{nextCall, reclaimAs}
 use Rattle.capi_calls.specs.QueryWords.{queryCursorWords, queryReplyWords, queryCursorOf, spelt, misspelt, nextQueryFrom}
 use Rattle.capi_calls.specs.QueryCalls.{queryNextCall}
 use Rattle.capi_calls.specs.Claims.{StaleWords, StaleQueryWords, Reclaims, AnsweredReclaim}

@@ -2,7 +2,7 @@
 -- reclaims; and that a reclaim keeps the order. Assumes nothing.
 use mathlib.Core.Path.{_≡_, refl, sym, ap, _∙_}
 use mathlib.Core.Logic.{_≢_}
-use mathlib.Core.Bool.{Bool, true, false, cond}
+use mathlib.Core.Bool.{true, false}
 use mathlib.Core.List.{List, [], _∷_, _++_}
 use mathlib.Core.Option.{Option, none, some}
 use Prim.Native.Nat.{ℕ, suc, _≤_, _<_}
@@ -14,19 +14,19 @@ use Rattle.store.specs.declared.ScanCursor.{ScanCursor}
 use Rattle.store.specs.declared.Refusal.{Refusal}
 use Rattle.store.specs.declared.Refusal.the-variants.{Capacity, Damaged, ReclaimLimit}
 use Rattle.store.specs.declared.Reclaimed.{Reclaimed}
-use Rattle.store.specs.declared.Reclaimed.the-variants.{Done, Refused as NotReclaimed}
+use Rattle.store.specs.declared.Reclaimed.the-variants.{Refused as NotReclaimed}
 use Rattle.store.specs.Tables.{Tables, after, fits, maxReclaims, resourceCapacity, statementCapacity, textCapacity}
 use Rattle.store.specs.Values.{Values, refusalNumber, scannedValues, reclaimedValues}
-use Rattle.store.specs.Model.{Entry, Call, intern, assert, retract, open′, next, reclaim, byValue, lent, freshModel, unstruck}
+use Rattle.store.specs.Model.{Entry, intern, assert, retract, open′, next, reclaim, byValue, lent, freshModel, unstruck}
 use Rattle.store.specs.Dictionary.{internOf}
 use Rattle.store.specs.Walk.{Step, found, ended, spent}
 use Rattle.store.specs.Statement.{assertOf, retractOf, assertLentOf, retractLentOf}
 use Rattle.store.specs.Scan.{openOf, cursorOk, walkFrom, scannedAs, nextOf}
-use Rattle.store.specs.Reclaim.{reclaimOf, ReclaimAnswer}
+use Rattle.store.specs.Reclaim.{reclaimOf}
 use Rattle.store.specs.Soundness.{Sound}
-use Rattle.store.specs.History.{Store, freshStore, capacitiesOf, callStore}
-use Rattle.store.specs.Claims.{FitsMeans, CapacityFirst, StaleRefused, NumberCounts, UnstruckMeans, RefusedInOrder, ReclaimRefuses}
-use Rattle.store.proofs.Tests.{decide, and-l, and-r, and-of}
+use Rattle.store.specs.History.{freshStore, capacitiesOf, callStore}
+use Rattle.store.specs.Claims.{FitsMeans, CapacityFirst, StaleRefused, NumberCounts, UnstruckMeans, ReclaimRefuses}
+use Rattle.store.proofs.Tests.{decide, and-l, and-r}
 use Rattle.store.proofs.Histories.{history-agrees, fresh-agrees}
 use Rattle.store.proofs.Visits.{generation-after}
 

@@ -1,12 +1,12 @@
 -- Reclaim on states that agree: the sweep leaves chains as said over the entries not struck out, in their order, so the
 -- values are the same and the states after it agree. Assumes nothing.
 use mathlib.Core.Path.{_≡_, refl, sym, ap, ap₂, _∙_}
-use mathlib.Core.Bool.{Bool, true, false, cond, _&&_}
+use mathlib.Core.Bool.{Bool, true, false, cond}
 use mathlib.Core.List.{List, [], _∷_, _++_}
-use Prim.Native.Nat.{ℕ, zero, suc, _+_, _*_, _-_, _≤_, _<_}
+use Prim.Native.Nat.{ℕ, zero, suc, _+_, _*_, _≤_, _<_}
 use native.Mathlib.Omega.{arith}
-use lib.ListN.{length, getD}
-use lib.Dec.{eqb, leb, ltb}
+use lib.ListN.{length}
+use lib.Dec.{eqb, ltb}
 use borrow.Author.Tests.{eqb-true, eqb-false, ltb-true}
 use Rattle.store.specs.declared.Counters.{Counters}
 use Rattle.store.specs.declared.Position.{Position}
@@ -16,22 +16,21 @@ use Rattle.store.specs.Triple.{at}
 use Rattle.store.specs.Tables.{Tables, word, statementWords, resourceWords, maxReclaims, termAt, flagAt, tripleAt}
 use Rattle.store.specs.Tables.{offsetAt, kindAt}
 use Rattle.store.specs.Values.{Values, counted, reclaimedValues}
-use Rattle.store.specs.Model.{Entry, Model, Capacities, entry, totals, unstruck, reclaimed, reclaimModel}
+use Rattle.store.specs.Model.{Entry, Model, Capacities, entry, unstruck, reclaimed, reclaimModel}
 use Rattle.store.specs.Walk.{entryAt}
-use Rattle.store.specs.Statement.{appendRecord, linkRecord}
-use Rattle.store.specs.Dictionary.{Named}
+use Rattle.store.specs.Statement.{appendRecord}
 use Rattle.store.specs.Soundness.{Linked}
 use Rattle.store.specs.Reclaim.{unlinked, Swept, swept, movedDown, sweepOne, sweep, blanked, sweptOf}
 use Rattle.store.specs.Reclaim.{reclaimedTables, reclaimedCounters, reclaimOf}
 use Rattle.store.specs.History.{Store, store, afterReclaim}
 use Rattle.store.specs.Claims.{entriesUpTo}
 use Rattle.store.proofs.Tests.{decide}
-use Rattle.store.proofs.Words.{triple-at, triple-same, append-length, append-word-before, append-word-after}
+use Rattle.store.proofs.Words.{triple-at, append-length, append-word-before, append-word-after}
 use Rattle.store.proofs.Words.{append-term, append-flag, linked-length, linked-offset, linked-kind, linked-past}
 use Rattle.store.proofs.Links.{append-linked}
 use Rattle.store.proofs.Represented.{Agreeing, Same, same-cond, fits-agrees, totals-agree}
-use Rattle.store.proofs.StatementsAgree.{entry-of, entry-same}
-use Rattle.store.proofs.Unstruck.{unstruck-snoc, unstruck-le}
+use Rattle.store.proofs.StatementsAgree.{entry-of}
+use Rattle.store.proofs.Unstruck.{unstruck-snoc}
 use Rattle.store.proofs.Swept.{unlinked-length, unlinked-past, unlinked-offset, unlinked-kind, unlinked-linked}
 use Rattle.store.proofs.Swept.{blanked-length, blanked-before, same-entry, same-linked}
 use Rattle.store.proofs.Held.{entries-length, entries-at, agreeing-statements}

@@ -1,10 +1,10 @@
 -- What a reclaim does, claim by claim: what is left, the words, a struck-out triple is forgotten, room for a triple that
 -- was refused 3. Assumes nothing.
-use mathlib.Core.Path.{_≡_, refl, sym, ap, ap₂, _∙_, subst}
+use mathlib.Core.Path.{_≡_, refl, sym, ap, _∙_, subst}
 use mathlib.Core.Logic.{_≢_, _↔_}
-use mathlib.Core.Bool.{Bool, true, false, cond, _&&_, true≢false}
+use mathlib.Core.Bool.{Bool, true, false, _&&_, true≢false}
 use mathlib.Core.List.{List, [], _∷_, _++_}
-use Prim.Native.Nat.{ℕ, zero, suc, _+_, _*_, _-_, _≤_, _<_}
+use Prim.Native.Nat.{ℕ, zero, suc, _≤_, _<_}
 use native.Mathlib.Omega.{arith}
 use lib.ListN.{length, getD}
 use lib.Dec.{eqb, leb, ltb}
@@ -13,30 +13,30 @@ use Rattle.term.specs.Scanner.{firstKindOf}
 use Rattle.term.specs.Canonical.{canonical}
 use Rattle.store.specs.declared.Counters.{Counters}
 use Rattle.store.specs.declared.Position.{Position}
-use Rattle.store.specs.declared.Position.the-variants.{Subject, Predicate, Object}
+use Rattle.store.specs.declared.Position.the-variants.{Subject, Predicate}
 use Rattle.store.specs.declared.Triple.{Triple}
-use Rattle.store.specs.Triple.{at, known, within, same, permitted, below, head0}
-use Rattle.store.specs.Tables.{Tables, fits, maxReclaims, flagAt}
+use Rattle.store.specs.Triple.{at, known, within, same, permitted, head0}
+use Rattle.store.specs.Tables.{Tables, maxReclaims, flagAt}
 use Rattle.store.specs.Values.{Values}
 use Rattle.store.specs.Model.{Entry, Model, Capacities, Form, Call, intern, assert, retract, open′, next, reclaim}
 use Rattle.store.specs.Model.{freshModel, wellFormed, lookupName, nameOf, bytesOf, internName, internModel, entry}
 use Rattle.store.specs.Model.{lookup, put, assertModel, strike, retractModel, openModel, turn, noListing, nextModel}
-use Rattle.store.specs.Model.{unstruck, reclaimed, reclaimModel, callModel, modelReplies, modelAfter}
+use Rattle.store.specs.Model.{unstruck, reclaimed, reclaimModel, callModel, modelAfter}
 use Rattle.store.specs.Walk.{entryAt}
 use Rattle.store.specs.Soundness.{holding, living, Sound}
 use Rattle.store.specs.Reclaim.{sweptOf, reclaimedTables, reclaimedCounters, reclaimOf}
 use Rattle.store.specs.History.{Store, store, freshStore, capacitiesOf, callStore, storeReplies, storeAfter}
-use Rattle.store.specs.Claims.{statementsIn, namesIn, listsOf, Holds, reclaimsIn, storeAt, Compacted, ReclaimKeeps}
+use Rattle.store.specs.Claims.{statementsIn, listsOf, Holds, reclaimsIn, storeAt, Compacted, ReclaimKeeps}
 use Rattle.store.specs.Claims.{ReclaimWrites, ReclaimWords, ForgetsRetracted, RoomAgain}
 use Rattle.store.proofs.Tests.{decide, three, known-low, known-high, known-more, same-is}
 use Rattle.store.proofs.Falling.{below-cong, below-none}
 use Rattle.store.proofs.Text.{name-old, length-snoc}
-use Rattle.store.proofs.Represented.{Agreeing, fits-agrees}
-use Rattle.store.proofs.Unstruck.{origin, origin-in, origin-reads, unstruck-live, unstruck-fewer, unstruck-le}
+use Rattle.store.proofs.Represented.{Agreeing}
+use Rattle.store.proofs.Unstruck.{origin, origin-in, origin-reads, unstruck-live, unstruck-fewer}
 use Rattle.store.proofs.Swept.{blanked-length, blanked-in, blanked-after}
-use Rattle.store.proofs.ReclaimAgrees.{Sweeping, swept-all}
+use Rattle.store.proofs.ReclaimAgrees.{swept-all}
 use Rattle.store.proofs.Kept.{kindIn, Tidy, absent, tidy-call, tidy-history, tidy-fresh}
-use Rattle.store.proofs.Held.{entries-length, entries-at, agreeing-holds, agreeing-statements, sound-agrees, sound-tidy, named-names}
+use Rattle.store.proofs.Held.{entries-length, entries-at, agreeing-holds, agreeing-statements, sound-agrees, sound-tidy}
 use Rattle.store.proofs.Histories.{call-agrees, history-agrees, fresh-agrees}
 use Rattle.store.proofs.Entries.{Grown, grown-history}
 

@@ -8,7 +8,6 @@ use lib.ListN.{length}
 use borrow.Author.Tests.{lt-ltb}
 use Rattle.store.specs.declared.Counters.{Counters}
 use Rattle.store.specs.declared.Position.{Position}
-use Rattle.store.specs.declared.Triple.{Triple}
 use Rattle.store.specs.declared.Refusal.the-variants.{Capacity, Damaged, ReclaimLimit}
 use Rattle.store.specs.declared.Reclaimed.the-variants.{Done, Refused as NotReclaimed}
 use Rattle.store.specs.Triple.{at, known}

@@ -1,18 +1,17 @@
 -- Words of the tables in a reclaim: links and counts cleared, the words of records given up set to 0, every other word
 -- kept; chains that hold on a table's first words hold on any table with these words. Assumes nothing.
-use mathlib.Core.Path.{_≡_, refl, sym, ap, _∙_}
+use mathlib.Core.Path.{_≡_, refl, ap, _∙_}
 use mathlib.Core.Logic.{_≢_}
-use mathlib.Core.Bool.{Bool, true, false, cond, _&&_}
-use mathlib.Core.List.{List, [], _∷_, _++_}
+use mathlib.Core.List.{List, [], _∷_}
 use Prim.Native.Nat.{ℕ, zero, suc, _+_, _-_, _*_, _≤_, _<_}
 use native.Mathlib.Omega.{arith}
-use lib.ListN.{length, getD, replicate, length-replicate, getD-replicate}
+use lib.ListN.{length, replicate, length-replicate, getD-replicate}
 use lib.Seq.{sets, length-sets}
 use lib.Dec.{eqb}
 use borrow.Author.Tests.{eqb-true, eqb-false}
 use Rattle.store.specs.declared.Position.{Position}
 use Rattle.store.specs.Triple.{below}
-use Rattle.store.specs.Tables.{word, off, statementWords, resourceWords, termAt, nextAt, flagAt, tripleAt}
+use Rattle.store.specs.Tables.{word, off, statementWords, resourceWords, termAt, nextAt, flagAt}
 use Rattle.store.specs.Tables.{firstAt, countAt, offsetAt, kindAt, liveAt}
 use Rattle.store.specs.Soundness.{holding, living, Linked}
 use Rattle.store.specs.Walk.{entryAt}

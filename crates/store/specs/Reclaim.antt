@@ -2,19 +2,18 @@
 -- the words of the records given up are 0, names stay. Right on a sound store; on any tables `ReclaimAnswer` says what holds. Assumes
 -- nothing.
 use mathlib.Core.Path.{_≡_}
-use mathlib.Core.Bool.{Bool, true, false, cond, _&&_}
+use mathlib.Core.Bool.{true, false, cond}
 use mathlib.Core.List.{List, [], _∷_}
-use Prim.Native.Nat.{ℕ, zero, suc, _+_, _*_, _-_, _≤_, _<_}
-use lib.ListN.{length, replicate}
+use Prim.Native.Nat.{ℕ, zero, suc, _+_, _*_, _-_, _<_}
+use lib.ListN.{replicate}
 use lib.Seq.{sets}
-use lib.Dec.{eqb, leb, ltb}
+use lib.Dec.{eqb, ltb}
 use Rattle.store.specs.declared.Counters.{Counters}
 use Rattle.store.specs.declared.Triple.{Triple}
 use Rattle.store.specs.declared.Refusal.the-variants.{Capacity, Damaged, ReclaimLimit}
 use Rattle.store.specs.declared.Reclaimed.{Reclaimed}
 use Rattle.store.specs.declared.Reclaimed.the-variants.{Done, Refused as NotReclaimed}
-use Rattle.store.specs.Tables.{Tables, tables, after, fits, maxReclaims, statementWords, resourceWords, word, flagAt, tripleAt}
-use Rattle.store.specs.Tables.{offsetAt, kindAt}
+use Rattle.store.specs.Tables.{Tables, tables, after, fits, maxReclaims, statementWords, resourceWords, flagAt, tripleAt}
 use Rattle.store.specs.Statement.{appendRecord, linkRecord}
 use Rattle.store.specs.Soundness.{Sound}
 
