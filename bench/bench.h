@@ -32,7 +32,7 @@ void peer_retract_begin(void *st);                        /* around many retract
 void peer_retract_end(void *st);
 int peer_check(void *st);                                 /* 1 sound, 0 not, -1 not offered */
 void *peer_copy(void *st);                                /* a store with the same content; NULL: no reclaim is offered */
-void peer_retract_each(void *st, size_t n, size_t step);  /* statements n, n + step, ...; from here on only with a copy */
+void peer_retract_each(void *st, size_t n, size_t step);  /* statements n, n + step, ...; this and the next only with a copy */
 size_t peer_reclaim(void *st);                            /* statements left */
 size_t peer_bytes(void *st);                              /* memory by its own account; 0: what malloc gave */
 

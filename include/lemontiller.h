@@ -86,9 +86,9 @@ enum { LT_CURSOR_WORDS = 6, LT_SCAN_REPLY_WORDS = 3 };
 
 /* Words of a query's cursor: an `lt_place`, levels entered, reclaims, then chain and record for each level, zeros past those entered; and
  * of a query's reply: an `lt_step`, visits, the resource of each variable, 0 for one that the query does not use, all 0 unless found.
- * A cursor whose first word is no `lt_place` is LT_BAD_CURSOR. LT_WITHIN with 0 levels is the start. Of the words after the first only
- * the reclaims count at the start and at the end, and within those past the levels entered are ignored. The start is what lt_query_open
- * writes; zeros are the start only in a store that was never reclaimed. */
+ * With the store's number of reclaims, a cursor whose first word is no `lt_place` is LT_BAD_CURSOR. LT_WITHIN with 0 levels is the start.
+ * Of the words after the first only the reclaims count at the start and at the end, and within those past the levels entered are ignored.
+ * The start is what lt_query_open writes; zeros are the start only in a store that was never reclaimed. */
 enum { LT_QUERY_CURSOR_WORDS = 3 + 2 * LT_MAX_PATTERNS, LT_QUERY_REPLY_WORDS = 2 + LT_VARIABLES };
 
 /* Words, of 64 bits, of a line's reply. */

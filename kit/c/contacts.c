@@ -142,7 +142,7 @@ static void ask_tripped_with(const char *breaker, const char *trips)
     }
 }
 
-/* Rewires a relay from one breaker to another. The retracted statement keeps its room until the store is reclaimed, as a set does when a
+/* Rewires a relay from one breaker to another. The retracted statement keeps its room until the store is reclaimed; a set does that when a
  * table is full. From then on cursors are to be opened again, and a statement's number from before names another one or none. */
 static void rewire(const char *relay, const char *trips, const char *from, const char *to)
 {

@@ -1,7 +1,7 @@
 // Reclaim for C: the room of retracted statements is given back.
 //
-// Statements may have other numbers afterwards, and every cursor from before is refused 13. The contract is a record with the definitions
-// in `specs/Calls.antt` of `capi_calls`: on tables that are not sound reclaim is bounded, not equal to a definition.
+// Statements may have other numbers afterwards, and every cursor from before is refused 13. The contract is a record in `specs/Calls.antt`
+// of `capi_calls`, exact on every input: soundness is no Boolean, so 9 is a field of its own.
 use capi_calls::COUNTER_WORDS;
 use capi_calls::TOO_SHORT;
 use capi_words::words::counters_of;

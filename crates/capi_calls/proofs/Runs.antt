@@ -143,8 +143,8 @@ nexts : nextIn 3 0 (cursor 1 0 0 1 1) 5
 unfolding fits known within same agrees permitted below termAt nextAt flagAt tripleAt firstAt countAt kindAt matches pick better entryAt pickChain pickable startOf linkOf sits visitable walk chainOk recordOk cursorOk walkFrom nextOf misread nextFrom nextCall
 nexts = refl
 
--- Another number of reclaims is 13: at a cursor that was good, at the end, before a chain that is none and a chain word above 3, both 6
--- and with no budget; more reclaims than the maximum are 1 before all of these.
+-- Another number of reclaims is 13: at a cursor that was good, at the end, before a chain that is none and a chain word above 3, each
+-- with no budget; more reclaims than the maximum are 1 before all of these.
 stale-nexts : nextIn 3 0 (cursorIn 2 1 0 0 1 1) 5
     ∷ nextIn 0 0 (cursorIn 1 1 0 0 1 0) 5
     ∷ nextIn 3 0 (cursorIn 4 1 0 0 2 1) 0

@@ -1,14 +1,12 @@
 -- A call that is not answered leaves counters, cursor and tables as they were, and zeros in its reply, or the reply too where it is lent
 -- too little. Assumes nothing.
-use mathlib.Core.Path.{_≡_, refl, sym, ap, _∙_}
+use mathlib.Core.Path.{_≡_, refl, ap, _∙_}
 use mathlib.Core.Logic.{_≢_}
 use mathlib.Core.Bool.{Bool, true, false, cond}
 use mathlib.Core.List.{List}
-use Prim.Native.Nat.{ℕ, _≤_}
-use native.Mathlib.Omega.{arith}
+use Prim.Native.Nat.{ℕ}
 use lib.ListN.{length}
-use lib.Dec.{eqb, leb, ltb}
-use Rattle.store.specs.declared.Counters.{Counters}
+use lib.Dec.{eqb, ltb}
 use Rattle.store.specs.declared.Refusal.{Refusal}
 use Rattle.store.specs.declared.Refusal.the-variants.{Capacity, Malformed, Full, UnknownNumber, KindNotPermitted, BadCursor, NoBudget, BadQuery, Damaged, BadLine, StaleCursor, ReclaimLimit}
 use Rattle.store.specs.declared.Lookup.{Lookup}
@@ -29,21 +27,19 @@ use Rattle.store.specs.declared.ScanOpened.{ScanOpened}
 use Rattle.store.specs.declared.ScanOpened.the-variants.{Cursor, Refused as NotOpened}
 use Rattle.store.specs.declared.Scanned.{Scanned}
 use Rattle.store.specs.declared.Scanned.the-variants.{Found, Ended, Spent, Refused as NotScanned}
-use Rattle.store.specs.Tables.{Tables, after, fits, maxReclaims, resourceCapacity, statementCapacity, textCapacity}
+use Rattle.store.specs.Tables.{Tables, after}
 use Rattle.store.specs.Statement.{assertOf, retractOf}
-use Rattle.store.specs.Reclaim.{ReclaimAnswer}
 use Rattle.store.specs.Scan.{openOf}
 use Rattle.store.specs.Reading.{nameSpanOf, statementOf}
 use Rattle.store.specs.Values.{refusalNumber}
-use Rattle.store.proofs.Tests.{decide, three, and-r}
+use Rattle.store.proofs.Tests.{decide}
 use Rattle.graph.specs.declared.QueryOpened.{QueryOpened}
 use Rattle.graph.specs.declared.QueryAnswer.{QueryAnswer}
 use Rattle.graph.specs.Query.{Answer, refused, found, ended, spent, packed, answerOf, placeOf, openQueryOf, stale, nextQueryOf}
 use Rattle.graph.specs.Values.{queryOpenedValues}
-use borrow.Author.Tests.{ne-eqb, leb-true, ltb-true, ltb-false}
-use Rattle.store.proofs.Cases.{assert-refused, retract-refused, reclaim-refused}
-use Rattle.integrity.specs.Check.{checkOf}
-use Rattle.integrity.proofs.Decides.{check-decides}
+use borrow.Author.Tests.{ne-eqb, ltb-true, ltb-false}
+use Rattle.store.proofs.Cases.{assert-refused, retract-refused}
+use Rattle.store.proofs.Limits.{reclaim-refuses}
 use Rattle.capi_calls.specs.Words.{tooShort, counterWords, cursorWords, countersOf, lent, roomy, done, wrote, one, two, four, lookupAnswer, nameAnswer, statementAnswer, retractAs, openedAs, scannedAs, assertAs, enteredAs, reclaimedAs, nextFrom}
 use Rattle.capi_calls.specs.Calls.{findAs, nameCall, statementCall, retractCall, openCall, nextCall, assertCall, enterAs, reclaimAs}
 use Rattle.capi_calls.specs.Claims.{bare, bareBeside, bareStore, UnansweredFind, UnansweredName, UnansweredStatement, UnansweredRetract, UnansweredAssert, UnansweredEnter, UnansweredReclaim, UnansweredOpen, UnansweredNext}
@@ -191,32 +187,6 @@ reclaimed-bare : (cw : List ℕ) (a : Reclaimed) → (reclaimedAs cw a) .0 ≢ 0
 reclaimed-bare cw (Done d) h = absurd (h refl)
 reclaimed-bare cw (NotReclaimed e) h = rw (refuses e)
 
--- the last test of refusal 1
-few-reclaims : (c : Counters) (m : Tables) → fits c m ≡ true → c .generation ≤ maxReclaims
-unfolding fits
-few-reclaims c m e =
-    leb-true (c .generation) maxReclaims
-    (and-r (leb (c .text) (textCapacity m)) _
-    (and-r (leb (c .statements) (statementCapacity m)) _ (and-r (leb (c .resources) (resourceCapacity m)) _ e)))
-
--- the check decides which clause of the answer holds
-reclaim-kept : (c : Counters) (m m′ : Tables) (e : Refusal) → ReclaimAnswer c m m′ (NotReclaimed e) → m′ ≡ m
-reclaim-kept c m m′ e f =
-    let tables-of : Tables × Reclaimed → Tables = λ z. z .0 in
-    let reply-of : Tables × Reclaimed → Reclaimed = λ z. z .1 in
-    decide (fits c m)
-    (λ a. three (c .generation) maxReclaims
-    (λ g. decide (checkOf c m)
-    (λ y. let k = f .exact ((check-decides c m) .0 y) g in ap tables-of k ∙ reclaim-refused c m e (sym (ap reply-of k)))
-    (λ n. ap tables-of (f .unsound a g (λ s. never (sym n ∙ (check-decides c m) .1 s)))))
-    (λ g. ap tables-of (f .limit a g))
-    (λ g. absurd (omega (arith, few-reclaims c m a, g))))
-    (λ a. ap tables-of (f .capacity a))
-
-reclaimed-kept : (cw : List ℕ) (c : Counters) (m m′ : Tables) (a : Reclaimed) → ReclaimAnswer c m m′ a → (reclaimedAs cw a) .0 ≢ 0 → m′ ≡ m
-reclaimed-kept cw c m m′ (Done d) f h = absurd (h refl)
-reclaimed-kept cw c m m′ (NotReclaimed e) f h = reclaim-kept c m m′ e f
-
 pub unanswered-reclaim : UnansweredReclaim
 unfolding reclaimAs
 unanswered-reclaim cw m m′ z f h =
@@ -228,7 +198,7 @@ unanswered-reclaim cw m m′ z f h =
       decide short
           (λ r. f .kept (ltb-true (length cw) counterWords r))
           (λ r. let k : z ≡ reclaimedAs cw a = f .told ∙ rw r in
-          reclaimed-kept cw (countersOf cw) m m′ a (f .exact (ltb-false (length cw) counterWords r))
+          (reclaim-refuses (countersOf cw) m m′ a (f .exact (ltb-false (length cw) counterWords r))) .kept
           (λ e. h (ap (λ (y : ℕ × List ℕ). y .0) k ∙ e))),
     )
 

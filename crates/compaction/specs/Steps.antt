@@ -8,7 +8,7 @@ use Rattle.store.specs.Reclaim.{Swept, swept, unlinked, sweep, blanked}
 use Rattle.table.specs.Held.{StatementHeld}
 use Rattle.statement_record.specs.Records.{AllLinkable}
 
--- record i of the resources without its six links and counts and its three live counts
+-- record i of the resources, from 0, without its six links and counts and its three live counts
 abbrev pub unlinkedOne : ℕ → List ℕ → List ℕ
 unlinkedOne i res = sets (sets res (resourceWords * i) (replicate 6 0)) (resourceWords * i + 8) (replicate 3 0)
 

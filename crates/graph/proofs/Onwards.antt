@@ -12,7 +12,8 @@ use lib.Dec.{eqb, ltb}
 use borrow.Author.Tests.{eqb-true, eqb-false, eq-eqb, ltb-true, ne-eqb}
 use Rattle.store.specs.declared.Counters.{Counters}
 use Rattle.store.specs.declared.ScanCursor.{ScanCursor}
-use Rattle.store.specs.declared.Refusal.the-variants.{BadCursor, Damaged, StaleCursor}
+use Rattle.store.specs.declared.Refusal.{Refusal}
+use Rattle.store.specs.declared.Refusal.the-variants.{Capacity, BadCursor, BadQuery, Damaged, StaleCursor}
 use Rattle.store.specs.Tables.{Tables, fits}
 use Rattle.store.specs.Model.{Call}
 use Rattle.store.specs.History.{Store, store, storeReplies, storeAfter}
@@ -22,13 +23,15 @@ use Rattle.store.proofs.Tests.{decide, and-l, and-r, and-of, cond-all}
 use Rattle.graph.specs.declared.QueryPattern.{QueryPattern}
 use Rattle.graph.specs.declared.Level.{Level}
 use Rattle.graph.specs.declared.QueryCursor.{QueryCursor}
+use Rattle.graph.specs.declared.Opening.the-variants.{Opened, Refused as NotOpened}
 use Rattle.graph.specs.declared.QueryStep.{QueryStep}
 use Rattle.graph.specs.declared.QueryStep.the-variants.{Found, Ended, Spent, Refused}
 use Rattle.graph.specs.declared.QueryAnswer.{QueryAnswer}
 use Rattle.graph.specs.Query.{wordsOk, patternsOf, Bindings, unbound, Place, start, inside, finish, Turn, bad}
 use Rattle.graph.specs.Query.{go, whole, Answer, refused, found, ended, spent, settle, remains, intact, pruned}
 use Rattle.graph.specs.Query.{placeOk, enter, visit, walk, begun, resume, answerOf, placeOf, cursorAt, packed}
-use Rattle.graph.specs.Query.{stale, nextQueryOf}
+use Rattle.graph.specs.Query.{stale, openQueryOf, nextQueryOf}
+use Rattle.graph.specs.Values.{stepRefusal, queryValues}
 use Rattle.graph.specs.Order.{numbersOn, atOrAfter, keep, onwardsOf}
 use Rattle.graph.specs.Claims.{Unrefused, statementsIn, AllInOrder, accepted, onwardsFrom, Answers, NextClaim}
 use Rattle.graph.specs.Claims.{KeptClaim, ReclaimedClaim, moreVisits, SplitClaim}
@@ -267,19 +270,41 @@ module _ (c : Counters) (m : Tables) (S : Sound c m) (ws : List ℕ) (q : QueryC
         (λ e. other-never-six (then .counters) (then .tables) ws now b′
         (λ d. eqb-false (c .generation) (then .counters .generation) e (sym now-number ∙ d)))
 
-    -- words stay accepted, the store stays sound, and the number has risen
-    gone : 0 < reclaimed → (nextQueryOf (then .counters) (then .tables) ws now b′) .step ≡ Refused StaleCursor
-    gone h =
-        let o = calls-onward (store c m qs) calls in
-        stale-step (then .counters) (then .tables) ws now b′ (calls-sound (store c m qs) S calls .capacity)
-        (words-more (c .resources) (then .counters .resources) ws (o .1) (tests .words))
-        (λ d. omega (arith, o .0, now-number, d, h))
-
 pub cursor-kept : KeptClaim
 cursor-kept c m S ws q b u qs calls b′ = kept c m S ws q b u qs calls b′
 
+module _ (c : Counters) (m : Tables) (S : Sound c m) (ws : List ℕ) (qs : List ScanCursor) (calls : List Call)
+    (h : 0 < reclaimsIn calls (storeReplies (store c m qs) calls)) (b′ : ℕ) where
+  abbrev later : Store
+  later = storeAfter (store c m qs) calls
+
+  -- words stay accepted, the store stays sound, and the number has risen
+  gone : (now : QueryCursor) → wordsOk (c .resources) ws ≡ true → now .generation ≡ c .generation
+      → (queryValues (nextQueryOf (later .counters) (later .tables) ws now b′)) .refusal ≡ 13
+  gone now w e =
+      let o = calls-onward (store c m qs) calls in
+      ap stepRefusal (stale-step (later .counters) (later .tables) ws now b′ (calls-sound (store c m qs) S calls .capacity)
+      (words-more (c .resources) (later .counters .resources) ws (o .1) w)
+      (λ d. omega (arith, o .0, e, d, h)))
+
+opened-words : (c : Counters) (m : Tables) (ws : List ℕ) → (openQueryOf c m ws) .opening ≡ Opened
+    → (wordsOk (c .resources) ws ≡ true) × (((openQueryOf c m ws) .cursor) .generation ≡ c .generation)
+unfolding openQueryOf
+opened-words c m ws =
+    decide (fits c m)
+    (λ f. rw f (decide (wordsOk (c .resources) ws)
+    (λ w. rw w (λ d. (refl, refl)))
+    (λ w. rw w (λ d. absurd (not-opened BadQuery d)))))
+    (λ f. rw f (λ d. absurd (not-opened Capacity d)))
+  where
+    not-opened : (e : Refusal) → NotOpened e ≡ Opened → ⊥
+    not-opened e d = let x : _≡_ {A = ℕ} 0 1 = cc in omega arith
+
 pub reclaimed-refused : ReclaimedClaim
-reclaimed-refused c m S ws q b u qs calls b′ h = gone c m S ws q b u qs calls b′ h
+reclaimed-refused c m S ws qs calls h b′ = (
+  λ d. let o = opened-words c m ws d in gone c m S ws qs calls h b′ ((openQueryOf c m ws) .cursor) (o .0) (o .1),
+  λ q b u. gone c m S ws qs calls h b′ ((nextQueryOf c m ws q b) .cursor) (tests c m S ws q b u .words) (now-number c m S ws q b u),
+)
 
 -- ---- budgets add up
 

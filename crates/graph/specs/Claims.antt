@@ -214,13 +214,14 @@ RefusalsBare = (c : Counters) (m : Tables) (ws : List ℕ)
     → nextQueryOf c m ws q b ≡ answered (Refused e) 0 unbound (startCursor 0))
     × ((openQueryOf c m ws) .opening ≢ Opened → (openQueryOf c m ws) .cursor ≡ startCursor 0)
 
--- A cursor that a next call answered is refused 13 once a reclaim was answered since, whatever else was called.
+-- A cursor that open or next answered is refused 13 once a reclaim was answered since, whatever else was called.
 abbrev pub ReclaimedClaim : Type 0
-ReclaimedClaim = (c : Counters) (m : Tables) → Sound c m → (ws : List ℕ) (q : QueryCursor) (b : ℕ)
-    → Unrefused ((nextQueryOf c m ws q b) .step)
-    → (qs : List ScanCursor) (calls : List Call) (b′ : ℕ) → 0 < reclaimsIn calls (storeReplies (store c m qs) calls)
-    → let s = storeAfter (store c m qs) calls in
-    (nextQueryOf (s .counters) (s .tables) ws ((nextQueryOf c m ws q b) .cursor) b′) .step ≡ Refused StaleCursor
+ReclaimedClaim = (c : Counters) (m : Tables) → Sound c m → (ws : List ℕ) (qs : List ScanCursor) (calls : List Call)
+    → 0 < reclaimsIn calls (storeReplies (store c m qs) calls) → (b′ : ℕ) → let s = storeAfter (store c m qs) calls in
+    ((openQueryOf c m ws) .opening ≡ Opened
+    → (queryValues (nextQueryOf (s .counters) (s .tables) ws ((openQueryOf c m ws) .cursor) b′)) .refusal ≡ 13)
+    × ((q : QueryCursor) (b : ℕ) → Unrefused ((nextQueryOf c m ws q b) .step)
+    → (queryValues (nextQueryOf (s .counters) (s .tables) ws ((nextQueryOf c m ws q b) .cursor) b′)) .refusal ≡ 13)
 
 -- A call visits no more records than its budget, on any tables, words and cursor.
 abbrev pub BudgetClaim : Type 0

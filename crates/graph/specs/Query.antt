@@ -1,5 +1,5 @@
--- Open and next of a query, the paper's question (paper 01, "Open a question", "Next of a question"), on tables,
--- words and cursors that hold anything. Assumes nothing.
+-- Open and next of a query, the paper's question (paper 01, "Open a question", "Next of a question"; 02, note 6), on
+-- tables, words and cursors that hold anything. Assumes nothing.
 use mathlib.Core.Bool.{Bool, true, false, cond, not, _&&_, _||_}
 use mathlib.Core.List.{List, [], _∷_}
 use mathlib.Core.Option.{Option, none, some}

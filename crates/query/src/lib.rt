@@ -2,7 +2,7 @@
 // Nothing is written.
 //
 // The words are passed at each call, and the cursor holds none of them: a cursor of another query, or of another
-// store with as many reclaims, is judged by refusal 6 alone. Refusals, in the order tested: open 1, 8; next 1, 8, 13,
+// store, is judged by refusals 13 and 6 alone. Refusals, in the order tested: open 1, 8; next 1, 8, 13,
 // 6, 7, 9.
 use crate::resume::resume;
 use graph::Opening;

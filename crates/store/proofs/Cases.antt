@@ -1,4 +1,4 @@
--- Assert and retract, case by case in the paper's order, and that a refused one writes nothing. Assumes nothing.
+-- Assert, retract and reclaim, case by case in the paper's order, and that a refused one writes nothing. Assumes nothing.
 use mathlib.Core.Path.{_≡_, refl, sym, ap, _∙_}
 use mathlib.Core.Bool.{Bool, true, false, cond}
 use mathlib.Core.List.{List}

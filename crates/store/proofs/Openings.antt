@@ -1,6 +1,6 @@
 -- One opening in a run of the store: what a next of it answers is what taking positions off its rest comes to, and the
--- rest is the chain at the opening without as many as were visited. So Finds, EndsOrSpends and VisitsAddUp. Assumes
--- nothing.
+-- rest is the chain at the opening without as many as were visited. So Finds, EndsOrSpends and VisitsAddUp. After a
+-- reclaim there is no more to take: StaleAfterReclaim. Assumes nothing.
 use mathlib.Core.Path.{_≡_, refl, sym, ap, ap₂, _∙_, subst}
 use mathlib.Core.Logic.{_≢_, _↔_, ⊎-elim}
 use mathlib.Core.Bool.{Bool, true, false, cond, not, true≢false}

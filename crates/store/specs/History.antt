@@ -1,4 +1,4 @@
--- A list of calls on the tables (paper 01, "The plain lists"): from fresh counters over tables that hold anything, each call on the
+-- A list of calls on the tables (paper 01, "The plain lists"; 02, note 6): from fresh counters over tables that hold anything, each call on the
 -- counters last answered and the tables the last call left, each next from its opening's last cursor. Assumes nothing.
 use mathlib.Core.List.{List, [], _∷_, _++_}
 use Prim.Native.Nat.{ℕ}

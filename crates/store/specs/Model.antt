@@ -1,6 +1,6 @@
--- The plain lists (paper 01, "The plain lists"; 02, note 7): what a reader has to believe of demand 3. Two lists under the same capacities,
--- of names and of triples with a mark, and what is left of each opening. Nothing here speaks of tables, links or counts.
--- Assumes nothing.
+-- The plain lists (paper 01, "The plain lists"; 02, notes 6 and 7): what a reader has to believe of demand 3. Two lists under the same
+-- capacities, of names and of triples with a mark, what is left of each opening, and the number of reclaims. Nothing here speaks of
+-- tables, links or counts; of `Tables` it takes one number, the greatest number of reclaims. Assumes nothing.
 use mathlib.Core.Bool.{Bool, true, false, cond, not, _&&_, _||_}
 use mathlib.Core.List.{List, [], _∷_, _++_}
 use Prim.Native.Nat.{ℕ, zero, suc, _+_, _-_}

@@ -1,5 +1,5 @@
--- Open and next of a pattern scan, the paper's listing (paper 01, "Open a listing", "Next of a listing"), on tables that hold anything
--- and any cursor. Assumes nothing.
+-- Open and next of a pattern scan, the paper's listing (paper 01, "Open a listing", "Next of a listing"; 02, note 6), on tables that hold
+-- anything and any cursor. Assumes nothing.
 use mathlib.Core.Bool.{Bool, true, false, cond, _&&_}
 use mathlib.Core.List.{List}
 use mathlib.Core.Option.{Option, none, some}

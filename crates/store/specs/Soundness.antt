@@ -1,5 +1,5 @@
--- Sound (paper 01, "Sound means"; 02, notes 5 and 7): one definition for find, intern, the check and both demands. Words past the counters do
--- not matter. Assumes nothing.
+-- Sound (paper 01, "Sound means"; 02, notes 5, 6 and 7): one definition for find, intern, reclaim, the check and both demands. Words past
+-- the counters do not matter. Assumes nothing.
 use mathlib.Core.Path.{_≡_}
 use mathlib.Core.Logic.{_≢_}
 use mathlib.Core.Bool.{Bool, true, _&&_}

@@ -1,5 +1,5 @@
--- The tables and counters (paper 01, "Tables and counters"; 02, note 5): widths and offsets of the records, their words at a position in
--- general, capacities, refusal 1. Total on any words: a word past a table's end is 0. Assumes nothing.
+-- The tables and counters (paper 01, "Tables and counters"; 02, notes 5 and 6): widths and offsets of the records, their words at a position
+-- in general, capacities, refusal 1. Total on any words: a word past a table's end is 0. Assumes nothing.
 use mathlib.Core.Bool.{Bool, true, false, _&&_}
 use mathlib.Core.List.{List, [], _∷_}
 use Prim.Native.Nat.{ℕ, zero, suc, _+_, _*_, _-_, _/_, min}

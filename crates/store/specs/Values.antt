@@ -1,4 +1,4 @@
--- The paper's number and values for each case of each reply (paper 01, "Operations and refusals"): what a promise compares. Every
+-- The paper's number and values for each case of each reply (paper 01, "Operations and refusals"; 02, note 6): what a promise compares. Every
 -- field that a case does not name is 0, and beside a refusal's number all are. Assumes nothing.
 use Prim.Native.Nat.{ℕ}
 use Rattle.store.specs.declared.Counters.{Counters}
@@ -7,7 +7,8 @@ use Rattle.store.specs.declared.Chain.{Chain}
 use Rattle.store.specs.declared.Chain.the-variants.{All}
 use Rattle.store.specs.declared.ScanCursor.{ScanCursor}
 use Rattle.store.specs.declared.Refusal.{Refusal}
-use Rattle.store.specs.declared.Refusal.the-variants.{Capacity, Malformed, Full, UnknownNumber, KindNotPermitted, BadCursor, NoBudget, BadQuery, Damaged, BadLine, StaleCursor, ReclaimLimit}
+use Rattle.store.specs.declared.Refusal.the-variants.{Capacity, Malformed, Full, UnknownNumber, KindNotPermitted}
+use Rattle.store.specs.declared.Refusal.the-variants.{BadCursor, NoBudget, BadQuery, Damaged, BadLine, StaleCursor, ReclaimLimit}
 use Rattle.store.specs.declared.StatementRead.{StatementRead}
 use Rattle.store.specs.declared.StatementRead.the-variants.{Is, Refused as NotRead}
 use Rattle.store.specs.declared.NameRead.{NameRead}

@@ -95,7 +95,7 @@ pub enum Refusal {
     Damaged,
     // 10: bytes that are no line.
     BadLine,
-    // 13: a cursor from before a reclaim, or of another number of reclaims.
+    // 13: a cursor with another number of reclaims than the counters.
     StaleCursor,
     // 14: a reclaim past the maximum.
     ReclaimLimit,

@@ -775,7 +775,7 @@ fn listings_left_open() {
         assert_eq!(refusal(&lent, &|cursor| cursor[SCAN_CHAIN + 1] = 0, budget), 13);
         assert_eq!(refusal(&lent, &|cursor| cursor[SCAN_CHAIN] = 4, budget), 13);
         assert_eq!(refusal(&lent, &|cursor| cursor[0] = 9, budget), 13);
-        for number in [2, MAX_RECLAIMS, MAX_RECLAIMS + 2, 1 + (1 << 16), u32::MAX] {
+        for number in [2, MAX_RECLAIMS, MAX_RECLAIMS + 1, 1 + (1 << 16), u32::MAX] {
             assert_eq!(refusal(&lent, &|cursor| cursor[SCAN_RECLAIMS] = number, budget), 13);
         }
     }

@@ -92,7 +92,7 @@ fn ask_tripped_with(store: &Store, breaker: &str, trips: &str) -> Result<(), Str
     Ok(())
 }
 
-/// Rewires a relay from one breaker to another. The retracted statement keeps its room until the store is reclaimed, as a set does when a
+/// Rewires a relay from one breaker to another. The retracted statement keeps its room until the store is reclaimed; a set does that when a
 /// table is full. From then on cursors are to be opened again, and a statement's number from before names another one or none.
 fn rewire(store: &mut Store, relay: &str, trips: &str, from: &str, to: &str) -> Result<(), String> {
     let (relay, trips, breaker) = (number_of(store, relay)?, number_of(store, trips)?, number_of(store, from)?);

@@ -57,7 +57,7 @@ pub enum Error {
     BadLine {
         offset: usize,
     },
-    /// The cursor is from before a reclaim: open it again.
+    /// The cursor has another number of reclaims than the store: open it again.
     StaleCursor,
     ReclaimLimit,
     TooShort,
