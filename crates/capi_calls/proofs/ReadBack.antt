@@ -9,6 +9,8 @@ use Rattle.store.specs.declared.Position.the-variants.{Subject, Predicate, Obje
 use Rattle.store.specs.declared.Chain.the-variants.{All, By}
 use Rattle.store.specs.Tables.{word}
 use Rattle.capi_calls.specs.Words.{chainWord}
+use Rattle.capi_calls.proofs.Runs as runs
+use Rattle.capi_calls.proofs.QueryRuns as query-runs
 use Rattle.capi_calls.specs.Claims.{CountersReadBack, CountersKeepTheRest, ChainsReadBack, CursorsReadBack, CursorsKeepTheRest}
 
 past : (w : List ℕ) (i k v : ℕ) → i < k → word (set w i v) k ≡ word w k

@@ -40,6 +40,7 @@ use Rattle.graph.specs.Values.{queryOpenedValues}
 use borrow.Author.Tests.{ne-eqb, ltb-true, ltb-false}
 use Rattle.store.proofs.Cases.{assert-refused, retract-refused}
 use Rattle.store.proofs.Limits.{reclaim-refuses}
+use Rattle.capi_calls.proofs.Runs as runs
 use Rattle.capi_calls.specs.Words.{tooShort, counterWords, cursorWords, countersOf, lent, roomy, done, wrote, one, two, four, lookupAnswer, nameAnswer, statementAnswer, retractAs, openedAs, scannedAs, assertAs, enteredAs, reclaimedAs, nextFrom}
 use Rattle.capi_calls.specs.Calls.{findAs, nameCall, statementCall, retractCall, openCall, nextCall, assertCall, enterAs, reclaimAs}
 use Rattle.capi_calls.specs.Claims.{bare, bareBeside, bareStore, UnansweredFind, UnansweredName, UnansweredStatement, UnansweredRetract, UnansweredAssert, UnansweredEnter, UnansweredReclaim, UnansweredOpen, UnansweredNext}
