@@ -16,7 +16,7 @@ use Rattle.store.specs.declared.Counters.{Counters}
 use Rattle.store.specs.Tables.{Tables, fits, resourceCapacity}
 use Rattle.store.specs.Walk.{entryAt, pickChain}
 use Rattle.store.specs.Soundness.{Sound}
-use Rattle.store.proofs.Tests.{and-l, and-r}
+use Rattle.store.proofs.Tests.{and-l, and-r, fits-parts}
 use Rattle.graph.specs.declared.QueryPattern.{QueryPattern}
 use Rattle.graph.specs.declared.Opening.the-variants.{Opened}
 use Rattle.graph.specs.declared.QueryCursor.{QueryCursor}
@@ -92,8 +92,7 @@ words-fit r (a ∷ b ∷ d ∷ ws) h e =
     low3 Object x y z = z .1
 
 fits-small : (c : Counters) (m : Tables) → fits c m ≡ true → c .resources < firstVariable
-unfolding fits
-fits-small c m e = omega (arith, leb-true (c .resources) (resourceCapacity m) (and-l _ _ e))
+fits-small c m e = omega (arith, (fits-parts c m e) .0)
 
 words-all : (r : ℕ) (ws : List ℕ) → wordsOk r ws ≡ true → allOk r ws ≡ true
 unfolding wordsOk

@@ -1,18 +1,15 @@
 -- The lists read off a store: of a store that agrees with plain lists they are these lists; of a sound store they agree
 -- with it. Assumes nothing.
-use mathlib.Core.Path.{_≡_, refl, sym, ap, ap₂, _∙_, subst}
-use mathlib.Core.Logic.{_≢_}
-use mathlib.Core.Bool.{Bool, true, false, _&&_}
+use mathlib.Core.Path.{_≡_, refl, sym, ap, _∙_, subst}
+use mathlib.Core.Bool.{true, false}
 use mathlib.Core.List.{List, [], _∷_, _++_}
-use Prim.Native.Nat.{ℕ, zero, suc, _+_, _-_, _≤_, _<_}
+use Prim.Native.Nat.{ℕ, zero, suc, _-_, _≤_, _<_}
 use native.Mathlib.Omega.{arith}
 use lib.ListN.{length, getD, length-append, List·getD-append}
 use lib.Seq.{getD-append-seam, ext-getD}
-use lib.Dec.{leb}
-use borrow.Author.Tests.{leb-true}
 use Rattle.store.specs.declared.Counters.{Counters}
-use Rattle.store.specs.Triple.{known, permitted}
-use Rattle.store.specs.Tables.{Tables, fits, maxReclaims, resourceCapacity, statementCapacity, textCapacity, tripleAt}
+use Rattle.store.specs.Triple.{known}
+use Rattle.store.specs.Tables.{Tables, maxReclaims, resourceCapacity, statementCapacity, textCapacity, tripleAt}
 use Rattle.store.specs.Values.{noTriple}
 use Rattle.store.specs.Model.{Entry, Model, Capacities, entry, nameOf}
 use Rattle.store.specs.Walk.{entryAt}
@@ -20,7 +17,7 @@ use Rattle.store.specs.Dictionary.{Named, nameAt}
 use Rattle.store.specs.Soundness.{Sound}
 use Rattle.store.specs.History.{Store, store, capacitiesOf}
 use Rattle.store.specs.Claims.{entriesUpTo, namesUpTo, statementsIn, namesIn, listsOf, Holds}
-use Rattle.store.proofs.Tests.{upto, and-l, and-r}
+use Rattle.store.proofs.Tests.{upto, fits-parts}
 use Rattle.store.proofs.Chains.{entry-known}
 use Rattle.store.proofs.Represented.{Agreeing, totals-agree, standing-none}
 use Rattle.store.proofs.StatementsAgree.{permitted-agrees}
@@ -112,19 +109,15 @@ module _ (c : Counters) (m : Tables) (S : Sound c m) where
     room-resources = refl;
     room-statements = refl;
     room-text = refl;
-    in-resources = leb-true (c .resources) (resourceCapacity m) (and-l _ _ bits);
-    in-statements = leb-true (c .statements) (statementCapacity m) (and-l _ _
-        (and-r (leb (c .resources) (resourceCapacity m)) _ bits));
-    in-text = leb-true (c .text) (textCapacity m) (and-l _ _
-        (and-r (leb (c .statements) (statementCapacity m)) _ (and-r (leb (c .resources) (resourceCapacity m)) _ bits)));
-    in-generation = leb-true (c .generation) maxReclaims (and-r (leb (c .text) (textCapacity m)) _
-        (and-r (leb (c .statements) (statementCapacity m)) _ (and-r (leb (c .resources) (resourceCapacity m)) _ bits)));
+    in-resources = within .0;
+    in-statements = within .1;
+    in-text = within .2;
+    in-generation = within .3;
   }
     where
-      bits : leb (c .resources) (resourceCapacity m)
-          && (leb (c .statements) (statementCapacity m)
-          && (leb (c .text) (textCapacity m) && leb (c .generation) maxReclaims)) ≡ true
-      bits = unfold fits in (S .capacity)
+      within : (c .resources ≤ resourceCapacity m) × (c .statements ≤ statementCapacity m) × (c .text ≤ textCapacity m)
+          × (c .generation ≤ maxReclaims)
+      within = fits-parts c m (S .capacity)
 
   spo-at : (i : ℕ) → i < c .statements → (entry (statementsIn here) i) .spo ≡ tripleAt (m .statements) i
   spo-at i h = unfold entryAt in (ap (λ (e : Entry). e .spo) (entries-at (m .statements) (c .statements) i h))

@@ -5,17 +5,17 @@ use mathlib.Core.Logic.{_≢_}
 use mathlib.Core.Bool.{true, false}
 use mathlib.Core.List.{List, [], _∷_, _++_}
 use mathlib.Core.Option.{Option, none, some}
-use Prim.Native.Nat.{ℕ, suc, _≤_, _<_}
+use Prim.Native.Nat.{ℕ, suc, _<_}
 use native.Mathlib.Omega.{arith}
-use lib.Dec.{eqb, leb, ltb}
-use borrow.Author.Tests.{eq-eqb, ne-eqb, leb-true, le-leb, lt-ltb, ltb-true, ltb-false}
+use lib.Dec.{eqb, ltb}
+use borrow.Author.Tests.{eq-eqb, ne-eqb, lt-ltb, ltb-true, ltb-false}
 use Rattle.store.specs.declared.Counters.{Counters}
 use Rattle.store.specs.declared.ScanCursor.{ScanCursor}
 use Rattle.store.specs.declared.Refusal.{Refusal}
 use Rattle.store.specs.declared.Refusal.the-variants.{Capacity, Damaged, ReclaimLimit}
 use Rattle.store.specs.declared.Reclaimed.{Reclaimed}
 use Rattle.store.specs.declared.Reclaimed.the-variants.{Refused as NotReclaimed}
-use Rattle.store.specs.Tables.{Tables, after, fits, maxReclaims, resourceCapacity, statementCapacity, textCapacity}
+use Rattle.store.specs.Tables.{Tables, after, fits, maxReclaims}
 use Rattle.store.specs.Values.{Values, refusalNumber, scannedValues, reclaimedValues}
 use Rattle.store.specs.Model.{Entry, intern, assert, retract, open′, next, reclaim, byValue, lent, freshModel, unstruck}
 use Rattle.store.specs.Dictionary.{internOf}
@@ -26,36 +26,14 @@ use Rattle.store.specs.Reclaim.{reclaimOf}
 use Rattle.store.specs.Soundness.{Sound}
 use Rattle.store.specs.History.{freshStore, capacitiesOf, callStore}
 use Rattle.store.specs.Claims.{FitsMeans, CapacityFirst, StaleRefused, NumberCounts, UnstruckMeans, ReclaimRefuses}
-use Rattle.store.proofs.Tests.{decide, and-l, and-r}
+use Rattle.store.proofs.Tests.{decide, fits-parts, fits-of}
 use Rattle.store.proofs.Histories.{history-agrees, fresh-agrees}
 use Rattle.store.proofs.Visits.{generation-after}
 
 -- ---- refusal 1
 
 pub fits-means : FitsMeans
-unfolding fits
-fits-means c m = (there, back)
-  where
-    there : fits c m ≡ true
-        → (c .resources ≤ resourceCapacity m) × (c .statements ≤ statementCapacity m) × (c .text ≤ textCapacity m) × (c .generation ≤ 65535)
-    there e =
-        let f = and-r (leb (c .resources) (resourceCapacity m)) _ e in
-        let g = and-r (leb (c .statements) (statementCapacity m)) _ f in (
-          leb-true (c .resources) (resourceCapacity m) (and-l _ _ e),
-          leb-true (c .statements) (statementCapacity m) (and-l _ _ f),
-          leb-true (c .text) (textCapacity m) (and-l _ _ g),
-          leb-true (c .generation) maxReclaims (and-r (leb (c .text) (textCapacity m)) _ g),
-        )
-
-    back : (c .resources ≤ resourceCapacity m) × (c .statements ≤ statementCapacity m) × (c .text ≤ textCapacity m) × (c .generation ≤ 65535)
-        → fits c m ≡ true
-    back h =
-        rw (
-          le-leb (c .resources) (resourceCapacity m) (h .0),
-          le-leb (c .statements) (statementCapacity m) (h .1),
-          le-leb (c .text) (textCapacity m) (h .2),
-          le-leb (c .generation) maxReclaims (h .3),
-        )
+fits-means c m = (fits-parts c m, λ h. fits-of c m (h .0) (h .1) (h .2) (h .3))
 
 pub capacity-first : CapacityFirst
 unfolding callStore internOf assertOf retractOf assertLentOf retractLentOf openOf nextOf reclaimOf
@@ -167,5 +145,5 @@ reclaim-refuses c m m′ a A = record {
         (λ e. decide (ltb (c .generation) maxReclaims)
         (λ g. below e (ltb-true (c .generation) maxReclaims g) n)
         (λ g. same ReclaimLimit
-        (A .limit e (omega (arith, ltb-false (c .generation) maxReclaims g, (fits-means c m .0 e) .3)))))
+        (A .limit e (omega (arith, ltb-false (c .generation) maxReclaims g, (fits-parts c m e) .3)))))
         (λ e. same Capacity (A .capacity e))

@@ -1,39 +1,39 @@
 -- States that agree: a store over tables that hold what plain lists say, cursors and openings one by one, and what the
 -- definitions come to on such a store. Assumes nothing.
-use mathlib.Core.Path.{_≡_, refl, sym, ap, ap₂, _∙_}
+use mathlib.Core.Path.{_≡_, refl, sym, ap, _∙_}
 use mathlib.Core.Logic.{_≢_}
-use mathlib.Core.Bool.{Bool, true, false, cond, _&&_}
-use mathlib.Core.List.{List, [], _∷_, _++_, map}
-use mathlib.Core.Option.{Option, none, some}
-use Prim.Native.Nat.{ℕ, zero, suc, _+_, _*_, _-_, _≤_, _<_}
+use mathlib.Core.Bool.{Bool, true, false, cond}
+use mathlib.Core.List.{List, map}
+use mathlib.Core.Option.{some}
+use Prim.Native.Nat.{ℕ, suc, _≤_, _<_}
 use native.Mathlib.Omega.{arith}
-use lib.ListN.{length, getD, set, length-set}
+use lib.ListN.{length, getD, length-set}
 use lib.Seq.{getD-set-same, getD-set-other}
-use lib.Dec.{eqb, leb, ltb}
-use borrow.Author.Tests.{eqb-true, eqb-false, leb-true, le-leb}
+use lib.Dec.{eqb}
+use borrow.Author.Tests.{eqb-true, eqb-false}
 use Rattle.store.specs.declared.Counters.{Counters}
 use Rattle.store.specs.declared.Position.{Position}
 use Rattle.store.specs.declared.Position.the-variants.{Subject, Predicate, Object}
 use Rattle.store.specs.declared.Chain.{Chain}
 use Rattle.store.specs.declared.Chain.the-variants.{All, By}
 use Rattle.store.specs.declared.Triple.{Triple}
-use Rattle.store.specs.Triple.{at, all3, known, same, below, head0}
+use Rattle.store.specs.Triple.{at, known, same, below, head0}
 use Rattle.store.specs.Tables.{Tables, fits, maxReclaims, resourceCapacity, statementCapacity, textCapacity, termAt}
-use Rattle.store.specs.Tables.{flagAt, tripleAt, countAt}
+use Rattle.store.specs.Tables.{flagAt, tripleAt}
 use Rattle.store.specs.Values.{Values}
-use Rattle.store.specs.Model.{Entry, Listing, Model, Capacities, entry, lookup, mark, onChain, holders, pick}
+use Rattle.store.specs.Model.{Entry, Listing, Model, Capacities, entry, lookup, mark, onChain, holders}
 use Rattle.store.specs.Model.{pickModel, cursorOf, noListing, bytesOf, totals, take-off}
-use Rattle.store.specs.Walk.{entryAt, pickChain, pickable, startOf, linkOf, visitable, walk, Step, foundIn}
+use Rattle.store.specs.Walk.{entryAt, pickChain, pickable, Step, foundIn}
 use Rattle.store.specs.Statement.{seek, countable, locate}
 use Rattle.store.specs.Scan.{chainOk}
 use Rattle.store.specs.Dictionary.{Named}
-use Rattle.store.specs.Soundness.{holding, Linked}
+use Rattle.store.specs.Soundness.{Linked}
 use Rattle.store.specs.History.{Store}
-use Rattle.store.proofs.Tests.{decide, and-l, and-r, and-of, all3-at, known-high, same-at}
+use Rattle.store.proofs.Tests.{decide, fits-of, all3-at, known-high, same-at}
 use Rattle.store.proofs.Falling.{below-cong, head-le, head-passes}
 use Rattle.store.proofs.Words.{triple-at}
-use Rattle.store.proofs.Walks.{asStep, tookIn, found-as, hit-chain}
-use Rattle.store.proofs.Picking.{Bound, pick-cong}
+use Rattle.store.proofs.Walks.{asStep, found-as, hit-chain}
+use Rattle.store.proofs.Picking.{pick-cong}
 use Rattle.store.proofs.Chains.{onWords, pickChain-bound, chain-holding, chain-start, walk-linked}
 use Rattle.store.proofs.Chains.{pickable-linked, countable-linked}
 
@@ -113,12 +113,9 @@ module _ (k : Capacities) (c : Store) (s : Model) (R : Agreeing k c s) where
   stm = c .tables .statements
 
   pub fits-agrees : fits (c .counters) (c .tables) ≡ true
-  unfolding fits
   fits-agrees =
-      and-of _ _ (le-leb r _ (rw (← R .room-resources) (R .in-resources)))
-      (and-of _ _ (le-leb t _ (rw (← R .room-statements) (R .in-statements)))
-      (and-of _ _ (le-leb (c .counters .text) _ (rw (← R .room-text) (R .in-text)))
-      (le-leb (c .counters .generation) maxReclaims (R .in-generation))))
+      fits-of (c .counters) (c .tables) (rw (← R .room-resources) (R .in-resources)) (rw (← R .room-statements) (R .in-statements))
+      (rw (← R .room-text) (R .in-text)) (R .in-generation)
 
   pub totals-agree : c .counters ≡ totals s
   totals-agree =

@@ -12,6 +12,7 @@ use Rattle.store.specs.declared.Chain.{Chain}
 use Rattle.store.specs.declared.Chain.the-variants.{All, By}
 use Rattle.store.specs.declared.Position.the-variants.{Subject, Predicate, Object}
 use Rattle.store.specs.declared.Counters.{Counters}
+use Rattle.store.specs.declared.ScanCursor.{ScanCursor}
 use Rattle.store.specs.declared.Refusal.the-variants.{Malformed}
 use Rattle.store.specs.declared.Lookup.the-variants.{Number as Found, Absent, Refused as NotFound}
 use Rattle.store.specs.Triple.{triple, known, within, same, agrees, permitted, below}
@@ -28,7 +29,7 @@ use Rattle.store.specs.Model.{modelReplies}
 use Rattle.store.specs.Walk.{entryAt, pickChain, pickable, startOf, linkOf, sits, visitable, walk}
 use Rattle.store.specs.Statement.{seek, countable, locate, tallyAt, tally, appendRecord, linkFirst, linkRecord, kinded, asserting}
 use Rattle.store.specs.Statement.{assertOf, counting, retracting, retractOf, assertLentOf, retractLentOf}
-use Rattle.store.specs.Scan.{cursorIn, cursorAt, openOf, chainOk, recordOk, cursorOk, walkFrom, nextOf}
+use Rattle.store.specs.Scan.{cursorIn, openOf, chainOk, recordOk, cursorOk, walkFrom, nextOf}
 use Rattle.store.specs.Dictionary.{compare, nameAt, rank, placeAt, indexPlaceOf, roomFor, bring, insertAt}
 use Rattle.store.specs.Dictionary.{findOf, internAs, internOf}
 use Rattle.store.specs.History.{Store, store, freshStore, capacitiesOf, callStore, storeReplies, storeAfter}
@@ -50,6 +51,10 @@ tot-in g r t b = record { resources = r; statements = t; text = b; generation = 
 
 abbrev tot : ℕ → ℕ → ℕ → Counters
 tot r t b = tot-in 0 r t b
+
+-- a cursor of a store never reclaimed
+abbrev cursorAt : Triple → Chain → ℕ → ScanCursor
+cursorAt x ch n = cursorIn 0 x ch n
 
 -- <r:21> <p:trips> <b:4> <b:7> "A"
 r21 : List ℕ

@@ -1,5 +1,5 @@
--- Boolean tests: a case split with its equation, conjunctions, tests of each position, numbers in range. Assumes
--- nothing.
+-- Boolean tests: a case split with its equation, conjunctions, tests of each position, numbers in range, refusal 1.
+-- Assumes nothing.
 use mathlib.Core.Path.{_≡_, refl, sym, ap, ap₂, _∙_}
 use mathlib.Core.Logic.{_≢_}
 use mathlib.Core.Bool.{Bool, true, false, cond, not, _&&_, _||_, true≢false}
@@ -11,8 +11,9 @@ pub use Rattle.term.proofs.Booleans.{decide, and-l, and-r, and-of}
 use Rattle.store.specs.declared.Position.{Position}
 use Rattle.store.specs.declared.Position.the-variants.{Subject, Predicate, Object}
 use Rattle.store.specs.declared.Triple.{Triple}
+use Rattle.store.specs.declared.Counters.{Counters}
 use Rattle.store.specs.Triple.{at, triple, all3, known, within, same, permitted}
-use Rattle.store.specs.Tables.{off}
+use Rattle.store.specs.Tables.{Tables, off, fits, maxReclaims, resourceCapacity, statementCapacity, textCapacity}
 -- Every law stands on this file, and so on the closed runs: a definition that changes an answer is refused there first.
 use Rattle.store.proofs.Runs as runs
 
@@ -116,3 +117,29 @@ same-is x t e =
     ap (λ (n : ℕ). triple n (t .predicate .0) (t .object .0)) (same-at x t e Subject)
     ∙ ap (λ (n : ℕ). triple (x .subject .0) n (t .object .0)) (same-at x t e Predicate)
     ∙ ap (λ (n : ℕ). triple (x .subject .0) (x .predicate .0) n) (same-at x t e Object)
+
+-- ---- refusal 1, test by test
+
+module _ (c : Counters) (m : Tables) where
+  pub fits-parts : fits c m ≡ true
+      → (c .resources ≤ resourceCapacity m) × (c .statements ≤ statementCapacity m) × (c .text ≤ textCapacity m) × (c .generation ≤ maxReclaims)
+  unfolding fits
+  fits-parts e =
+      let f = and-r (leb (c .resources) (resourceCapacity m)) _ e in
+      let g = and-r (leb (c .statements) (statementCapacity m)) _ f in (
+        leb-true (c .resources) (resourceCapacity m) (and-l _ _ e),
+        leb-true (c .statements) (statementCapacity m) (and-l _ _ f),
+        leb-true (c .text) (textCapacity m) (and-l _ _ g),
+        leb-true (c .generation) maxReclaims (and-r (leb (c .text) (textCapacity m)) _ g),
+      )
+
+  pub fits-of : c .resources ≤ resourceCapacity m → c .statements ≤ statementCapacity m → c .text ≤ textCapacity m
+      → c .generation ≤ maxReclaims → fits c m ≡ true
+  unfolding fits
+  fits-of a b d g =
+      rw (
+        le-leb (c .resources) (resourceCapacity m) a,
+        le-leb (c .statements) (statementCapacity m) b,
+        le-leb (c .text) (textCapacity m) d,
+        le-leb (c .generation) maxReclaims g,
+      )

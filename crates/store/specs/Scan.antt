@@ -22,12 +22,9 @@ use Rattle.store.specs.Walk.{entryAt, pickChain, pickable, startOf, link
 
 -- ---- open
 
--- a cursor of the generation g; one of a store never reclaimed
+-- a cursor of the generation g
 abbrev pub cursorIn : ℕ → Triple → Chain → ℕ → ScanCursor
 cursorIn g x ch n = record { pattern = x; chain = ch; next = record { 0 = n }; generation = g }
-
-abbrev pub cursorAt : Triple → Chain → ℕ → ScanCursor
-cursorAt x ch n = cursorIn 0 x ch n
 
 -- Open: 1; 4 if a number exceeds R; 9 at the pick; else the pattern, the chain picked, its first record and the number of reclaims
 unfoldable pub openOf : Counters → Tables → Triple → ScanOpened

@@ -6,9 +6,9 @@ use Prim.Native.Nat.{_*_, _≤_, _<_}
 use native.Mathlib.Omega.{arith}
 use lib.ListN.{length}
 use lib.Dec.{leb}
-use borrow.Author.Tests.{leb-true, le-leb, lt-leb}
+use borrow.Author.Tests.{le-leb, lt-leb}
 use Rattle.store.specs.declared.Counters.{Counters}
-use Rattle.store.proofs.Tests.{and-l, and-r}
+use Rattle.store.proofs.Tests.{fits-parts}
 use Rattle.store.specs.Tables.{Tables, fits, resourceCapacity, statementCapacity, textCapacity, maxResources, maxStatements, maxText, maxReclaims, resourceWords, statementWords}
 
 -- ---- refusal 1
@@ -46,19 +46,16 @@ module _ (c : Counters) (m : Tables) where
     pub in-text : c .text ≤ length (m .text)
 
   pub fits-room : fits c m ≡ true → Room
-  unfolding fits
   fits-room e =
-      let a = leb-true (c .resources) (resourceCapacity m) (and-l _ _ e) in
-      let f = and-r (leb (c .resources) (resourceCapacity m)) _ e in
-      let b = leb-true (c .statements) (statementCapacity m) (and-l _ _ f) in
-      let g = and-r (leb (c .statements) (statementCapacity m)) _ f in
-      let d = leb-true (c .text) (textCapacity m) (and-l _ _ g) in
-      let n = leb-true (c .generation) maxReclaims (and-r (leb (c .text) (textCapacity m)) _ g) in
+      let h = fits-parts c m e in
+      let a = h .0 in
+      let b = h .1 in
+      let d = h .2 in
       record {
         few-resources = omega arith;
         few-statements = omega arith;
         few-bytes = omega arith;
-        few-reclaims = n;
+        few-reclaims = h .3;
         in-resources = omega arith;
         in-statements = omega arith;
         in-index = omega arith;
