@@ -32,7 +32,7 @@ use store::StatementId;
 use store::refusal_number;
 ghost use mathlib.Core.Path.{_≡_};
 ghost use Rattle.store.specs.Tables.{tables};
-ghost use Rattle.store.specs.Triple.{triple};
+ghost use Rattle.store.specs.Shared.{triple};
 ghost use Rattle.capi_calls.specs.Words.{done, wrote};
 ghost use Rattle.capi_calls.specs.Calls.{kindCall, CheckCall, FindCall, nameCall, statementCall, lineCall, retractCall, openCall, nextCall, assertCall, EnterCall};
 

@@ -18,9 +18,9 @@ use Rattle.graph.specs.declared.Progress.{Progress}
 use Rattle.graph.specs.declared.Progress.the-variants.{Start, Within, End}
 use Rattle.graph.specs.declared.QueryCursor.{QueryCursor}
 use Rattle.graph.specs.declared.QueryOpened.{QueryOpened}
-use Rattle.graph.specs.Query.{maxPatterns, variables, Bindings, level, noLevel}
-use Rattle.graph.specs.Query.{Place, start, inside, finish, cursorAt, Answer, refused, found, ended, spent, packed, answerOf, placeOf}
-use Rattle.graph.specs.Query.{wordsOk, openQueryOf, stale, nextQueryOf}
+use Rattle.graph.specs.Place.{level, noLevel, Place, start, inside, finish, cursorAt, placeOf}
+use Rattle.graph.specs.Words.{maxPatterns, variables, Bindings, wordsOk}
+use Rattle.graph.specs.Query.{Answer, refused, found, ended, spent, packed, answerOf, openQueryOf, stale, nextQueryOf}
 use Rattle.graph.specs.Values.{queryValues}
 use Rattle.graph.proofs.Laws.{written-length}
 use Rattle.integrity.proofs.Ranges.{all-of}

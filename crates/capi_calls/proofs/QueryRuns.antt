@@ -6,16 +6,16 @@ use Prim.Native.Nat.{ℕ, suc, _+_, _-_}
 use lib.ListN.{replicate}
 use Rattle.store.specs.declared.Chain.the-variants.{All, By}
 use Rattle.store.specs.declared.Position.the-variants.{Object}
-use Rattle.store.specs.Triple.{known}
+use Rattle.store.specs.Shared.{known, better, pick}
 use Rattle.store.specs.Tables.{Tables, tables, fits, termAt, nextAt, flagAt, tripleAt, firstAt, countAt}
-use Rattle.store.specs.Model.{better, pick}
 use Rattle.store.specs.Walk.{pickChain, pickable, startOf, linkOf, sits, visitable}
 use Rattle.store.specs.Scan.{chainOk, recordOk}
 use Rattle.graph.specs.declared.Progress.the-variants.{Within}
-use Rattle.graph.specs.Query.{patternsOf, wordOk, allOk, wordsOk, valueOf, under, bind, match, level, noLevel, recordAt, past, struck}
+use Rattle.graph.specs.Query.{bind, match, recordAt, past, struck}
+use Rattle.graph.specs.Place.{level, noLevel, levelsOf, insideOf, placeAs, written, cursorAt}
+use Rattle.graph.specs.Words.{patternsOf, wordOk, allOk, wordsOk, valueOf, under, maxPatterns, variables}
 use Rattle.graph.specs.Query.{intact, anyStruck, pruned, settle, remains, nextPattern, binds, asked, enteredOk, placeOk, enter, hit}
-use Rattle.graph.specs.Query.{tried, visit, walk, begun, resume, answerOf, levelsOf, insideOf, placeAs, written, cursorAt, openQueryOf}
-use Rattle.graph.specs.Query.{maxPatterns, variables, packed, stale, nextQueryOf}
+use Rattle.graph.specs.Query.{tried, visit, walk, begun, resume, answerOf, openQueryOf, packed, stale, nextQueryOf}
 use Rattle.integrity.specs.Tests.{allBelow}
 use Rattle.capi_calls.specs.Words.{lent}
 use Rattle.capi_calls.specs.QueryWords.{queryCursorWords, queryReplyWords, queryCursorOf, levelsFrom, spelt, nextQueryFrom, levelWords, numbersFrom}

@@ -17,8 +17,9 @@ use Rattle.store.proofs.Tests.{decide, cond-all}
 use Rattle.graph.specs.declared.Level.{Level}
 use Rattle.graph.specs.declared.QueryCursor.{QueryCursor}
 use Rattle.graph.specs.declared.QueryOpened.{QueryOpened}
-use Rattle.graph.specs.Query.{maxPatterns, noLevel, wordsOk, startCursor, Place, start, inside, finish, cursorAt, Answer, refused, found, ended, spent}
-use Rattle.graph.specs.Query.{packed, answerOf, placeOf, openQueryOf, stale, nextQueryOf}
+use Rattle.graph.specs.Query.{Answer, refused, found, ended, spent, packed, answerOf, openQueryOf, stale, nextQueryOf}
+use Rattle.graph.specs.Place.{noLevel, startCursor, Place, start, inside, finish, cursorAt, placeOf}
+use Rattle.graph.specs.Words.{maxPatterns, wordsOk}
 use Rattle.graph.proofs.Laws.{written-past}
 use Rattle.capi_calls.specs.Words.{counterWords, tooShort, countersOf, chainWord, done, lent}
 use Rattle.capi_calls.specs.QueryWords.{queryCursorWords, queryReplyWords, progressWord, queryCursorOf, spelt, misspelt, nextQueryFrom}

@@ -8,10 +8,9 @@ use Rattle.store.specs.declared.Interned.the-variants.{Number as Id}
 use Rattle.store.specs.declared.Lookup.the-variants.{Number}
 use Rattle.store.specs.declared.Reclaimed.the-variants.{Refused as NotReclaimed}
 use Rattle.store.specs.declared.Refusal.the-variants.{Capacity, Damaged}
-use Rattle.store.specs.Triple.{triple, known, within, same, agrees, permitted, below}
+use Rattle.store.specs.Shared.{triple, known, within, same, agrees, permitted, below, matches, pick, better}
 use Rattle.store.specs.Tables.{Tables, tables, fits, termAt, nextAt, flagAt, tripleAt, firstAt, countAt, offsetAt, kindAt, liveAt}
 use Rattle.store.specs.Walk.{entryAt, pickChain, pickable, startOf, linkOf, sits, visitable, walk}
-use Rattle.store.specs.Model.{matches, pick, better}
 use Rattle.store.specs.Statement.{seek, countable, locate, tallyAt, tally, counting, appendRecord, linkFirst, linkRecord, kinded, asserting, assertOf}
 use Rattle.store.specs.Statement.{retracting, retractOf}
 use Rattle.store.specs.Scan.{openOf, chainOk, recordOk, cursorOk, walkFrom, nextOf}

@@ -7,9 +7,8 @@ use lib.ListN.{replicate}
 use Rattle.term.specs.Bytes.{among, iriByte, textByte, pairByte, firstByte, labelByte, letter, alnum, eqBytes}
 use Rattle.term.specs.Scanner.{stepOf, runOf, wholeOf, isBad, firstKindOf, kindOf}
 use Rattle.term.specs.Canonical.{stringEnding, writesString, canonical}
-use Rattle.store.specs.Triple.{below}
+use Rattle.store.specs.Shared.{below, wellFormed}
 use Rattle.store.specs.Tables.{Tables, tables, resourceWords, fits, offsetAt}
-use Rattle.store.specs.Model.{wellFormed}
 use Rattle.store.specs.Dictionary.{compare, nameAt, rank, placeAt, indexPlaceOf, findOf, roomFor, bring, insertAt, internAs, internOf}
 use Rattle.ntriples.specs.Grammar.{white, commentByte}
 use Rattle.ntriples.specs.Reader.{permitted, isDot, opens, dotted, afterOf, enterOf, gapOf, goesOnOf, leaveOf, advanceOf, placeOf}

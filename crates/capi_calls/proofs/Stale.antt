@@ -11,13 +11,15 @@ use borrow.Author.Tests.{eq-eqb, eqb-true, eqb-false, le-ltb}
 use Rattle.store.specs.declared.Counters.{Counters}
 use Rattle.store.specs.declared.Reclaimed.{Reclaimed}
 use Rattle.store.specs.declared.Reclaimed.the-variants.{Done, Refused as NotReclaimed}
-use Rattle.store.specs.Tables.{Tables, after, word, fits, maxReclaims}
+use Rattle.store.specs.Tables.{Tables, after, word, fits}
+use Rattle.store.specs.Shared.{maxReclaims}
 use Rattle.store.specs.Values.{Values, refusalNumber, scannedValues, reclaimedValues}
 use Rattle.store.specs.Reclaim.{reclaimOf}
 use Rattle.store.proofs.Tests.{decide}
 use Rattle.store.proofs.Limits.{stale-when, reclaim-done, reclaim-number}
 use Rattle.store.proofs.Theorems as store-claims
-use Rattle.graph.specs.Query.{wordsOk, openQueryOf, packed}
+use Rattle.graph.specs.Query.{openQueryOf, packed}
+use Rattle.graph.specs.Words.{wordsOk}
 use Rattle.graph.specs.Values.{queryValues}
 use Rattle.graph.proofs.Theorems as graph-claims
 use Rattle.capi_calls.specs.Words.{counterWords, cursorWords, countersOf, cursorOf, misread, nextFrom, reclaimedAs}

@@ -35,7 +35,8 @@ use Rattle.store.specs.Values.{refusalNumber}
 use Rattle.store.proofs.Tests.{decide}
 use Rattle.graph.specs.declared.QueryOpened.{QueryOpened}
 use Rattle.graph.specs.declared.QueryAnswer.{QueryAnswer}
-use Rattle.graph.specs.Query.{Answer, refused, found, ended, spent, packed, answerOf, placeOf, openQueryOf, stale, nextQueryOf}
+use Rattle.graph.specs.Query.{Answer, refused, found, ended, spent, packed, answerOf, openQueryOf, stale, nextQueryOf}
+use Rattle.graph.specs.Place.{placeOf}
 use Rattle.graph.specs.Values.{queryOpenedValues}
 use borrow.Author.Tests.{ne-eqb, ltb-true, ltb-false}
 use Rattle.store.proofs.Cases.{assert-refused, retract-refused}

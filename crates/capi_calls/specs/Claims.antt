@@ -17,7 +17,7 @@ use Rattle.store.specs.declared.Reclaimed.the-variants.{Done}
 use Rattle.store.specs.Tables.{Tables, word, fits, after}
 use Rattle.store.specs.Soundness.{Sound}
 use Rattle.store.specs.Reclaim.{reclaimOf}
-use Rattle.graph.specs.Query.{wordsOk}
+use Rattle.graph.specs.Words.{wordsOk}
 use Rattle.capi_calls.specs.Words.{counterWords, cursorWords, tooShort, countersOf, withCounters, cursorOf, withCursor, chainOf, chainWord, done, wrote}
 use Rattle.capi_calls.specs.Calls.{FindCall, nameCall, statementCall, retractCall, openCall, nextCall, assertCall, EnterCall, ReclaimCall}
 use Rattle.capi_calls.specs.QueryWords.{queryCursorWords, queryReplyWords}

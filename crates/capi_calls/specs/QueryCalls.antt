@@ -13,7 +13,8 @@ use Rattle.store.specs.Tables.{Tables, word}
 use Rattle.graph.specs.declared.QueryCursor.{QueryCursor}
 use Rattle.graph.specs.declared.QueryOpened.{QueryOpened}
 use Rattle.graph.specs.declared.QueryAnswer.{QueryAnswer}
-use Rattle.graph.specs.Query.{maxPatterns, openQueryOf}
+use Rattle.graph.specs.Query.{openQueryOf}
+use Rattle.graph.specs.Words.{maxPatterns}
 use Rattle.graph.specs.Values.{queryOpenedValues, queryValues}
 use Rattle.capi_calls.specs.Words.{counterWords, countersOf, tooShort, done, lent}
 use Rattle.capi_calls.specs.QueryWords.{queryCursorWords, queryReplyWords, queryCursorOf, spelt, nextQueryFrom, withQueryCursor, withQueryAnswer}

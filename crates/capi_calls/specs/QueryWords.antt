@@ -18,7 +18,9 @@ use Rattle.graph.specs.declared.QueryCursor.{QueryCursor}
 use Rattle.graph.specs.declared.Opening.{Opening}
 use Rattle.graph.specs.declared.Opening.the-variants.{Opened, Refused as NotOpened}
 use Rattle.graph.specs.declared.QueryAnswer.{QueryAnswer}
-use Rattle.graph.specs.Query.{maxPatterns, variables, Bindings, boundTo, level, noLevel, refused, packed, openQueryOf, nextQueryOf}
+use Rattle.graph.specs.Query.{refused, packed, openQueryOf, nextQueryOf}
+use Rattle.graph.specs.Place.{level, noLevel}
+use Rattle.graph.specs.Words.{maxPatterns, variables, Bindings, boundTo}
 use Rattle.graph.specs.Values.{queryValues}
 use Rattle.integrity.specs.Tests.{allBelow}
 use Rattle.capi_calls.specs.Words.{chainOf, chainWord}

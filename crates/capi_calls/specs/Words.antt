@@ -21,7 +21,7 @@ use Rattle.store.specs.declared.Refusal.the-variants.{Capacity, BadCursor, Stal
 use Rattle.store.specs.declared.Asserted.{Asserted}
 use Rattle.store.specs.declared.Interned.{Interned}
 use Rattle.store.specs.declared.Reclaimed.{Reclaimed}
-use Rattle.store.specs.Triple.{triple}
+use Rattle.store.specs.Shared.{triple}
 use Rattle.store.specs.Scan.{nextOf}
 use Rattle.store.specs.declared.Position.the-variants.{Subject, Predicate, Object}
 use Rattle.store.specs.declared.Chain.{Chain}

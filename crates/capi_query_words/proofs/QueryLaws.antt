@@ -8,7 +8,8 @@ use lib.ListN.{getD, set, replicate}
 use lib.Seq.{sets}
 use Rattle.store.specs.Tables.{word}
 use Rattle.graph.specs.declared.Level.{Level}
-use Rattle.graph.specs.Query.{maxPatterns, variables, Bindings, boundTo, level, noLevel}
+use Rattle.graph.specs.Place.{level, noLevel}
+use Rattle.graph.specs.Words.{maxPatterns, variables, Bindings, boundTo}
 use Rattle.capi_calls.specs.Words.{chainOf, chainWord}
 use Rattle.integrity.specs.Tests.{allBelow}
 use Rattle.capi_calls.specs.QueryWords.{levelAt, levelsFrom, chainSpelt, slotsOf, spelt}

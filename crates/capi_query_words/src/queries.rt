@@ -23,7 +23,7 @@ ghost use mathlib.Core.Path.{_≡_};
 ghost use Prim.Native.Nat.{_≤_};
 ghost use lib.ListN.{length};
 ghost use lib.Seq.{sets};
-ghost use Rattle.graph.specs.Query.{maxPatterns, variables};
+ghost use Rattle.graph.specs.Words.{maxPatterns, variables};
 ghost use Rattle.graph.specs.Values.{openingRefusal, stepRefusal, stepStatus};
 ghost use Rattle.integrity.specs.Tests.{allBelow};
 ghost use Rattle.capi_calls.specs.QueryWords.{queryCursorWords, queryReplyWords, progressOf, progressWord, levelsFrom, queryCursorOf};

@@ -12,7 +12,7 @@ ghost use mathlib.Core.Path.{_≡_};
 ghost use Prim.Native.Nat.{_≤_};
 ghost use lib.ListN.{length};
 ghost use Rattle.store.specs.Tables.{tables};
-ghost use Rattle.store.specs.Triple.{triple};
+ghost use Rattle.store.specs.Shared.{triple};
 ghost use Rattle.capi_calls.specs.Words.{counterWords, cursorWords, countersOf, withCounters, cursorOf, withCursor, nextFrom};
 
 // Three numbers as a triple or a pattern.

@@ -12,9 +12,8 @@ use Rattle.store.specs.declared.Position.the-variants.{Subject, Predicate, Obje
 use Rattle.store.specs.declared.Chain.{Chain}
 use Rattle.store.specs.declared.Chain.the-variants.{All, By}
 use Rattle.store.specs.declared.Triple.{Triple}
-use Rattle.store.specs.Triple.{at}
+use Rattle.store.specs.Shared.{at, better, pick}
 use Rattle.store.specs.Tables.{resourceWords, firstAt, countAt}
-use Rattle.store.specs.Model.{better, pick}
 use Rattle.store.specs.Walk.{pickChain, pickable, startOf}
 use Rattle.store.proofs.Tests.{and-l, and-r, all3-at}
 use Rattle.chain.specs.Chains.{PatternHeld, bound}

@@ -8,7 +8,7 @@ use Rattle.store.specs.declared.Position.{Position}
 use Rattle.store.specs.declared.Chain.{Chain}
 use Rattle.store.specs.declared.Chain.the-variants.{All, By}
 use Rattle.store.specs.declared.Triple.{Triple}
-use Rattle.store.specs.Triple.{at}
+use Rattle.store.specs.Shared.{at}
 use Rattle.store.specs.Tables.{resourceWords}
 
 -- each resource that the pattern binds lies in the table

@@ -6,7 +6,7 @@ ghost use mathlib.Core.Path.{_≡_};
 ghost use mathlib.Core.Bool.{_||_};
 ghost use Prim.Native.Nat.{ℕ};
 ghost use lib.Dec.{eqb};
-ghost use Rattle.store.specs.Triple.{at, within, same, agrees};
+ghost use Rattle.store.specs.Shared.{at, within, same, agrees};
 
 // The number at a position.
 pub fn at(p: Position, x: Triple) -> u32

@@ -9,7 +9,7 @@ use lib.Dec.{leb}
 use borrow.Author.Tests.{leb-true}
 use Rattle.store.specs.declared.Chain.{Chain}
 use Rattle.store.specs.declared.Triple.{Triple}
-use Rattle.store.specs.Triple.{known}
+use Rattle.store.specs.Shared.{known}
 use Rattle.store.specs.Tables.{flagAt, tripleAt}
 use Rattle.store.specs.Walk.{linkOf, sits, visitable, walk, Step, found, ended, spent, afterVisit, foundIn}
 use Rattle.store.specs.Scan.{recordOk}

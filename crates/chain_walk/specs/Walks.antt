@@ -5,9 +5,8 @@ use mathlib.Core.Option.{Option, none, some}
 use Prim.Native.Nat.{ℕ}
 use Rattle.store.specs.declared.Chain.{Chain}
 use Rattle.store.specs.declared.Triple.{Triple}
-use Rattle.store.specs.Triple.{same}
+use Rattle.store.specs.Shared.{same, matches}
 use Rattle.store.specs.Tables.{tripleAt}
-use Rattle.store.specs.Model.{matches}
 use Rattle.store.specs.Walk.{entryAt, linkOf, visitable, Step, found, ended, spent}
 use Rattle.chain_walk.specs.declared.walk.Sought.{Sought}
 use Rattle.chain_walk.specs.declared.walk.Sought.the-variants.{Same, LiveMatch}

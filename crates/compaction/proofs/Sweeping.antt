@@ -10,7 +10,8 @@ use native.Mathlib.Numerals.{add-one}
 use borrow.Author.Tests.{eq-eqb, ne-eqb, not-true, not-false}
 use Rattle.store.specs.declared.Counters.{Counters}
 use Rattle.store.specs.declared.Reclaimed.the-variants.{Done}
-use Rattle.store.specs.Tables.{Tables, tables, fits, maxReclaims, maxStatements, flagAt, tripleAt}
+use Rattle.store.specs.Tables.{Tables, tables, fits, flagAt, tripleAt}
+use Rattle.store.specs.Shared.{maxReclaims, maxStatements}
 use Rattle.store.specs.Statement.{appendRecord, linkRecord}
 use Rattle.store.specs.Soundness.{Linked, Sound}
 use Rattle.store.specs.Reclaim.{Swept, swept, unlinked, sweepOne, sweep, blanked, sweptOf, reclaimedCounters, ReclaimAnswer}

@@ -21,9 +21,9 @@ use Rattle.store.specs.declared.Lookup.{Lookup}
 use Rattle.store.specs.declared.Lookup.the-variants.{Number, Absent, Refused as NotFound}
 use Rattle.store.specs.declared.Interned.{Interned}
 use Rattle.store.specs.declared.Interned.the-variants.{Number as Id, Refused as NotInterned}
-use Rattle.store.specs.Tables.{Tables, tables, after, fits, word, resourceCapacity, statementCapacity, textCapacity, maxResources, maxReclaims, resourceWords}
+use Rattle.store.specs.Tables.{Tables, tables, after, fits, word, resourceCapacity, statementCapacity, textCapacity, resourceWords}
+use Rattle.store.specs.Shared.{maxResources, maxReclaims, wellFormed}
 use Rattle.store.specs.Reading.{inRange}
-use Rattle.store.specs.Model.{wellFormed}
 use Rattle.store.specs.Dictionary.{Named, PlaceWithin, indexPlaceOf, foundAs, findOf, FindAnswer, roomFor, oneNameMore, freshRecord, withName, internAs, internOf, InternWrites, InternAnswer}
 use Rattle.store.proofs.Tests.{decide, and-l, and-r}
 use Rattle.store.proofs.Form.{form-clean, form-short, canonical-formed, canonical-kind}

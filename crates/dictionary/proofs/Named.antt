@@ -14,9 +14,9 @@ use Rattle.term.proofs.Booleans.{eqBytes-not}
 use Rattle.store.specs.declared.Counters.{Counters}
 use Rattle.store.specs.declared.IndexPlace.{IndexPlace}
 use Rattle.store.specs.declared.IndexPlace.the-variants.{At, Before, Torn}
-use Rattle.store.specs.Tables.{Tables, word, offsetAt, maxResources}
+use Rattle.store.specs.Tables.{Tables, word, offsetAt}
+use Rattle.store.specs.Shared.{maxResources, nameOf, bytesOf}
 use Rattle.store.specs.Reading.{inRange}
-use Rattle.store.specs.Model.{nameOf, bytesOf}
 use Rattle.store.specs.Dictionary.{Ordering, less, equal, more, compare, isLess, Named, nameAt, rank, placeAt, indexPlaceOf}
 use Rattle.store.proofs.Tests.{decide, three, and-of}
 use Rattle.store.proofs.Order.{flip, compare-less as order-less, compare-more as order-more, compare-tail, compare-refl, compare-flip}

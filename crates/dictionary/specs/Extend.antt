@@ -5,7 +5,8 @@ use Prim.Native.Nat.{ℕ, suc, _+_, _*_, _-_, _≤_, _<_}
 use lib.ListN.{length}
 use lib.Seq.{sets}
 use Rattle.store.specs.declared.Counters.{Counters}
-use Rattle.store.specs.Tables.{resourceWords, maxResources}
+use Rattle.store.specs.Tables.{resourceWords}
+use Rattle.store.specs.Shared.{maxResources}
 use Rattle.store.specs.Dictionary.{freshRecord, insertAt}
 
 -- room for one name more, at position k of the index

@@ -8,7 +8,8 @@ use lib.Dec.{eqb, ltb}
 use Rattle.store.specs.declared.Counters.{Counters}
 use Rattle.store.specs.declared.IndexPlace.{IndexPlace}
 use Rattle.store.specs.declared.IndexPlace.the-variants.{At, Before, Torn}
-use Rattle.store.specs.Tables.{word, offsetAt, resourceWords, maxResources}
+use Rattle.store.specs.Tables.{word, offsetAt, resourceWords}
+use Rattle.store.specs.Shared.{maxResources}
 use Rattle.store.specs.Reading.{inRange}
 use Rattle.dictionary.specs.declared.Compared.{Compared}
 use Rattle.dictionary.specs.declared.Compared.the-variants.{Less, Same, More, Cut}

@@ -6,7 +6,8 @@ ghost use Prim.Native.Nat.{ℕ, suc, _+_, _-_, _*_, _≤_, _<_};
 ghost use lib.ListN.{length};
 ghost use lib.Seq.{sets};
 ghost use Rattle.term.specs.Grammar.{nameLimit};
-ghost use Rattle.store.specs.Tables.{resourceWords, maxResources, maxText};
+ghost use Rattle.store.specs.Tables.{resourceWords};
+ghost use Rattle.store.specs.Shared.{maxResources, maxText};
 ghost use Rattle.store.specs.Dictionary.{oneNameMore, freshRecord, bring, insertAt};
 ghost use Rattle.dictionary.specs.Extend.{Roomy, Extended};
 

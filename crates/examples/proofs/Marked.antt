@@ -10,15 +10,16 @@ use borrow.Author.Tests.{eqb-true}
 use Rattle.term.specs.Bytes.{among, letter, alnum, iriByte, textByte, pairByte, firstByte, labelByte, eqBytes}
 use Rattle.term.specs.Scanner.{kindOf, firstKindOf, runOf, stepOf, wholeOf}
 use Rattle.term.specs.Canonical.{writesString, canonical}
-use Rattle.store.specs.Triple.{known, within, same, agrees, permitted, below}
+use Rattle.store.specs.Shared.{known, within, same, agrees, permitted, below, wellFormed, matches, better, pick}
 use Rattle.store.specs.Tables.{fits, termAt, nextAt, flagAt, tripleAt, firstAt, countAt, offsetAt, kindAt, liveAt}
-use Rattle.store.specs.Model.{wellFormed, matches, better, pick}
 use Rattle.store.specs.Walk.{entryAt, pickChain, pickable, startOf, linkOf, sits, visitable, walk as walkChain}
 use Rattle.store.specs.Statement.{seek, countable, locate, tallyAt, tally, counting, appendRecord, linkFirst, linkRecord, kinded, asserting, assertOf, retracting, retractOf}
 use Rattle.store.specs.Scan.{openOf, chainOk, recordOk, cursorOk, walkFrom, nextOf}
 use Rattle.store.specs.Dictionary.{compare, nameAt, rank, placeAt, indexPlaceOf, roomFor, bring, insertAt, internAs, internOf}
 use Rattle.store.specs.History.{Store, callStore, storeAfter}
-use Rattle.graph.specs.Query.{patternsOf, wordOk, allOk, wordsOk, valueOf, under, bind, match, recordAt, past, struck, intact, anyStruck, pruned, settle, remains, nextPattern, binds, asked, enteredOk, placeOk, enter, hit, tried, visit, walk, begun, resume, answerOf, levelsOf, insideOf, placeAs, written, cursorAt, packed, stale, nextQueryOf}
+use Rattle.graph.specs.Query.{bind, match, recordAt, past, struck, intact, anyStruck, pruned, settle, remains, nextPattern, binds, asked, enteredOk, placeOk, enter, hit, tried, visit, walk, begun, resume, answerOf, packed, stale, nextQueryOf}
+use Rattle.graph.specs.Place.{levelsOf, insideOf, placeAs, written, cursorAt}
+use Rattle.graph.specs.Words.{patternsOf, wordOk, allOk, wordsOk, valueOf, under}
 use Rattle.store.proofs.Tests.{and-l, and-r}
 use Rattle.examples.specs.Marked.{r21, trips, b4, b7, sampleLoad, sampleTables, sample, Row, readOn, solveOn, answer, markedRows, Answered, Marked}
 

@@ -8,7 +8,7 @@ use lib.ListN.{length, getD, replicate}
 use lib.Dec.{eqb}
 use Rattle.store.specs.declared.Triple.{Triple}
 use Rattle.store.specs.declared.Position.the-variants.{Subject, Predicate, Object}
-use Rattle.store.specs.Triple.{triple, prev}
+use Rattle.store.specs.Shared.{triple, prev}
 use Rattle.store.specs.Tables.{Tables, tables, nextAt, resourceWords, statementWords}
 use Rattle.store.specs.Values.{Values}
 use Rattle.store.specs.Model.{Call, intern, assert, retract, open′, next, byValue}
@@ -17,7 +17,9 @@ use Rattle.graph.specs.declared.QueryAnswer.{QueryAnswer}
 use Rattle.graph.specs.declared.QueryStep.{QueryStep}
 use Rattle.graph.specs.declared.QueryStep.the-variants.{Found, Ended, Spent, Refused}
 use Rattle.graph.specs.declared.QueryCursor.{QueryCursor}
-use Rattle.graph.specs.Query.{boundTo, nextQueryOf, startCursor}
+use Rattle.graph.specs.Query.{nextQueryOf}
+use Rattle.graph.specs.Place.{startCursor}
+use Rattle.graph.specs.Words.{boundTo}
 
 -- ---- the sample load
 

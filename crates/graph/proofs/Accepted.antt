@@ -10,7 +10,7 @@ use lib.ListN.{length}
 use lib.Dec.{eqb, leb, ltb}
 use borrow.Author.Tests.{eqb-true, eq-eqb, leb-true, ltb-true, le-leb, lt-ltb}
 use Rattle.store.proofs.Tests.{and-l, and-r, and-of}
-use Rattle.graph.specs.Query.{maxPatterns, variables, firstVariable, patternsOf, wordOk, allOk, wordsOk}
+use Rattle.graph.specs.Words.{maxPatterns, variables, firstVariable, patternsOf, wordOk, allOk, wordsOk}
 use Rattle.graph.specs.Claims.{WordsClaim}
 use Rattle.graph.proofs.Laws.{patterns-length}
 

@@ -14,11 +14,11 @@ use Rattle.store.specs.declared.Position.{Position}
 use Rattle.store.specs.declared.Position.the-variants.{Subject, Predicate, Object}
 use Rattle.store.specs.declared.ResourceId.{ResourceId}
 use Rattle.store.specs.declared.Triple.{Triple}
-use Rattle.store.specs.Triple.{at}
+use Rattle.store.specs.Shared.{at}
 use Rattle.store.proofs.Tests.{decide}
 use Rattle.graph.specs.declared.QueryPattern.{QueryPattern}
-use Rattle.graph.specs.Query.{firstVariable, isVariable, Bindings, resource, boundTo, valueOf, under, bind}
-use Rattle.graph.specs.Query.{after, match}
+use Rattle.graph.specs.Query.{bind, after, match}
+use Rattle.graph.specs.Words.{firstVariable, isVariable, Bindings, resource, boundTo, valueOf, under}
 
 -- a pattern's word at a position
 abbrev pub wordAt : Position → QueryPattern → ℕ

@@ -10,8 +10,10 @@ use Rattle.store.specs.Tables.{fits}
 use Rattle.store.proofs.Tests.{decide}
 use Rattle.graph.specs.declared.QueryPattern.{QueryPattern}
 use Rattle.graph.specs.declared.Level.{Level}
-use Rattle.graph.specs.Query.{wordsOk, patternsOf, placeOk, Place, start, inside, finish, placeOf, intact, pruned, settle, remains}
-use Rattle.graph.specs.Query.{Bindings, Turn, bad, go, whole, Answer, enter, visit, walk, begun, resume, answerOf, packed, stale, nextQueryOf}
+use Rattle.graph.specs.Query.{placeOk, intact, pruned, settle, remains}
+use Rattle.graph.specs.Place.{Place, start, inside, finish, placeOf}
+use Rattle.graph.specs.Words.{wordsOk, patternsOf, Bindings}
+use Rattle.graph.specs.Query.{Turn, bad, go, whole, Answer, enter, visit, walk, begun, resume, answerOf, packed, stale, nextQueryOf}
 use Rattle.graph.specs.Claims.{BudgetClaim}
 use Rattle.graph.proofs.Laws.{walk-over, turn-ended, turn-bad, turn-go, turn-whole}
 

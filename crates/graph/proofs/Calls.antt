@@ -21,10 +21,11 @@ use Rattle.graph.specs.declared.QueryPattern.{QueryPattern}
 use Rattle.graph.specs.declared.Opening.the-variants.{Opened}
 use Rattle.graph.specs.declared.QueryCursor.{QueryCursor}
 use Rattle.graph.specs.declared.QueryAnswer.{QueryAnswer}
-use Rattle.graph.specs.Query.{maxPatterns, variables, firstVariable, isVariable, wordOk, allOk, wordsOk}
-use Rattle.graph.specs.Query.{patternsOf, pattern, Bindings, unbound, under, Place, start, inside, finish}
-use Rattle.graph.specs.Query.{Answer, refused, found, ended, spent, placeOk, resume, answerOf, startCursor}
-use Rattle.graph.specs.Query.{cursorAt, openQueryOf, packed, nextQueryOf, readOn}
+use Rattle.graph.specs.Words.{maxPatterns, variables, firstVariable, isVariable, wordOk, allOk, wordsOk}
+use Rattle.graph.specs.Place.{Place, start, inside, finish, startCursor, cursorAt}
+use Rattle.graph.specs.Words.{patternsOf, pattern, Bindings, unbound, under}
+use Rattle.graph.specs.Query.{Answer, refused, found, ended, spent, placeOk, resume, answerOf}
+use Rattle.graph.specs.Query.{openQueryOf, packed, nextQueryOf, readOn}
 use Rattle.graph.specs.Order.{Descending, recordOf, statementsOf}
 use Rattle.graph.specs.Meaning.{Mapping, Solves}
 use Rattle.graph.specs.Graph.{graphOf, queryOf, mappingOf}

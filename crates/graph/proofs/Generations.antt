@@ -14,8 +14,9 @@ use Rattle.store.proofs.Tests.{decide, and-l, and-r}
 use Rattle.graph.specs.declared.QueryCursor.{QueryCursor}
 use Rattle.graph.specs.declared.QueryStep.the-variants.{Refused}
 use Rattle.graph.specs.declared.QueryAnswer.{QueryAnswer}
-use Rattle.graph.specs.Query.{wordsOk, Place, start, inside, finish, Answer, refused, found, ended, spent, answerOf}
-use Rattle.graph.specs.Query.{placeOf, cursorAt, packed, stale, nextQueryOf}
+use Rattle.graph.specs.Query.{Answer, refused, found, ended, spent, answerOf, packed, stale, nextQueryOf}
+use Rattle.graph.specs.Place.{Place, start, inside, finish, placeOf, cursorAt}
+use Rattle.graph.specs.Words.{wordsOk}
 use Rattle.graph.specs.Values.{stepRefusal, queryValues}
 use Rattle.graph.specs.Claims.{Unrefused, StaleClaim}
 use Rattle.graph.proofs.Refusals.{answer-not, number-not}

@@ -25,10 +25,10 @@ use Rattle.store.specs.declared.Reclaimed.{Reclaimed}
 use Rattle.store.specs.declared.Asserted.the-variants.{Refused as NotAsserted}
 use Rattle.store.specs.declared.Retracted.the-variants.{Refused as NotRetracted}
 use Rattle.store.specs.declared.Refusal.the-variants.{Damaged}
-use Rattle.store.specs.Triple.{known, prev, permitted}
-use Rattle.store.specs.Tables.{Tables, fits, maxReclaims, termAt, kindAt, flagAt, statementCapacity}
+use Rattle.store.specs.Shared.{known, prev, permitted, maxReclaims, wellFormed}
+use Rattle.store.specs.Tables.{Tables, fits, termAt, kindAt, flagAt, statementCapacity}
 use Rattle.store.specs.Values.{reclaimedValues}
-use Rattle.store.specs.Model.{Call, intern, assert, retract, open′, next, reclaim, byValue, lent, wellFormed}
+use Rattle.store.specs.Model.{Call, intern, assert, retract, open′, next, reclaim, byValue, lent}
 use Rattle.store.specs.Walk.{sits}
 use Rattle.store.specs.Scan.{chainOk, recordOk}
 use Rattle.store.specs.Statement.{locate, kinded, withFlag, counting, asserting, assertOf, retracting, retractOf, countersAfter}
@@ -45,8 +45,8 @@ use Rattle.store.proofs.Kept.{tidy-call, agreeing-sound}
 use Rattle.store.proofs.Held.{sound-agrees, sound-tidy}
 use Rattle.graph.specs.declared.QueryPattern.{QueryPattern}
 use Rattle.graph.specs.declared.Level.{Level}
-use Rattle.graph.specs.Query.{match, isSome, Place, start, inside, finish, recordAt, nextPattern, binds, asked}
-use Rattle.graph.specs.Query.{enteredOk, placeOk}
+use Rattle.graph.specs.Query.{match, isSome, recordAt, nextPattern, binds, asked, enteredOk, placeOk}
+use Rattle.graph.specs.Place.{Place, start, inside, finish}
 use Rattle.graph.specs.Claims.{SoundStore}
 use Rattle.graph.proofs.Levels.{suc-prev}
 

@@ -11,13 +11,13 @@ use lib.Seq.{getD-set-same, getD-set-other, ext-getD}
 use lib.Dec.{eqb, ltb}
 use borrow.Author.Tests.{eqb-true, eqb-false, eq-eqb, ne-eqb, ltb-true, ltb-false, lt-ltb, le-ltb}
 use Rattle.store.specs.declared.Refusal.the-variants.{Damaged}
-use Rattle.store.specs.Triple.{prev}
+use Rattle.store.specs.Shared.{prev}
 use Rattle.store.proofs.Tests.{decide}
 use Rattle.graph.specs.declared.QueryPattern.{QueryPattern}
 use Rattle.graph.specs.declared.Level.{Level}
-use Rattle.graph.specs.Query.{patternsOf, pattern, maxPatterns, Bindings, Place, start, inside, finish, bad, go}
-use Rattle.graph.specs.Query.{whole, refused, found, ended, spent, past, settle, remains, visit, walk, noLevel}
-use Rattle.graph.specs.Query.{levelsOf, insideOf, placeAs, placeOf, written, cursorAt}
+use Rattle.graph.specs.Query.{bad, go, whole, refused, found, ended, spent, past, settle, remains, visit, walk}
+use Rattle.graph.specs.Place.{Place, start, inside, finish, noLevel, levelsOf, insideOf, placeAs, placeOf, written, cursorAt}
+use Rattle.graph.specs.Words.{patternsOf, pattern, maxPatterns, Bindings}
 -- Every law stands on this file, and so on the closed runs: a definition that changes an answer is refused there first.
 use Rattle.graph.proofs.Runs as runs
 

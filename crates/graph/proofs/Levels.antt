@@ -16,9 +16,9 @@ use Rattle.store.specs.declared.Position.the-variants.{Subject, Predicate, Obje
 use Rattle.store.specs.declared.Chain.{Chain}
 use Rattle.store.specs.declared.Chain.the-variants.{All, By}
 use Rattle.store.specs.declared.Triple.{Triple}
-use Rattle.store.specs.Triple.{at, below, head0, prev}
+use Rattle.store.specs.Shared.{at, below, head0, prev, Entry}
 use Rattle.store.specs.Tables.{tripleAt}
-use Rattle.store.specs.Model.{Entry, onChain}
+use Rattle.store.specs.Model.{onChain}
 use Rattle.store.specs.Walk.{entryAt, startOf, pickChain}
 use Rattle.store.specs.Scan.{chainOk}
 use Rattle.store.specs.Soundness.{Linked}
@@ -29,8 +29,9 @@ use Rattle.store.proofs.Picking.{Bound, pick-ok}
 use Rattle.store.proofs.Chains.{onWords, chain-links, chain-fine, chain-start, pickable-linked}
 use Rattle.graph.specs.declared.QueryPattern.{QueryPattern}
 use Rattle.graph.specs.declared.Level.{Level}
-use Rattle.graph.specs.Query.{firstVariable, isVariable, variables, Bindings, resource, boundTo, pattern}
-use Rattle.graph.specs.Query.{valueOf, under, bind, match, level, Turn, bad, go, whole, recordAt, past}
+use Rattle.graph.specs.Words.{firstVariable, isVariable, variables, Bindings, resource, boundTo, pattern, valueOf, under}
+use Rattle.graph.specs.Query.{bind, match, Turn, bad, go, whole, recordAt, past}
+use Rattle.graph.specs.Place.{level}
 use Rattle.graph.specs.Query.{struck, settle, remains, nextPattern, binds, asked, enter, hit, tried, visit}
 use Rattle.graph.proofs.Bind.{wordAt, bound-same, bound-other, Fits3, Known3, or-l, or-r, none≢some, some-eq}
 use Rattle.graph.proofs.Bind.{after-some, value-number, value-variable, value-more, match-matched}

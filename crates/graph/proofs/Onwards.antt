@@ -27,10 +27,10 @@ use Rattle.graph.specs.declared.Opening.the-variants.{Opened, Refused as
 use Rattle.graph.specs.declared.QueryStep.{QueryStep}
 use Rattle.graph.specs.declared.QueryStep.the-variants.{Found, Ended, Spent, Refused}
 use Rattle.graph.specs.declared.QueryAnswer.{QueryAnswer}
-use Rattle.graph.specs.Query.{wordsOk, patternsOf, Bindings, unbound, Place, start, inside, finish, Turn, bad}
-use Rattle.graph.specs.Query.{go, whole, Answer, refused, found, ended, spent, settle, remains, intact, pruned}
-use Rattle.graph.specs.Query.{placeOk, enter, visit, walk, begun, resume, answerOf, placeOf, cursorAt, packed}
-use Rattle.graph.specs.Query.{stale, openQueryOf, nextQueryOf}
+use Rattle.graph.specs.Query.{Turn, bad, go, whole, Answer, refused, found, ended, spent, settle, remains, intact, pruned}
+use Rattle.graph.specs.Place.{Place, start, inside, finish, placeOf, cursorAt}
+use Rattle.graph.specs.Words.{wordsOk, patternsOf, Bindings, unbound}
+use Rattle.graph.specs.Query.{placeOk, enter, visit, walk, begun, resume, answerOf, packed, stale, openQueryOf, nextQueryOf}
 use Rattle.graph.specs.Values.{stepRefusal, queryValues}
 use Rattle.graph.specs.Order.{numbersOn, atOrAfter, keep, onwardsOf}
 use Rattle.graph.specs.Claims.{Unrefused, statementsIn, AllInOrder, accepted, onwardsFrom, Answers, NextClaim}

@@ -15,9 +15,9 @@ use borrow.Author.Tests.{eqb-true, eqb-false, eq-eqb, ne-eqb, leb-true, ltb-true
 use Rattle.store.specs.declared.Chain.{Chain}
 use Rattle.store.specs.declared.Chain.the-variants.{All, By}
 use Rattle.store.specs.declared.Triple.{Triple}
-use Rattle.store.specs.Triple.{at, known, prev}
+use Rattle.store.specs.Shared.{at, known, prev, Entry}
 use Rattle.store.specs.Tables.{tripleAt, termAt, flagAt}
-use Rattle.store.specs.Model.{Entry, onChain}
+use Rattle.store.specs.Model.{onChain}
 use Rattle.store.specs.Walk.{entryAt, linkOf, sits}
 use Rattle.store.specs.Scan.{chainOk, recordOk}
 use Rattle.store.specs.Soundness.{Linked, holding}
@@ -27,8 +27,9 @@ use Rattle.store.proofs.Words.{triple-at}
 use Rattle.store.proofs.Chains.{onWords}
 use Rattle.graph.specs.declared.QueryPattern.{QueryPattern}
 use Rattle.graph.specs.declared.Level.{Level}
-use Rattle.graph.specs.Query.{variables, Bindings, unbound, pattern, under, match, isSome, orElse, Place, start}
-use Rattle.graph.specs.Query.{inside, finish, Answer, refused, found, ended, spent, recordAt, past, struck}
+use Rattle.graph.specs.Query.{match, isSome, orElse, Answer, refused, found, ended, spent, recordAt, past, struck}
+use Rattle.graph.specs.Place.{Place, start, inside, finish}
+use Rattle.graph.specs.Words.{variables, Bindings, unbound, pattern, under}
 use Rattle.graph.specs.Query.{intact, anyStruck, pruned, nextPattern, binds, asked, enteredOk, placeOk, resume}
 use Rattle.graph.specs.Order.{atOrAfter, keep, numbersOn}
 use Rattle.graph.proofs.Bind.{or-l, or-r, Known3, match-matched}

@@ -11,9 +11,8 @@ use lib.Dec.{eqb}
 use borrow.Author.Tests.{eqb-true, eqb-false, le-leb, lt-ltb}
 use Rattle.store.specs.declared.Chain.{Chain}
 use Rattle.store.specs.declared.Triple.{Triple}
-use Rattle.store.specs.Triple.{known, prev}
+use Rattle.store.specs.Shared.{known, prev, Entry}
 use Rattle.store.specs.Tables.{flagAt}
-use Rattle.store.specs.Model.{Entry}
 use Rattle.store.specs.Walk.{entryAt, pickChain}
 use Rattle.store.specs.Scan.{recordOk}
 use Rattle.store.specs.Soundness.{Linked}
@@ -22,8 +21,9 @@ use Rattle.store.proofs.Falling.{head-le}
 use Rattle.store.proofs.Chains.{onWords, entry-known, chain-sits}
 use Rattle.graph.specs.declared.QueryPattern.{QueryPattern}
 use Rattle.graph.specs.declared.Level.{Level}
-use Rattle.graph.specs.Query.{variables, Bindings, unbound, match, isSome, Place, start, inside, finish, Turn}
-use Rattle.graph.specs.Query.{bad, go, whole, Answer, refused, found, ended, spent, recordAt, past, struck}
+use Rattle.graph.specs.Query.{match, isSome, Turn, bad, go, whole, Answer, refused, found, ended, spent, recordAt, past, struck}
+use Rattle.graph.specs.Place.{Place, start, inside, finish}
+use Rattle.graph.specs.Words.{variables, Bindings, unbound}
 use Rattle.graph.specs.Query.{intact, anyStruck, pruned, settle, remains, nextPattern, binds, asked, enteredOk}
 use Rattle.graph.specs.Query.{placeOk, visit, walk, begun, resume}
 use Rattle.graph.proofs.Laws.{walk-ended, walk-go, walk-whole}

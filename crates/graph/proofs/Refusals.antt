@@ -17,9 +17,11 @@ use Rattle.graph.specs.declared.QueryPattern.{QueryPattern}
 use Rattle.graph.specs.declared.Level.{Level}
 use Rattle.graph.specs.declared.QueryStep.{QueryStep}
 use Rattle.graph.specs.declared.QueryStep.the-variants.{Found, Ended, Spent, Refused}
-use Rattle.graph.specs.Query.{wordsOk, patternsOf, unbound, Place, start, inside, finish, Turn, bad, go, whole, Answer, refused}
+use Rattle.graph.specs.Query.{Turn, bad, go, whole, Answer, refused}
+use Rattle.graph.specs.Place.{Place, start, inside, finish, startCursor}
+use Rattle.graph.specs.Words.{wordsOk, patternsOf, unbound}
 use Rattle.graph.specs.Query.{found, ended, spent, settle, remains, intact, pruned, placeOk, enter, visit, walk, begun, resume}
-use Rattle.graph.specs.Query.{answerOf, startCursor, answered, packed, openQueryOf, nextQueryOf}
+use Rattle.graph.specs.Query.{answerOf, answered, packed, openQueryOf, nextQueryOf}
 use Rattle.graph.specs.Values.{stepRefusal}
 use Rattle.graph.specs.Claims.{RefusalsBare}
 use Rattle.graph.proofs.Laws.{walk-ended, walk-bad, walk-go, walk-whole}

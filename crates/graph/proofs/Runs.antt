@@ -7,9 +7,8 @@ use lib.ListN.{replicate}
 use Rattle.store.specs.declared.Counters.{Counters}
 use Rattle.store.specs.declared.Chain.the-variants.{All, By}
 use Rattle.store.specs.declared.Position.the-variants.{Subject, Predicate, Object}
-use Rattle.store.specs.Triple.{known}
+use Rattle.store.specs.Shared.{known, better, pick}
 use Rattle.store.specs.Tables.{Tables, tables, fits, termAt, nextAt, flagAt, tripleAt, firstAt, countAt, liveAt}
-use Rattle.store.specs.Model.{better, pick}
 use Rattle.store.specs.Walk.{pickChain, pickable, startOf, linkOf, sits, visitable}
 use Rattle.store.specs.Scan.{chainOk, recordOk}
 use Rattle.store.specs.Statement.{appendRecord, linkFirst, linkRecord}
@@ -19,11 +18,11 @@ use Rattle.graph.specs.declared.Level.{Level}
 use Rattle.graph.specs.declared.Progress.{Progress}
 use Rattle.graph.specs.declared.Progress.the-variants.{Start, Within, End}
 use Rattle.graph.specs.declared.QueryCursor.{QueryCursor}
-use Rattle.graph.specs.Query.{patternsOf, wordOk, allOk, wordsOk, Bindings, resource, valueOf, under, bind}
-use Rattle.graph.specs.Query.{match, level, noLevel, recordAt, past, struck, intact, anyStruck, pruned, settle}
+use Rattle.graph.specs.Query.{bind, match, recordAt, past, struck, intact, anyStruck, pruned, settle}
+use Rattle.graph.specs.Words.{patternsOf, wordOk, allOk, wordsOk, Bindings, resource, valueOf, under}
+use Rattle.graph.specs.Place.{level, noLevel, levelsOf, insideOf, placeAs, written, startCursor, cursorAt}
 use Rattle.graph.specs.Query.{remains, nextPattern, binds, asked, enteredOk, placeOk, enter, hit, tried, visit}
-use Rattle.graph.specs.Query.{walk, begun, resume, answerOf, levelsOf, insideOf, placeAs, written, startCursor}
-use Rattle.graph.specs.Query.{cursorAt, openQueryOf, packed, stale, nextQueryOf, readOn}
+use Rattle.graph.specs.Query.{walk, begun, resume, answerOf, openQueryOf, packed, stale, nextQueryOf, readOn}
 use Rattle.graph.specs.Values.{QueryValues, queryOpenedValues, queryValues}
 
 -- ---- stores, cursors and answers as numbers

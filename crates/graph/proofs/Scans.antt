@@ -20,10 +20,9 @@ use Rattle.store.specs.declared.ScanCursor.{ScanCursor}
 use Rattle.store.specs.declared.ScanOpened.the-variants.{Cursor}
 use Rattle.store.specs.declared.Scanned.{Scanned}
 use Rattle.store.specs.declared.Scanned.the-variants.{Found as ScanFound, Ended as ScanEnded, Spent as ScanSpent}
-use Rattle.store.specs.Triple.{at, within, agrees, below, head0, prev}
+use Rattle.store.specs.Shared.{at, within, agrees, below, head0, prev, matches}
 use Rattle.store.specs.Tables.{Tables, tripleAt, flagAt}
-use Rattle.store.specs.Model.{onChain, matches, Taken, found as took, ended as emptied, spent as stopped, oneMore}
-use Rattle.store.specs.Model.{take-off}
+use Rattle.store.specs.Model.{onChain, Taken, found as took, ended as emptied, spent as stopped, oneMore, take-off}
 use Rattle.store.specs.Walk.{entryAt, pickChain}
 use Rattle.store.specs.Dictionary.{nameAt}
 use Rattle.store.specs.Scan.{openOf, cursorIn, chainOk, recordOk, cursorOk, walkFrom, scannedAs, nextOf}

@@ -16,17 +16,15 @@ use Rattle.store.specs.declared.Position.the-variants.{Subject, Predicate, Obje
 use Rattle.store.specs.declared.Counters.{Counters}
 use Rattle.store.specs.declared.ResourceId.{ResourceId}
 use Rattle.store.specs.declared.Triple.{Triple}
-use Rattle.store.specs.Triple.{at}
+use Rattle.store.specs.Shared.{at, Entry}
 use Rattle.store.specs.Tables.{Tables, tripleAt, flagAt}
-use Rattle.store.specs.Model.{Entry}
 use Rattle.store.specs.Walk.{entryAt}
 use Rattle.store.specs.Dictionary.{nameAt}
 use Rattle.store.specs.Soundness.{Sound}
 use Rattle.store.proofs.Tests.{decide}
 use Rattle.store.proofs.Words.{triple-at}
 use Rattle.graph.specs.declared.QueryPattern.{QueryPattern}
-use Rattle.graph.specs.Query.{firstVariable, isVariable, variables, Bindings, resource, boundTo, unbound}
-use Rattle.graph.specs.Query.{valueOf, under}
+use Rattle.graph.specs.Words.{firstVariable, isVariable, variables, Bindings, resource, boundTo, unbound, valueOf, under}
 use Rattle.graph.specs.Order.{NoDuplicates}
 use Rattle.graph.specs.Meaning.{Term, RdfTriple, termAt, PatternTerm, term, var, TriplePattern, patternAt}
 use Rattle.graph.specs.Meaning.{Mapping, Takes, Instance, Solves}

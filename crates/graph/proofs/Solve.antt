@@ -16,13 +16,13 @@ use Rattle.store.specs.declared.Position.{Position}
 use Rattle.store.specs.declared.Position.the-variants.{Subject, Predicate, Object}
 use Rattle.store.specs.declared.ResourceId.{ResourceId}
 use Rattle.store.specs.declared.Triple.{Triple}
-use Rattle.store.specs.Triple.{at, same, below, head0}
-use Rattle.store.specs.Model.{Entry}
+use Rattle.store.specs.Shared.{at, same, below, head0, Entry}
 use Rattle.store.proofs.Tests.{decide, same-self, same-is}
 use Rattle.store.proofs.Falling.{head-unique}
 use Rattle.graph.specs.declared.QueryPattern.{QueryPattern}
 use Rattle.graph.specs.Work.{hitAt}
-use Rattle.graph.specs.Query.{firstVariable, Bindings, resource, boundTo, valueOf, under, match}
+use Rattle.graph.specs.Query.{match}
+use Rattle.graph.specs.Words.{firstVariable, Bindings, resource, boundTo, valueOf, under}
 use Rattle.graph.specs.Order.{Lower, Descending, NoDuplicates}
 use Rattle.graph.proofs.Bind.{wordAt, bound-ext, More, Fits3, Known3, isThe, occursIn, or-l, or-r, none≢some}
 use Rattle.graph.proofs.Bind.{value-variable, value-more, Matched, match-matched, match-complete}

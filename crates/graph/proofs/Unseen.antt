@@ -11,7 +11,9 @@ use Rattle.store.specs.Claims.{SameButLive}
 use Rattle.store.proofs.LiveCounts.{same-fits, same-pickable, same-pick, same-start}
 use Rattle.graph.specs.declared.QueryPattern.{QueryPattern}
 use Rattle.graph.specs.declared.Level.{Level}
-use Rattle.graph.specs.Query.{Bindings, Place, start, inside, finish, asked, settle, Turn, bad, go, whole, enter, hit, tried}
+use Rattle.graph.specs.Query.{asked, settle, Turn, bad, go, whole, enter, hit, tried}
+use Rattle.graph.specs.Place.{Place, start, inside, finish}
+use Rattle.graph.specs.Words.{Bindings}
 use Rattle.graph.specs.Query.{visit, walk, begun, resume, answerOf, openQueryOf, stale, nextQueryOf}
 use Rattle.graph.specs.Claims.{QueriesDoNotLook}
 use Rattle.graph.proofs.Laws.{walk-ended, walk-bad, walk-go, walk-whole}

@@ -14,10 +14,10 @@ use Rattle.term.specs.Canonical.{canonical}
 use Rattle.store.specs.declared.Position.the-variants.{Subject, Predicate, Object}
 use Rattle.store.specs.declared.Counters.{Counters}
 use Rattle.store.specs.declared.Triple.{Triple}
-use Rattle.store.specs.Triple.{triple, known}
+use Rattle.store.specs.Shared.{triple, known, Entry, nameOf}
 use Rattle.store.specs.Tables.{Tables, tripleAt, flagAt}
 use Rattle.store.specs.Values.{Values}
-use Rattle.store.specs.Model.{Entry, Model, Capacities, Form, byValue, lent, Call, intern, assert, retract, reclaim, nameOf}
+use Rattle.store.specs.Model.{Model, Capacities, Form, byValue, lent, Call, intern, assert, retract, reclaim}
 use Rattle.store.specs.Model.{entry, assertModel, retractModel, callModel, modelAfter}
 use Rattle.store.specs.Walk.{entryAt}
 use Rattle.store.specs.Dictionary.{nameAt}

@@ -22,7 +22,7 @@ use Rattle.store.specs.declared.ScanOpened.the-variants.{Cursor}
 use Rattle.store.specs.declared.Scanned.{Scanned}
 use Rattle.store.specs.declared.Scanned.the-variants.{Found as ScanFound, Ended as ScanEnded, Spent as ScanSpent}
 use Rattle.store.specs.declared.Scanned.the-variants.{Refused as NotScanned}
-use Rattle.store.specs.Triple.{at, triple, within, prev}
+use Rattle.store.specs.Shared.{at, triple, within, prev}
 use Rattle.store.specs.Tables.{Tables, fits, tripleAt, liveAt}
 use Rattle.store.specs.Values.{Values}
 use Rattle.store.specs.Model.{Call, Form, byValue, intern, assert, retract, reclaim}
@@ -37,9 +37,9 @@ use Rattle.graph.specs.declared.QueryStep.{QueryStep}
 use Rattle.graph.specs.declared.QueryStep.the-variants.{Found, Ended, Spent, Refused}
 use Rattle.graph.specs.declared.QueryAnswer.{QueryAnswer}
 use Rattle.graph.specs.Work.{workOf}
-use Rattle.graph.specs.Query.{maxPatterns, variables, firstVariable, wordsOk, patternsOf, Bindings, placeOf}
-use Rattle.graph.specs.Query.{unbound, placeOk, startCursor, answered, openQueryOf}
-use Rattle.graph.specs.Query.{nextQueryOf, readOn}
+use Rattle.graph.specs.Place.{placeOf, startCursor}
+use Rattle.graph.specs.Words.{maxPatterns, variables, firstVariable, wordsOk, patternsOf, Bindings, unbound}
+use Rattle.graph.specs.Query.{placeOk, answered, openQueryOf, nextQueryOf, readOn}
 use Rattle.graph.specs.Values.{queryValues}
 use Rattle.graph.specs.Order.{Descending, NoDuplicates, statementsOf, onwardsOf}
 use Rattle.graph.specs.Meaning.{Term, RdfTriple, termAt, Graph, IsGraph, Mapping, Solves}

@@ -10,7 +10,7 @@ use Rattle.store.specs.declared.Triple.{Triple}
 use Rattle.store.specs.Tables.{Tables, tripleAt, flagAt}
 use Rattle.store.specs.Dictionary.{nameAt}
 use Rattle.graph.specs.declared.QueryPattern.{QueryPattern}
-use Rattle.graph.specs.Query.{firstVariable, isVariable, patternsOf, Bindings, boundTo}
+use Rattle.graph.specs.Words.{firstVariable, isVariable, patternsOf, Bindings, boundTo}
 use Rattle.graph.specs.Meaning.{Term, RdfTriple, Graph, PatternTerm, term, var, TriplePattern}
 use Rattle.graph.specs.Meaning.{BasicGraphPattern, Mapping}
 

@@ -8,11 +8,12 @@ use mathlib.Core.List.{List, [], _∷_, List·Memᴰ}
 use Prim.Native.Nat.{ℕ, _<_}
 use lib.Dec.{eqb, ltb}
 use Rattle.store.specs.declared.Triple.{Triple}
-use Rattle.store.specs.Triple.{same, below, head0}
+use Rattle.store.specs.Shared.{same, below, head0}
 use Rattle.store.specs.Tables.{tripleAt}
 use Rattle.graph.specs.declared.QueryPattern.{QueryPattern}
 use Rattle.graph.specs.declared.Level.{Level}
-use Rattle.graph.specs.Query.{Bindings, under, Place, start, inside, finish}
+use Rattle.graph.specs.Place.{Place, start, inside, finish}
+use Rattle.graph.specs.Words.{Bindings, under}
 
 -- the first difference decides
 abbrev pub Lower : List ℕ → List ℕ → Type 0

@@ -4,23 +4,18 @@ use mathlib.Core.Bool.{Bool, true, false, cond, not, _&&_, _||_}
 use mathlib.Core.List.{List, [], _∷_}
 use mathlib.Core.Option.{Option, none, some}
 use Prim.Native.Nat.{ℕ, zero, suc, _+_, _*_, _-_}
-use lib.ListN.{length, getD, set, replicate}
+use lib.ListN.{length, getD, set}
 use lib.Dec.{eqb, leb, ltb}
 use Rattle.store.specs.declared.Counters.{Counters}
-use Rattle.store.specs.declared.ResourceId.{ResourceId}
-use Rattle.store.specs.declared.Chain.{Chain}
-use Rattle.store.specs.declared.Chain.the-variants.{All}
 use Rattle.store.specs.declared.Triple.{Triple}
 use Rattle.store.specs.declared.Refusal.{Refusal}
 use Rattle.store.specs.declared.Refusal.the-variants.{Capacity, BadCursor, NoBudget, BadQuery, Damaged, StaleCursor}
-use Rattle.store.specs.Triple.{triple, known, prev}
+use Rattle.store.specs.Shared.{unless, known, prev}
 use Rattle.store.specs.Tables.{Tables, fits, tripleAt, flagAt}
 use Rattle.store.specs.Walk.{pickChain, pickable, startOf, linkOf, visitable}
 use Rattle.store.specs.Scan.{chainOk, recordOk}
 use Rattle.graph.specs.declared.QueryPattern.{QueryPattern}
 use Rattle.graph.specs.declared.Level.{Level}
-use Rattle.graph.specs.declared.Progress.{Progress}
-use Rattle.graph.specs.declared.Progress.the-variants.{Start, Within, End}
 use Rattle.graph.specs.declared.QueryCursor.{QueryCursor}
 use Rattle.graph.specs.declared.Opening.{Opening}
 use Rattle.graph.specs.declared.Opening.the-variants.{Opened, Refused as NotOpened}
@@ -28,68 +23,10 @@ use Rattle.graph.specs.declared.QueryOpened.{QueryOpened}
 use Rattle.graph.specs.declared.QueryStep.{QueryStep}
 use Rattle.graph.specs.declared.QueryStep.the-variants.{Found, Ended, Spent, Refused as NotAnswered}
 use Rattle.graph.specs.declared.QueryAnswer.{QueryAnswer}
+use Rattle.graph.specs.Words.{variables, firstVariable, pattern, patternsOf, wordsOk, Bindings, resource, unbound, valueOf, under}
+use Rattle.graph.specs.Place.{level, Place, start, inside, finish, placeOf, startCursor, cursorAt}
 
--- ---- the words of a query
-
--- the limits, each named once; the word of variable 0
-abbrev pub maxPatterns : ℕ
-maxPatterns = 8
-
-abbrev pub variables : ℕ
-variables = 16
-
-abbrev pub firstVariable : ℕ
-firstVariable = 2147483648
-
-abbrev pub isVariable : ℕ → Bool
-isVariable w = leb firstVariable w
-
-abbrev pub pattern : ℕ → ℕ → ℕ → QueryPattern
-pattern s p o = record { subject = s; predicate = p; object = o }
-
--- three words a pattern; what is left over at the end gives none
-unfoldable pub patternsOf : List ℕ → List QueryPattern
-patternsOf [] = []
-patternsOf (a ∷ []) = []
-patternsOf (a ∷ b ∷ []) = []
-patternsOf (a ∷ b ∷ c ∷ r) = pattern a b c ∷ patternsOf r
-
--- a resource's number, or a variable
-unfoldable pub wordOk : ℕ → ℕ → Bool
-wordOk r w = (ltb 0 w && leb w r) || (isVariable w && ltb w (firstVariable + variables))
-
-unfoldable pub allOk : ℕ → List ℕ → Bool
-allOk r [] = true
-allOk r (w ∷ ws) = wordOk r w && allOk r ws
-
--- refusal 8 exactly where this is false
-unfoldable pub wordsOk : ℕ → List ℕ → Bool
-wordsOk r ws = eqb (3 * length (patternsOf ws)) (length ws)
-    && (leb (length (patternsOf ws)) maxPatterns && allOk r ws)
-
--- ---- what is bound, and a record against a pattern
-
--- a resource for each variable, 0 where it is open
-abbrev pub Bindings : Type 0
-Bindings = List ResourceId
-
-abbrev pub resource : ℕ → ResourceId
-resource n = record { 0 = n }
-
-abbrev pub unbound : Bindings
-unbound = replicate variables (resource 0)
-
--- what is bound to the variable v, or 0
-abbrev pub boundTo : Bindings → ℕ → ℕ
-boundTo b v = (getD b v (resource 0)) .0
-
--- the number a word stands for; 0 where it is an open variable
-unfoldable pub valueOf : Bindings → ℕ → ℕ
-valueOf b w = cond (isVariable w) (boundTo b (w - firstVariable)) w
-
--- the pattern as a scan's: 0 where a variable is open
-unfoldable pub under : Bindings → QueryPattern → Triple
-under b x = triple (valueOf b (x .subject)) (valueOf b (x .predicate)) (valueOf b (x .object))
+-- ---- a record against a pattern
 
 -- one word of a pattern meets a resource: an open variable takes it, anything else must be it
 unfoldable pub bind : ℕ → ℕ → Bindings → Option Bindings
@@ -115,16 +52,7 @@ match x t b =
     after (bind (x .subject) (t .subject .0) b)
     (λ b. after (bind (x .predicate) (t .predicate .0) b) (λ b. bind (x .object) (t .object .0) b))
 
--- ---- the place
-
-abbrev pub level : Chain → ℕ → Level
-level ch n = record { chain = ch; statement = record { 0 = n } }
-
--- Within: the deepest level, whose record is the next to visit, and those entered before it, the deepest first.
-pub data Place : Type 0 where
-  start : Place
-  inside : Level → List Level → Place
-  finish : Place
+-- ---- levels of a place
 
 module _ (stm : List ℕ) where
   -- the triple of record n
@@ -266,55 +194,11 @@ module _ (r t : ℕ) (res stm : List ℕ) (ps : List QueryPattern) where
 -- Next, from a place of the store's own number of reclaims: 1; 8; 6; 7; 9; else found, ended or spent
 unfoldable pub answerOf : Counters → Tables → List ℕ → Place → ℕ → Answer
 answerOf c m ws q budget =
-    cond (fits c m)
-    (cond (wordsOk (c .resources) ws)
-    (cond (placeOk (m .statements) (patternsOf ws) (c .resources) (c .statements) q)
-    (cond (eqb budget 0)
-    (refused NoBudget)
-    (resume (c .resources) (c .statements) (m .resources) (m .statements) (patternsOf ws) q budget))
-    (refused BadCursor))
-    (refused BadQuery))
-    (refused Capacity)
-
--- ---- the place in a cursor's array
-
-abbrev pub noLevel : Level
-noLevel = level All 0
-
--- the first d levels of an array, the deepest first
-unfoldable pub levelsOf : List Level → ℕ → List Level
-levelsOf ls zero = []
-levelsOf ls (suc d) = getD ls d noLevel ∷ levelsOf ls d
-
--- d levels entered; none is the start
-unfoldable pub insideOf : List Level → ℕ → Place
-insideOf ls zero = start
-insideOf ls (suc d) = inside (getD ls d noLevel) (levelsOf ls d)
-
-unfoldable pub placeAs : Progress → List Level → ℕ → Place
-placeAs Start ls d = start
-placeAs Within ls d = insideOf ls d
-placeAs End ls d = finish
-
-abbrev pub placeOf : QueryCursor → Place
-placeOf q = placeAs (q .progress) (q .levels) (q .depth)
-
--- the levels in an array, zeros past them
-unfoldable pub written : List Level → List Level
-written [] = replicate maxPatterns noLevel
-written (e ∷ up) = set (written up) (length up) e
-
--- a cursor of the generation g
-abbrev pub cursorWith : ℕ → Progress → List Level → QueryCursor
-cursorWith g s up = record { progress = s; depth = length up; generation = g; levels = written up }
-
-abbrev pub startCursor : ℕ → QueryCursor
-startCursor g = cursorWith g Start []
-
-unfoldable pub cursorAt : ℕ → Place → QueryCursor
-cursorAt g start = startCursor g
-cursorAt g (inside l up) = cursorWith g Within (l ∷ up)
-cursorAt g finish = cursorWith g End []
+    unless (fits c m) (refused Capacity)
+    (unless (wordsOk (c .resources) ws) (refused BadQuery)
+    (unless (placeOk (m .statements) (patternsOf ws) (c .resources) (c .statements) q) (refused BadCursor)
+    (cond (eqb budget 0) (refused NoBudget)
+    (resume (c .resources) (c .statements) (m .resources) (m .statements) (patternsOf ws) q budget))))
 
 -- ---- the two operations
 
@@ -324,9 +208,9 @@ openedWith o g = record { opening = o; cursor = startCursor g }
 -- Open: 1; 8; else the start, before the first solution, with the number of reclaims; zeros beside a refusal
 unfoldable pub openQueryOf : Counters → Tables → List ℕ → QueryOpened
 openQueryOf c m ws =
-    cond (fits c m)
-    (cond (wordsOk (c .resources) ws) (openedWith Opened (c .generation)) (openedWith (NotOpened BadQuery) 0))
-    (openedWith (NotOpened Capacity) 0)
+    unless (fits c m) (openedWith (NotOpened Capacity) 0)
+    (unless (wordsOk (c .resources) ws) (openedWith (NotOpened BadQuery) 0)
+    (openedWith Opened (c .generation)))
 
 abbrev pub answered : QueryStep → ℕ → Bindings → QueryCursor → QueryAnswer
 answered s v b q = record { step = s; visits = v; solution = record { values = b }; cursor = q }

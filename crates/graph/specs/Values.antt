@@ -10,7 +10,7 @@ use Rattle.graph.specs.declared.QueryOpened.{QueryOpened}
 use Rattle.graph.specs.declared.QueryStep.{QueryStep}
 use Rattle.graph.specs.declared.QueryStep.the-variants.{Found, Ended, Spent, Refused as NotAnswered}
 use Rattle.graph.specs.declared.QueryAnswer.{QueryAnswer}
-use Rattle.graph.specs.Query.{unbound}
+use Rattle.graph.specs.Words.{unbound}
 
 -- the refusal's number, or 0; 1 found, 2 ended, 3 spent, or 0; the visits; sixteen resources; the cursor
 pub record QueryValues : Type 0 where

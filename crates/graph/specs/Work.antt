@@ -7,10 +7,12 @@ use Rattle.store.specs.declared.Counters.{Counters}
 use Rattle.store.specs.declared.Chain.{Chain}
 use Rattle.store.specs.declared.Triple.{Triple}
 use Rattle.store.specs.Tables.{Tables}
-use Rattle.store.specs.Model.{Entry, onChain}
+use Rattle.store.specs.Model.{onChain}
+use Rattle.store.specs.Shared.{Entry}
 use Rattle.store.specs.Walk.{entryAt, pickChain}
 use Rattle.graph.specs.declared.QueryPattern.{QueryPattern}
-use Rattle.graph.specs.Query.{Bindings, unbound, under, match, patternsOf}
+use Rattle.graph.specs.Query.{match}
+use Rattle.graph.specs.Words.{Bindings, unbound, under, patternsOf}
 
 -- entry i, if it is live and meets x under b: what is then bound
 unfoldable pub hitAt : (ℕ → Entry) → QueryPattern → Bindings → ℕ → Option Bindings

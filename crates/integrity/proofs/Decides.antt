@@ -11,10 +11,8 @@ use lib.Dec.{eqb, leb}
 use borrow.Author.Tests.{eqb-true, eq-eqb, leb-true, le-leb}
 use Rattle.store.specs.declared.Counters.{Counters}
 use Rattle.store.specs.declared.Position.{Position}
-use Rattle.store.specs.Triple.{at, all3, known, permitted}
-use Rattle.store.specs.Tables.{Tables, fits, freshCounters, resourceWords, statementWords}
-use Rattle.store.specs.Tables.{nextAt, flagAt, tripleAt, firstAt, countAt, kindAt, liveAt}
-use Rattle.store.specs.Model.{nameOf}
+use Rattle.store.specs.Shared.{at, all3, known, permitted, freshCounters, nameOf}
+use Rattle.store.specs.Tables.{Tables, fits, resourceWords, statementWords, nextAt, flagAt, tripleAt, firstAt, countAt, kindAt, liveAt}
 use Rattle.store.specs.Dictionary.{Named, Indexed}
 use Rattle.store.specs.Soundness.{holding, isLive, Linked, Sound}
 use Rattle.store.specs.History.{freshStore, storeAfter}

@@ -13,7 +13,7 @@ use lib.ListN.{length}
 use lib.Dec.{eqb, leb}
 use borrow.Author.Tests.{eqb-true, eqb-false, eq-eqb, leb-true, le-leb}
 use Rattle.store.specs.declared.Position.{Position}
-use Rattle.store.specs.Triple.{below, head0}
+use Rattle.store.specs.Shared.{below, head0}
 use Rattle.store.specs.Tables.{resourceWords, statementWords, termAt, nextAt, flagAt, firstAt, countAt, liveAt}
 use Rattle.store.specs.Soundness.{holding, isLive, living, Linked}
 use Rattle.store.proofs.Tests.{decide, and-l, and-r}

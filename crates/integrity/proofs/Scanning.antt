@@ -14,7 +14,7 @@ use Rattle.term.specs.Grammar.{nameLimit}
 use Rattle.term.specs.Scanner.{kindOf}
 use Rattle.term.specs.Canonical.{writesString}
 use Rattle.store.specs.Tables.{offsetAt, kindAt}
-use Rattle.store.specs.Model.{wellFormed}
+use Rattle.store.specs.Shared.{wellFormed}
 use Rattle.store.specs.Dictionary.{storable, upToZero, compare, isLess}
 use Rattle.store.proofs.Tests.{and-l}
 use Rattle.store.proofs.Order.{compare-less, compare-more, compare-tail}

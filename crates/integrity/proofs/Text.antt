@@ -13,7 +13,7 @@ use borrow.Author.Tests.{eqb-true, eq-eqb, ltb-true, lt-ltb}
 use Rattle.term.specs.Scanner.{firstKindOf, kindOf}
 use Rattle.term.specs.Grammar.{nameLimit}
 use Rattle.store.specs.Tables.{offsetAt, kindAt}
-use Rattle.store.specs.Model.{bytesOf}
+use Rattle.store.specs.Shared.{bytesOf}
 use Rattle.store.specs.Dictionary.{storable, joined, upToZero}
 use Rattle.store.proofs.Tests.{and-l, and-r, and-of}
 use Rattle.store.proofs.Form.{form-clean, form-kindOf, storable-formed}

@@ -4,7 +4,8 @@ use mathlib.Core.Bool.{true}
 use mathlib.Core.List.{List}
 use mathlib.Core.Logic.{_↔_}
 use Rattle.store.specs.declared.Counters.{Counters}
-use Rattle.store.specs.Tables.{Tables, freshCounters}
+use Rattle.store.specs.Tables.{Tables}
+use Rattle.store.specs.Shared.{freshCounters}
 use Rattle.store.specs.Model.{Call}
 use Rattle.store.specs.History.{Store, freshStore, storeAfter}
 use Rattle.store.specs.Soundness.{Sound}

@@ -3,7 +3,8 @@
 use mathlib.Core.List.{List}
 use Prim.Native.Nat.{ℕ, _*_, _≤_}
 use lib.ListN.{length}
-use Rattle.store.specs.Tables.{maxResources, maxStatements, resourceWords, statementWords}
+use Rattle.store.specs.Tables.{resourceWords, statementWords}
+use Rattle.store.specs.Shared.{maxResources, maxStatements}
 
 pub record ResourcesHeld (res : List ℕ) (r : ℕ) : Type 0 where
   pub few-resources : r ≤ maxResources

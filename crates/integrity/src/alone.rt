@@ -4,7 +4,7 @@ use store::Triple;
 ghost use mathlib.Core.Path.{_≡_};
 ghost use mathlib.Core.Bool.{true};
 ghost use Prim.Native.Nat.{_-_, _≤_};
-ghost use Rattle.store.specs.Triple.{known, same};
+ghost use Rattle.store.specs.Shared.{known, same};
 ghost use Rattle.store.specs.Tables.{tripleAt};
 ghost use Rattle.integrity.specs.Held.{ResourcesHeld, StatementsHeld};
 ghost use Rattle.integrity.specs.Tests.{allBelow};

@@ -5,7 +5,7 @@
 use store::Position;
 ghost use mathlib.Core.Path.{_≡_};
 ghost use Prim.Native.Nat.{_≤_};
-ghost use Rattle.store.specs.Triple.{all3};
+ghost use Rattle.store.specs.Shared.{all3};
 ghost use Rattle.integrity.specs.Held.{ResourcesHeld, StatementsHeld};
 ghost use Rattle.integrity.specs.Records.{chainCounts, chainOk, chainsOk};
 

@@ -3,7 +3,7 @@ use store::Triple;
 ghost use mathlib.Core.Path.{_≡_};
 ghost use mathlib.Core.Bool.{true};
 ghost use Prim.Native.Nat.{_-_, _≤_, _<_};
-ghost use Rattle.store.specs.Triple.{known, permitted};
+ghost use Rattle.store.specs.Shared.{known, permitted};
 ghost use Rattle.store.specs.Tables.{kindAt};
 ghost use Rattle.integrity.specs.Held.{ResourcesHeld, StatementsHeld};
 ghost use Rattle.integrity.specs.Tests.{allBelow};

@@ -11,9 +11,9 @@ use Rattle.term.specs.Scanner.{kindOf}
 use Rattle.term.specs.Canonical.{canonical}
 use Rattle.term.proofs.Names.{kinds}
 use Rattle.term.proofs.Shortened.{canonical-name}
-use Rattle.store.specs.Triple.{at}
+use Rattle.store.specs.Shared.{at, wellFormed}
 use Rattle.store.specs.Tables.{tripleAt}
-use Rattle.store.specs.Model.{wellFormed, intern}
+use Rattle.store.specs.Model.{intern}
 use Rattle.store.specs.Dictionary.{nameAt, internOf}
 use Rattle.store.specs.History.{Store, callStore}
 use Rattle.store.proofs.Tests.{decide}

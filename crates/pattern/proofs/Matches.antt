@@ -9,7 +9,8 @@ use lib.Dec.{eqb}
 use borrow.Author.Tests.{eq-eqb, ne-eqb, le-leb, lt-leb}
 use Rattle.store.specs.declared.Triple.{Triple}
 use Rattle.graph.specs.declared.QueryPattern.{QueryPattern}
-use Rattle.graph.specs.Query.{Bindings, resource, boundTo, firstVariable, valueOf, bind, match, after}
+use Rattle.graph.specs.Query.{bind, match, after}
+use Rattle.graph.specs.Words.{Bindings, resource, boundTo, firstVariable, valueOf}
 use Rattle.pattern.specs.Matching.{patternWords, WordFits, wordAt, numberAt}
 
 -- ---- the number a word stands for

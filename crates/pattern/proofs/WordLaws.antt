@@ -9,7 +9,7 @@ use lib.ListN.{length, getD, drop}
 use lib.Seq.{drop-cons}
 use lib.Dec.{eqb, leb, ltb}
 use borrow.Author.Tests.{eqb-true, eq-eqb, ne-eqb, lt-ltb, le-leb, lt-leb}
-use Rattle.graph.specs.Query.{patternsOf, wordOk, allOk, wordsOk, firstVariable, variables, maxPatterns}
+use Rattle.graph.specs.Words.{patternsOf, wordOk, allOk, wordsOk, firstVariable, variables, maxPatterns}
 use Rattle.graph.proofs.Laws.{patterns-length}
 use Rattle.pattern.specs.Matching.{patternWords}
 

@@ -6,7 +6,7 @@ use lib.Dec.{eqb}
 use Rattle.store.specs.declared.Triple.{Triple}
 use Rattle.graph.specs.declared.QueryPattern.{QueryPattern}
 use Rattle.graph.specs.declared.Solution.{Solution}
-use Rattle.graph.specs.Query.{Bindings, firstVariable, variables}
+use Rattle.graph.specs.Words.{Bindings, firstVariable, variables}
 use Rattle.pattern.specs.declared.binding.Matched.{Matched}
 
 -- how many words a pattern has: subject, predicate, object

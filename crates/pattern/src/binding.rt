@@ -8,7 +8,8 @@ use store::ResourceId;
 use store::Triple;
 ghost use mathlib.Core.Path.{_≡_};
 ghost use mathlib.Core.Option.{none};
-ghost use Rattle.graph.specs.Query.{unbound, valueOf, under, match};
+ghost use Rattle.graph.specs.Query.{match};
+ghost use Rattle.graph.specs.Words.{unbound, valueOf, under};
 ghost use Rattle.pattern.specs.Matching.{PatternOk, WordFits, wordAt, numberAt, matchedAs};
 
 // Whether a triple meets a pattern, and what is bound from now on; where it does not, what was bound before.

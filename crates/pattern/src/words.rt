@@ -6,7 +6,7 @@ use graph::VARIABLES;
 ghost use mathlib.Core.Path.{_≡_};
 ghost use Prim.Native.Nat.{_<_, _≤_};
 ghost use lib.ListN.{length, getD};
-ghost use Rattle.graph.specs.Query.{wordOk, wordsOk, patternsOf, pattern, maxPatterns};
+ghost use Rattle.graph.specs.Words.{wordOk, wordsOk, patternsOf, pattern, maxPatterns};
 
 // How many words a pattern has: subject, predicate, object.
 pub const PATTERN_WORDS: usize = 3;

@@ -10,14 +10,15 @@ use lib.ListN.{getD, set, replicate}
 use lib.Dec.{eqb, leb, ltb}
 use borrow.Author.Tests.{leb-true, leb-false, eqb-true, eqb-false, lt-ltb, le-ltb}
 use Rattle.store.specs.declared.Triple.{Triple}
-use Rattle.store.specs.Triple.{prev}
+use Rattle.store.specs.Shared.{prev}
 use Rattle.store.specs.Tables.{tripleAt, flagAt}
 use Rattle.store.specs.Walk.{linkOf}
 use Rattle.graph.specs.declared.QueryPattern.{QueryPattern}
 use Rattle.graph.specs.declared.Solution.{Solution}
 use Rattle.graph.specs.declared.Level.{Level}
-use Rattle.graph.specs.Query.{pattern, maxPatterns, Bindings, unbound, under, match, orElse, level, noLevel, recordAt}
-use Rattle.graph.specs.Query.{past, struck, intact, anyStruck, remains, nextPattern, binds, asked, levelsOf, written}
+use Rattle.graph.specs.Query.{match, orElse, recordAt, past, struck, intact, anyStruck, remains, nextPattern, binds, asked}
+use Rattle.graph.specs.Place.{level, noLevel, levelsOf, written}
+use Rattle.graph.specs.Words.{pattern, maxPatterns, Bindings, unbound, under}
 use Rattle.pattern.specs.declared.binding.Matched.{Matched}
 use Rattle.pattern.specs.Matching.{matchedAs}
 use Rattle.pattern_level.specs.Levels.{levelIntact}

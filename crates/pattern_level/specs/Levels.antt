@@ -5,11 +5,13 @@ use mathlib.Core.List.{List}
 use Prim.Native.Nat.{ℕ, _≤_, _<_}
 use lib.ListN.{length, getD}
 use lib.Dec.{leb}
-use Rattle.store.specs.Triple.{prev}
+use Rattle.store.specs.Shared.{prev}
 use Rattle.store.specs.Tables.{flagAt}
 use Rattle.table.specs.Held.{StatementHeld}
 use Rattle.graph.specs.declared.Level.{Level}
-use Rattle.graph.specs.Query.{maxPatterns, patternsOf, pattern, noLevel, past, struck, anyStruck, levelsOf}
+use Rattle.graph.specs.Query.{past, struck, anyStruck}
+use Rattle.graph.specs.Place.{noLevel, levelsOf}
+use Rattle.graph.specs.Words.{maxPatterns, patternsOf, pattern}
 use Rattle.pattern.specs.Matching.{PatternOk}
 
 -- no more patterns than a query may have, each of numbers other than 0 and of variables

@@ -20,8 +20,9 @@ ghost use mathlib.Core.Path.{_≡_};
 ghost use Prim.Native.Nat.{_<_, _≤_};
 ghost use lib.ListN.{length, getD};
 ghost use Rattle.table.specs.Held.{StatementHeld};
-ghost use Rattle.graph.specs.Query.{maxPatterns, patternsOf, noLevel, past, struck, intact, remains, binds};
-ghost use Rattle.graph.specs.Query.{levelsOf, written, cursorWith};
+ghost use Rattle.graph.specs.Query.{past, struck, intact, remains, binds};
+ghost use Rattle.graph.specs.Place.{noLevel, levelsOf, written, cursorWith};
+ghost use Rattle.graph.specs.Words.{maxPatterns, patternsOf};
 ghost use Rattle.pattern_level.specs.Levels.{QueryOk, LevelsHeld, levelIntact, FirstStruck};
 
 // A level after its record, on its chain.

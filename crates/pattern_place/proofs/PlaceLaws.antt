@@ -10,7 +10,7 @@ use lib.ListN.{length, getD}
 use lib.Dec.{eqb}
 use borrow.Author.Tests.{eqb-true, eqb-false, lt-ltb, le-ltb, le-leb, lt-leb}
 use Rattle.store.specs.declared.Triple.{Triple}
-use Rattle.store.specs.Triple.{known}
+use Rattle.store.specs.Shared.{known}
 use Rattle.store.specs.Tables.{tripleAt}
 use Rattle.store.specs.Scan.{chainOk}
 use Rattle.graph.specs.declared.QueryPattern.{QueryPattern}
@@ -18,8 +18,9 @@ use Rattle.graph.specs.declared.Solution.{Solution}
 use Rattle.graph.specs.declared.Level.{Level}
 use Rattle.graph.specs.declared.QueryCursor.{QueryCursor}
 use Rattle.graph.specs.declared.Progress.the-variants.{Start, Within, End}
-use Rattle.graph.specs.Query.{pattern, Bindings, under, match, orElse, isSome, noLevel, binds, asked, enteredOk}
-use Rattle.graph.specs.Query.{placeOk, placeAs, levelsOf, insideOf}
+use Rattle.graph.specs.Query.{match, orElse, isSome, binds, asked, enteredOk, placeOk}
+use Rattle.graph.specs.Place.{noLevel, placeAs, levelsOf, insideOf}
+use Rattle.graph.specs.Words.{pattern, Bindings, under}
 use Rattle.pattern.specs.declared.binding.Matched.{Matched}
 use Rattle.pattern.specs.Matching.{matchedAs}
 use Rattle.pattern_place.specs.Tested.{levelOk, LevelTested, LevelsTested, deepestOk, InsideTested, PlaceTested}

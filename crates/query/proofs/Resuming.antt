@@ -13,16 +13,16 @@ use borrow.Author.Tests.{eqb-true, eqb-false, eq-eqb, ne-eqb, ltb-true, leb-true
 use Rattle.store.specs.declared.Refusal.the-variants.{Damaged as Nine}
 use Rattle.store.specs.declared.Counters.{Counters}
 use Rattle.store.specs.declared.Triple.{Triple}
-use Rattle.store.specs.Triple.{known}
+use Rattle.store.specs.Shared.{known}
 use Rattle.store.specs.Tables.{Tables, fits, statementWords, flagAt}
 use Rattle.store.specs.Scan.{chainOk, recordOk}
 use Rattle.graph.specs.declared.QueryPattern.{QueryPattern}
 use Rattle.graph.specs.declared.Solution.{Solution}
 use Rattle.graph.specs.declared.Level.{Level}
-use Rattle.graph.specs.Query.{patternsOf, pattern, maxPatterns, wordsOk, Bindings, unbound, under, match, isSome}
-use Rattle.graph.specs.Query.{noLevel, start, inside, recordAt, past, struck, intact, anyStruck, pruned, binds, asked}
-use Rattle.graph.specs.Query.{enteredOk, placeOk, levelsOf, insideOf, written, refused, found, finish, enter, begun}
-use Rattle.graph.specs.Query.{walk, resume}
+use Rattle.graph.specs.Query.{match, isSome, recordAt, past, struck, intact, anyStruck, pruned, binds, asked}
+use Rattle.graph.specs.Words.{patternsOf, pattern, maxPatterns, wordsOk, Bindings, unbound, under}
+use Rattle.graph.specs.Place.{noLevel, start, inside, levelsOf, insideOf, written, finish}
+use Rattle.graph.specs.Query.{enteredOk, placeOk, refused, found, enter, begun, walk, resume}
 use Rattle.pattern_level.specs.Levels.{LevelsHeld, levelIntact, FirstStruck}
 use Rattle.pattern_place.specs.Tested.{levelOk}
 use Rattle.query_stack.specs.declared.stack.Stack.{Stack}

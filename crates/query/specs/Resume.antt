@@ -7,7 +7,8 @@ use lib.ListN.{getD, set}
 use lib.Dec.{ltb}
 use Rattle.graph.specs.declared.QueryPattern.{QueryPattern}
 use Rattle.graph.specs.declared.Level.{Level}
-use Rattle.graph.specs.Query.{noLevel, past, levelsOf, written}
+use Rattle.graph.specs.Query.{past}
+use Rattle.graph.specs.Place.{noLevel, levelsOf, written}
 use Rattle.pattern_level.specs.Levels.{FirstStruck}
 use Rattle.query_stack.specs.declared.stack.Stack.{Stack}
 use Rattle.query_stack.specs.Stack.{standAs}

@@ -15,7 +15,9 @@ use Rattle.graph.specs.declared.QueryCursor.{QueryCursor}
 use Rattle.graph.specs.declared.QueryAnswer.{QueryAnswer}
 use Rattle.graph.specs.declared.Solution.{Solution}
 use Rattle.graph.specs.declared.Level.{Level}
-use Rattle.graph.specs.Query.{pattern, Bindings, under, level, noLevel, past, binds, asked, levelsOf}
+use Rattle.graph.specs.Query.{past, binds, asked}
+use Rattle.graph.specs.Place.{level, noLevel, levelsOf}
+use Rattle.graph.specs.Words.{pattern, Bindings, under}
 use Rattle.pattern.specs.Matching.{matchedAs}
 use Rattle.pattern.specs.declared.binding.Matched.{Matched}
 use Rattle.query_stack.specs.declared.stack.Stack.{Stack}

@@ -14,8 +14,9 @@ use Rattle.chain.specs.Chains.{PatternHeld}
 use Rattle.graph.specs.declared.QueryPattern.{QueryPattern}
 use Rattle.graph.specs.declared.Solution.{Solution}
 use Rattle.graph.specs.declared.Level.{Level}
-use Rattle.graph.specs.Query.{Bindings, pattern, under, match, level, noLevel, inside, past, remains, binds, asked}
-use Rattle.graph.specs.Query.{levelsOf, Answer, spent, ended}
+use Rattle.graph.specs.Query.{match, past, remains, binds, asked, Answer, spent, ended}
+use Rattle.graph.specs.Place.{level, noLevel, inside, levelsOf}
+use Rattle.graph.specs.Words.{Bindings, pattern, under}
 use Rattle.query_stack.specs.declared.stack.Stack.{Stack}
 use Rattle.query_stack.specs.declared.stack.Outcome.the-variants.{Damaged, Onward, Whole}
 use Rattle.query_stack.specs.declared.stack.Turned.{Turned}

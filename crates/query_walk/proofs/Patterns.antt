@@ -15,10 +15,11 @@ use Rattle.store.specs.declared.ResourceId.{ResourceId}
 use Rattle.store.specs.declared.Position.{Position}
 use Rattle.store.specs.declared.Position.the-variants.{Subject, Predicate, Object}
 use Rattle.store.specs.declared.Triple.{Triple}
-use Rattle.store.specs.Triple.{at, agrees}
+use Rattle.store.specs.Shared.{at, agrees}
 use Rattle.graph.specs.declared.QueryPattern.{QueryPattern}
-use Rattle.graph.specs.Query.{patternsOf, pattern, wordOk, allOk, wordsOk, firstVariable, variables, maxPatterns}
-use Rattle.graph.specs.Query.{Bindings, resource, valueOf, under, bind, match, after}
+use Rattle.graph.specs.Words.{patternsOf, pattern, wordOk, allOk, wordsOk, firstVariable, variables, maxPatterns}
+use Rattle.graph.specs.Query.{bind, match, after}
+use Rattle.graph.specs.Words.{Bindings, resource, valueOf, under}
 use Rattle.pattern.specs.Matching.{patternWords, WordFits, PatternOk}
 use Rattle.store.proofs.Tests.{and-l, and-r}
 use Rattle.graph.proofs.Laws.{pattern-words, patterns-length}

@@ -16,8 +16,9 @@ use Rattle.chain.specs.Chains.{PatternHeld}
 use Rattle.graph.specs.declared.QueryPattern.{QueryPattern}
 use Rattle.graph.specs.declared.Solution.{Solution}
 use Rattle.graph.specs.declared.Level.{Level}
-use Rattle.graph.specs.Query.{patternsOf, pattern, maxPatterns, variables, Bindings, under, match, orElse, noLevel}
-use Rattle.graph.specs.Query.{recordAt, nextPattern, binds, asked, levelsOf}
+use Rattle.graph.specs.Query.{match, orElse, recordAt, nextPattern, binds, asked}
+use Rattle.graph.specs.Place.{noLevel, levelsOf}
+use Rattle.graph.specs.Words.{patternsOf, pattern, maxPatterns, variables, Bindings, under}
 use Rattle.pattern_level.specs.Levels.{QueryOk, LevelsHeld}
 use Rattle.query_stack.specs.declared.stack.Stack.{Stack}
 use Rattle.query_walk.specs.Turn.{Ready, LevelSure, Stands}

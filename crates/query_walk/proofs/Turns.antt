@@ -13,9 +13,8 @@ use Rattle.store.specs.declared.Chain.{Chain}
 use Rattle.store.specs.declared.Chain.the-variants.{All}
 use Rattle.store.specs.declared.Triple.{Triple}
 use Rattle.store.specs.declared.Refusal.the-variants.{Damaged as Nine}
-use Rattle.store.specs.Triple.{known, agrees}
+use Rattle.store.specs.Shared.{known, agrees, matches}
 use Rattle.store.specs.Tables.{tripleAt}
-use Rattle.store.specs.Model.{matches}
 use Rattle.store.specs.Walk.{entryAt, pickChain, pickable, startOf, linkOf, visitable}
 use Rattle.chain_walk.specs.declared.walk.Sought.the-variants.{LiveMatch}
 use Rattle.chain_walk.specs.declared.walk.Visited.{Visited}
@@ -24,8 +23,9 @@ use Rattle.chain_walk.specs.Walks.{hits, visitOf}
 use Rattle.graph.specs.declared.QueryPattern.{QueryPattern}
 use Rattle.graph.specs.declared.Solution.{Solution}
 use Rattle.graph.specs.declared.Level.{Level}
-use Rattle.graph.specs.Query.{patternsOf, pattern, maxPatterns, Bindings, under, match, level, noLevel, inside}
-use Rattle.graph.specs.Query.{recordAt, past, struck, settle, nextPattern, binds, asked, levelsOf, Turn, bad, go, whole}
+use Rattle.graph.specs.Query.{match, recordAt, past, struck, settle, nextPattern, binds, asked, Turn, bad, go, whole}
+use Rattle.graph.specs.Place.{level, noLevel, inside, levelsOf}
+use Rattle.graph.specs.Words.{patternsOf, pattern, maxPatterns, Bindings, under}
 use Rattle.graph.specs.Query.{Answer, refused, found, ended, enter, hit, tried, visit, walk}
 use Rattle.pattern_level.specs.Levels.{LevelsHeld}
 use Rattle.query_stack.specs.declared.stack.Stack.{Stack}

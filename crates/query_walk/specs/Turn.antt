@@ -4,13 +4,14 @@ use mathlib.Core.Bool.{true}
 use mathlib.Core.List.{List}
 use Prim.Native.Nat.{ℕ, _-_, _*_, _≤_, _<_}
 use lib.ListN.{length, getD, set}
-use Rattle.store.specs.Triple.{known}
-use Rattle.store.specs.Tables.{resourceWords, statementWords, maxResources}
+use Rattle.store.specs.Shared.{known, maxResources}
+use Rattle.store.specs.Tables.{resourceWords, statementWords}
 use Rattle.store.specs.Walk.{visitable}
 use Rattle.graph.specs.declared.QueryPattern.{QueryPattern}
 use Rattle.graph.specs.declared.Level.{Level}
-use Rattle.graph.specs.Query.{maxPatterns, patternsOf, wordsOk, noLevel, recordAt, past, binds, asked, nextPattern}
-use Rattle.graph.specs.Query.{match, Turn, bad, go, whole, tried}
+use Rattle.graph.specs.Query.{recordAt, past, binds, asked, nextPattern, match, Turn, bad, go, whole, tried}
+use Rattle.graph.specs.Place.{noLevel}
+use Rattle.graph.specs.Words.{maxPatterns, patternsOf, wordsOk}
 use Rattle.query_stack.specs.declared.stack.Stack.{Stack}
 use Rattle.query_stack.specs.declared.stack.Outcome.{Outcome}
 use Rattle.query_stack.specs.declared.stack.Outcome.the-variants.{Damaged, Onward, Whole}

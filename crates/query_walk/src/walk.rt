@@ -15,7 +15,8 @@ use query_stack::stack::whole;
 use store::Counters;
 use store::Refusal;
 ghost use mathlib.Core.Path.{_≡_};
-ghost use Rattle.graph.specs.Query.{patternsOf, packed, walk};
+ghost use Rattle.graph.specs.Query.{packed, walk};
+ghost use Rattle.graph.specs.Words.{patternsOf};
 ghost use Rattle.query_stack.specs.Stack.{deepest, entered};
 ghost use Rattle.query_walk.specs.Turn.{Ready, Stands};
 

@@ -8,7 +8,7 @@ use borrow.Author.Tests.{leb-true, eq-eqb, ne-eqb}
 use Rattle.store.specs.declared.Counters.{Counters}
 use Rattle.store.specs.declared.Triple.{Triple}
 use Rattle.store.specs.declared.ScanCursor.{ScanCursor}
-use Rattle.store.specs.Triple.{within}
+use Rattle.store.specs.Shared.{within}
 use Rattle.store.specs.Tables.{Tables, fits}
 use Rattle.store.specs.Walk.{linkOf, visitable, walk}
 use Rattle.store.specs.Scan.{chainOk, recordOk, cursorOk, walkFrom, scannedAs, nextOf}

@@ -15,7 +15,7 @@ use Rattle.store.specs.declared.Asserted.{Asserted}
 use Rattle.store.specs.declared.Asserted.the-variants.{Refused as NotAsserted}
 use Rattle.store.specs.declared.Retracted.{Retracted}
 use Rattle.store.specs.declared.Retracted.the-variants.{Refused as NotRetracted}
-use Rattle.store.specs.Triple.{known, permitted}
+use Rattle.store.specs.Shared.{known, permitted}
 use Rattle.store.specs.Tables.{Tables, fits, statementWords, kindAt}
 use Rattle.store.specs.Statement.{locate, kinded, asserting, assertOf, retracting, retractOf}
 use Rattle.table.proofs.Capacity.{fits-room}

@@ -6,7 +6,7 @@ use mathlib.Core.Bool.{Bool, true, false}
 use Prim.Native.Nat.{ℕ, zero, suc, _+_, _-_, _*_, _≤_, _<_, _/_, min}
 use native.Mathlib.Omega.{arith}
 use lib.Dec.{ltb}
-use Rattle.store.specs.Triple.{at}
+use Rattle.store.specs.Shared.{at, maxStatements}
 use borrow.Author.Tests.{ltb-true, ltb-false, lt-ltb, le-ltb, eq-eqb, ne-eqb}
 use Rattle.store.specs.declared.Position.{Position}
 use Rattle.store.specs.declared.Position.the-variants.{Subject, Predicate, Object}
@@ -15,7 +15,7 @@ use Rattle.store.specs.declared.Triple.{Triple}
 use Rattle.store.specs.declared.Refusal.the-variants.{Full, Damaged}
 use Rattle.store.specs.declared.Asserted.the-variants.{New, Already, Revived, Refused as NotAsserted}
 use Rattle.store.specs.declared.Retracted.the-variants.{Number as Struck, Absent as NotLive, Refused as NotRetracted}
-use Rattle.store.specs.Tables.{Tables, tables, after, statementCapacity, statementWords, flagAt, off, liveAt, maxStatements}
+use Rattle.store.specs.Tables.{Tables, tables, after, statementCapacity, statementWords, flagAt, off, liveAt}
 use Rattle.store.specs.Statement.{linkFirst, linkRecord, appendRecord, oneStatementMore, asserting, tallyAt, tally, counting, retracting}
 use Rattle.store.proofs.LiveCounts.{counting-at}
 use Rattle.store.proofs.Words.{link-length, link-count-other, link-live-other, tallyAt-length, tallyAt-other}

@@ -9,8 +9,8 @@ use Rattle.store.specs.declared.Position.{Position}
 use Rattle.store.specs.declared.Triple.{Triple}
 use Rattle.store.specs.declared.Asserted.{Asserted}
 use Rattle.store.specs.declared.Retracted.{Retracted}
-use Rattle.store.specs.Triple.{at}
-use Rattle.store.specs.Tables.{tables, after, statementWords, maxStatements, countAt, liveAt}
+use Rattle.store.specs.Shared.{at, maxStatements}
+use Rattle.store.specs.Tables.{tables, after, statementWords, countAt, liveAt}
 use Rattle.store.specs.Statement.{asserting, retracting}
 use Rattle.table.specs.Held.{ResourceHeld}
 

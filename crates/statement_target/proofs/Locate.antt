@@ -10,7 +10,7 @@ use Rattle.store.specs.declared.Counters.{Counters}
 use Rattle.store.specs.declared.Position.{Position}
 use Rattle.store.specs.declared.Chain.{Chain}
 use Rattle.store.specs.declared.Triple.{Triple}
-use Rattle.store.specs.Triple.{at, known, same}
+use Rattle.store.specs.Shared.{at, known, same}
 use Rattle.store.specs.Tables.{Tables, tables, fits, countAt, liveAt, tripleAt}
 use Rattle.store.specs.Walk.{pickChain, pickable, startOf, linkOf, visitable, walk, Step, foundIn}
 use Rattle.store.specs.Statement.{seek, countable, locate}

@@ -5,7 +5,7 @@ use Prim.Native.Nat.{ℕ}
 use Rattle.store.specs.declared.Counters.{Counters}
 use Rattle.store.specs.declared.Triple.{Triple}
 use Rattle.store.specs.declared.Refusal.the-variants.{Capacity, UnknownNumber, KindNotPermitted, Damaged}
-use Rattle.store.specs.Triple.{known, permitted}
+use Rattle.store.specs.Shared.{known, permitted}
 use Rattle.store.specs.Tables.{Tables, fits, kindAt}
 use Rattle.store.specs.Statement.{locate, kinded}
 use Rattle.statement_target.specs.declared.target.Located.{Located}

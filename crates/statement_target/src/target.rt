@@ -23,7 +23,7 @@ ghost use mathlib.Core.List.{[]};
 ghost use Prim.Native.Nat.{ℕ, _*_, _≤_};
 ghost use lib.ListN.{length};
 ghost use lib.Dec.{leb};
-ghost use Rattle.store.specs.Triple.{permitted};
+ghost use Rattle.store.specs.Shared.{permitted};
 ghost use Rattle.store.specs.Tables.{tables, statementWords, countAt, kindAt, liveAt};
 ghost use Rattle.store.specs.Walk.{pickable};
 ghost use Rattle.store.specs.Statement.{countable, locate, kinded};

@@ -15,8 +15,8 @@ use Rattle.store.specs.declared.Retracted.{Retracted}
 use Rattle.store.specs.declared.Retracted.the-variants.{Number as Struck, Absent as NotLive}
 use Rattle.store.specs.declared.Retracted.the-variants.{Refused as NotRetracted}
 use Rattle.store.specs.declared.Reclaimed.the-variants.{Done, Refused as NotReclaimed}
-use Rattle.store.specs.Triple.{known, permitted}
-use Rattle.store.specs.Tables.{Tables, fits, maxReclaims, statementCapacity, flagAt, kindAt}
+use Rattle.store.specs.Shared.{known, permitted, maxReclaims}
+use Rattle.store.specs.Tables.{Tables, fits, statementCapacity, flagAt, kindAt}
 use Rattle.store.specs.Statement.{locate, kinded, asserting, assertOf, counting, retracting, retractOf}
 use Rattle.store.specs.Reclaim.{reclaimOf}
 use Rattle.store.proofs.Tests.{decide}

@@ -14,7 +14,7 @@ use Rattle.store.specs.declared.Position.{Position}
 use Rattle.store.specs.declared.Chain.{Chain}
 use Rattle.store.specs.declared.Chain.the-variants.{All, By}
 use Rattle.store.specs.declared.Triple.{Triple}
-use Rattle.store.specs.Triple.{at, all3, known, below, head0}
+use Rattle.store.specs.Shared.{at, all3, known, below, head0}
 use Rattle.store.specs.Tables.{termAt, nextAt, flagAt, tripleAt, firstAt, countAt, liveAt}
 use Rattle.store.specs.Model.{onChain, take-off}
 use Rattle.store.specs.Walk.{pickChain, pickable, startOf, linkOf, sits, visitable, walk}

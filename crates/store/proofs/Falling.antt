@@ -10,7 +10,7 @@ use borrow.Author.Tests.{eqb-true, eqb-false}
 use Prim.Native.Nat.{ℕ, zero, suc, _+_, _≤_, _<_}
 use native.Mathlib.Omega.{arith}
 use lib.ListN.{length}
-use Rattle.store.specs.Triple.{below, head0}
+use Rattle.store.specs.Shared.{below, head0}
 use Rattle.store.proofs.Tests.{decide}
 
 pub below-yes : (f : ℕ → Bool) (n : ℕ) → f n ≡ true → below f (suc n) ≡ suc n ∷ below f n

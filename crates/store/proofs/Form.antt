@@ -15,7 +15,7 @@ use Rattle.term.specs.declared.Scan.the-variants.{Start, IriOpen, Iri, Closed, 
 use Rattle.term.specs.declared.Scan.the-variants.{Escape, Quote, At, Tag, Hyphen, Group, Caret, Carets, Bad}
 use Rattle.term.specs.Canonical.{writesString, canonical}
 use Rattle.term.proofs.Shortened.{canonical-name, kept}
-use Rattle.store.specs.Model.{wellFormed}
+use Rattle.store.specs.Shared.{wellFormed}
 use Rattle.store.specs.Dictionary.{storable}
 use Rattle.store.proofs.Tests.{decide, and-l, and-r, and-of}
 

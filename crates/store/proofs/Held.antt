@@ -8,10 +8,10 @@ use native.Mathlib.Omega.{arith}
 use lib.ListN.{length, getD, length-append, List·getD-append}
 use lib.Seq.{getD-append-seam, ext-getD}
 use Rattle.store.specs.declared.Counters.{Counters}
-use Rattle.store.specs.Triple.{known}
-use Rattle.store.specs.Tables.{Tables, maxReclaims, resourceCapacity, statementCapacity, textCapacity, tripleAt}
+use Rattle.store.specs.Shared.{known, maxReclaims, Entry, nameOf}
+use Rattle.store.specs.Tables.{Tables, resourceCapacity, statementCapacity, textCapacity, tripleAt}
 use Rattle.store.specs.Values.{noTriple}
-use Rattle.store.specs.Model.{Entry, Model, Capacities, entry, nameOf}
+use Rattle.store.specs.Model.{Model, Capacities, entry}
 use Rattle.store.specs.Walk.{entryAt}
 use Rattle.store.specs.Dictionary.{Named, nameAt}
 use Rattle.store.specs.Soundness.{Sound}

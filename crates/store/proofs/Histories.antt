@@ -4,10 +4,10 @@ use mathlib.Core.Path.{_≡_, refl, sym, ap, ap₂, _∙_}
 use mathlib.Core.List.{List, [], _∷_}
 use Prim.Native.Nat.{ℕ, zero, suc, _≤_, _<_}
 use native.Mathlib.Omega.{arith}
-use Rattle.store.specs.Triple.{below}
+use Rattle.store.specs.Shared.{below, bytesOf}
 use Rattle.store.specs.Tables.{Tables}
 use Rattle.store.specs.Model.{Model, Capacities, Form, byValue, lent, Call, intern, assert, retract, open′, next, reclaim}
-use Rattle.store.specs.Model.{bytesOf, freshModel, callModel, modelReplies, modelAfter}
+use Rattle.store.specs.Model.{freshModel, callModel, modelReplies, modelAfter}
 use Rattle.store.specs.Statement.{assertLentOf, retractLentOf}
 use Rattle.store.specs.Dictionary.{joined}
 use Rattle.store.specs.History.{Store, freshStore, capacitiesOf, callStore, storeReplies, storeAfter}

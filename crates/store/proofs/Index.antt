@@ -6,7 +6,7 @@ use mathlib.Core.List.{List, [], _∷_}
 use Prim.Native.Nat.{ℕ, zero, suc, _+_, _-_, _≤_, _<_}
 use native.Mathlib.Omega.{arith}
 use lib.ListN.{length, getD}
-use Rattle.store.specs.Triple.{below}
+use Rattle.store.specs.Shared.{below}
 use Rattle.store.specs.Tables.{word}
 use Rattle.store.specs.Dictionary.{Ordering, less, equal, more, compare, isLess, Indexed, rank, bring, insertAt}
 use Rattle.store.proofs.Tests.{decide, three}

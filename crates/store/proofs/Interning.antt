@@ -17,7 +17,7 @@ use Rattle.store.specs.declared.IndexPlace.the-variants.{At, Before, Tor
 use Rattle.store.specs.declared.Interned.{Interned}
 use Rattle.store.specs.declared.Interned.the-variants.{Number as Id, Refused as NotInterned}
 use Rattle.store.specs.Tables.{Tables, fits, word, resourceWords}
-use Rattle.store.specs.Model.{wellFormed}
+use Rattle.store.specs.Shared.{wellFormed}
 use Rattle.store.specs.Dictionary.{roomFor, withName, internAs, internOf, InternWrites, indexPlaceOf, freshRecord}
 use Rattle.store.specs.Dictionary.{PlaceWithin, rank, placeAt, nameAt}
 use Rattle.store.proofs.Tests.{decide}

@@ -15,9 +15,10 @@ use Rattle.store.specs.declared.Refusal.{Refusal}
 use Rattle.store.specs.declared.Refusal.the-variants.{Capacity, Damaged, ReclaimLimit}
 use Rattle.store.specs.declared.Reclaimed.{Reclaimed}
 use Rattle.store.specs.declared.Reclaimed.the-variants.{Refused as NotReclaimed}
-use Rattle.store.specs.Tables.{Tables, after, fits, maxReclaims}
+use Rattle.store.specs.Tables.{Tables, after, fits}
+use Rattle.store.specs.Shared.{maxReclaims, Entry}
 use Rattle.store.specs.Values.{Values, refusalNumber, scannedValues, reclaimedValues}
-use Rattle.store.specs.Model.{Entry, intern, assert, retract, open′, next, reclaim, byValue, lent, freshModel, unstruck}
+use Rattle.store.specs.Model.{intern, assert, retract, open′, next, reclaim, byValue, lent, freshModel, unstruck}
 use Rattle.store.specs.Dictionary.{internOf}
 use Rattle.store.specs.Walk.{Step, found, ended, spent}
 use Rattle.store.specs.Statement.{assertOf, retractOf, assertLentOf, retractLentOf}

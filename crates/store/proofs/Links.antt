@@ -11,7 +11,7 @@ use lib.Dec.{eqb}
 use borrow.Author.Tests.{eqb-true, eqb-false, ne-eqb}
 use Rattle.store.specs.declared.Position.{Position}
 use Rattle.store.specs.declared.Triple.{Triple}
-use Rattle.store.specs.Triple.{at, below, head0}
+use Rattle.store.specs.Shared.{at, below, head0}
 use Rattle.store.specs.Tables.{off, statementWords, resourceWords, termAt, nextAt, flagAt, firstAt, countAt, liveAt}
 use Rattle.store.specs.Statement.{appendRecord, linkRecord, tally}
 use Rattle.store.specs.Dictionary.{freshRecord}

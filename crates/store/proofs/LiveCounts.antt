@@ -16,9 +16,8 @@ use Rattle.store.specs.declared.Position.the-variants.{Subject, Predicat
 use Rattle.store.specs.declared.Chain.{Chain}
 use Rattle.store.specs.declared.Chain.the-variants.{All, By}
 use Rattle.store.specs.declared.Triple.{Triple}
-use Rattle.store.specs.Triple.{at, below}
+use Rattle.store.specs.Shared.{at, below, Entry}
 use Rattle.store.specs.Tables.{Tables, off, fits, flagAt, firstAt, countAt, liveAt}
-use Rattle.store.specs.Model.{Entry}
 use Rattle.store.specs.Walk.{entryAt, pickChain, pickable, startOf}
 use Rattle.store.specs.Statement.{countable, locate, counting, retracting}
 use Rattle.store.specs.Scan.{openOf, cursorOk, walkFrom, nextOf}

@@ -15,11 +15,11 @@ use Rattle.store.specs.declared.Position.{Position}
 use Rattle.store.specs.declared.Chain.{Chain}
 use Rattle.store.specs.declared.Chain.the-variants.{All, By}
 use Rattle.store.specs.declared.Triple.{Triple}
-use Rattle.store.specs.Triple.{at, within, agrees, below, prev}
+use Rattle.store.specs.Shared.{at, within, agrees, below, prev, Entry, matches, pick}
 use Rattle.store.specs.Values.{Values, placed, refusedWith, stepped}
-use Rattle.store.specs.Model.{Entry, Listing, Model, Capacities, Taken, found as took, ended as emptied}
-use Rattle.store.specs.Model.{spent as stopped, Call, open′, next, freshModel, entry, matches, onChain, holders}
-use Rattle.store.specs.Model.{pick, pickModel, listing, cursorOf, noListing, leaving, take-off, takenValues}
+use Rattle.store.specs.Model.{Listing, Model, Capacities, Taken, found as took, ended as emptied}
+use Rattle.store.specs.Model.{spent as stopped, Call, open′, next, freshModel, entry, onChain, holders}
+use Rattle.store.specs.Model.{pickModel, listing, cursorOf, noListing, leaving, take-off, takenValues}
 use Rattle.store.specs.Model.{takeFrom, turn, openModel, nextModel, callModel, modelReplies, modelAfter}
 use Rattle.store.specs.History.{Store, freshStore, capacitiesOf, callStore, storeReplies, storeAfter}
 use Rattle.store.specs.Claims.{Opening, storeThen, opened, Accepted, openingNumber, chainThen, storeNow, visitsOf}

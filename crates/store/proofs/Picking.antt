@@ -12,9 +12,8 @@ use Rattle.store.specs.declared.Position.the-variants.{Subject, Predicat
 use Rattle.store.specs.declared.Chain.{Chain}
 use Rattle.store.specs.declared.Chain.the-variants.{All, By}
 use Rattle.store.specs.declared.Triple.{Triple}
-use Rattle.store.specs.Triple.{at, all3}
+use Rattle.store.specs.Shared.{at, all3, better, pick}
 use Rattle.store.specs.Tables.{off}
-use Rattle.store.specs.Model.{better, pick}
 use Rattle.store.specs.Scan.{chainOk}
 use Rattle.store.proofs.Tests.{decide, off-lt, off-inj, all3-of}
 

@@ -12,9 +12,8 @@ use Rattle.store.specs.declared.Position.{Position}
 use Rattle.store.specs.declared.Chain.{Chain}
 use Rattle.store.specs.declared.Chain.the-variants.{All, By}
 use Rattle.store.specs.declared.Triple.{Triple}
-use Rattle.store.specs.Triple.{at, all3, known, within, same, agrees, permitted, below}
+use Rattle.store.specs.Shared.{at, all3, known, within, same, agrees, permitted, below, Entry, matches, pick}
 use Rattle.store.specs.Tables.{off}
-use Rattle.store.specs.Model.{Entry, matches, pick}
 use Rattle.store.specs.Claims.{KnownMeans, WithinMeans, SameMeans, MatchesMeans, PermittedMeans, BelowMeans}
 use Rattle.store.specs.Claims.{FirstIsHighest}
 use Rattle.store.specs.Claims.{LeastBound, PicksLeast}

@@ -12,11 +12,10 @@ use Rattle.store.specs.declared.Counters.{Counters}
 use Rattle.store.specs.declared.Position.{Position}
 use Rattle.store.specs.declared.Triple.{Triple}
 use Rattle.store.specs.declared.Reclaimed.{Reclaimed}
-use Rattle.store.specs.Triple.{at}
-use Rattle.store.specs.Tables.{Tables, word, statementWords, resourceWords, maxReclaims, termAt, flagAt, tripleAt}
-use Rattle.store.specs.Tables.{offsetAt, kindAt}
+use Rattle.store.specs.Shared.{at, maxReclaims, Entry}
+use Rattle.store.specs.Tables.{Tables, word, statementWords, resourceWords, termAt, flagAt, tripleAt, offsetAt, kindAt}
 use Rattle.store.specs.Values.{Values, counted, reclaimedValues}
-use Rattle.store.specs.Model.{Entry, Model, Capacities, entry, unstruck, reclaimed, reclaimModel}
+use Rattle.store.specs.Model.{Model, Capacities, entry, unstruck, reclaimed, reclaimModel}
 use Rattle.store.specs.Walk.{entryAt}
 use Rattle.store.specs.Statement.{appendRecord}
 use Rattle.store.specs.Soundness.{Linked}

@@ -15,11 +15,11 @@ use Rattle.store.specs.declared.Counters.{Counters}
 use Rattle.store.specs.declared.Position.{Position}
 use Rattle.store.specs.declared.Position.the-variants.{Subject, Predicate}
 use Rattle.store.specs.declared.Triple.{Triple}
-use Rattle.store.specs.Triple.{at, known, within, same, permitted, head0}
-use Rattle.store.specs.Tables.{Tables, maxReclaims, flagAt}
+use Rattle.store.specs.Shared.{at, known, within, same, permitted, head0, maxReclaims, Entry, wellFormed, nameOf, bytesOf}
+use Rattle.store.specs.Tables.{Tables, flagAt}
 use Rattle.store.specs.Values.{Values}
-use Rattle.store.specs.Model.{Entry, Model, Capacities, Form, Call, intern, assert, retract, open′, next, reclaim}
-use Rattle.store.specs.Model.{freshModel, wellFormed, lookupName, nameOf, bytesOf, internName, internModel, entry}
+use Rattle.store.specs.Model.{Model, Capacities, Form, Call, intern, assert, retract, open′, next, reclaim}
+use Rattle.store.specs.Model.{freshModel, lookupName, internName, internModel, entry}
 use Rattle.store.specs.Model.{lookup, put, assertModel, strike, retractModel, openModel, turn, noListing, nextModel}
 use Rattle.store.specs.Model.{unstruck, reclaimed, reclaimModel, callModel, modelAfter}
 use Rattle.store.specs.Walk.{entryAt}

@@ -17,12 +17,11 @@ use Rattle.store.specs.declared.Position.the-variants.{Subject, Predicat
 use Rattle.store.specs.declared.Chain.{Chain}
 use Rattle.store.specs.declared.Chain.the-variants.{All, By}
 use Rattle.store.specs.declared.Triple.{Triple}
-use Rattle.store.specs.Triple.{at, known, same, below, head0}
-use Rattle.store.specs.Tables.{Tables, fits, maxReclaims, resourceCapacity, statementCapacity, textCapacity, termAt}
-use Rattle.store.specs.Tables.{flagAt, tripleAt}
+use Rattle.store.specs.Shared.{at, known, same, below, head0, maxReclaims, Entry, bytesOf}
+use Rattle.store.specs.Tables.{Tables, fits, resourceCapacity, statementCapacity, textCapacity, termAt, flagAt, tripleAt}
 use Rattle.store.specs.Values.{Values}
-use Rattle.store.specs.Model.{Entry, Listing, Model, Capacities, entry, lookup, mark, onChain, holders}
-use Rattle.store.specs.Model.{pickModel, cursorOf, noListing, bytesOf, totals, take-off}
+use Rattle.store.specs.Model.{Listing, Model, Capacities, entry, lookup, mark, onChain, holders}
+use Rattle.store.specs.Model.{pickModel, cursorOf, noListing, totals, take-off}
 use Rattle.store.specs.Walk.{entryAt, pickChain, pickable, Step, foundIn}
 use Rattle.store.specs.Statement.{seek, countable, locate}
 use Rattle.store.specs.Scan.{chainOk}

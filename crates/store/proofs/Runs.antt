@@ -15,17 +15,16 @@ use Rattle.store.specs.declared.Counters.{Counters}
 use Rattle.store.specs.declared.ScanCursor.{ScanCursor}
 use Rattle.store.specs.declared.Refusal.the-variants.{Malformed}
 use Rattle.store.specs.declared.Lookup.the-variants.{Number as Found, Absent, Refused as NotFound}
-use Rattle.store.specs.Triple.{triple, known, within, same, agrees, permitted, below}
+use Rattle.store.specs.Shared.{triple, known, within, same, agrees, permitted, below, wellFormed, nameOf, bytesOf, matches, better}
 use Rattle.store.specs.Tables.{Tables, tables, fits, termAt, nextAt, flagAt, tripleAt, firstAt, countAt, offsetAt}
 use Rattle.store.specs.Tables.{kindAt, liveAt, resourceWords}
 use Rattle.store.specs.Values.{Values, refusedWith, numbered, counted, placed, stepped}
 use Rattle.store.specs.Model.{Call, intern, assert, retract, open′, next, reclaim, byValue, lent, Capacities, freshModel}
-use Rattle.store.specs.Model.{wellFormed, lookupName, nameOf, bytesOf, internName, internModel, matches}
-use Rattle.store.specs.Model.{lookup, mark, put, assertModel, strike, retractModel, onChain, holders, better}
-use Rattle.store.specs.Model.{pick, Model, unstruck, reclaimModel}
+use Rattle.store.specs.Model.{lookupName, internName, internModel}
+use Rattle.store.specs.Model.{lookup, mark, put, assertModel, strike, retractModel, onChain, holders, Model, unstruck, reclaimModel}
+use Rattle.store.specs.Shared.{pick}
 use Rattle.store.specs.Reclaim.{unlinked, sweepOne, sweep, blanked, sweptOf, reclaimOf}
-use Rattle.store.specs.Model.{pickModel, listing, openModel, take-off, takeFrom, turn, nextModel, callModel}
-use Rattle.store.specs.Model.{modelReplies}
+use Rattle.store.specs.Model.{pickModel, listing, openModel, take-off, takeFrom, turn, nextModel, callModel, modelReplies}
 use Rattle.store.specs.Walk.{entryAt, pickChain, pickable, startOf, linkOf, sits, visitable, walk}
 use Rattle.store.specs.Statement.{seek, countable, locate, tallyAt, tally, appendRecord, linkFirst, linkRecord, kinded, asserting}
 use Rattle.store.specs.Statement.{assertOf, counting, retracting, retractOf, assertLentOf, retractLentOf}

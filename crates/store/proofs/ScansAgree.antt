@@ -16,13 +16,12 @@ use Rattle.store.specs.declared.Triple.{Triple}
 use Rattle.store.specs.declared.ScanCursor.{ScanCursor}
 use Rattle.store.specs.declared.ScanOpened.{ScanOpened}
 use Rattle.store.specs.declared.Scanned.{Scanned}
-use Rattle.store.specs.Triple.{at, within, below, head0}
+use Rattle.store.specs.Shared.{at, within, below, head0, Entry, matches}
 use Rattle.store.specs.Tables.{Tables}
 use Rattle.store.specs.Values.{Values, noCursor, placed, openedValues, scannedValues}
-use Rattle.store.specs.Model.{Entry, Listing, Model, Capacities, Taken, found as took, ended as emptied}
-use Rattle.store.specs.Model.{spent as stopped, entry, matches, holders, pickModel, listing, cursorOf}
-use Rattle.store.specs.Model.{withListings, openModel, take-off, noListing, leaving, restOf, takenValues}
-use Rattle.store.specs.Model.{takeFrom, turn, nextModel}
+use Rattle.store.specs.Model.{Listing, Model, Capacities, Taken, found as took, ended as emptied}
+use Rattle.store.specs.Model.{spent as stopped, entry, holders, pickModel, listing, cursorOf}
+use Rattle.store.specs.Model.{withListings, openModel, take-off, noListing, leaving, restOf, takenValues, takeFrom, turn, nextModel}
 use Rattle.store.specs.Walk.{entryAt, pickChain, startOf}
 use Rattle.store.specs.Scan.{cursorIn, openOf, chainOk, recordOk, cursorOk, walkFrom, scannedAs, nextOf}
 use Rattle.store.specs.History.{Store, store, openedCursors, movedCursors}

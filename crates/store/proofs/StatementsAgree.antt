@@ -19,12 +19,11 @@ use Rattle.store.specs.declared.Asserted.{Asserted}
 use Rattle.store.specs.declared.Refusal.the-variants.{Damaged}
 use Rattle.store.specs.declared.Retracted.{Retracted}
 use Rattle.store.specs.declared.Retracted.the-variants.{Number as Struck, Refused as NotRetracted}
-use Rattle.store.specs.Triple.{at, all3, known, permitted}
+use Rattle.store.specs.Shared.{at, all3, known, permitted, Entry, nameOf}
 use Rattle.store.specs.Tables.{Tables, statementCapacity, statementWords, resourceWords, termAt, flagAt, tripleAt}
 use Rattle.store.specs.Tables.{offsetAt, kindAt, liveAt}
 use Rattle.store.specs.Values.{Values, numbered, counted, assertedValues, retractedValues}
-use Rattle.store.specs.Model.{Entry, Model, Capacities, entry, lookup, mark, nameOf, totals, withEntries, put}
-use Rattle.store.specs.Model.{assertModel, strike, retractModel}
+use Rattle.store.specs.Model.{Model, Capacities, entry, lookup, mark, totals, withEntries, put, assertModel, strike, retractModel}
 use Rattle.store.specs.Walk.{entryAt}
 use Rattle.store.specs.Statement.{tally, withFlag, counting, appendRecord, linkRecord, appended, kinded, oneStatementMore}
 use Rattle.store.specs.Statement.{struckOut, asserting, assertOf, retracting, retractOf, countersAfter}

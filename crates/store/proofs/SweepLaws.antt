@@ -10,9 +10,8 @@ use Rattle.store.specs.declared.Counters.{Counters}
 use Rattle.store.specs.declared.Position.{Position}
 use Rattle.store.specs.declared.Refusal.the-variants.{Capacity, Damaged, ReclaimLimit}
 use Rattle.store.specs.declared.Reclaimed.the-variants.{Done, Refused as NotReclaimed}
-use Rattle.store.specs.Triple.{at, known}
-use Rattle.store.specs.Tables.{Tables, fits, maxReclaims, statementWords, resourceWords, tripleAt}
-use Rattle.store.specs.Tables.{countAt, liveAt}
+use Rattle.store.specs.Shared.{at, known, maxReclaims}
+use Rattle.store.specs.Tables.{Tables, fits, statementWords, resourceWords, tripleAt, countAt, liveAt}
 use Rattle.store.specs.Soundness.{Linked, Sound}
 use Rattle.store.specs.Reclaim.{unlinked, Swept, swept, sweep, sweptOf, reclaimedTables}
 use Rattle.store.specs.Reclaim.{reclaimedCounters, reclaimOf, ReclaimAnswer}

@@ -10,7 +10,7 @@ use lib.Seq.{sets, length-sets}
 use lib.Dec.{eqb}
 use borrow.Author.Tests.{eqb-true, eqb-false}
 use Rattle.store.specs.declared.Position.{Position}
-use Rattle.store.specs.Triple.{below}
+use Rattle.store.specs.Shared.{below}
 use Rattle.store.specs.Tables.{word, off, statementWords, resourceWords, termAt, nextAt, flagAt}
 use Rattle.store.specs.Tables.{firstAt, countAt, offsetAt, kindAt, liveAt}
 use Rattle.store.specs.Soundness.{holding, living, Linked}

@@ -8,7 +8,7 @@ use mathlib.Core.Logic.{_⊎_, ⊎-elim, inl, inr}
 use Prim.Native.Nat.{ℕ, zero, suc, _+_, _≤_, _<_}
 use native.Mathlib.Omega.{arith}
 use lib.ListN.{length, take, drop}
-use Rattle.store.specs.Triple.{head0, prev}
+use Rattle.store.specs.Shared.{head0, prev}
 use Rattle.store.specs.Model.{Taken, found as took, ended as emptied, spent as stopped, oneMore, take-off, restOf}
 use Rattle.store.specs.Claims.{Latest, NoneOf}
 use Rattle.store.proofs.Tests.{decide}

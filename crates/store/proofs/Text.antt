@@ -7,7 +7,7 @@ use Prim.Native.Nat.{ℕ, zero, suc, _+_, _-_, _≤_, _<_}
 use native.Mathlib.Omega.{arith}
 use lib.ListN.{length, getD, take, drop, length-append, take-append-drop, List·getD-append}
 use lib.Seq.{sets, sets-eq, split-at, drop-at, take-at, length-take-le, getD-append-seam}
-use Rattle.store.specs.Model.{nameOf, bytesOf}
+use Rattle.store.specs.Shared.{nameOf, bytesOf}
 use Rattle.store.specs.Dictionary.{joined, upToZero}
 use Rattle.store.proofs.Form.{clean}
 

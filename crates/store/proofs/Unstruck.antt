@@ -5,7 +5,8 @@ use mathlib.Core.List.{List, [], _∷_, _++_}
 use Prim.Native.Nat.{ℕ, zero, suc, _≤_, _<_}
 use native.Mathlib.Omega.{arith}
 use lib.ListN.{length}
-use Rattle.store.specs.Model.{Entry, entry, unstruck}
+use Rattle.store.specs.Model.{entry, unstruck}
+use Rattle.store.specs.Shared.{Entry}
 use Rattle.store.proofs.Tests.{decide}
 
 -- ---- one entry kept, or passed over

@@ -15,7 +15,7 @@ use borrow.Author.Tests.{eqb-true, eqb-false}
 use Rattle.store.specs.declared.Position.{Position}
 use Rattle.store.specs.declared.Position.the-variants.{Subject, Predicate, Object}
 use Rattle.store.specs.declared.Triple.{Triple}
-use Rattle.store.specs.Triple.{at, triple}
+use Rattle.store.specs.Shared.{at, triple}
 use Rattle.store.specs.Tables.{word, off, statementWords, resourceWords, termAt, nextAt, flagAt, tripleAt}
 use Rattle.store.specs.Tables.{firstAt, countAt, offsetAt, kindAt, liveAt}
 use Rattle.store.specs.Statement.{recordWords, appendRecord, linkFirst, linkRecord, tallyAt, tally}

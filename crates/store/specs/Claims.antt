@@ -21,13 +21,13 @@ use Rattle.store.specs.declared.Asserted.the-variants.{Refused as NotAss
 use Rattle.store.specs.declared.Retracted.the-variants.{Refused as NotRetracted}
 use Rattle.store.specs.declared.NameRead.the-variants.{Span}
 use Rattle.store.specs.declared.Lookup.the-variants.{Number}
-use Rattle.store.specs.Triple.{at, known, within, same, agrees, permitted, below, head0, prev}
-use Rattle.store.specs.Tables.{Tables, after, word, off, freshCounters, maxReclaims, statementWords, resourceWords, fits}
+use Rattle.store.specs.Shared.{at, known, within, same, agrees, permitted, below, head0, prev, freshCounters, maxReclaims, Entry}
+use Rattle.store.specs.Tables.{Tables, after, word, off, statementWords, resourceWords, fits}
 use Rattle.store.specs.Tables.{flagAt, countAt, offsetAt, kindAt, liveAt, resourceCapacity, statementCapacity, textCapacity}
 use Rattle.store.specs.Values.{Values, refusedWith, scannedValues, reclaimedValues}
-use Rattle.store.specs.Model.{Entry, Model, Form, Call, intern, assert, retract, open′, next, reclaim, freshModel, totals, entry}
-use Rattle.store.specs.Model.{Capacities, wellFormed, internModel, matches, holders, pick, cursorOf, unstruck, modelReplies}
-use Rattle.store.specs.Model.{modelAfter}
+use Rattle.store.specs.Model.{Model, Form, Call, intern, assert, retract, open′, next, reclaim, freshModel, totals, entry}
+use Rattle.store.specs.Model.{Capacities, internModel, holders, cursorOf, unstruck, modelReplies, modelAfter}
+use Rattle.store.specs.Shared.{wellFormed, matches, pick}
 use Rattle.store.specs.Walk.{entryAt}
 use Rattle.store.specs.Statement.{locate, kinded, assertOf, retractOf}
 use Rattle.store.specs.Scan.{openOf, nextOf}

@@ -19,9 +19,8 @@ use Rattle.store.specs.declared.Lookup.{Lookup}
 use Rattle.store.specs.declared.Lookup.the-variants.{Number, Absent, Refused as NotFound}
 use Rattle.store.specs.declared.Interned.{Interned}
 use Rattle.store.specs.declared.Interned.the-variants.{Number as Id, Refused as NotInterned}
-use Rattle.store.specs.Triple.{below}
+use Rattle.store.specs.Shared.{unless, below, wellFormed, nameOf, bytesOf}
 use Rattle.store.specs.Tables.{Tables, after, fits, resourceCapacity, textCapacity, resourceWords, offsetAt, kindAt, word}
-use Rattle.store.specs.Model.{wellFormed, nameOf, bytesOf}
 
 -- ---- the byte order of names: by the first byte that differs, a prefix first
 
@@ -107,7 +106,10 @@ foundAs Torn = NotFound Damaged
 -- Find on a sound dictionary: 1; 2, by the name as spelled; by the name without the string ending, the number or absent. On any tables
 -- `FindAnswer` says what holds.
 unfoldable pub findOf : Counters → Tables → List ℕ → Lookup
-findOf c m w = cond (fits c m) (cond (wellFormed w) (foundAs (indexPlaceOf c m (canonical w))) (NotFound Malformed)) (NotFound Capacity)
+findOf c m w =
+    unless (fits c m) (NotFound Capacity)
+    (unless (wellFormed w) (NotFound Malformed)
+    (foundAs (indexPlaceOf c m (canonical w))))
 
 -- what holds of find's answer: exact on a sound dictionary; on any tables exact in 1 and 2, then within the bound
 pub record FindAnswer (c : Counters) (m : Tables) (w : List ℕ) (a : Lookup) : Type 0 where
@@ -159,16 +161,17 @@ withName c m w k = record {
 unfoldable pub internAs : Counters → Tables → List ℕ → IndexPlace → Tables × Interned
 internAs c m w (At n k) = (m, Id n c)
 internAs c m w (Before k) =
-    cond (roomFor c m w) (withName c m w k, Id (record { 0 = suc (c .resources) }) (oneNameMore c w)) (m, NotInterned Full)
+    unless (roomFor c m w) (m, NotInterned Full)
+    (withName c m w k, Id (record { 0 = suc (c .resources) }) (oneNameMore c w))
 internAs c m w Torn = (m, NotInterned Damaged)
 
 -- Enter on a sound dictionary: 1; 2, by the name as spelled; by the name without the string ending, already there; 3; new. On any tables
 -- `InternAnswer` says what holds.
 unfoldable pub internOf : Counters → Tables → List ℕ → Tables × Interned
 internOf c m w =
-    cond (fits c m)
-    (cond (wellFormed w) (internAs c m (canonical w) (indexPlaceOf c m (canonical w))) (m, NotInterned Malformed))
-    (m, NotInterned Capacity)
+    unless (fits c m) (m, NotInterned Capacity)
+    (unless (wellFormed w) (m, NotInterned Malformed)
+    (internAs c m (canonical w) (indexPlaceOf c m (canonical w))))
 
 -- only the index, the new record and the text past B are written
 pub record InternWrites (c : Counters) (m m′ : Tables) : Type 0 where

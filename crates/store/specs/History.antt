@@ -13,7 +13,8 @@ use Rattle.store.specs.declared.ScanOpened.{ScanOpened}
 use Rattle.store.specs.declared.ScanOpened.the-variants.{Cursor, Refused as NotOpened}
 use Rattle.store.specs.declared.Scanned.{Scanned}
 use Rattle.store.specs.declared.Scanned.the-variants.{Found, Ended, Spent, Refused as NotScanned}
-use Rattle.store.specs.Tables.{Tables, freshCounters, resourceCapacity, statementCapacity, textCapacity}
+use Rattle.store.specs.Tables.{Tables, resourceCapacity, statementCapacity, textCapacity}
+use Rattle.store.specs.Shared.{freshCounters}
 use Rattle.store.specs.Values.{Values, noCursor, internedValues, assertedValues, retractedValues, openedValues, scannedValues}
 use Rattle.store.specs.Values.{reclaimedValues}
 use Rattle.store.specs.Model.{Capacities, Form, byValue, lent, Call, intern, assert, retract, open′, next, reclaim}

@@ -1,6 +1,6 @@
 -- The plain lists (paper 01, "The plain lists"; 02, notes 6 and 7): what a reader has to believe of demand 3. Two lists under the same
 -- capacities, of names and of triples with a mark, what is left of each opening, and the number of reclaims. Nothing here speaks of
--- tables, links or counts; of `Tables` it takes one number, the greatest number of reclaims. Assumes nothing.
+-- tables, links or counts. Assumes nothing.
 use mathlib.Core.Bool.{Bool, true, false, cond, not, _&&_, _||_}
 use mathlib.Core.List.{List, [], _∷_, _++_}
 use Prim.Native.Nat.{ℕ, zero, suc, _+_, _-_}
@@ -17,16 +17,10 @@ use Rattle.store.specs.declared.Chain.the-variants.{All, By}
 use Rattle.store.specs.declared.Counters.{Counters}
 use Rattle.store.specs.declared.Triple.{Triple}
 use Rattle.store.specs.declared.ScanCursor.{ScanCursor}
-use Rattle.store.specs.Triple.{at, known, within, same, agrees, permitted, below, head0, prev}
-use Rattle.store.specs.Tables.{maxReclaims}
+use Rattle.store.specs.Shared.{unless, at, known, within, same, agrees, permitted, below, head0, prev, maxReclaims}
 use Rattle.store.specs.Values.{Values, noTriple, refusedWith, numbered, counted, placed, stepped}
 
 -- ---- the lists
-
--- a listed triple with its mark
-pub record Entry : Type 0 where
-  pub spo : Triple
-  pub retracted : Bool
 
 -- an opening: the pattern, the position picked, the positions in the list not yet taken, highest first; the number of reclaims then
 pub record Listing : Type 0 where
@@ -63,22 +57,9 @@ pub data Call : Type 0 where
 
 -- ---- names
 
--- well formed, and not over the limit of a name's bytes
-unfoldable pub wellFormed : List ℕ → Bool
-wellFormed w = ltb 0 (kindOf nameLimit w)
-
 -- the position of a listed name, or 0
 unfoldable pub lookupName : List ℕ → List (List ℕ) → ℕ
 lookupName w ns = head0 (below (λ i. eqBytes (getD ns i []) w) (length ns))
-
--- the name with a number
-unfoldable pub nameOf : List (List ℕ) → ℕ → List ℕ
-nameOf ns y = getD ns (y - 1) []
-
--- the names' bytes plus 1 each
-unfoldable pub bytesOf : List (List ℕ) → ℕ
-bytesOf [] = 0
-bytesOf (n ∷ ns) = length n + 1 + bytesOf ns
 
 -- R, T, B and the reclaims so far
 abbrev pub totals : Model → Counters
@@ -98,23 +79,20 @@ lastName s = (s, counted 0 (length (s .names)) (totals s))
 
 unfoldable pub internName : Capacities → Model → List ℕ → ℕ → Model × Values
 internName k s w zero =
-    cond (ltb (length (s .names)) (k .resources) && leb (bytesOf (s .names ++ w ∷ [])) (k .text))
+    unless (ltb (length (s .names)) (k .resources) && leb (bytesOf (s .names ++ w ∷ [])) (k .text)) (s, refusedWith 3)
     (lastName (withNames s (s .names ++ w ∷ [])))
-    (s, refusedWith 3)
 internName k s w (suc i) = (s, counted 0 (suc i) (totals s))
 
 -- Enter: 2, by the name as spelled; then by the name without the string ending: its position if it is listed; 3; else it is appended
 unfoldable pub internModel : Capacities → Model → List ℕ → Model × Values
-internModel k s w = cond (wellFormed w) (internName k s (canonical w) (lookupName (canonical w) (s .names))) (s, refusedWith 2)
+internModel k s w =
+    unless (wellFormed w) (s, refusedWith 2)
+    (internName k s (canonical w) (lookupName (canonical w) (s .names)))
 
 -- ---- triples
 
 abbrev pub entry : List Entry → ℕ → Entry
 entry l i = getD l i (record { spo = noTriple; retracted = false })
-
--- live, and the pattern's number at each bound position
-unfoldable pub matches : Triple → Entry → Bool
-matches x e = not (e .retracted) && agrees x (e .spo)
 
 -- the position of a listed triple, or 0
 unfoldable pub lookup : Triple → List Entry → ℕ
@@ -132,9 +110,8 @@ lastEntry s = (s, counted 1 (length (s .entries)) (totals s))
 
 unfoldable pub put : Capacities → Model → Triple → ℕ → Model × Values
 put k s x zero =
-    cond (ltb (length (s .entries)) (k .statements))
+    unless (ltb (length (s .entries)) (k .statements)) (s, refusedWith 3)
     (lastEntry (withEntries s (s .entries ++ record { spo = x; retracted = false } ∷ [])))
-    (s, refusedWith 3)
 put k s x (suc i) =
     cond ((entry (s .entries) i) .retracted)
     (withEntries s (mark (s .entries) i false), counted 3 (suc i) (totals s))
@@ -143,9 +120,9 @@ put k s x (suc i) =
 -- Assert: 4; 5 by first bytes; a listed triple goes live, "already" or "revived" by its old mark; 3; else appended live, "new"
 unfoldable pub assertModel : Capacities → Model → Triple → Model × Values
 assertModel k s x =
-    cond (known (length (s .names)) x)
-    (cond (permitted (λ y. firstKindOf (nameOf (s .names) y)) x) (put k s x (lookup x (s .entries))) (s, refusedWith 5))
-    (s, refusedWith 4)
+    unless (known (length (s .names)) x) (s, refusedWith 4)
+    (unless (permitted (λ y. firstKindOf (nameOf (s .names) y)) x) (s, refusedWith 5)
+    (put k s x (lookup x (s .entries))))
 
 unfoldable pub strike : Model → ℕ → Model × Values
 strike s zero = (s, numbered 0)
@@ -153,7 +130,9 @@ strike s (suc i) = cond ((entry (s .entries) i) .retracted) (s, numbered 0) (wit
 
 -- Retract: 4; a live triple is struck out; otherwise 0
 unfoldable pub retractModel : Model → Triple → Model × Values
-retractModel s x = cond (known (length (s .names)) x) (strike s (lookup x (s .entries))) (s, refusedWith 4)
+retractModel s x =
+    unless (known (length (s .names)) x) (s, refusedWith 4)
+    (strike s (lookup x (s .entries)))
 
 -- ---- listings
 
@@ -165,15 +144,6 @@ onChain (By p) x t = eqb (at p t) (at p x)
 -- the positions, falling, of the triples, live or not, on a chain
 unfoldable pub holders : Chain → Triple → List Entry → List ℕ
 holders ch x l = below (λ i. onChain ch x ((entry l i) .spo)) (length l)
-
--- one position more to pick from: the bound one of less cost, ties to the earlier
-unfoldable pub better : Triple → (Position → ℕ) → Position → Chain → Chain
-better x cost q All = cond (eqb (at q x) 0) All (By q)
-better x cost q (By p) = cond (eqb (at q x) 0) (By p) (cond (ltb (cost q) (cost p)) (By q) (By p))
-
--- the bound position of least cost, ties to subject, then predicate, then object; All if nothing is bound
-unfoldable pub pick : Triple → (Position → ℕ) → Chain
-pick x cost = better x cost Object (better x cost Predicate (better x cost Subject All))
 
 -- the bound position whose number fewest triples hold there
 unfoldable pub pickModel : Triple → List Entry → Chain
@@ -192,11 +162,10 @@ withListings s g = record { names = s .names; entries = s .entries; listings = g
 -- Open: 4; the listing is kept under the next opening's number
 unfoldable pub openModel : Model → Triple → Model × Values
 openModel s x =
-    cond (within (length (s .names)) x) (
+    unless (within (length (s .names)) x) (s, refusedWith 4) (
       withListings s (s .listings ++ listing (s .generation) x (s .entries) ∷ []),
       placed (cursorOf (listing (s .generation) x (s .entries))),
     )
-    (s, refusedWith 4)
 
 -- what taking positions off a rest comes to: found, ended or spent, with the visits made and what is left
 pub data Taken : Type 0 where
@@ -243,9 +212,9 @@ turn s j g r = (withListings s (set (s .listings) j (leaving g (restOf r))), tak
 unfoldable pub nextModel : Model → ℕ → ℕ → Model × Values
 nextModel s j b =
     let g = getD (s .listings) j noListing in
-    cond (eqb (g .generation) (s .generation))
-    (cond (eqb b 0) (s, refusedWith 7) (turn s j g (takeFrom (s .entries) g b)))
-    (s, refusedWith 13)
+    unless (eqb (g .generation) (s .generation)) (s, refusedWith 13)
+    (cond (eqb b 0) (s, refusedWith 7)
+    (turn s j g (takeFrom (s .entries) g b)))
 
 -- ---- reclaim
 
@@ -260,7 +229,9 @@ reclaimed s = record { names = s .names; entries = unstruck (s .entries); listin
 
 -- Reclaim: 14 past the maximum
 unfoldable pub reclaimModel : Model → Model × Values
-reclaimModel s = cond (ltb (s .generation) maxReclaims) (reclaimed s, counted 0 0 (totals (reclaimed s))) (s, refusedWith 14)
+reclaimModel s =
+    unless (ltb (s .generation) maxReclaims) (s, refusedWith 14)
+    (reclaimed s, counted 0 0 (totals (reclaimed s)))
 
 -- ---- a list of calls
 

@@ -13,7 +13,7 @@ use Rattle.store.specs.declared.StatementRead.{StatementRead}
 use Rattle.store.specs.declared.StatementRead.the-variants.{Is, Refused as NotRead}
 use Rattle.store.specs.declared.NameRead.{NameRead}
 use Rattle.store.specs.declared.NameRead.the-variants.{Span, Refused as NotNamed}
-use Rattle.store.specs.Triple.{known}
+use Rattle.store.specs.Shared.{unless, known}
 use Rattle.term.specs.Grammar.{nameLimit}
 use Rattle.store.specs.Tables.{Tables, fits, tripleAt, flagAt, offsetAt, word}
 
@@ -24,13 +24,10 @@ inRange n x = ltb 0 x && leb x n
 -- Read a statement: 1; 4 if 0 or above T; 9 if a resource is outside 1..R or the flag exceeds 1
 unfoldable pub statementOf : Counters → Tables → StatementId → StatementRead
 statementOf c m n =
-    cond (fits c m)
-    (cond (inRange (c .statements) (n .0))
-    (cond (known (c .resources) (tripleAt (m .statements) (n .0 - 1)) && leb (flagAt (m .statements) (n .0 - 1)) 1)
-    (Is (tripleAt (m .statements) (n .0 - 1)) (flagAt (m .statements) (n .0 - 1)))
-    (NotRead Damaged))
-    (NotRead UnknownNumber))
-    (NotRead Capacity)
+    unless (fits c m) (NotRead Capacity)
+    (unless (inRange (c .statements) (n .0)) (NotRead UnknownNumber)
+    (unless (known (c .resources) (tripleAt (m .statements) (n .0 - 1)) && leb (flagAt (m .statements) (n .0 - 1)) 1) (NotRead Damaged)
+    (Is (tripleAt (m .statements) (n .0 - 1)) (flagAt (m .statements) (n .0 - 1)))))
 
 -- where the first zero byte stands from o on, before e, among `left` bytes
 unfoldable pub zeroFrom : List ℕ → ℕ → ℕ → ℕ → Option ℕ
@@ -46,8 +43,6 @@ spanTo o (some e) = Span o (e - o)
 -- Name of a number: 1; 4 if 0 or above R; 9 if the offset is at or past B or no zero byte follows within 256 bytes and before B
 unfoldable pub nameSpanOf : Counters → Tables → ResourceId → NameRead
 nameSpanOf c m n =
-    cond (fits c m)
-    (cond (inRange (c .resources) (n .0))
-    (spanTo (offsetAt (m .resources) (n .0)) (zeroFrom (m .text) (c .text) (nameLimit + 1) (offsetAt (m .resources) (n .0))))
-    (NotNamed UnknownNumber))
-    (NotNamed Capacity)
+    unless (fits c m) (NotNamed Capacity)
+    (unless (inRange (c .resources) (n .0)) (NotNamed UnknownNumber)
+    (spanTo (offsetAt (m .resources) (n .0)) (zeroFrom (m .text) (c .text) (nameLimit + 1) (offsetAt (m .resources) (n .0)))))

@@ -13,7 +13,8 @@ use Rattle.store.specs.declared.Triple.{Triple}
 use Rattle.store.specs.declared.Refusal.the-variants.{Capacity, Damaged, ReclaimLimit}
 use Rattle.store.specs.declared.Reclaimed.{Reclaimed}
 use Rattle.store.specs.declared.Reclaimed.the-variants.{Done, Refused as NotReclaimed}
-use Rattle.store.specs.Tables.{Tables, tables, after, fits, maxReclaims, statementWords, resourceWords, flagAt, tripleAt}
+use Rattle.store.specs.Tables.{Tables, tables, after, fits, statementWords, resourceWords, flagAt, tripleAt}
+use Rattle.store.specs.Shared.{unless, maxReclaims}
 use Rattle.store.specs.Statement.{appendRecord, linkRecord}
 use Rattle.store.specs.Soundness.{Sound}
 
@@ -74,11 +75,9 @@ reclaimedCounters c z = record {
 -- Reclaim on a sound store: 1; 14 past the maximum; done
 unfoldable pub reclaimOf : Counters → Tables → Tables × Reclaimed
 reclaimOf c m =
-    cond (fits c m)
-    (cond (ltb (c .generation) maxReclaims)
-    (reclaimedTables c m (sweptOf c m), Done (reclaimedCounters c (sweptOf c m)))
-    (m, NotReclaimed ReclaimLimit))
-    (m, NotReclaimed Capacity)
+    unless (fits c m) (m, NotReclaimed Capacity)
+    (unless (ltb (c .generation) maxReclaims) (m, NotReclaimed ReclaimLimit)
+    (reclaimedTables c m (sweptOf c m), Done (reclaimedCounters c (sweptOf c m))))
 
 -- what holds of reclaim's answer and the tables after it, on any tables
 pub record ReclaimAnswer (c : Counters) (m m′ : Tables) (a : Reclaimed) : Type 0 where

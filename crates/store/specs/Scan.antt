@@ -15,9 +15,8 @@ use Rattle.store.specs.declared.ScanOpened.{ScanOpened}
 use Rattle.store.specs.declared.ScanOpened.the-variants.{Cursor, Refused as NotOpened}
 use Rattle.store.specs.declared.Scanned.{Scanned}
 use Rattle.store.specs.declared.Scanned.the-variants.{Found, Ended, Spent, Refused as NotScanned}
-use Rattle.store.specs.Triple.{at, all3, within}
+use Rattle.store.specs.Shared.{unless, at, all3, within, matches}
 use Rattle.store.specs.Tables.{Tables, fits}
-use Rattle.store.specs.Model.{matches}
 use Rattle.store.specs.Walk.{entryAt, pickChain, pickable, startOf, linkOf, sits, visitable, walk, Step, found, ended, spent}
 
 -- ---- open
@@ -29,14 +28,11 @@ cursorIn g x ch n = record { pattern = x; chain = ch; next = record { 0 = n }; g
 -- Open: 1; 4 if a number exceeds R; 9 at the pick; else the pattern, the chain picked, its first record and the number of reclaims
 unfoldable pub openOf : Counters → Tables → Triple → ScanOpened
 openOf c m x =
-    cond (fits c m)
-    (cond (within (c .resources) x)
-    (cond (pickable (c .statements) (m .resources) x)
+    unless (fits c m) (NotOpened Capacity)
+    (unless (within (c .resources) x) (NotOpened UnknownNumber)
+    (unless (pickable (c .statements) (m .resources) x) (NotOpened Damaged)
     (Cursor (cursorIn (c .generation) x (pickChain (m .resources) x)
-    (startOf (c .statements) (m .resources) (pickChain (m .resources) x) x)))
-    (NotOpened Damaged))
-    (NotOpened UnknownNumber))
-    (NotOpened Capacity)
+    (startOf (c .statements) (m .resources) (pickChain (m .resources) x) x)))))
 
 -- ---- next
 
@@ -71,10 +67,8 @@ scannedAs q (some (spent v r)) = Spent v (cursorIn (q .generation) (q .pattern) 
 -- Next: 1; 13 if the cursor has another number of reclaims; 6; 7; 9; else found, ended or spent
 unfoldable pub nextOf : Counters → Tables → ScanCursor → ℕ → Scanned
 nextOf c m q b =
-    cond (fits c m)
-    (cond (eqb (q .generation) (c .generation))
-    (cond (cursorOk c m q)
-    (cond (eqb b 0) (NotScanned NoBudget) (scannedAs q (walkFrom c m q b)))
-    (NotScanned BadCursor))
-    (NotScanned StaleCursor))
-    (NotScanned Capacity)
+    unless (fits c m) (NotScanned Capacity)
+    (unless (eqb (q .generation) (c .generation)) (NotScanned StaleCursor)
+    (unless (cursorOk c m q) (NotScanned BadCursor)
+    (cond (eqb b 0) (NotScanned NoBudget)
+    (scannedAs q (walkFrom c m q b)))))

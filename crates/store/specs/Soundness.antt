@@ -9,7 +9,7 @@ use lib.ListN.{length}
 use lib.Dec.{eqb}
 use Rattle.store.specs.declared.Counters.{Counters}
 use Rattle.store.specs.declared.Position.{Position}
-use Rattle.store.specs.Triple.{permitted, below, head0}
+use Rattle.store.specs.Shared.{permitted, below, head0}
 use Rattle.store.specs.Tables.{Tables, fits, resourceWords, statementWords, termAt, nextAt, flagAt, tripleAt, firstAt}
 use Rattle.store.specs.Tables.{countAt, kindAt, liveAt}
 use Rattle.store.specs.Dictionary.{Named}

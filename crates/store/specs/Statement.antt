@@ -17,7 +17,7 @@ use Rattle.store.specs.declared.Asserted.{Asserted}
 use Rattle.store.specs.declared.Asserted.the-variants.{New, Already, Revived, Refused as NotAsserted}
 use Rattle.store.specs.declared.Retracted.{Retracted}
 use Rattle.store.specs.declared.Retracted.the-variants.{Number as Struck, Absent as NotLive, Refused as NotRetracted}
-use Rattle.store.specs.Triple.{at, all3, known, same, permitted}
+use Rattle.store.specs.Shared.{unless, at, all3, known, same, permitted}
 use Rattle.store.specs.Tables.{Tables, fits, statementCapacity, statementWords, resourceWords, off, tripleAt, flagAt, firstAt}
 use Rattle.store.specs.Tables.{countAt, kindAt, liveAt}
 use Rattle.store.specs.Walk.{pickChain, pickable, startOf, linkOf, visitable, walk, Step, foundIn}
@@ -110,24 +110,19 @@ oneStatementMore c = record {
 -- by the record found, or 0: "already", "revived", 3 or "new"
 unfoldable pub asserting : Counters → Tables → Triple → ℕ → Tables × Asserted
 asserting c m x zero =
-    cond (ltb (c .statements) (statementCapacity m))
+    unless (ltb (c .statements) (statementCapacity m)) (m, NotAsserted Full)
     (appended (c .statements) m x, New (record { 0 = suc (c .statements) }) (oneStatementMore c))
-    (m, NotAsserted Full)
 asserting c m x (suc i) =
     cond (eqb (flagAt (m .statements) i) 1) (madeLive m x i, Revived (record { 0 = suc i }) c) (m, Already (record { 0 = suc i }) c)
 
 -- Assert: 1; 4; 9 if a kind is outside 1..3; 5; 9; then by the record found
 unfoldable pub assertOf : Counters → Tables → Triple → Tables × Asserted
 assertOf c m x =
-    cond (fits c m)
-    (cond (known (c .resources) x)
-    (cond (kinded (m .resources) x)
-    (cond (permitted (kindAt (m .resources)) x)
-    (elim (locate c m x) [ none ↦ (m, NotAsserted Damaged) | some n ↦ asserting c m x n ])
-    (m, NotAsserted KindNotPermitted))
-    (m, NotAsserted Damaged))
-    (m, NotAsserted UnknownNumber))
-    (m, NotAsserted Capacity)
+    unless (fits c m) (m, NotAsserted Capacity)
+    (unless (known (c .resources) x) (m, NotAsserted UnknownNumber)
+    (unless (kinded (m .resources) x) (m, NotAsserted Damaged)
+    (unless (permitted (kindAt (m .resources)) x) (m, NotAsserted KindNotPermitted)
+    (elim (locate c m x) [ none ↦ (m, NotAsserted Damaged) | some n ↦ asserting c m x n ]))))
 
 -- ---- retract
 
@@ -146,11 +141,9 @@ retracting m x (suc i) =
 -- Retract: 1; 4; 9; then by the record found
 unfoldable pub retractOf : Counters → Tables → Triple → Tables × Retracted
 retractOf c m x =
-    cond (fits c m)
-    (cond (known (c .resources) x)
-    (elim (locate c m x) [ none ↦ (m, NotRetracted Damaged) | some n ↦ retracting m x n ])
-    (m, NotRetracted UnknownNumber))
-    (m, NotRetracted Capacity)
+    unless (fits c m) (m, NotRetracted Capacity)
+    (unless (known (c .resources) x) (m, NotRetracted UnknownNumber)
+    (elim (locate c m x) [ none ↦ (m, NotRetracted Damaged) | some n ↦ retracting m x n ]))
 
 -- ---- on lent counters
 

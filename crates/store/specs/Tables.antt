@@ -9,21 +9,9 @@ use Rattle.store.specs.declared.Counters.{Counters}
 use Rattle.store.specs.declared.Position.{Position}
 use Rattle.store.specs.declared.Position.the-variants.{Subject, Predicate, Object}
 use Rattle.store.specs.declared.Triple.{Triple}
-use Rattle.store.specs.Triple.{triple}
+use Rattle.store.specs.Shared.{triple}
 
--- ---- limits, widths and offsets, each named once
-
-abbrev pub maxResources : ℕ
-maxResources = 65535
-
-abbrev pub maxStatements : ℕ
-maxStatements = 65535
-
-abbrev pub maxText : ℕ
-maxText = 1048576
-
-abbrev pub maxReclaims : ℕ
-maxReclaims = 65535
+-- ---- widths, each named once
 
 -- a resource record: first statement as subject, predicate, object; count as each; text offset; kind; live count as each
 abbrev pub resourceWords : ℕ
@@ -89,9 +77,6 @@ unfoldable pub liveAt : List ℕ → Position → ℕ → ℕ
 liveAt res p y = word res (resourceWords * (y - 1) + (8 + off p))
 
 -- ---- capacities and refusal 1
-
-abbrev pub freshCounters : Counters
-freshCounters = record { resources = 0; statements = 0; text = 0; generation = 0 }
 
 abbrev pub resourceCapacity : Tables → ℕ
 resourceCapacity m = min (min (length (m .resources) / resourceWords) (length (m .index))) maxResources

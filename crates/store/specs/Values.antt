@@ -27,8 +27,7 @@ use Rattle.store.specs.declared.ScanOpened.{ScanOpened}
 use Rattle.store.specs.declared.ScanOpened.the-variants.{Cursor, Refused as NotOpened}
 use Rattle.store.specs.declared.Scanned.{Scanned}
 use Rattle.store.specs.declared.Scanned.the-variants.{Found, Ended, Spent, Refused as NotScanned}
-use Rattle.store.specs.Triple.{triple}
-use Rattle.store.specs.Tables.{freshCounters}
+use Rattle.store.specs.Shared.{triple, freshCounters}
 
 abbrev pub refusalNumber : Refusal → ℕ
 refusalNumber Capacity = 1

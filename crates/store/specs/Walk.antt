@@ -8,9 +8,8 @@ use lib.Dec.{eqb, leb, ltb}
 use Rattle.store.specs.declared.Chain.{Chain}
 use Rattle.store.specs.declared.Chain.the-variants.{All, By}
 use Rattle.store.specs.declared.Triple.{Triple}
-use Rattle.store.specs.Triple.{at, all3, known}
+use Rattle.store.specs.Shared.{at, all3, known, Entry, pick}
 use Rattle.store.specs.Tables.{termAt, nextAt, flagAt, tripleAt, firstAt, countAt}
-use Rattle.store.specs.Model.{Entry, pick}
 
 -- entry i of the statement table as a listed triple
 unfoldable pub entryAt : List ℕ → ℕ → Entry

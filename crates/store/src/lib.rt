@@ -3,7 +3,7 @@
 // Every operation of the store takes the counters by value and the four lent tables; what it answers is said by the definitions in
 // `specs/`, which `specs/Values.antt` ties to the paper's numbers: the refusal's number, and zeros beside it.
 ghost use mathlib.Core.Path.{_≡_};
-ghost use Rattle.store.specs.Tables.{freshCounters};
+ghost use Rattle.store.specs.Shared.{freshCounters};
 ghost use Rattle.store.specs.Values.{refusalNumber};
 
 // A resource's number, from 1; 0 is null, or "any" in a pattern.

@@ -9,7 +9,8 @@ use lib.Dec.{leb}
 use borrow.Author.Tests.{le-leb, lt-leb}
 use Rattle.store.specs.declared.Counters.{Counters}
 use Rattle.store.proofs.Tests.{fits-parts}
-use Rattle.store.specs.Tables.{Tables, fits, resourceCapacity, statementCapacity, textCapacity, maxResources, maxStatements, maxText, maxReclaims, resourceWords, statementWords}
+use Rattle.store.specs.Tables.{Tables, fits, resourceCapacity, statementCapacity, textCapacity, resourceWords, statementWords}
+use Rattle.store.specs.Shared.{maxResources, maxStatements, maxText, maxReclaims}
 
 -- ---- refusal 1
 

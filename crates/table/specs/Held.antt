@@ -4,7 +4,7 @@ use Prim.Native.Nat.{ℕ, _*_, _≤_}
 use lib.ListN.{length}
 use Rattle.store.specs.declared.Position.{Position}
 use Rattle.store.specs.declared.Triple.{Triple}
-use Rattle.store.specs.Triple.{at}
+use Rattle.store.specs.Shared.{at}
 use Rattle.store.specs.Tables.{resourceWords, statementWords}
 
 pub record StatementHeld (stm : List ℕ) (n : ℕ) : Type 0 where

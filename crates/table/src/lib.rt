@@ -16,7 +16,7 @@ use store::StatementId;
 use store::StatementRead;
 use store::Triple;
 ghost use mathlib.Core.Path.{_≡_};
-ghost use Rattle.store.specs.Triple.{known};
+ghost use Rattle.store.specs.Shared.{known};
 ghost use Rattle.store.specs.Tables.{tables, fits};
 ghost use Rattle.store.specs.Reading.{inRange, statementOf, nameSpanOf};
 ghost use Rattle.table.specs.Part.{partOf};

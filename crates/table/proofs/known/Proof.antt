@@ -1,5 +1,5 @@
 use Rattle.store.specs.Reading.{inRange}
-use Rattle.store.specs.Triple.{known}
+use Rattle.store.specs.Shared.{known}
 use mathlib.Core.Path.{_≡_, refl, sym, ap, _∙_}
 use native.Mathlib.Omega.{arith}
 use borrow.Author.Tests.{eq-eqb, ne-eqb, lt-ltb, le-ltb, le-leb, lt-leb, not-true, not-false}

@@ -1,7 +1,8 @@
 -- `capi_query_words::queries::levels_of` meets its contract. Assumes nothing.
 use lib.ListN.{replicate}
 use Rattle.capi_query_words.proofs.QueryLaws.{filled, filled-none, filled-more, filled-all}
-use Rattle.graph.specs.Query.{maxPatterns, level}
+use Rattle.graph.specs.Place.{level}
+use Rattle.graph.specs.Words.{maxPatterns}
 use Rattle.graph.specs.declared.Level.{Level}
 use mathlib.Core.List.{List}
 use lib.ListN.{set}

@@ -2,7 +2,7 @@
 use lib.ListN.{length, length-set}
 use Rattle.capi_query_words.proofs.QueryLaws.{levels-more, levels-over}
 use Rattle.capi_calls.specs.QueryWords.{levelWords}
-use Rattle.graph.specs.Query.{maxPatterns}
+use Rattle.graph.specs.Words.{maxPatterns}
 use lib.Seq.{sets}
 use native.Mathlib.Omega.{arith}
 use mathlib.Core.Path.{_≡_, refl, sym, _∙_}

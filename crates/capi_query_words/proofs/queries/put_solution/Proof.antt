@@ -1,7 +1,7 @@
 -- `capi_query_words::queries::put_solution` meets its contract. Assumes nothing.
 use Rattle.capi_query_words.proofs.QueryLaws.{numbers-more, numbers-over}
 use Rattle.capi_calls.specs.QueryWords.{numbersFrom}
-use Rattle.graph.specs.Query.{variables}
+use Rattle.graph.specs.Words.{variables}
 use lib.Seq.{sets}
 use lib.ListN.{length, length-set}
 use native.Mathlib.Omega.{arith}

@@ -1,5 +1,5 @@
 -- `capi_query_words::queries::slots` meets its contract. Assumes nothing.
-use Rattle.graph.specs.Query.{maxPatterns}
+use Rattle.graph.specs.Words.{maxPatterns}
 use native.Mathlib.Omega.{arith}
 use borrow.Author.Tests.{le-leb, lt-leb}
 use Rattle.capi_query_words.proofs.queries.slots.Statement.{statement}

@@ -1,7 +1,7 @@
 -- `cases_script::print::place` is safe and ends. Assumes nothing.
 use Prim.Native.Nat.{_≤_, _-_}
 use borrow.Author.Needs.{needs}
-use Rattle.graph.specs.Query.{maxPatterns}
+use Rattle.graph.specs.Words.{maxPatterns}
 use Rattle.cases_script.proofs.print.place.Statement.{statement}
 use Rattle.cases_script.proofs.print.place.Tie as tie
 use Rattle.cases_script.proofs.print.place.Reads as reads

@@ -1,6 +1,6 @@
 -- `cases_script::print::solution` is safe and ends. Assumes nothing.
 use Prim.Native.Nat.{_≤_, _-_}
-use Rattle.graph.specs.Query.{variables}
+use Rattle.graph.specs.Words.{variables}
 use borrow.Author.Needs.{needs}
 use Rattle.cases_script.proofs.print.solution.Statement.{statement}
 use Rattle.cases_script.proofs.print.solution.Tie as tie

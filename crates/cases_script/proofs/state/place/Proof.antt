@@ -3,7 +3,7 @@ use Prim.Native.Nat.{_≤_, _-_}
 use mathlib.Core.Path.{_≡_}
 use lib.ListN.{length}
 use borrow.Author.Needs.{needs}
-use Rattle.graph.specs.Query.{maxPatterns}
+use Rattle.graph.specs.Words.{maxPatterns}
 use Rattle.cases_script.proofs.state.place.Statement.{statement}
 use Rattle.cases_script.proofs.state.place.Tie as tie
 use Rattle.cases_script.proofs.state.place.Reads as reads

@@ -1,6 +1,6 @@
 use mathlib.Core.Path.{sym, _∙_}
 use Rattle.chain.proofs.Chains.{bound-at, better-unbound}
-use Rattle.store.specs.Model.{better}
+use Rattle.store.specs.Shared.{better}
 use borrow.Author.Tests.{ne-eqb, lt-ltb, le-ltb}
 use native.Mathlib.Omega.{arith}
 use borrow.Author.Needs.{needs}

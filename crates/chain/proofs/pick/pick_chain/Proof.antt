@@ -1,4 +1,4 @@
-use Rattle.store.specs.Model.{pick}
+use Rattle.store.specs.Shared.{pick}
 use Rattle.store.specs.Walk.{pickChain}
 use Rattle.chain.proofs.Chains.{bound-all, better-bound}
 use Rattle.chain.proofs.pick.pick_chain.Statement.{statement}

@@ -1,5 +1,5 @@
 use Rattle.table.proofs.Branches.{failed, passed}
-use Rattle.store.specs.Triple.{agrees}
+use Rattle.store.specs.Shared.{agrees}
 use borrow.Author.Needs.{needs}
 use Rattle.chain.proofs.triple.agrees.Statement.{statement}
 use Rattle.chain.proofs.triple.agrees.Tie as tie

@@ -1,4 +1,4 @@
-use Rattle.store.specs.Triple.{same}
+use Rattle.store.specs.Shared.{same}
 use borrow.Author.Tests.{eq-eqb, ne-eqb}
 use Rattle.chain.proofs.triple.same.Statement.{statement}
 use Rattle.chain.proofs.triple.same.Tie as tie

@@ -1,4 +1,4 @@
-use Rattle.store.specs.Triple.{within}
+use Rattle.store.specs.Shared.{within}
 use borrow.Author.Tests.{le-leb, lt-leb}
 use Rattle.chain.proofs.triple.within.Statement.{statement}
 use Rattle.chain.proofs.triple.within.Tie as tie

@@ -1,6 +1,6 @@
 use borrow.Author.Tests.{eq-eqb, ne-eqb}
 use Rattle.store.specs.Walk.{entryAt}
-use Rattle.store.specs.Model.{matches}
+use Rattle.store.specs.Shared.{matches}
 use Rattle.chain_walk.specs.Walks.{hits}
 use borrow.Author.Needs.{needs}
 use Rattle.chain_walk.proofs.walk.hits.Statement.{statement}

@@ -1,5 +1,5 @@
 use borrow.Author.Tests.{eq-eqb, ne-eqb}
-use Rattle.store.specs.Triple.{same}
+use Rattle.store.specs.Shared.{same}
 use Rattle.integrity.proofs.alone.same.Statement.{statement}
 use Rattle.integrity.proofs.alone.same.Tie as tie
 use Rattle.integrity.proofs.alone.same.Reads as reads

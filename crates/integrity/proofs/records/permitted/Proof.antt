@@ -1,6 +1,6 @@
 use borrow.Author.Tests.{ne-eqb}
 use Rattle.store.specs.declared.Position.the-variants.{Subject, Predicate}
-use Rattle.store.specs.Triple.{permitted}
+use Rattle.store.specs.Shared.{permitted}
 use Rattle.store.proofs.Tests.{known-low, known-high}
 use borrow.Author.Needs.{needs}
 use Rattle.integrity.proofs.records.permitted.Statement.{statement}

@@ -1,4 +1,4 @@
-use Rattle.graph.specs.Query.{under}
+use Rattle.graph.specs.Words.{under}
 use borrow.Author.Needs.{needs}
 use Rattle.pattern.proofs.binding.under.Statement.{statement}
 use Rattle.pattern.proofs.binding.under.Tie as tie

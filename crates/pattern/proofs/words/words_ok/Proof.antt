@@ -3,7 +3,7 @@ use Prim.Native.Nat.{_-_, _≤_}
 use native.Mathlib.Omega.{arith}
 use lib.ListN.{drop}
 use borrow.Author.Tests.{not-true, not-false}
-use Rattle.graph.specs.Query.{allOk}
+use Rattle.graph.specs.Words.{allOk}
 use Rattle.pattern.proofs.WordLaws.{broken-off, too-many, by-words, all-none, all-step}
 use borrow.Author.Needs.{needs}
 use Rattle.pattern.proofs.words.words_ok.Statement.{statement}

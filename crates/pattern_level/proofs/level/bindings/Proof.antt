@@ -1,7 +1,9 @@
 use mathlib.Core.Path.{_≡_, sym, _∙_}
 use Prim.Native.Nat.{_-_, _≤_}
 use native.Mathlib.Omega.{arith}
-use Rattle.graph.specs.Query.{patternsOf, binds, levelsOf}
+use Rattle.graph.specs.Query.{binds}
+use Rattle.graph.specs.Place.{levelsOf}
+use Rattle.graph.specs.Words.{patternsOf}
 use Rattle.pattern_level.proofs.LevelLaws.{binds-none, bindings-step}
 use borrow.Author.Needs.{needs}
 use Rattle.pattern_level.proofs.level.bindings.Statement.{statement}

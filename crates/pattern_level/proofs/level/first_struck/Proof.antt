@@ -2,7 +2,8 @@ use mathlib.Core.Path.{_≡_, sym, _∙_}
 use Prim.Native.Nat.{_-_, _≤_}
 use native.Mathlib.Omega.{arith}
 use mathlib.Core.Bool.{false}
-use Rattle.graph.specs.Query.{levelsOf, anyStruck}
+use Rattle.graph.specs.Query.{anyStruck}
+use Rattle.graph.specs.Place.{levelsOf}
 use Rattle.pattern_level.proofs.LevelLaws.{struck-none, struck-step}
 use borrow.Author.Needs.{needs}
 use Rattle.pattern_level.proofs.level.first_struck.Statement.{statement}

@@ -3,7 +3,8 @@ use Prim.Native.Nat.{_-_, _≤_}
 use native.Mathlib.Omega.{arith}
 use mathlib.Core.Bool.{true}
 use borrow.Author.Tests.{not-true, not-false}
-use Rattle.graph.specs.Query.{levelsOf, intact}
+use Rattle.graph.specs.Query.{intact}
+use Rattle.graph.specs.Place.{levelsOf}
 use Rattle.pattern_level.proofs.LevelLaws.{intact-none, intact-miss, intact-hit}
 use borrow.Author.Needs.{needs}
 use Rattle.pattern_level.proofs.level.intact.Statement.{statement}

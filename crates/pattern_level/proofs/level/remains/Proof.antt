@@ -2,7 +2,7 @@ use mathlib.Core.Path.{_≡_, refl, sym, _∙_}
 use Prim.Native.Nat.{_-_, _≤_}
 use native.Mathlib.Omega.{arith}
 use lib.ListN.{getD}
-use Rattle.graph.specs.Query.{levelsOf, noLevel}
+use Rattle.graph.specs.Place.{levelsOf, noLevel}
 use Rattle.graph.proofs.Laws.{remains-here}
 use Rattle.pattern_level.proofs.LevelLaws.{restOf, remains-gone, rest-none, rest-some, rest-less}
 use borrow.Author.Needs.{needs}

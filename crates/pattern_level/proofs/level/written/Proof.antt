@@ -4,7 +4,7 @@ use native.Mathlib.Omega.{arith}
 use lib.ListN.{getD, set}
 use Rattle.graph.specs.declared.Level.{Level}
 use mathlib.Core.List.{List}
-use Rattle.graph.specs.Query.{levelsOf, written, noLevel}
+use Rattle.graph.specs.Place.{levelsOf, written, noLevel}
 use Rattle.pattern_level.proofs.LevelLaws.{written-none, written-step}
 use borrow.Author.Needs.{needs}
 use Rattle.pattern_level.proofs.level.written.Statement.{statement}

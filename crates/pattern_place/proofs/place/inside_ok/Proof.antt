@@ -5,7 +5,8 @@ use mathlib.Core.Bool.{false≢true}
 use borrow.Author.Tests.{not-true, not-false}
 use lib.ListN.{getD}
 use Rattle.store.specs.declared.Triple.{Triple}
-use Rattle.graph.specs.Query.{patternsOf, noLevel}
+use Rattle.graph.specs.Place.{noLevel}
+use Rattle.graph.specs.Words.{patternsOf}
 use Rattle.pattern_place.specs.Tested.{deepestOk}
 use Rattle.pattern_place.proofs.PlaceLaws.{place-none, place-above, place-entered, place-deepest}
 use Rattle.pattern_level.proofs.LevelLaws.{asked-is}

@@ -2,7 +2,7 @@ use mathlib.Core.Path.{sym, ap, _∙_}
 use borrow.Author.Tests.{not-true, not-false}
 use Rattle.store.specs.Scan.{chainOk}
 use Rattle.store.specs.declared.Triple.{Triple}
-use Rattle.store.specs.Triple.{known}
+use Rattle.store.specs.Shared.{known}
 use Rattle.pattern_place.proofs.PlaceLaws.{ok-zero, ok-above, ok-chain, ok-known, ok-match, tested-miss}
 use Rattle.pattern_place.proofs.PlaceLaws.{tested-meet}
 use borrow.Author.Needs.{needs}

@@ -3,7 +3,9 @@ use Prim.Native.Nat.{_-_, _≤_}
 use native.Mathlib.Omega.{arith}
 use mathlib.Core.Bool.{true}
 use borrow.Author.Tests.{not-true, not-false}
-use Rattle.graph.specs.Query.{patternsOf, binds, enteredOk, levelsOf}
+use Rattle.graph.specs.Query.{binds, enteredOk}
+use Rattle.graph.specs.Place.{levelsOf}
+use Rattle.graph.specs.Words.{patternsOf}
 use Rattle.pattern_level.proofs.LevelLaws.{binds-none}
 use Rattle.pattern_place.proofs.PlaceLaws.{entered-none, levels-miss, levels-hit, levels-done}
 use borrow.Author.Needs.{needs}

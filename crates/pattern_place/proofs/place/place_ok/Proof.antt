@@ -1,4 +1,4 @@
-use Rattle.graph.specs.Query.{patternsOf}
+use Rattle.graph.specs.Words.{patternsOf}
 use Rattle.pattern_place.proofs.PlaceLaws.{tested-start, tested-end, tested-within}
 use borrow.Author.Needs.{needs}
 use Rattle.pattern_place.proofs.place.place_ok.Statement.{statement}

@@ -3,7 +3,9 @@ use Rattle.query_stack.proofs.Stacks.{answer-is}
 use Rattle.query_walk.proofs.Stands.{ready-query, asked-held}
 use Rattle.graph.proofs.Laws.{written-length}
 use Rattle.graph.proofs.Levels.{low-none}
-use Rattle.graph.specs.Query.{patternsOf, variables, packed, cursorAt}
+use Rattle.graph.specs.Query.{packed}
+use Rattle.graph.specs.Place.{cursorAt}
+use Rattle.graph.specs.Words.{patternsOf, variables}
 use Rattle.graph.specs.declared.QueryCursor.{QueryCursor}
 use mathlib.Core.List.{[]}
 use lib.ListN.{length}

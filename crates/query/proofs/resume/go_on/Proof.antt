@@ -2,7 +2,9 @@ use mathlib.Core.Path.{sym, ap, _∙_}
 use native.Mathlib.Omega.{arith}
 use borrow.Author.Tests.{not-true, not-false}
 use lib.ListN.{getD}
-use Rattle.graph.specs.Query.{patternsOf, levelsOf, noLevel, packed}
+use Rattle.graph.specs.Query.{packed}
+use Rattle.graph.specs.Place.{levelsOf, noLevel}
+use Rattle.graph.specs.Words.{patternsOf}
 use Rattle.query_walk.proofs.Stands.{ready-query}
 use Rattle.query.proofs.Resuming.{top-few, levels-held, resume-damaged, resume-inside, pruned-stands, pruned-top}
 use Rattle.query.proofs.Resuming.{pruned-up}

@@ -1,5 +1,5 @@
 use native.Mathlib.Omega.{arith}
-use Rattle.graph.specs.Query.{patternsOf}
+use Rattle.graph.specs.Words.{patternsOf}
 use Rattle.query.proofs.Resuming.{written-held, pruned-made, pruned-kept}
 use borrow.Author.Needs.{needs}
 use Rattle.query.proofs.resume.pruned.Statement.{statement}

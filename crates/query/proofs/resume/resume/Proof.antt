@@ -1,4 +1,5 @@
-use Rattle.graph.specs.Query.{placeAs, resume}
+use Rattle.graph.specs.Query.{resume}
+use Rattle.graph.specs.Place.{placeAs}
 use Rattle.query.proofs.Resuming.{inside-at, inside-none}
 use borrow.Author.Needs.{needs}
 use Rattle.query.proofs.resume.resume.Statement.{statement}

@@ -1,4 +1,5 @@
-use Rattle.graph.specs.Query.{packed, cursorAt}
+use Rattle.graph.specs.Query.{packed}
+use Rattle.graph.specs.Place.{cursorAt}
 use Rattle.query_stack.proofs.Stacks.{answer-is}
 use borrow.Author.Needs.{needs}
 use Rattle.query_stack.proofs.stack.ended.Statement.{statement}

@@ -1,4 +1,4 @@
-use Rattle.graph.specs.Query.{levelsOf}
+use Rattle.graph.specs.Place.{levelsOf}
 use borrow.Author.Needs.{needs}
 use Rattle.query_stack.proofs.stack.no_levels.Statement.{statement}
 use Rattle.query_stack.proofs.stack.no_levels.Tie as tie

@@ -1,5 +1,7 @@
 use mathlib.Core.Path.{ap, _∙_}
-use Rattle.graph.specs.Query.{packed, answered, cursorAt, inside, Bindings}
+use Rattle.graph.specs.Query.{packed, answered}
+use Rattle.graph.specs.Place.{cursorAt, inside}
+use Rattle.graph.specs.Words.{Bindings}
 use Rattle.graph.specs.declared.QueryStep.the-variants.{Spent}
 use Rattle.query_stack.specs.Stack.{deepest, entered}
 use borrow.Author.Needs.{needs}

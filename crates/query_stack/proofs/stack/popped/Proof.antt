@@ -1,6 +1,6 @@
 use Rattle.query_stack.proofs.Stacks.{popped-is}
 use Rattle.pattern_level.proofs.LevelLaws.{asked-is}
-use Rattle.graph.specs.Query.{patternsOf}
+use Rattle.graph.specs.Words.{patternsOf}
 use native.Mathlib.Omega.{arith}
 use Prim.Native.Nat.{_-_}
 use borrow.Author.Needs.{needs}

@@ -1,4 +1,4 @@
-use Rattle.graph.specs.Query.{patternsOf}
+use Rattle.graph.specs.Words.{patternsOf}
 use Rattle.pattern_level.proofs.LevelLaws.{asked-is}
 use Rattle.query_stack.proofs.Stacks.{stack-is}
 use borrow.Author.Needs.{needs}

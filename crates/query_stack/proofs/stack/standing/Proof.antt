@@ -1,4 +1,4 @@
-use Rattle.graph.specs.Query.{cursorAt}
+use Rattle.graph.specs.Place.{cursorAt}
 use Rattle.query_stack.proofs.Stacks.{levels-step}
 use borrow.Author.Needs.{needs}
 use Rattle.query_stack.proofs.stack.standing.Statement.{statement}

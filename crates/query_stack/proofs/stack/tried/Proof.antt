@@ -1,7 +1,7 @@
 use Rattle.query_stack.proofs.Stacks.{met, tried-unmet, tried-last, tried-more}
 use Rattle.query_stack.specs.Stack.{metAt}
 use Rattle.pattern.specs.Matching.{matchedAs}
-use Rattle.graph.specs.Query.{patternsOf}
+use Rattle.graph.specs.Words.{patternsOf}
 use lib.ListN.{length}
 use borrow.Author.Tests.{not-true, not-false}
 use native.Mathlib.Omega.{arith}

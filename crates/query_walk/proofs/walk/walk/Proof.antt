@@ -6,7 +6,8 @@ use Rattle.graph.proofs.Laws.{walk-over}
 use Rattle.query_stack.specs.Stack.{deepest, entered}
 use Rattle.query_walk.specs.Turn.{Stands}
 use Rattle.query_stack.specs.declared.stack.Turned.{Turned}
-use Rattle.graph.specs.Query.{patternsOf, walk, settle, packed}
+use Rattle.graph.specs.Query.{walk, settle, packed}
+use Rattle.graph.specs.Words.{patternsOf}
 use native.Mathlib.Omega.{arith}
 use Prim.Native.Nat.{ℕ, _-_, _≤_}
 use mathlib.Core.Path.{_≡_, refl, sym, ap, _∙_}

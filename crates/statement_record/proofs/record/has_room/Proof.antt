@@ -1,7 +1,8 @@
 use mathlib.Core.Path.{sym}
 use Rattle.statement_record.proofs.Records.{short}
 use denote.Ref.{now}
-use Rattle.store.specs.Tables.{statementWords, maxStatements}
+use Rattle.store.specs.Tables.{statementWords}
+use Rattle.store.specs.Shared.{maxStatements}
 use native.Mathlib.Omega.{arith}
 use borrow.Author.Tests.{le-ltb}
 use lib.ListN.{length}

@@ -1,4 +1,4 @@
-use Rattle.store.specs.Triple.{permitted}
+use Rattle.store.specs.Shared.{permitted}
 use borrow.Author.Tests.{eq-eqb, ne-eqb}
 use Rattle.store.specs.declared.Position.the-variants.{Subject, Predicate}
 use Rattle.statement_target.proofs.target.permitted.Statement.{statement}
