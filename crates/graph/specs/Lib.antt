@@ -1,3 +1,5 @@
+pub mod Words
+pub mod Place
 pub mod Query
 pub mod Values
 pub mod Work

@@ -1,4 +1,4 @@
-pub mod Triple
+pub mod Shared
 pub mod Tables
 pub mod Values
 pub mod Model

@@ -17,7 +17,8 @@ use Rattle.store.specs.declared.Chain.the-variants.{All, By}
 use Rattle.store.specs.declared.Counters.{Counters}
 use Rattle.store.specs.declared.Triple.{Triple}
 use Rattle.store.specs.declared.ScanCursor.{ScanCursor}
-use Rattle.store.specs.Shared.{unless, at, known, within, same, agrees, permitted, below, head0, prev, maxReclaims}
+use Rattle.store.specs.Shared.{maxReclaims, unless, at, known, within, same, permitted, Entry, matches, pick, wellFormed, nameOf, bytesOf}
+use Rattle.store.specs.Shared.{below, head0, prev}
 use Rattle.store.specs.Values.{Values, noTriple, refusedWith, numbered, counted, placed, stepped}
 
 -- ---- the lists

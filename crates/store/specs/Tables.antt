@@ -9,7 +9,7 @@ use Rattle.store.specs.declared.Counters.{Counters}
 use Rattle.store.specs.declared.Position.{Position}
 use Rattle.store.specs.declared.Position.the-variants.{Subject, Predicate, Object}
 use Rattle.store.specs.declared.Triple.{Triple}
-use Rattle.store.specs.Shared.{triple}
+use Rattle.store.specs.Shared.{triple, maxResources, maxStatements, maxText, maxReclaims}
 
 -- ---- widths, each named once
 
