@@ -6,6 +6,7 @@
 use crate::triple::at;
 use store::Chain;
 use store::Position;
+use store::StatementId;
 use store::Triple;
 use table::inner::count_at;
 use table::inner::first_at;
@@ -25,7 +26,7 @@ pub fn better(resources: &[u32], x: Triple, q: Position, best: Chain) -> Chain
     ensures { λ r. ⌜ r ≡ better x (λ (p : Position). countAt (now (resources .entry)) p (at p x)) q best ⌝ }
 {
     let y = at(q, x);
-    if y == 0 {
+    if y.0 == 0 {
         return best;
     }
     match best {
@@ -59,7 +60,7 @@ pub fn pickable_at(t: u32, resources: &[u32], x: Triple, p: Position) -> bool
         || (leb (countAt (now (resources .entry)) p (at p x)) t && leb (firstAt (now (resources .entry)) p (at p x)) t)) ⌝ }
 {
     let y = at(p, x);
-    if y == 0 {
+    if y.0 == 0 {
         return true;
     }
     let count = count_at(resources, y, p);
@@ -67,7 +68,7 @@ pub fn pickable_at(t: u32, resources: &[u32], x: Triple, p: Position) -> bool
         return false;
     }
     let first = first_at(resources, y, p);
-    first <= t
+    first.0 <= t
 }
 
 // Whether a chain can be picked; where not, an operation refuses 9.
@@ -85,12 +86,12 @@ pub fn pickable(t: u32, resources: &[u32], x: Triple) -> bool
 }
 
 // A chain's first record.
-pub fn start_of(t: u32, resources: &[u32], chain: Chain, x: Triple) -> u32
+pub fn start_of(t: u32, resources: &[u32], chain: Chain, x: Triple) -> StatementId
     requires { ⌜ PatternHeld (now resources) x × (bound chain x ≡ true) ⌝ }
-    ensures { λ r. ⌜ r ≡ startOf t (now (resources .entry)) chain x ⌝ }
+    ensures { λ r. ⌜ r .0 ≡ startOf t (now (resources .entry)) chain x ⌝ }
 {
     match chain {
-        Chain::All => t,
+        Chain::All => StatementId(t),
         Chain::By(p) => {
             let y = at(p, x);
             first_at(resources, y, p)
@@ -114,7 +115,7 @@ pub fn chain_ok(chain: Chain, x: Triple) -> bool
         }
         Chain::By(p) => {
             let y = at(p, x);
-            y != 0
+            y.0 != 0
         }
     }
 }

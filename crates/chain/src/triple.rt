@@ -1,6 +1,7 @@
 // Three numbers: the one at a position, and the tests that statements and patterns are put to. Nothing here reads a
 // table.
 use store::Position;
+use store::ResourceId;
 use store::Triple;
 ghost use mathlib.Core.Path.{_≡_};
 ghost use mathlib.Core.Bool.{_||_};
@@ -9,24 +10,24 @@ ghost use lib.Dec.{eqb};
 ghost use Rattle.store.specs.Shared.{at, within, same, agrees};
 
 // The number at a position.
-pub fn at(p: Position, x: Triple) -> u32
-    ensures { λ r. ⌜ r ≡ at p x ⌝ }
+pub fn at(p: Position, x: Triple) -> ResourceId
+    ensures { λ r. ⌜ r .0 ≡ at p x ⌝ }
 {
     match p {
-        Position::Subject => x.subject.0,
-        Position::Predicate => x.predicate.0,
-        Position::Object => x.object.0,
+        Position::Subject => x.subject,
+        Position::Predicate => x.predicate,
+        Position::Object => x.object,
     }
 }
 
 // Whether a pattern's number y admits the number z: 0 stands for any.
-pub fn admits(y: u32, z: u32) -> bool
-    ensures { λ b. ⌜ b ≡ (eqb y 0 || eqb z y) ⌝ }
+pub fn admits(y: ResourceId, z: ResourceId) -> bool
+    ensures { λ b. ⌜ b ≡ (eqb (y .0) 0 || eqb (z .0) (y .0)) ⌝ }
 {
-    if y == 0 {
+    if y.0 == 0 {
         return true;
     }
-    z == y
+    z.0 == y.0
 }
 
 // Whether no number exceeds n.
@@ -59,11 +60,11 @@ pub fn same(x: Triple, t: Triple) -> bool
 pub fn agrees(x: Triple, t: Triple) -> bool
     ensures { λ b. ⌜ b ≡ agrees x t ⌝ }
 {
-    if !admits(x.subject.0, t.subject.0) {
+    if !admits(x.subject, t.subject) {
         return false;
     }
-    if !admits(x.predicate.0, t.predicate.0) {
+    if !admits(x.predicate, t.predicate) {
         return false;
     }
-    admits(x.object.0, t.object.0)
+    admits(x.object, t.object)
 }

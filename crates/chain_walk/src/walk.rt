@@ -32,8 +32,8 @@ pub enum Sought {
 // What a visit finds: a damaged record, what is sought, or another record; with the next record on the chain.
 pub enum Visited {
     Damaged,
-    Hit(u32),
-    Miss(u32),
+    Hit(StatementId),
+    Miss(StatementId),
 }
 
 // What a walk comes to: the record found, the visits made, the next record; no record left; no budget left; or a
@@ -46,35 +46,35 @@ pub enum Walked {
 }
 
 // The record after n on a chain.
-pub fn link_of(statements: &[u32], chain: Chain, n: u32) -> u32
-    requires { ⌜ StatementHeld (now statements) n ⌝ }
-    ensures { λ r. ⌜ r ≡ linkOf (now (statements .entry)) chain (n - 1) ⌝ }
+pub fn link_of(statements: &[u32], chain: Chain, n: StatementId) -> StatementId
+    requires { ⌜ StatementHeld (now statements) (n .0) ⌝ }
+    ensures { λ r. ⌜ r .0 ≡ linkOf (now (statements .entry)) chain (n .0 - 1) ⌝ }
 {
     match chain {
-        Chain::All => n - 1,
+        Chain::All => StatementId(n.0 - 1),
         Chain::By(p) => next_at(statements, n, p),
     }
 }
 
 // Whether record n has the chain's resource at the chain's position.
-pub fn sits(statements: &[u32], chain: Chain, x: Triple, n: u32) -> bool
-    requires { ⌜ StatementHeld (now statements) n ⌝ }
-    ensures { λ b. ⌜ b ≡ sits (now (statements .entry)) chain x (n - 1) ⌝ }
+pub fn sits(statements: &[u32], chain: Chain, x: Triple, n: StatementId) -> bool
+    requires { ⌜ StatementHeld (now statements) (n .0) ⌝ }
+    ensures { λ b. ⌜ b ≡ sits (now (statements .entry)) chain x (n .0 - 1) ⌝ }
 {
     match chain {
         Chain::All => true,
         Chain::By(p) => {
             let y = at(p, x);
             let z = term_at(statements, n, p);
-            z == y
+            z.0 == y.0
         }
     }
 }
 
 // Whether record n, whose triple is t, is what is sought.
-pub fn hits(statements: &[u32], sought: Sought, x: Triple, n: u32) -> bool
-    requires { ⌜ StatementHeld (now statements) n ⌝ }
-    ensures { λ b. ⌜ b ≡ hits sought (now (statements .entry)) x (n - 1) ⌝ }
+pub fn hits(statements: &[u32], sought: Sought, x: Triple, n: StatementId) -> bool
+    requires { ⌜ StatementHeld (now statements) (n .0) ⌝ }
+    ensures { λ b. ⌜ b ≡ hits sought (now (statements .entry)) x (n .0 - 1) ⌝ }
 {
     let t = triple_at(statements, n);
     match sought {
@@ -89,9 +89,9 @@ pub fn hits(statements: &[u32], sought: Sought, x: Triple, n: u32) -> bool
 }
 
 // Whether record n can be visited on a chain; where not, an operation refuses 9.
-pub fn visitable(statements: &[u32], r: u32, chain: Chain, x: Triple, n: u32) -> bool
-    requires { ⌜ StatementHeld (now statements) n ⌝ }
-    ensures { λ b. ⌜ b ≡ visitable r (now (statements .entry)) chain x (n - 1) ⌝ }
+pub fn visitable(statements: &[u32], r: u32, chain: Chain, x: Triple, n: StatementId) -> bool
+    requires { ⌜ StatementHeld (now statements) (n .0) ⌝ }
+    ensures { λ b. ⌜ b ≡ visitable r (now (statements .entry)) chain x (n .0 - 1) ⌝ }
 {
     let t = triple_at(statements, n);
     if !known(r, t) {
@@ -101,16 +101,16 @@ pub fn visitable(statements: &[u32], r: u32, chain: Chain, x: Triple, n: u32) ->
         return false;
     }
     let next = link_of(statements, chain, n);
-    if next >= n {
+    if next.0 >= n.0 {
         return false;
     }
     flag_at(statements, n) <= 1
 }
 
 // One visit of record n.
-pub fn visit(statements: &[u32], r: u32, chain: Chain, x: Triple, sought: Sought, n: u32) -> Visited
-    requires { ⌜ StatementHeld (now statements) n ⌝ }
-    ensures { λ v. ⌜ v ≡ visitOf sought r (now (statements .entry)) chain x (n - 1) ⌝ }
+pub fn visit(statements: &[u32], r: u32, chain: Chain, x: Triple, sought: Sought, n: StatementId) -> Visited
+    requires { ⌜ StatementHeld (now statements) (n .0) ⌝ }
+    ensures { λ v. ⌜ v ≡ visitOf sought r (now (statements .entry)) chain x (n .0 - 1) ⌝ }
 {
     if !visitable(statements, r, chain, x, n) {
         return Visited::Damaged;
@@ -139,14 +139,14 @@ pub fn walk(
         ≡ walk (linkOf (now (statements .entry)) chain) (visitable r (now (statements .entry)) chain x)
         (hits sought (now (statements .entry)) x) budget (from .0) ⌝ }
 {
-    let mut n = from.0;
+    let mut n = from;
     let mut visits: u32 = 0;
     let found = loop {
-        if n == 0 {
+        if n.0 == 0 {
             return Walked::Ended(visits);
         }
         if visits == budget {
-            return Walked::Spent(visits, StatementId(n));
+            return Walked::Spent(visits, n);
         }
         visits += 1;
         match visit(statements, r, chain, x, sought, n) {
@@ -154,20 +154,20 @@ pub fn walk(
             Visited::Hit(m) => {
                 let here = n;
                 n = m;
-                break StatementId(here);
+                break here;
             }
             Visited::Miss(m) => n = m,
         }
     };
-    Walked::Found(found, visits, StatementId(n))
+    Walked::Found(found, visits, n)
 }
 
 // Whether a cursor's next record, if it has one, has the chain's resource at the chain's position.
-pub fn record_ok(statements: &[u32], chain: Chain, x: Triple, n: u32) -> bool
-    requires { ⌜ statementWords * n ≤ length (now statements) ⌝ }
-    ensures { λ b. ⌜ b ≡ recordOk (now (statements .entry)) chain x n ⌝ }
+pub fn record_ok(statements: &[u32], chain: Chain, x: Triple, n: StatementId) -> bool
+    requires { ⌜ statementWords * (n .0) ≤ length (now statements) ⌝ }
+    ensures { λ b. ⌜ b ≡ recordOk (now (statements .entry)) chain x (n .0) ⌝ }
 {
-    if n == 0 {
+    if n.0 == 0 {
         return true;
     }
     sits(statements, chain, x, n)

@@ -3,6 +3,7 @@ use store::NameRead;
 use store::Position;
 use store::Refusal;
 use store::ResourceId;
+use store::StatementId;
 use store::Triple;
 ghost use mathlib.Core.Path.{_≡_};
 ghost use Prim.Native.Nat.{ℕ, _-_, _<_, _≤_, min};
@@ -23,86 +24,86 @@ pub fn offset(p: Position) -> usize
 }
 
 // The resource of statement n at a position.
-pub fn term_at(statements: &[u32], n: u32, p: Position) -> u32
-    requires { ⌜ StatementHeld (now statements) n ⌝ }
-    ensures { λ r. ⌜ r ≡ termAt (now (statements .entry)) p (n - 1) ⌝ }
+pub fn term_at(statements: &[u32], n: StatementId, p: Position) -> ResourceId
+    requires { ⌜ StatementHeld (now statements) (n .0) ⌝ }
+    ensures { λ r. ⌜ r .0 ≡ termAt (now (statements .entry)) p (n .0 - 1) ⌝ }
 {
-    let i = crate::STATEMENT_WORDS * (n as usize - 1) + offset(p);
-    statements[i]
+    let i = crate::STATEMENT_WORDS * (n.0 as usize - 1) + offset(p);
+    ResourceId(statements[i])
 }
 
 // The next statement after n with the same resource at a position.
-pub fn next_at(statements: &[u32], n: u32, p: Position) -> u32
-    requires { ⌜ StatementHeld (now statements) n ⌝ }
-    ensures { λ r. ⌜ r ≡ nextAt (now (statements .entry)) p (n - 1) ⌝ }
+pub fn next_at(statements: &[u32], n: StatementId, p: Position) -> StatementId
+    requires { ⌜ StatementHeld (now statements) (n .0) ⌝ }
+    ensures { λ r. ⌜ r .0 ≡ nextAt (now (statements .entry)) p (n .0 - 1) ⌝ }
 {
-    let i = crate::STATEMENT_WORDS * (n as usize - 1) + (crate::NEXT + offset(p));
-    statements[i]
+    let i = crate::STATEMENT_WORDS * (n.0 as usize - 1) + (crate::NEXT + offset(p));
+    StatementId(statements[i])
 }
 
 // The flag of statement n.
-pub fn flag_at(statements: &[u32], n: u32) -> u32
-    requires { ⌜ StatementHeld (now statements) n ⌝ }
-    ensures { λ r. ⌜ r ≡ flagAt (now (statements .entry)) (n - 1) ⌝ }
+pub fn flag_at(statements: &[u32], n: StatementId) -> u32
+    requires { ⌜ StatementHeld (now statements) (n .0) ⌝ }
+    ensures { λ r. ⌜ r ≡ flagAt (now (statements .entry)) (n .0 - 1) ⌝ }
 {
-    let i = crate::STATEMENT_WORDS * (n as usize - 1) + crate::FLAG;
+    let i = crate::STATEMENT_WORDS * (n.0 as usize - 1) + crate::FLAG;
     statements[i]
 }
 
 // The three resources of statement n.
-pub fn triple_at(statements: &[u32], n: u32) -> Triple
-    requires { ⌜ StatementHeld (now statements) n ⌝ }
-    ensures { λ r. ⌜ r ≡ tripleAt (now (statements .entry)) (n - 1) ⌝ }
+pub fn triple_at(statements: &[u32], n: StatementId) -> Triple
+    requires { ⌜ StatementHeld (now statements) (n .0) ⌝ }
+    ensures { λ r. ⌜ r ≡ tripleAt (now (statements .entry)) (n .0 - 1) ⌝ }
 {
     Triple {
-        subject: ResourceId(term_at(statements, n, Position::Subject)),
-        predicate: ResourceId(term_at(statements, n, Position::Predicate)),
-        object: ResourceId(term_at(statements, n, Position::Object)),
+        subject: term_at(statements, n, Position::Subject),
+        predicate: term_at(statements, n, Position::Predicate),
+        object: term_at(statements, n, Position::Object),
     }
 }
 
 // The first statement with resource y at a position.
-pub fn first_at(resources: &[u32], y: u32, p: Position) -> u32
-    requires { ⌜ ResourceHeld (now resources) y ⌝ }
-    ensures { λ r. ⌜ r ≡ firstAt (now (resources .entry)) p y ⌝ }
+pub fn first_at(resources: &[u32], y: ResourceId, p: Position) -> StatementId
+    requires { ⌜ ResourceHeld (now resources) (y .0) ⌝ }
+    ensures { λ r. ⌜ r .0 ≡ firstAt (now (resources .entry)) p (y .0) ⌝ }
 {
-    let i = crate::RESOURCE_WORDS * (y as usize - 1) + offset(p);
-    resources[i]
+    let i = crate::RESOURCE_WORDS * (y.0 as usize - 1) + offset(p);
+    StatementId(resources[i])
 }
 
 // How many statements hold resource y at a position, live or not.
-pub fn count_at(resources: &[u32], y: u32, p: Position) -> u32
-    requires { ⌜ ResourceHeld (now resources) y ⌝ }
-    ensures { λ r. ⌜ r ≡ countAt (now (resources .entry)) p y ⌝ }
+pub fn count_at(resources: &[u32], y: ResourceId, p: Position) -> u32
+    requires { ⌜ ResourceHeld (now resources) (y .0) ⌝ }
+    ensures { λ r. ⌜ r ≡ countAt (now (resources .entry)) p (y .0) ⌝ }
 {
-    let i = crate::RESOURCE_WORDS * (y as usize - 1) + (crate::COUNT + offset(p));
+    let i = crate::RESOURCE_WORDS * (y.0 as usize - 1) + (crate::COUNT + offset(p));
     resources[i]
 }
 
 // How many live statements hold resource y at a position.
-pub fn live_at(resources: &[u32], y: u32, p: Position) -> u32
-    requires { ⌜ ResourceHeld (now resources) y ⌝ }
-    ensures { λ r. ⌜ r ≡ liveAt (now (resources .entry)) p y ⌝ }
+pub fn live_at(resources: &[u32], y: ResourceId, p: Position) -> u32
+    requires { ⌜ ResourceHeld (now resources) (y .0) ⌝ }
+    ensures { λ r. ⌜ r ≡ liveAt (now (resources .entry)) p (y .0) ⌝ }
 {
-    let i = crate::RESOURCE_WORDS * (y as usize - 1) + (crate::LIVE + offset(p));
+    let i = crate::RESOURCE_WORDS * (y.0 as usize - 1) + (crate::LIVE + offset(p));
     resources[i]
 }
 
 // Where the name of resource y starts in the text.
-pub fn offset_at(resources: &[u32], y: u32) -> u32
-    requires { ⌜ ResourceHeld (now resources) y ⌝ }
-    ensures { λ r. ⌜ r ≡ offsetAt (now (resources .entry)) y ⌝ }
+pub fn offset_at(resources: &[u32], y: ResourceId) -> u32
+    requires { ⌜ ResourceHeld (now resources) (y .0) ⌝ }
+    ensures { λ r. ⌜ r ≡ offsetAt (now (resources .entry)) (y .0) ⌝ }
 {
-    let i = crate::RESOURCE_WORDS * (y as usize - 1) + crate::OFFSET;
+    let i = crate::RESOURCE_WORDS * (y.0 as usize - 1) + crate::OFFSET;
     resources[i]
 }
 
 // The kind of resource y.
-pub fn kind_at(resources: &[u32], y: u32) -> u32
-    requires { ⌜ ResourceHeld (now resources) y ⌝ }
-    ensures { λ r. ⌜ r ≡ kindAt (now (resources .entry)) y ⌝ }
+pub fn kind_at(resources: &[u32], y: ResourceId) -> u32
+    requires { ⌜ ResourceHeld (now resources) (y .0) ⌝ }
+    ensures { λ r. ⌜ r ≡ kindAt (now (resources .entry)) (y .0) ⌝ }
 {
-    let i = crate::RESOURCE_WORDS * (y as usize - 1) + crate::KIND;
+    let i = crate::RESOURCE_WORDS * (y.0 as usize - 1) + crate::KIND;
     resources[i]
 }
 

@@ -75,14 +75,14 @@ pub fn fits(c: Counters, resources: &[u32], statements: &[u32], index: &[u32], t
     c.generation <= Counters::MAX_RECLAIMS
 }
 
-// Whether x is one of the numbers 1 to n.
-pub fn in_range(n: u32, x: u32) -> bool
-    ensures { λ b. ⌜ b ≡ inRange n x ⌝ }
+// Whether a word is one of the numbers 1 to n.
+pub fn in_range(n: u32, word: u32) -> bool
+    ensures { λ b. ⌜ b ≡ inRange n word ⌝ }
 {
-    if x == 0 {
+    if word == 0 {
         return false;
     }
-    x <= n
+    word <= n
 }
 
 // Whether all three numbers are in 1 to n.
@@ -115,11 +115,11 @@ pub fn read_statement(
     if !in_range(c.statements, n.0) {
         return StatementRead::Refused(Refusal::UnknownNumber);
     }
-    let spo = inner::triple_at(statements, n.0);
+    let spo = inner::triple_at(statements, n);
     if !known(c.resources, spo) {
         return StatementRead::Refused(Refusal::Damaged);
     }
-    let flag = inner::flag_at(statements, n.0);
+    let flag = inner::flag_at(statements, n);
     if flag > 1 {
         return StatementRead::Refused(Refusal::Damaged);
     }
@@ -144,7 +144,7 @@ pub fn name_span(
     if !in_range(c.resources, n.0) {
         return NameRead::Refused(Refusal::UnknownNumber);
     }
-    let from = inner::offset_at(resources, n.0);
+    let from = inner::offset_at(resources, n);
     inner::span_at(text, c.text, from)
 }
 

@@ -10,11 +10,11 @@ use Rattle.table.proofs.in_range.Lts as lts
 
 returns : tie.Need-returns
 unfolding inRange
-returns c = rw (le-ltb 0 (c .before .args .x) (omega arith))
+returns c = rw (le-ltb 0 (c .before .args .word) (omega arith))
 
 returns-2 : tie.Need-returns-2
 unfolding inRange
-returns-2 c = rw (lt-ltb 0 (c .before .args .x) (omega arith))
+returns-2 c = rw (lt-ltb 0 (c .before .args .word) (omega arith))
 
 pub in-range-spec : {M : Type 1} → statement M
 in-range-spec = tie.close (tie.spec returns returns-2)

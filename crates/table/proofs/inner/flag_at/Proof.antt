@@ -24,5 +24,8 @@ returns : tie.Need-returns
 unfolding flagAt
 returns c = search needs
 
+cast-i : tie.Need-cast-i
+cast-i c = search needs
+
 pub flag-at-spec : {M : Type 1} → statement M
-flag-at-spec = tie.close (tie.spec sub-i mul-i add-i mul-result shared-slice-read-result returns)
+flag-at-spec = tie.close (tie.spec cast-i sub-i mul-i add-i mul-result shared-slice-read-result returns)

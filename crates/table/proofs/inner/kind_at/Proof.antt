@@ -24,5 +24,8 @@ returns : tie.Need-returns
 unfolding kindAt
 returns c = search needs
 
+cast-i : tie.Need-cast-i
+cast-i c = search needs
+
 pub kind-at-spec : {M : Type 1} → statement M
-kind-at-spec = tie.close (tie.spec sub-i mul-i add-i mul-result shared-slice-read-result returns)
+kind-at-spec = tie.close (tie.spec cast-i sub-i mul-i add-i mul-result shared-slice-read-result returns)

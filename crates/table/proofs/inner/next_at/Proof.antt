@@ -21,25 +21,20 @@ add-i c = search needs
 add-i-2 : tie.Need-add-i-2
 add-i-2 c = search needs
 
-mul-result : tie.Need-mul-result
-mul-result c = search needs
+mul-t5 : tie.Need-mul-t5
+mul-t5 c = search needs
 
-shared-slice-read-result : tie.Need-shared-slice-read-result
-shared-slice-read-result c = search needs
+shared-slice-read-t11 : tie.Need-shared-slice-read-t11
+shared-slice-read-t11 c = search needs
 
 returns : tie.Need-returns
 unfolding nextAt
 returns c = cc
 
+cast-i : tie.Need-cast-i
+cast-i c = search needs
+
 pub next-at-spec : {M : Type 1} → statement M
 next-at-spec =
     tie.close
-    (tie.spec
-    sub-i
-    mul-i
-    offset-requires
-    add-i
-    add-i-2
-    mul-result
-    shared-slice-read-result
-    returns)
+    (tie.spec cast-i sub-i mul-i offset-requires add-i add-i-2 mul-t5 shared-slice-read-t11 returns)

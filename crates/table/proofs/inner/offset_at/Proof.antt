@@ -24,5 +24,8 @@ returns : tie.Need-returns
 unfolding offsetAt
 returns c = search needs
 
+cast-i : tie.Need-cast-i
+cast-i c = search needs
+
 pub offset-at-spec : {M : Type 1} → statement M
-offset-at-spec = tie.close (tie.spec sub-i mul-i add-i mul-result shared-slice-read-result returns)
+offset-at-spec = tie.close (tie.spec cast-i sub-i mul-i add-i mul-result shared-slice-read-result returns)

@@ -17,7 +17,7 @@ term-at-requires-3 c κs = search needs
 
 returns : tie.Need-returns
 unfolding tripleAt
-returns c = cc
+returns c = rw (← c .before .before .term-at .ensures, ← c .before .term-at2 .ensures, ← c .term-at3 .ensures)
 
 pub triple-at-spec : {M : Type 1} → statement M
 triple-at-spec =
