@@ -31,7 +31,7 @@ returns-3 c = rw (c .before .before .before .before .before .enum-told .given .1
 
 returns-4 : tie.Need-returns-4
 unfolding chainOk
-returns-4 c = rw (c .before .before .chain .given .1, ← c .at .ensures) (nonzero (c .at .result))
+returns-4 c = rw (c .before .before .before .chain .given .1, ← c .before .at .ensures) (nonzero (c .before .at .result .0))
 
 pub chain-ok-spec : {M : Type 1} → statement M
 chain-ok-spec =

@@ -13,19 +13,19 @@ at-requires : tie.Need-at-requires
 at-requires c κs = search needs
 
 returns : tie.Need-returns
-returns c = simp (← c .before .at .ensures, eq-eqb _ _ (c .if1 .taken))
+returns c = simp (← c .before .before .at .ensures, eq-eqb _ _ (c .if1 .taken))
 
 count-at-requires : tie.Need-count-at-requires
-count-at-requires c κs = record { from-one = omega arith; whole = rw (c .before .at .ensures) (c .before .before .before .pre .each (c .before .before .before .args .p)) }
+count-at-requires c κs = record { from-one = omega arith; whole = rw (c .before .before .at .ensures) (c .before .before .before .before .pre .each (c .before .before .before .before .args .p)) }
 
 returns-2 : tie.Need-returns-2
-returns-2 c = simp (← c .before .before .before .at .ensures, ne-eqb _ _ (c .before .before .if1 .left), ← c .before .count-at .ensures, lt-leb _ _ (c .if2 .taken))
+returns-2 c = simp (← c .before .before .before .before .at .ensures, ne-eqb _ _ (c .before .before .if1 .left), ← c .before .count-at .ensures, lt-leb _ _ (c .if2 .taken))
 
 first-at-requires : tie.Need-first-at-requires
-first-at-requires c κs = record { from-one = omega arith; whole = rw (c .before .before .before .at .ensures) (c .before .before .before .before .before .pre .each (c .before .before .before .before .before .args .p)) }
+first-at-requires c κs = record { from-one = omega arith; whole = rw (c .before .before .before .before .at .ensures) (c .before .before .before .before .before .before .pre .each (c .before .before .before .before .before .before .args .p)) }
 
 returns-3 : tie.Need-returns-3
-returns-3 c = simp (← c .before .before .before .before .at .ensures, ne-eqb _ _ (c .before .before .before .if1 .left), ← c .before .before .count-at .ensures, le-leb _ _ (c .before .if2 .left), ← c .first-at .ensures)
+returns-3 c = simp (← c .before .before .before .before .before .before .at .ensures, ne-eqb _ _ (c .before .before .before .before .if1 .left), ← c .before .before .before .count-at .ensures, le-leb _ _ (c .before .before .if2 .left), ← c .before .first-at .ensures)
 
 pub pickable-at-spec : {M : Type 1} → statement M
 pickable-at-spec =
