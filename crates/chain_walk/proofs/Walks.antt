@@ -7,6 +7,7 @@ use Prim.Native.Nat.{ℕ, zero, suc, _+_, _-_, _≤_, _<_}
 use native.Mathlib.Omega.{arith}
 use lib.Dec.{leb}
 use borrow.Author.Tests.{leb-true}
+use Rattle.store.specs.declared.StatementId.{StatementId}
 use Rattle.store.specs.declared.Chain.{Chain}
 use Rattle.store.specs.declared.Triple.{Triple}
 use Rattle.store.specs.Shared.{known}
@@ -40,17 +41,17 @@ plus-after v (some (ended w)) = ap (λ (z : ℕ). some (ended z)) (omega arith)
 plus-after v (some (spent w r)) = ap (λ (z : ℕ). some (spent z r)) (omega arith)
 
 -- what a visit's tests were
-pub was-torn : (a b : Bool) (m : ℕ) → cond a (cond b (Hit m) (Miss m)) Torn ≡ Torn → a ≡ false
+pub was-torn : (a b : Bool) (m : StatementId) → cond a (cond b (Hit m) (Miss m)) Torn ≡ Torn → a ≡ false
 was-torn true true m e = let z : _≡_ {A = ℕ} 0 1 = cc in absurd (omega arith)
 was-torn true false m e = let z : _≡_ {A = ℕ} 0 1 = cc in absurd (omega arith)
 was-torn false b m e = refl
 
-pub was-hit : (a b : Bool) (m k : ℕ) → cond a (cond b (Hit m) (Miss m)) Torn ≡ Hit k → (a ≡ true) × (b ≡ true) × (m ≡ k)
+pub was-hit : (a b : Bool) (m k : StatementId) → cond a (cond b (Hit m) (Miss m)) Torn ≡ Hit k → (a ≡ true) × (b ≡ true) × (m ≡ k)
 was-hit true true m k e = (refl, refl, cc)
 was-hit true false m k e = let z : _≡_ {A = ℕ} 0 1 = cc in absurd (omega arith)
 was-hit false b m k e = let z : _≡_ {A = ℕ} 0 1 = cc in absurd (omega arith)
 
-pub was-miss : (a b : Bool) (m k : ℕ) → cond a (cond b (Hit m) (Miss m)) Torn ≡ Miss k → (a ≡ true) × (b ≡ false) × (m ≡ k)
+pub was-miss : (a b : Bool) (m k : StatementId) → cond a (cond b (Hit m) (Miss m)) Torn ≡ Miss k → (a ≡ true) × (b ≡ false) × (m ≡ k)
 was-miss true true m k e = let z : _≡_ {A = ℕ} 0 1 = cc in absurd (omega arith)
 was-miss true false m k e = (refl, refl, cc)
 was-miss false b m k e = let z : _≡_ {A = ℕ} 0 1 = cc in absurd (omega arith)
@@ -78,38 +79,41 @@ module _ (k : Sought) (r : ℕ) (stm : List ℕ) (ch : Chain) (x : Triple) where
   walk-torn v zero (suc i) h f e = absurd (f refl)
   walk-torn v (suc b) (suc i) h f e =
       let d : suc i - 1 ≡ i = omega arith in
-      let a = was-torn (visitable r stm ch x i) (hits k stm x i) (linkOf stm ch i) (rw d at e) in
+      let a = was-torn (visitable r stm ch x i) (hits k stm x i) (record { 0 = linkOf stm ch i }) (rw d at e) in
       rw (walk, a)
 
-  pub walk-hit : (v left n m : ℕ) → (n ≡ 0 → ⊥) → (left ≡ 0 → ⊥) → visitOf k r stm ch x (n - 1) ≡ Hit m → onward v left n ≡ some (found n (v + 1) m)
+  pub walk-hit : (v left n : ℕ) (m : StatementId) → (n ≡ 0 → ⊥) → (left ≡ 0 → ⊥) → visitOf k r stm ch x (n - 1) ≡ Hit m → onward v left n ≡ some (found n (v + 1) (m .0))
   unfolding walk visitOf
   walk-hit v left zero m h f e = absurd (h refl)
   walk-hit v zero (suc i) m h f e = absurd (f refl)
   walk-hit v (suc b) (suc i) m h f e =
       let d : suc i - 1 ≡ i = omega arith in
-      let a = was-hit (visitable r stm ch x i) (hits k stm x i) (linkOf stm ch i) m (rw d at e) in
-      rw (walk, a .0, a .1, a .2)
+      let a = was-hit (visitable r stm ch x i) (hits k stm x i) (record { 0 = linkOf stm ch i }) m (rw d at e) in
+      let z : linkOf stm ch i ≡ m .0 = ap (λ (n : StatementId). n .0) (a .2) in
+      rw (walk, a .0, a .1, z)
 
-  pub walk-miss : (v left n m : ℕ) → (n ≡ 0 → ⊥) → (left ≡ 0 → ⊥) → visitOf k r stm ch x (n - 1) ≡ Miss m → onward v left n ≡ onward (v + 1) (left - 1) m
+  pub walk-miss : (v left n : ℕ) (m : StatementId) → (n ≡ 0 → ⊥) → (left ≡ 0 → ⊥) → visitOf k r stm ch x (n - 1) ≡ Miss m → onward v left n ≡ onward (v + 1) (left - 1) (m .0)
   unfolding walk visitOf
   walk-miss v left zero m h f e = absurd (h refl)
   walk-miss v zero (suc i) m h f e = absurd (f refl)
   walk-miss v (suc b) (suc i) m h f e =
       let d : suc i - 1 ≡ i = omega arith in
       let g : suc b - 1 ≡ b = omega arith in
-      let a = was-miss (visitable r stm ch x i) (hits k stm x i) (linkOf stm ch i) m (rw d at e) in
-      rw (walk, a .0, a .1, a .2, g) (plus-after v (walk (linkOf stm ch) (visitable r stm ch x) (hits k stm x) b m))
+      let a = was-miss (visitable r stm ch x i) (hits k stm x i) (record { 0 = linkOf stm ch i }) m (rw d at e) in
+      let z : linkOf stm ch i ≡ m .0 = ap (λ (n : StatementId). n .0) (a .2) in
+      rw (walk, a .0, a .1, z, g) (plus-after v (walk (linkOf stm ch) (visitable r stm ch x) (hits k stm x) b (m .0)))
 
   -- a visit that goes on gives a lower record
-  pub visit-falls : (n m : ℕ) → (n ≡ 0 → ⊥) → visitOf k r stm ch x (n - 1) ≡ Miss m → m < n
+  pub visit-falls : (n : ℕ) (m : StatementId) → (n ≡ 0 → ⊥) → visitOf k r stm ch x (n - 1) ≡ Miss m → m .0 < n
   unfolding visitOf visitable
   visit-falls n m h e =
       let i = n - 1 in
       let l = leb (linkOf stm ch i) i in
       let f = leb (flagAt stm i) 1 in
-      let a = was-miss (visitable r stm ch x i) (hits k stm x i) (linkOf stm ch i) m e in
+      let a = was-miss (visitable r stm ch x i) (hits k stm x i) (record { 0 = linkOf stm ch i }) m e in
       let b = and-l l f (and-r (sits stm ch x i) (l && f) (and-r (known r (tripleAt stm i)) (sits stm ch x i && (l && f)) (a .0))) in
       let d = leb-true (linkOf stm ch i) i b in
+      let z : linkOf stm ch i ≡ m .0 = ap (λ (n : StatementId). n .0) (a .2) in
       omega arith
 
 -- ---- the record found

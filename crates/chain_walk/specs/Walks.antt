@@ -10,6 +10,7 @@ use Rattle.store.specs.Tables.{tripleAt}
 use Rattle.store.specs.Walk.{entryAt, linkOf, visitable, Step, found, ended, spent}
 use Rattle.chain_walk.specs.declared.walk.Sought.{Sought}
 use Rattle.chain_walk.specs.declared.walk.Sought.the-variants.{Same, LiveMatch}
+use Rattle.store.specs.declared.StatementId.{StatementId}
 use Rattle.chain_walk.specs.declared.walk.Visited.{Visited}
 use Rattle.chain_walk.specs.declared.walk.Visited.the-variants.{Damaged as Torn, Hit, Miss}
 use Rattle.chain_walk.specs.declared.walk.Walked.{Walked}
@@ -23,7 +24,8 @@ hits LiveMatch stm x = λ i. matches x (entryAt stm i)
 -- a visit of entry i
 unfoldable pub visitOf : Sought → ℕ → List ℕ → Chain → Triple → ℕ → Visited
 visitOf k r stm ch x i =
-    cond (visitable r stm ch x i) (cond (hits k stm x i) (Hit (linkOf stm ch i)) (Miss (linkOf stm ch i))) Torn
+    let after : StatementId = record { 0 = linkOf stm ch i } in
+    cond (visitable r stm ch x i) (cond (hits k stm x i) (Hit after) (Miss after)) Torn
 
 -- the code's answer to a walk as the definition's
 abbrev pub stepOf : Walked → Option Step

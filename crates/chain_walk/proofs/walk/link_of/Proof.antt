@@ -9,8 +9,8 @@ use Rattle.table.proofs.inner.next_at.Reads as next-at-reads
 enum-told : tie.Need-enum-told
 enum-told c = search needs
 
-sub-result : tie.Need-sub-result
-sub-result c = search needs
+sub-t6 : tie.Need-sub-t6
+sub-t6 c = search needs
 
 enum-known-chain : tie.Need-enum-known-chain
 enum-known-chain c = search needs
@@ -20,7 +20,7 @@ next-at-requires c κs = search needs
 
 returns : tie.Need-returns
 unfolding linkOf
-returns c = rw (c .enum-told .given .1)
+returns c = rw (c .before .enum-told .given .1)
 
 returns-2 : tie.Need-returns-2
 unfolding linkOf
@@ -28,4 +28,4 @@ returns-2 c = rw (c .before .before .chain .given .1, ← c .next-at .ensures)
 
 pub link-of-spec : {M : Type 1} → statement M
 link-of-spec =
-    tie.close (tie.spec enum-told sub-result enum-known-chain next-at-requires returns returns-2)
+    tie.close (tie.spec enum-told sub-t6 enum-known-chain next-at-requires returns returns-2)

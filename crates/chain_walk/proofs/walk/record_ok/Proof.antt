@@ -9,13 +9,13 @@ use Rattle.chain_walk.proofs.walk.record_ok.Lts as lts
 use Rattle.chain_walk.proofs.walk.sits.Reads as sits-reads
 
 returns : tie.Need-returns
-returns c = let a = c .before .before .args in sym (record-none (now (a .statements)) (a .chain) (a .x) (a .n) (c .if1 .taken))
+returns c = let a = c .before .before .before .args in sym (record-none (now (a .statements)) (a .chain) (a .x) (a .n .0) (c .if1 .taken))
 
 sits-requires : tie.Need-sits-requires
 sits-requires c κs = search needs
 
 returns-2 : tie.Need-returns-2
-returns-2 c = let a = c .before .before .before .args in c .sits .ensures ∙ sym (record-some (now (a .statements)) (a .chain) (a .x) (a .n) (c .before .if1 .left))
+returns-2 c = let a = c .before .before .before .before .args in c .sits .ensures ∙ sym (record-some (now (a .statements)) (a .chain) (a .x) (a .n .0) (c .before .if1 .left))
 
 pub record-ok-spec : {M : Type 1} → statement M
 record-ok-spec = tie.close (tie.spec returns sits-requires returns-2)

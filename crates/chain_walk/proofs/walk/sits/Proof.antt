@@ -25,7 +25,7 @@ returns c = rw (c .enum-told .given .1)
 
 returns-2 : tie.Need-returns-2
 unfolding sits
-returns-2 c = rw (c .before .before .before .chain .given .1, ← c .before .at .ensures, ← c .term-at .ensures)
+returns-2 c = rw (c .before .before .before .before .before .chain .given .1, ← c .before .before .before .at .ensures, ← c .before .before .term-at .ensures)
 
 pub sits-spec : {M : Type 1} → statement M
 sits-spec =

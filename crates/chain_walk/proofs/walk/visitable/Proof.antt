@@ -36,14 +36,14 @@ link-of-requires c κs = search needs
 
 returns-3 : tie.Need-returns-3
 unfolding visitable
-returns-3 c = simp (← c .before .before .before .before .before .before .triple-at .ensures, passed (c .before .before .before .before .before .known .ensures) (c .before .before .before .before .if1 .left), passed (c .before .before .before .sits .ensures) (c .before .before .if2 .left), ← c .before .link-of .ensures, lt-leb (c .before .link-of .result) (c .before .before .before .before .before .before .before .before .args .n - 1) (omega arith))
+returns-3 c = simp (← c .before .before .before .before .before .before .before .before .triple-at .ensures, passed (c .before .before .before .before .before .before .before .known .ensures) (c .before .before .before .before .before .before .if1 .left), passed (c .before .before .before .before .before .sits .ensures) (c .before .before .before .before .if2 .left), ← c .before .before .before .link-of .ensures, lt-leb (c .before .before .before .link-of .result .0) (c .before .before .before .before .before .before .before .before .before .before .args .n .0 - 1) (omega arith))
 
 flag-at-requires : tie.Need-flag-at-requires
 flag-at-requires c κs = search needs
 
 returns-4 : tie.Need-returns-4
 unfolding visitable
-returns-4 c = simp (← c .before .before .before .before .before .before .before .triple-at .ensures, passed (c .before .before .before .before .before .before .known .ensures) (c .before .before .before .before .before .if1 .left), passed (c .before .before .before .before .sits .ensures) (c .before .before .before .if2 .left), ← c .before .before .link-of .ensures, le-leb (c .before .before .link-of .result) (c .before .before .before .before .before .before .before .before .before .args .n - 1) (omega arith), ← c .flag-at .ensures)
+returns-4 c = simp (← c .before .before .before .before .before .before .before .before .before .triple-at .ensures, passed (c .before .before .before .before .before .before .before .before .known .ensures) (c .before .before .before .before .before .before .before .if1 .left), passed (c .before .before .before .before .before .before .sits .ensures) (c .before .before .before .before .before .if2 .left), ← c .before .before .before .before .link-of .ensures, le-leb (c .before .before .before .before .link-of .result .0) (c .before .before .before .before .before .before .before .before .before .before .before .args .n .0 - 1) (omega arith), ← c .flag-at .ensures)
 
 pub visitable-spec : {M : Type 1} → statement M
 visitable-spec =

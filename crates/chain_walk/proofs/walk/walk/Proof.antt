@@ -16,8 +16,8 @@ use Rattle.chain_walk.proofs.walk.visit.Reads as visit-reads
 
 abbrev Inv-loop : tie.InvT-loop
 Inv-loop statements r chain x sought budget n₀ visits₀ n visits =
-    (statementWords * n ≤ length statements) × (visits ≤ budget)
-    × (onward sought r statements chain x visits (budget - visits) n ≡ walk (linkOf statements chain) (visitable r statements chain x) (hits sought statements x) budget n₀)
+    (statementWords * n .0 ≤ length statements) × (visits ≤ budget)
+    × (onward sought r statements chain x visits (budget - visits) (n .0) ≡ walk (linkOf statements chain) (visitable r statements chain x) (hits sought statements x) budget (n₀ .0))
 
 abbrev μ-loop : tie.MeasureT-loop
 μ-loop statements r chain x sought budget n₀ visits₀ n visits = budget - visits
@@ -30,13 +30,13 @@ loop-holds c =
 
 returns : tie.Need-returns Inv-loop μ-loop
 returns c =
-    let l = c .before .loop in let a = c .before .before .before .args in
-    sym (walk-ended (a .sought) (a .r) (now (a .statements)) (a .chain) (a .x) (l .visits) (a .budget - l .visits) (l .n) (c .if1 .taken)) ∙ l .inv .2
+    let l = c .before .before .loop in let a = c .before .before .before .before .args in
+    sym (walk-ended (a .sought) (a .r) (now (a .statements)) (a .chain) (a .x) (l .visits) (a .budget - l .visits) (l .n .0) (c .if1 .taken)) ∙ l .inv .2
 
 returns-2 : tie.Need-returns-2 Inv-loop μ-loop
 returns-2 c =
-    let l = c .before .before .loop in let a = c .before .before .before .before .args in
-    sym (walk-spent (a .sought) (a .r) (now (a .statements)) (a .chain) (a .x) (l .visits) (a .budget - l .visits) (l .n) (c .before .if1 .left) (omega arith)) ∙ l .inv .2
+    let l = c .before .before .before .loop in let a = c .before .before .before .before .before .args in
+    sym (walk-spent (a .sought) (a .r) (now (a .statements)) (a .chain) (a .x) (l .visits) (a .budget - l .visits) (l .n .0) (c .before .if1 .left) (omega arith)) ∙ l .inv .2
 
 add-visits : tie.Need-add-visits Inv-loop μ-loop
 add-visits c = search needs
@@ -49,10 +49,10 @@ enum-told c = search needs
 
 returns-3 : tie.Need-returns-3 Inv-loop μ-loop
 returns-3 c =
-    let l = c .before .before .before .before .before .loop in let a = c .before .before .before .before .before .before .before .args in
+    let l = c .before .before .before .before .before .before .loop in let a = c .before .before .before .before .before .before .before .before .args in
     let e = sym (c .before .before .visit .ensures) ∙ c .enum-told .given .1 in
     let h = c .before .before .before .if2 .left in
-    sym (walk-torn (a .sought) (a .r) (now (a .statements)) (a .chain) (a .x) (l .visits) (a .budget - l .visits) (l .n) (c .before .before .before .before .if1 .left) (λ d. h (omega arith)) e) ∙ l .inv .2
+    sym (walk-torn (a .sought) (a .r) (now (a .statements)) (a .chain) (a .x) (l .visits) (a .budget - l .visits) (l .n .0) (c .before .before .before .before .if1 .left) (λ d. h (omega arith)) e) ∙ l .inv .2
 
 enum-known-m : tie.Need-enum-known-m Inv-loop μ-loop
 enum-known-m c = search needs
@@ -65,21 +65,21 @@ loop-less c = search needs
 
 loop-again : tie.Need-loop-again Inv-loop μ-loop
 loop-again c =
-    let l = c .before .before .before .before .before .before .loop in let a = c .before .before .before .before .before .before .before .before .args in
+    let l = c .before .before .before .before .before .before .before .loop in let a = c .before .before .before .before .before .before .before .before .before .args in
     let m = c .before .m2 .given .0 .0 in
     let e = sym (c .before .before .before .visit .ensures) ∙ c .before .m2 .given .1 in
     let h = c .before .before .before .before .if2 .left in
-    let f = visit-falls (a .sought) (a .r) (now (a .statements)) (a .chain) (a .x) (l .n) m (c .before .before .before .before .before .if1 .left) e in
+    let f = visit-falls (a .sought) (a .r) (now (a .statements)) (a .chain) (a .x) (l .n .0) m (c .before .before .before .before .before .if1 .left) e in
     let z : a .budget - (l .visits + 1) ≡ a .budget - l .visits - 1 = omega arith in
-    (omega arith, omega arith, rw z (sym (walk-miss (a .sought) (a .r) (now (a .statements)) (a .chain) (a .x) (l .visits) (a .budget - l .visits) (l .n) m (c .before .before .before .before .before .if1 .left) (λ d. h (omega arith)) e) ∙ l .inv .2))
+    (omega arith, omega arith, rw z (sym (walk-miss (a .sought) (a .r) (now (a .statements)) (a .chain) (a .x) (l .visits) (a .budget - l .visits) (l .n .0) m (c .before .before .before .before .before .if1 .left) (λ d. h (omega arith)) e) ∙ l .inv .2))
 
 returns-4 : tie.Need-returns-4 Inv-loop μ-loop
 returns-4 c =
-    let l = c .before .before .before .before .before .before .loop in let a = c .before .before .before .before .before .before .before .before .args in
+    let l = c .before .before .before .before .before .before .before .loop in let a = c .before .before .before .before .before .before .before .before .before .args in
     let m = c .before .m .given .0 .0 in
     let e = sym (c .before .before .before .visit .ensures) ∙ c .before .m .given .1 in
     let h = c .before .before .before .before .if2 .left in
-    sym (walk-hit (a .sought) (a .r) (now (a .statements)) (a .chain) (a .x) (l .visits) (a .budget - l .visits) (l .n) m (c .before .before .before .before .before .if1 .left) (λ d. h (omega arith)) e) ∙ l .inv .2
+    sym (walk-hit (a .sought) (a .r) (now (a .statements)) (a .chain) (a .x) (l .visits) (a .budget - l .visits) (l .n .0) m (c .before .before .before .before .before .if1 .left) (λ d. h (omega arith)) e) ∙ l .inv .2
 
 pub walk-spec : {M : Type 1} → statement M
 walk-spec =
