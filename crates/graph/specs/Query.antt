@@ -230,19 +230,3 @@ stale c m ws q = fits c m && (wordsOk (c .resources) ws && not (eqb (q .generati
 unfoldable pub nextQueryOf : Counters → Tables → List ℕ → QueryCursor → ℕ → QueryAnswer
 nextQueryOf c m ws q budget =
     packed (c .generation) (cond (stale c m ws q) (refused StaleCursor) (answerOf c m ws (placeOf q) budget))
-
--- ---- calls one after another with no change between, each from the cursor last answered
-
--- the cursor from now on; a refusal leaves it
-abbrev pub onwards : QueryStep → QueryCursor → QueryCursor → QueryCursor
-onwards Found q q′ = q′
-onwards Ended q q′ = q′
-onwards Spent q q′ = q′
-onwards (NotAnswered e) q q′ = q
-
-abbrev pub cursorAfter : QueryCursor → QueryAnswer → QueryCursor
-cursorAfter q a = onwards (a .step) q (a .cursor)
-
-unfoldable pub readOn : Counters → Tables → List ℕ → QueryCursor → List ℕ → List QueryAnswer
-readOn c m ws q [] = []
-readOn c m ws q (b ∷ bs) = let a = nextQueryOf c m ws q b in a ∷ readOn c m ws (cursorAfter q a) bs
