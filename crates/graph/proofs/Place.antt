@@ -491,7 +491,7 @@ module _ (r t : ℕ) (res stm : List ℕ) (ps : List QueryPattern) where
             let P = pruned-is up l (K .0) (K .1) (λ z. D) in
             gives (inside l up) b (left r t res stm ps ((pruned stm l up) .0) ((pruned stm l up) .1))
             (toilLeft r t res stm ps ((pruned stm l up) .0) ((pruned stm l up) .1))
-            (suc (toilLeft r t res stm ps ((pruned stm l up) .0) ((pruned stm l up) .1)))
+            (toilLeft r t res stm ps ((pruned stm l up) .0) ((pruned stm l up) .1))
             (resume r t res stm ps (inside l up) b)
             (unfold fromPlace in (sym (P .2)))
             (unfold resume in (rw (intact-any up (K .1))

@@ -20,10 +20,11 @@ use Rattle.graph.specs.declared.Progress.the-variants.{Start, Within, En
 use Rattle.graph.specs.declared.QueryCursor.{QueryCursor}
 use Rattle.graph.specs.Query.{bind, match, recordAt, past, struck, intact, anyStruck, pruned, settle}
 use Rattle.graph.specs.Words.{patternsOf, wordOk, allOk, wordsOk, Bindings, resource, valueOf, under}
-use Rattle.graph.specs.Place.{level, noLevel, levelsOf, insideOf, placeAs, written, startCursor, cursorAt}
+use Rattle.graph.specs.Place.{level, noLevel, levelsOf, insideOf, placeAs, written, cursorAt}
 use Rattle.graph.specs.Query.{remains, nextPattern, binds, asked, enteredOk, placeOk, enter, hit, tried, visit}
-use Rattle.graph.specs.Query.{walk, begun, resume, answerOf, openQueryOf, packed, stale, nextQueryOf, readOn}
-use Rattle.graph.specs.Values.{QueryValues, queryOpenedValues, queryValues}
+use Rattle.graph.specs.Query.{walk, begun, resume, answerOf, openQueryOf, packed, stale, nextQueryOf}
+use Rattle.graph.specs.Values.{queryOpenedValues}
+use Rattle.graph.specs.Claims.{Reply, queryReply, readOn, foundIn, hasEnded, lastSpent, visitsIn, nextReply, reading, scanning}
 
 -- ---- stores, cursors and answers as numbers
 
@@ -143,26 +144,33 @@ P n = level (By Predicate) n
 abbrev O : ℕ → Level
 O n = level (By Object) n
 
-abbrev refusedWith : ℕ → QueryValues
-refusedWith n = record { refusal = n; status = 0; visits = 0; solution = record { values = sol 0 0 }; cursor = none }
+abbrev Replied : Type 0
+Replied = Reply Bindings QueryCursor
 
-abbrev startAfter : ℕ → QueryValues
-startAfter g = record { refusal = 0; status = 0; visits = 0; solution = record { values = sol 0 0 }; cursor = after g none }
+-- refusal, status, visits, solution, cursor
+abbrev reply : ℕ → ℕ → ℕ → Bindings → QueryCursor → Replied
+reply e s n b q = record { refusal = e; status = s; visits = n; value = b; cursor = q }
 
-abbrev atStart : QueryValues
+abbrev refusedWith : ℕ → Replied
+refusedWith n = reply n 0 0 (sol 0 0) none
+
+abbrev startAfter : ℕ → Replied
+startAfter g = reply 0 0 0 (sol 0 0) (after g none)
+
+abbrev atStart : Replied
 atStart = startAfter 0
 
-abbrev found : ℕ → Bindings → QueryCursor → QueryValues
-found n b q = record { refusal = 0; status = 1; visits = n; solution = record { values = b }; cursor = q }
+abbrev found : ℕ → Bindings → QueryCursor → Replied
+found n b q = reply 0 1 n b q
 
-abbrev endedAfter : ℕ → ℕ → QueryValues
-endedAfter g n = record { refusal = 0; status = 2; visits = n; solution = record { values = sol 0 0 }; cursor = after g end }
+abbrev endedAfter : ℕ → ℕ → Replied
+endedAfter g n = reply 0 2 n (sol 0 0) (after g end)
 
-abbrev ended : ℕ → QueryValues
+abbrev ended : ℕ → Replied
 ended n = endedAfter 0 n
 
-abbrev spent : ℕ → QueryCursor → QueryValues
-spent n q = record { refusal = 0; status = 3; visits = n; solution = record { values = sol 0 0 }; cursor = q }
+abbrev spent : ℕ → QueryCursor → Replied
+spent n q = reply 0 3 n (sol 0 0) q
 
 -- (?0,2,?1),(?1,2,?2); the pattern (1,2,3) n times
 abbrev hops : List ℕ
@@ -177,21 +185,21 @@ abbrev filled : Progress → ℕ → QueryCursor
 filled g n = record { progress = g; depth = n; generation = 0; levels = replicate 8 (P 77) }
 
 -- open, one next call, calls one after another from the start
-abbrev open′ : Lent → List ℕ → QueryValues
-open′ s ws = queryOpenedValues (openQueryOf (s .counters) (s .lent) ws)
+abbrev open′ : Lent → List ℕ → Replied
+open′ s ws = queryReply (queryOpenedValues (openQueryOf (s .counters) (s .lent) ws))
 
-abbrev next : Lent → List ℕ → QueryCursor → ℕ → QueryValues
-next s ws q b = queryValues (nextQueryOf (s .counters) (s .lent) ws q b)
+abbrev next : Lent → List ℕ → QueryCursor → ℕ → Replied
+next s ws q b = nextReply (s .counters) (s .lent) ws q b
 
-abbrev read : Lent → List ℕ → List ℕ → List QueryValues
-read s ws bs = map queryValues (readOn (s .counters) (s .lent) ws (startCursor (s .counters .generation)) bs)
+abbrev read : Lent → List ℕ → List ℕ → List Replied
+read s ws bs = reading (s .counters) (s .lent) ws bs
 
 -- ---- the table
 
 -- what the definitions answer, and what is due
 pub record Case : Type 0 where
-  pub given : List QueryValues
-  pub due : List QueryValues
+  pub given : List Replied
+  pub due : List Replied
 
 -- the paper's question: 2 visits, then 1
 paper : Case
