@@ -1,7 +1,6 @@
--- A query's words in order, and calls one after another with no change between: on a sound store what they find is a
--- first part of the enumeration (`solve`), all of it once they have ended, and they end (`ReadingClaim`). Assumes
--- nothing.
-use mathlib.Core.Path.{_≡_, refl, sym, ap, _∙_}
+-- A query's words in order, and calls one after another with no change between: on a sound store what they find is a first part of the
+-- enumeration (`solve`), all of it once they have ended, and they end (`ReadingClaim`). Assumes nothing.
+use mathlib.Core.Path.{_≡_, refl, ap, _∙_}
 use mathlib.Core.Logic.{_≢_, _⊎_, inl, inr}
 use mathlib.Core.Bool.{true, false, _&&_, false≢true}
 use mathlib.Core.List.{List, [], _∷_}
@@ -13,7 +12,7 @@ use borrow.Author.Tests.{leb-true, leb-false, ltb-true, ne-eqb}
 use Rattle.store.specs.declared.Position.{Position}
 use Rattle.store.specs.declared.Position.the-variants.{Subject, Predicate, Object}
 use Rattle.store.specs.declared.Counters.{Counters}
-use Rattle.store.specs.Tables.{Tables, fits, resourceCapacity}
+use Rattle.store.specs.Tables.{Tables, fits}
 use Rattle.store.specs.Walk.{entryAt, pickChain}
 use Rattle.store.specs.Soundness.{Sound}
 use Rattle.store.proofs.Tests.{and-l, and-r, fits-parts}
@@ -24,7 +23,7 @@ use Rattle.graph.specs.declared.QueryAnswer.{QueryAnswer}
 use Rattle.graph.specs.Words.{maxPatterns, variables, firstVariable, isVariable, wordOk, allOk, wordsOk}
 use Rattle.graph.specs.Place.{Place, start, inside, finish, startCursor, cursorAt}
 use Rattle.graph.specs.Words.{patternsOf, pattern, Bindings, unbound, under}
-use Rattle.graph.specs.Query.{Answer, refused, found, ended, spent, placeOk, resume, answerOf}
+use Rattle.graph.specs.Query.{Answer, refused, found, ended, spent, answerOf}
 use Rattle.graph.specs.Query.{openQueryOf, packed, nextQueryOf}
 use Rattle.graph.specs.Values.{queryValues}
 use Rattle.graph.specs.Order.{Descending, recordOf, statementsOf}

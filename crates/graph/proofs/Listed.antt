@@ -1,8 +1,7 @@
--- The graph of the plain lists (crate `store`, `Model`), and what entering, asserting, retracting and reclaiming do to it.
--- Assumes nothing.
+-- The graph of the plain lists (crate `store`, `Model`), and what entering, asserting, retracting and reclaiming do to it. Assumes nothing.
 use mathlib.Core.Path.{_≡_, refl, sym, ap, _∙_}
 use mathlib.Core.Logic.{_≢_, _⊎_, inl, inr, _↔_}
-use mathlib.Core.Bool.{Bool, true, false, _&&_, true≢false}
+use mathlib.Core.Bool.{true, false, _&&_, true≢false}
 use mathlib.Core.List.{List, [], _∷_, _++_}
 use Prim.Native.Nat.{ℕ, zero, suc, _+_, _-_, _≤_, _<_}
 use native.Mathlib.Omega.{arith}
@@ -199,9 +198,6 @@ module _ (ns : List Term) (l : List Entry) where
             ap (λ (e : Entry). e .retracted) o,
             ap (λ (e : Entry). nameTriple ns (e .spo)) o ∙ sym e,
           )
-
-  marked-other : (i j : ℕ) (b : Bool) → j ≢ i → entry (mark l i b) j ≡ entry l j
-  marked-other i j b h = mark-other l i j b h
 
   -- a triple marked live
   revived : (i : ℕ) → i < length l → (z : RdfTriple) → listGraph ns (mark l i false) z

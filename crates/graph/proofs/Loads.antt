@@ -1,8 +1,8 @@
--- A line's three names entered and asserted on a sound store add exactly the line's triple; they are refused as by the plain lists, and only
--- for want of room (`LoadClaim`). Assumes nothing.
-use mathlib.Core.Path.{_≡_, refl, sym, ap, _∙_}
+-- A line's three names entered and asserted on a sound store add exactly the line's triple; they are refused as by the plain lists, and
+-- only for want of room (`LoadClaim`). Assumes nothing.
+use mathlib.Core.Path.{_≡_, refl, sym, _∙_}
 use mathlib.Core.Logic.{_≢_, _⊎_, inl, inr}
-use mathlib.Core.Bool.{true, false, _&&_}
+use mathlib.Core.Bool.{true, _&&_}
 use mathlib.Core.List.{List, [], _∷_, _++_}
 use Prim.Native.Nat.{ℕ, zero, suc, _≤_, _<_}
 use native.Mathlib.Omega.{arith}
@@ -32,7 +32,7 @@ use Rattle.store.proofs.Held.{sound-agrees, sound-tidy}
 use Rattle.graph.specs.Meaning.{RdfTriple}
 use Rattle.graph.specs.Graph.{named}
 use Rattle.graph.specs.Claims.{SoundStore, graphIn, SameGraph, Entered, Added, loading, loadOf, loadModel, canonicalTriple}
-use Rattle.graph.specs.Claims.{Loadable, Loaded, LoadRefuses, LoadClaim}
+use Rattle.graph.specs.Claims.{Loadable, Loaded, LoadClaim}
 use Rattle.graph.proofs.Listed.{graph-trans, ModelEntered, model-enters}
 use Rattle.graph.proofs.Writes.{writes}
 
@@ -198,7 +198,8 @@ formed w h = lt-ltb 0 (kindOf nameLimit w) h
 
 -- subject and predicate are of permitted kinds
 kinds-of : (ns : List (List ℕ)) (s p o : ℕ) (v w : List ℕ) → nameOf ns s ≡ canonical v → nameOf ns p ≡ canonical w
-    → wellFormed v ≡ true → kindOf nameLimit v ≢ 3 → kindOf nameLimit w ≡ 1 → permitted (λ y. firstKindOf (nameOf ns y)) (triple s p o) ≡ true
+    → wellFormed v ≡ true → kindOf nameLimit v ≢ 3 → kindOf nameLimit w ≡ 1
+    → permitted (λ y. firstKindOf (nameOf ns y)) (triple s p o) ≡ true
 unfolding permitted
 kinds-of ns s p o v w e d f n q =
     rw (

@@ -1,6 +1,6 @@
--- One next call from any cursor that refusals 13 and 6 accept answers from the solutions holding at the call, at or after
--- the cursor's place (`NextClaim`); a cursor answered is never refused 6 later (`KeptClaim`), and is refused 13 once a reclaim was answered
--- since (`ReclaimedClaim`); with no change between, budgets add up (`SplitClaim`). Assumes nothing.
+-- One next call from any cursor that refusals 13 and 6 accept answers from the solutions holding at the call, at or after the cursor's
+-- place (`NextClaim`); a cursor answered is never refused 6 later (`KeptClaim`), and is refused 13 once a reclaim was answered since
+-- (`ReclaimedClaim`); with no change between, budgets add up (`SplitClaim`). Assumes nothing.
 use mathlib.Core.Path.{_≡_, refl, sym, ap, _∙_, fun-ext}
 use mathlib.Core.Logic.{_≢_, inl, inr}
 use mathlib.Core.Bool.{Bool, true, false, cond, true≢false}

@@ -1,6 +1,5 @@
--- Any place that refusal 6 accepts, after whatever was asserted or retracted since it was given: a call answers from
--- the solutions that hold now, at or after the place; levels below a record struck out since do not count. Assumes
--- nothing.
+-- Any place that refusal 6 accepts, after whatever was asserted or retracted since it was given: a call answers from the solutions that
+-- hold now, at or after the place; levels below a record struck out since do not count. Assumes nothing.
 use mathlib.Core.Path.{_≡_, refl, sym, ap, _∙_, fun-ext}
 use mathlib.Core.Logic.{_≢_}
 use mathlib.Core.Bool.{Bool, true, false, _&&_, _||_, true≢false, false≢true}

@@ -1,5 +1,5 @@
--- Calls one after another, of a query or of a scan, from what one call leaves: none is refused, what was found and what is left are all there
--- is, the visits add up, and the reading ends. Assumes nothing.
+-- Calls one after another, of a query or of a scan, from what one call leaves: none is refused, what was found and what is left are all
+-- there is, the visits add up, and the reading ends. Assumes nothing.
 use mathlib.Core.Path.{_≡_, refl, sym, ap, _∙_}
 use mathlib.Core.Bool.{Bool, true, false, false≢true}
 use mathlib.Core.List.{List, [], _∷_, _++_, append-nil}

@@ -1,5 +1,5 @@
--- A query's next call on linked tables, from any place that calls leave: it takes the first solution left, or says
--- that none is left, or spends its budget on the visits; it is never refused. Assumes nothing.
+-- A query's next call on linked tables, from any place that calls leave: it takes the first solution left, or says that none is left, or
+-- spends its budget on the visits; it is never refused. Assumes nothing.
 use mathlib.Core.Path.{_≡_, refl, sym, ap, _∙_}
 use mathlib.Core.Logic.{_≢_}
 use mathlib.Core.Bool.{true, false}

@@ -1,5 +1,5 @@
--- What a query's next is refused for: the walk refuses 9 alone, and before it each refusal is given by its own test; beside a refusal
--- stand zeros. On any tables. Assumes nothing.
+-- What a query's next is refused for: the walk refuses 9 alone, and before it each refusal is given by its own test; beside a refusal stand
+-- zeros. On any tables. Assumes nothing.
 use mathlib.Core.Path.{_≡_, refl, sym, _∙_}
 use mathlib.Core.Logic.{_≢_, _⊎_, inl, inr}
 use mathlib.Core.Bool.{Bool, true, false, true≢false}

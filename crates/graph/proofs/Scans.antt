@@ -1,5 +1,5 @@
--- A pattern scan read through on a sound store gives exactly the live triples that match, each once, and ends
--- (`ScanClaim`); of one resource at one position it finds as many as the live count says (`LiveCountClaim`). Assumes nothing.
+-- A pattern scan read through on a sound store gives exactly the live triples that match, each once, and ends (`ScanClaim`); of one
+-- resource at one position it finds as many as the live count says (`LiveCountClaim`). Assumes nothing.
 use mathlib.Core.Path.{_≡_, refl, sym, ap, _∙_}
 use mathlib.Core.Logic.{_≢_, _⊎_, inl, inr}
 use mathlib.Core.Bool.{Bool, true, false, not, _&&_, _||_, true≢false, false≢true}
@@ -36,7 +36,7 @@ use Rattle.store.proofs.Chains.{onWords, pickChain-bound, chain-sits, chain-sta
 use Rattle.graph.specs.Order.{Descending}
 use Rattle.graph.specs.Meaning.{RdfTriple, termAt}
 use Rattle.graph.specs.Graph.{named, graphOf}
-use Rattle.graph.specs.Claims.{Reply, scanReply, AllPositive, namedAt, Matches, AllMatches, scanNext, scanning, ScanClaim}
+use Rattle.graph.specs.Claims.{Reply, scanReply, readOn, AllPositive, namedAt, Matches, AllMatches, scanNext, scanning, ScanClaim}
 use Rattle.graph.specs.Claims.{only, LiveCountClaim}
 use Rattle.graph.proofs.Solve.{descending-nodup}
 use Rattle.graph.proofs.Names.{named-at, names-apart, live-graph}
@@ -191,8 +191,15 @@ module _ (c : Counters) (m : Tables) (S : Sound c m) (x : Triple) (known : withi
         (ap (scannedAs (here k))
         (walk-linked (c .resources) (c .statements) (m .resources) (m .statements) (S .linked) ch x hit k b h))
 
+    -- the visits left at the positions below k; no more calls do not end
+    abbrev visitsAt : ℕ → ℕ
+    visitsAt k = length (below F k)
+
+    abbrev Ok : ℕ → Type 0
+    Ok k = k ≤ c .statements
+
     abbrev LeavesAt : ℕ → Reply ℕ ScanCursor → Type 0
-    LeavesAt k r = Leaves (scanNext c m) here (below hit) (λ k. length (below F k)) (λ k. length (below F k)) (λ k. k ≤ c .statements) k r
+    LeavesAt k r = Leaves (scanNext c m) here (below hit) visitsAt visitsAt Ok k r
 
     leaves : (k b : ℕ) (z : Taken) → k ≤ c .statements → 0 < b → Takes F hit hit-on b k z
         → LeavesAt k (scanReply (scannedValues (scannedAs (here k) (some (asStep z)))))
@@ -224,6 +231,10 @@ module _ (c : Counters) (m : Tables) (S : Sound c m) (x : Triple) (known : withi
     next-leaves : (k b : ℕ) → k ≤ c .statements → 0 < b → LeavesAt k (scanNext c m (here k) b)
     next-leaves k b h g = rw (next-is k b h g) (leaves k b (take-off hit b (below F k)) h g (takes F hit hit-on b k))
 
+    told-from : (bs : List ℕ) (k : ℕ) → k ≤ c .statements → AllPositive bs
+        → Told (below hit k) (visitsAt k) (visitsAt k) bs (readOn (scanNext c m) (here k) bs)
+    told-from bs k h g = told (scanNext c m) here (below hit) visitsAt visitsAt Ok next-leaves bs k h g
+
   -- ---- from the opening on
 
   abbrev picked : Chain
@@ -245,8 +256,12 @@ module _ (c : Counters) (m : Tables) (S : Sound c m) (x : Triple) (known : withi
             (pickChain-bound (m .resources) x) (within-high (c .resources) x known),
       )
 
+  -- every live statement that matches, falling
+  abbrev every : List ℕ
+  every = below hit (c .statements)
+
   -- a position that passes: a live statement that matches
-  right-at : (n : ℕ) → List·Memᴰ n (below hit (c .statements)) → graphOf c m (namedAt m n) × Matches m x (namedAt m n)
+  right-at : (n : ℕ) → List·Memᴰ n every → graphOf c m (namedAt m n) × Matches m x (namedAt m n)
   right-at n k =
       let r = below-out hit (c .statements) n k in
       let i = r .0 in
@@ -262,8 +277,7 @@ module _ (c : Counters) (m : Tables) (S : Sound c m) (x : Triple) (known : withi
       one i p (inl d) = inl d
       one i p (inr d) = inr (ap (nameAt m) (sym d) ∙ sym (named-at m (tripleAt (m .statements) i) p))
 
-  all-at : (y : RdfTriple) → graphOf c m y → Matches m x y → (n : ℕ) × List·Memᴰ n (below hit (c .statements))
-      × (namedAt m n ≡ y)
+  all-at : (y : RdfTriple) → graphOf c m y → Matches m x y → (n : ℕ) × List·Memᴰ n every × (namedAt m n ≡ y)
   all-at y g M =
       let i = g .0 in
       let t = tripleAt (m .statements) i in
@@ -284,8 +298,7 @@ module _ (c : Counters) (m : Tables) (S : Sound c m) (x : Triple) (known : withi
           (d ∙ ap (termAt p) (sym (g .2)) ∙ named-at m (tripleAt (m .statements) (g .0)) p))))
 
   -- two positions that pass, of one triple, are one
-  apart : (n k : ℕ) → List·Memᴰ n (below hit (c .statements)) → List·Memᴰ k (below hit (c .statements))
-      → namedAt m n ≡ namedAt m k → n ≡ k
+  apart : (n k : ℕ) → List·Memᴰ n every → List·Memᴰ k every → namedAt m n ≡ namedAt m k → n ≡ k
   apart n k a b e =
       let r = below-out hit (c .statements) n a in
       let s = below-out hit (c .statements) k b in
@@ -299,10 +312,6 @@ module _ (c : Counters) (m : Tables) (S : Sound c m) (x : Triple) (known : withi
       ∙ ap (λ (z : ℕ). named m (tripleAt (m .statements) z)) j) in
       r .1 ∙ ap suc d ∙ sym (s .1)
 
-  -- every live statement that matches, falling
-  abbrev every : List ℕ
-  every = below hit (c .statements)
-
   all-match : AllMatches c m x every
   all-match = record {
     exact = λ y. (
@@ -315,14 +324,13 @@ module _ (c : Counters) (m : Tables) (S : Sound c m) (x : Triple) (known : withi
 
   -- the records on the chain picked, live or not
   abbrev cost : ℕ
-  cost = length (below (F picked picked-ok) (c .statements))
+  cost = visitsAt picked picked-ok (c .statements)
 
   cost-le : cost ≤ c .statements
   cost-le = length-le (F picked picked-ok) (c .statements)
 
   start-told : (bs : List ℕ) → AllPositive bs → Told every cost cost bs (scanning c m x bs)
-  start-told bs h = rw opens (told (scanNext c m) (here picked picked-ok) (below hit) (λ k. length (below (F picked picked-ok) k))
-      (λ k. length (below (F picked picked-ok) k)) (λ k. k ≤ c .statements) (next-leaves picked picked-ok) bs (c .statements) (omega arith) h)
+  start-told bs h = rw opens (told-from picked picked-ok bs (c .statements) (omega arith) h)
 
 pub scan-reads : ScanClaim
 scan-reads c m S x known = record {

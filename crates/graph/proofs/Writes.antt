@@ -1,5 +1,5 @@
--- On a sound store entering a name and reclaiming leave the graph, asserting adds exactly its triple, retracting takes exactly it away, and a
--- refusal leaves it (`WriteClaim`). Assumes nothing.
+-- On a sound store entering a name and reclaiming leave the graph, asserting adds exactly its triple, retracting takes exactly it away, and
+-- a refusal leaves it (`WriteClaim`). Assumes nothing.
 use mathlib.Core.Path.{_≡_, sym, ap, _∙_}
 use mathlib.Core.Logic.{_≢_, _⊎_, inl, inr}
 use mathlib.Core.Bool.{true, false}
@@ -8,12 +8,12 @@ use Prim.Native.Nat.{ℕ, _≤_, _<_}
 use native.Mathlib.Omega.{arith}
 use lib.ListN.{length}
 use lib.Dec.{eqb}
-use borrow.Author.Tests.{eqb-true, eqb-false, ne-eqb}
+use borrow.Author.Tests.{eqb-false, ne-eqb}
 use Rattle.term.specs.Canonical.{canonical}
 use Rattle.store.specs.declared.Position.the-variants.{Subject, Predicate, Object}
 use Rattle.store.specs.declared.Counters.{Counters}
 use Rattle.store.specs.declared.Triple.{Triple}
-use Rattle.store.specs.Shared.{triple, known, Entry, nameOf}
+use Rattle.store.specs.Shared.{known, Entry, nameOf}
 use Rattle.store.specs.Tables.{Tables, tripleAt, flagAt}
 use Rattle.store.specs.Values.{Values}
 use Rattle.store.specs.Model.{Model, Capacities, Form, byValue, lent, Call, intern, assert, retract, reclaim}
@@ -33,8 +33,7 @@ use Rattle.store.proofs.Kept.{Tidy, tidy-history}
 use Rattle.store.proofs.Held.{entries-length, entries-at, named-names, agreeing-holds, sound-agrees, sound-tidy}
 use Rattle.graph.specs.Meaning.{Term, RdfTriple}
 use Rattle.graph.specs.Graph.{named, graphOf}
-use Rattle.graph.specs.Claims.{SoundStore, graphIn, SameGraph, Entered, Added, Removed, Rebuilt, WriteClaim, loadOf, canonicalTriple}
-use Rattle.graph.specs.Claims.{Loaded, LoadClaim}
+use Rattle.graph.specs.Claims.{graphIn, SameGraph, Entered, Added, Removed, Rebuilt, WriteClaim}
 use Rattle.graph.proofs.Listed.{nameTriple, modelGraph, graph-trans, ModelEntered, model-enters, ModelAdded}
 use Rattle.graph.proofs.Listed.{model-asserts, ModelRemoved, model-retracts, ModelRebuilt, model-reclaims}
 

@@ -1,8 +1,7 @@
--- The claims of demand 2 (paper 01; 02, note 6) as types, each with soundness as its only hypothesis on the tables, but those that say
--- "on any tables": the live statements are an RDF graph; a query read through gives exactly the solution mappings of SPARQL 1.1; a call from
--- any accepted cursor answers from the solutions that hold; budgets add up; a pattern scan read through gives exactly
--- the live triples that match, and a live count says how many; what each write does to the graph. A query
--- does not look at live counts. Assumes nothing.
+-- The claims of demand 2 (paper 01; 02, note 6) as types, each with soundness as its only hypothesis on the tables, but those that say "on
+-- any tables": the live statements are an RDF graph; a query read through gives exactly the solution mappings of SPARQL 1.1; a call from
+-- any accepted cursor answers from the solutions that hold; budgets add up; a pattern scan read through gives exactly the live triples that
+-- match, and a live count says how many; what each write does to the graph. A query does not look at live counts. Assumes nothing.
 use mathlib.Core.Path.{_≡_}
 use mathlib.Core.Logic.{_⊎_, _↔_, _≢_}
 use mathlib.Core.Bool.{Bool, true, false, cond, _&&_, _||_}
@@ -70,8 +69,7 @@ queryReply v = record { refusal = v .refusal; status = v .status; visits = v .vi
 abbrev pub scanReply : Values → Reply ℕ ScanCursor
 scanReply v = record { refusal = v .refusal; status = v .status; visits = v .visits; value = v .number; cursor = v .cursor }
 
--- the replies to calls with these budgets, one after another with no change between, each from the cursor last answered; a refusal
--- leaves it
+-- the replies to calls with these budgets in turn, with no change between, each from the cursor last answered; a refusal leaves it
 unfoldable pub readOn : {A Q : Type 0} → (Q → ℕ → Reply A Q) → Q → List ℕ → List (Reply A Q)
 readOn next q [] = []
 readOn next q (b ∷ bs) = next q b ∷ readOn next (cond (eqb ((next q b) .refusal) 0) ((next q b) .cursor) q) bs
@@ -268,8 +266,8 @@ only Subject y = triple y 0 0
 only Predicate y = triple 0 y 0
 only Object y = triple 0 0 y
 
--- A resource's live count at a position is the number of statements that a scan of it there finds, read to its end: as many as the
--- triples of the graph that have its name there, each of which is found once (`ScanClaim`).
+-- A resource's live count at a position is the number of statements that a scan of it there finds, read to its end: as many as the triples
+-- of the graph that have its name there, each of which is found once (`ScanClaim`).
 abbrev pub LiveCountClaim : Type 0
 LiveCountClaim = (c : Counters) (m : Tables) → Sound c m → (p : Position) (y : ℕ) → 0 < y → y ≤ c .resources
     → (bs : List ℕ) → AllPositive bs → hasEnded (scanning c m (only p y) bs) ≡ true

@@ -1,9 +1,9 @@
--- Open and next of a query, the paper's question (paper 01, "Open a question", "Next of a question"; 02, note 6), on
--- tables, words and cursors that hold anything. Assumes nothing.
+-- Open and next of a query, the paper's question (paper 01, "Open a question", "Next of a question"; 02, note 6), on tables, words and
+-- cursors that hold anything. Assumes nothing.
 use mathlib.Core.Bool.{Bool, true, false, cond, not, _&&_, _||_}
 use mathlib.Core.List.{List, [], _∷_}
 use mathlib.Core.Option.{Option, none, some}
-use Prim.Native.Nat.{ℕ, zero, suc, _+_, _*_, _-_}
+use Prim.Native.Nat.{ℕ, zero, suc, _+_, _-_}
 use lib.ListN.{length, getD, set}
 use lib.Dec.{eqb, leb, ltb}
 use Rattle.store.specs.declared.Counters.{Counters}
@@ -23,7 +23,7 @@ use Rattle.graph.specs.declared.QueryOpened.{QueryOpened}
 use Rattle.graph.specs.declared.QueryStep.{QueryStep}
 use Rattle.graph.specs.declared.QueryStep.the-variants.{Found, Ended, Spent, Refused as NotAnswered}
 use Rattle.graph.specs.declared.QueryAnswer.{QueryAnswer}
-use Rattle.graph.specs.Words.{variables, firstVariable, pattern, patternsOf, wordsOk, Bindings, resource, unbound, valueOf, under}
+use Rattle.graph.specs.Words.{firstVariable, pattern, patternsOf, wordsOk, Bindings, resource, unbound, valueOf, under}
 use Rattle.graph.specs.Place.{level, Place, start, inside, finish, placeOf, startCursor, cursorAt}
 
 -- ---- a record against a pattern
@@ -108,8 +108,7 @@ module _ (stm : List ℕ) (ps : List QueryPattern) where
 
   -- ---- refusal 6
 
-  -- each entered record: a record of the table, a chain that a scan would take, resources in 1..R, a match under the
-  -- earlier ones
+  -- each entered record: a record of the table, a chain that a scan would take, resources in 1..R, a match under the earlier ones
   unfoldable pub enteredOk : (r t : ℕ) → List Level → Bool
   enteredOk r t [] = true
   enteredOk r t (e ∷ up) =
@@ -154,8 +153,7 @@ module _ (r t : ℕ) (res stm : List ℕ) (ps : List QueryPattern) where
   unfoldable pub hit : Level → List Level → Option Bindings
   hit l up = cond (struck stm l) none (match (nextPattern ps up) (recordAt stm (l .statement .0)) (binds stm ps up))
 
-  -- no match: on along the chain; a match of the last pattern: a whole solution; of an earlier one: the next is
-  -- entered at once
+  -- no match: on along the chain; a match of the last pattern: a whole solution; of an earlier one: the next is entered at once
   unfoldable pub tried : Level → List Level → Option Bindings → Turn
   tried l up none = go (past stm l) up
   tried l up (some b) = cond (eqb (suc (length up)) (length ps)) (whole b (past stm l) up) (enter (l ∷ up))
