@@ -18,8 +18,8 @@ use Rattle.store.specs.declared.Position.the-variants.{Subject, Predicate, Obje
 use Rattle.store.specs.declared.Triple.{Triple}
 use Rattle.store.specs.Shared.{at, known, same, permitted, maxReclaims, Entry, wellFormed, nameOf, bytesOf}
 use Rattle.store.specs.Values.{Values}
-use Rattle.store.specs.Model.{Model, Capacities, lookupName, internName}
-use Rattle.store.specs.Model.{internModel, entry, lookup, mark, put, assertModel, strike, retractModel, unstruck, reclaimModel}
+use Rattle.store.specs.Model.{Model, Capacities, intern, lookupName, internName, internModel, entry, lookup, mark, put, assertModel}
+use Rattle.store.specs.Model.{strike, retractModel, unstruck, reclaimModel, callModel}
 use Rattle.store.proofs.Tests.{decide, three, known-low, known-high, same-self, same-is}
 use Rattle.store.proofs.Falling.{head-le, head-passes, head-pos}
 use Rattle.store.proofs.Text.{name-old, name-new, length-snoc}
@@ -140,8 +140,8 @@ module _ (k : Capacities) (s : Model) (D : Tidy s) where
     answered = λ z. let h = name-listed w (s .names) i e in (omega arith, omega (arith, h .0), h .1);
   }
 
-  pub model-enters : (w : Term) → ModelEntered s ((internModel k s w) .0) (canonical w) ((internModel k s w) .1)
-  unfolding internModel
+  pub model-enters : (w : Term) → ModelEntered s ((callModel k s (intern w)) .0) (canonical w) ((callModel k s (intern w)) .1)
+  unfolding callModel internModel
   model-enters w =
       decide (wellFormed w) (λ e. rw e (entered-as (canonical w) (lookupName (canonical w) (s .names)) refl))
       (λ e. rw e (unchanged (canonical w) _ (λ z. omega arith)))

@@ -33,7 +33,7 @@ use Rattle.graph.specs.Meaning.{RdfTriple}
 use Rattle.graph.specs.Graph.{named}
 use Rattle.graph.specs.Claims.{SoundStore, graphIn, SameGraph, Entered, Added, loading, loadOf, loadModel, canonicalTriple}
 use Rattle.graph.specs.Claims.{Loadable, Loaded, LoadClaim}
-use Rattle.graph.proofs.Listed.{graph-trans, ModelEntered, model-enters}
+use Rattle.graph.proofs.Listed.{graph-trans, model-enters}
 use Rattle.graph.proofs.Writes.{writes}
 
 -- ---- the graph
@@ -162,35 +162,31 @@ load-agrees k s l R y =
 
 -- ---- only for want of room
 
-abbrev Room : ℕ → Type 0
-Room n = (n ≡ 0) ⊎ (n ≡ 3)
+abbrev ZeroOrFull : ℕ → Type 0
+ZeroOrFull n = (n ≡ 0) ⊎ (n ≡ 3)
 
-abbrev Roomy : Model × Values → Type 0
-Roomy z = Room (z .1 .refusal)
+abbrev AnswersOrFull : Model × Values → Type 0
+AnswersOrFull z = ZeroOrFull (z .1 .refusal)
 
 module _ (k : Capacities) (l : Model) where
-  intern-room : (w : List ℕ) → wellFormed w ≡ true → Roomy (callModel k l (intern w))
+  intern-full : (w : List ℕ) → wellFormed w ≡ true → AnswersOrFull (callModel k l (intern w))
   unfolding callModel internModel internName
-  intern-room w f = rw f (at-place (lookupName (canonical w) (l .names)))
+  intern-full w f = rw f (at-place (lookupName (canonical w) (l .names)))
     where
-      at-place : (t : ℕ) → Roomy (internName k l (canonical w) t)
+      at-place : (t : ℕ) → AnswersOrFull (internName k l (canonical w) t)
       at-place zero =
-          cond-all Roomy (ltb (length (l .names)) (k .resources) && leb (bytesOf (l .names ++ canonical w ∷ [])) (k .text)) _ _
+          cond-all AnswersOrFull (ltb (length (l .names)) (k .resources) && leb (bytesOf (l .names ++ canonical w ∷ [])) (k .text)) _ _
           (inl refl) (inr refl)
       at-place (suc i) = inl refl
 
-  assert-room : (x : Triple) → known (length (l .names)) x ≡ true → permitted (kindIn l) x ≡ true
-      → Roomy (callModel k l (assert byValue x))
+  assert-full : (x : Triple) → known (length (l .names)) x ≡ true → permitted (kindIn l) x ≡ true
+      → AnswersOrFull (callModel k l (assert byValue x))
   unfolding callModel assertModel put
-  assert-room x f g = rw (f, g) (at-place (lookup x (l .entries)))
+  assert-full x f g = rw (f, g) (at-place (lookup x (l .entries)))
     where
-      at-place : (t : ℕ) → Roomy (put k l x t)
-      at-place zero = cond-all Roomy (ltb (length (l .entries)) (k .statements)) _ _ (inl refl) (inr refl)
-      at-place (suc i) = cond-all Roomy ((entry (l .entries) i) .retracted) _ _ (inl refl) (inl refl)
-
-  model-entered : Tidy l → (w : List ℕ) → ModelEntered l ((callModel k l (intern w)) .0) (canonical w) ((callModel k l (intern w)) .1)
-  unfolding callModel
-  model-entered D w = model-enters k l D w
+      at-place : (t : ℕ) → AnswersOrFull (put k l x t)
+      at-place zero = cond-all AnswersOrFull (ltb (length (l .entries)) (k .statements)) _ _ (inl refl) (inr refl)
+      at-place (suc i) = cond-all AnswersOrFull ((entry (l .entries) i) .retracted) _ _ (inl refl) (inl refl)
 
 formed : (w : List ℕ) → 0 < kindOf nameLimit w → wellFormed w ≡ true
 unfolding wellFormed
@@ -213,12 +209,12 @@ kinds-of ns s p o v w e d f n q =
 
 module _ (k : Capacities) (l : Model) (D : Tidy l) (y : RdfTriple) (L : Loadable y) where
   subject-kind : (0 < kindOf nameLimit (y .subject)) × (kindOf nameLimit (y .subject) ≢ 3)
-  subject-kind = one (L .subject)
+  subject-kind = either (L .subject)
     where
-      one : (kindOf nameLimit (y .subject) ≡ 1) ⊎ (kindOf nameLimit (y .subject) ≡ 2)
+      either : (kindOf nameLimit (y .subject) ≡ 1) ⊎ (kindOf nameLimit (y .subject) ≡ 2)
           → (0 < kindOf nameLimit (y .subject)) × (kindOf nameLimit (y .subject) ≢ 3)
-      one (inl e) = (omega arith, λ d. omega arith)
-      one (inr e) = (omega arith, λ d. omega arith)
+      either (inl e) = (omega arith, λ d. omega arith)
+      either (inr e) = (omega arith, λ d. omega arith)
 
   subject-formed : wellFormed (y .subject) ≡ true
   subject-formed = formed (y .subject) (subject-kind .0)
@@ -240,9 +236,9 @@ module _ (k : Capacities) (l : Model) (D : Tidy l) (y : RdfTriple) (L : Loadable
   entered-all p q r =
       let D₁ = tidy-call l D k (intern (y .subject)) in
       let D₂ = tidy-call (one .0) D₁ k (intern (y .predicate)) in
-      let A = model-entered k l D (y .subject) in
-      let B = model-entered k (one .0) D₁ (y .predicate) in
-      let C = model-entered k (two .0) D₂ (y .object) in
+      let A = model-enters k l D (y .subject) in
+      let B = model-enters k (one .0) D₁ (y .predicate) in
+      let C = model-enters k (two .0) D₂ (y .object) in
       let a = A .answered p in
       let b = B .answered q in
       let c = C .answered r in
@@ -265,20 +261,20 @@ module _ (k : Capacities) (l : Model) (D : Tidy l) (y : RdfTriple) (L : Loadable
       high Predicate a b c = b
       high Object a b c = c
 
-  load-room : Room ((loadModel k l y) .1)
+  load-full : ZeroOrFull ((loadModel k l y) .1)
   unfolding loading
-  load-room =
+  load-full =
       decide (eqb (one .1 .refusal) 0)
       (λ p. rw p (decide (eqb (two .1 .refusal) 0)
       (λ q. rw q (decide (eqb (three .1 .refusal) 0)
       (λ r. rw r (let e = entered-all (eqb-true _ 0 p) (eqb-true _ 0 q) (eqb-true _ 0 r) in
-      assert-room k (three .0) listed (e .0) (e .1)))
-      (λ r. rw r (intern-room k (two .0) (y .object) (L .object)))))
-      (λ q. rw q (intern-room k (one .0) (y .predicate) (formed (y .predicate) (omega (arith, L .predicate)))))))
-      (λ p. rw p (intern-room k l (y .subject) subject-formed))
+      assert-full k (three .0) listed (e .0) (e .1)))
+      (λ r. rw r (intern-full k (two .0) (y .object) (L .object)))))
+      (λ q. rw q (intern-full k (one .0) (y .predicate) (formed (y .predicate) (omega (arith, L .predicate)))))))
+      (λ p. rw p (intern-full k l (y .subject) subject-formed))
 
 pub loads : LoadClaim
 loads s S y =
     let k = capacitiesOf (s .tables) in
     let e = load-agrees k s (listsOf s) (sound-agrees (s .counters) (s .tables) S) y in
-    (loaded s S y, record { listed = e; room = λ L. rw e (load-room k (listsOf s) (sound-tidy (s .counters) (s .tables) S) y L) })
+    (loaded s S y, record { listed = e; room = λ L. rw e (load-full k (listsOf s) (sound-tidy (s .counters) (s .tables) S) y L) })

@@ -9,7 +9,6 @@ use native.Mathlib.Omega.{arith}
 use lib.ListN.{length}
 use lib.Dec.{eqb}
 use borrow.Author.Tests.{eqb-false, ne-eqb}
-use Rattle.term.specs.Canonical.{canonical}
 use Rattle.store.specs.declared.Position.the-variants.{Subject, Predicate, Object}
 use Rattle.store.specs.declared.Counters.{Counters}
 use Rattle.store.specs.declared.Triple.{Triple}
@@ -34,7 +33,7 @@ use Rattle.store.proofs.Held.{entries-length, entries-at, named-names, agreeing
 use Rattle.graph.specs.Meaning.{Term, RdfTriple}
 use Rattle.graph.specs.Graph.{named, graphOf}
 use Rattle.graph.specs.Claims.{graphIn, SameGraph, Entered, Added, Removed, Rebuilt, WriteClaim}
-use Rattle.graph.proofs.Listed.{nameTriple, modelGraph, graph-trans, ModelEntered, model-enters, ModelAdded}
+use Rattle.graph.proofs.Listed.{nameTriple, modelGraph, graph-trans, model-enters, ModelAdded}
 use Rattle.graph.proofs.Listed.{model-asserts, ModelRemoved, model-retracts, ModelRebuilt, model-reclaims}
 
 -- ---- a store that holds plain lists
@@ -142,14 +141,9 @@ module _ (c : Counters) (m : Tables) (S : Sound c m) where
 
   -- ---- enter
 
-  model-entered : (w : Term) → ModelEntered lists ((callModel k lists (intern w)) .0) (canonical w)
-      ((callModel k lists (intern w)) .1)
-  unfolding callModel
-  model-entered w = model-enters k lists (sound-tidy c m S) w
-
   enters : (w : Term) → Entered here ((callStore here (intern w)) .0) w ((callStore here (intern w)) .1)
   enters w =
-      let E = model-entered w in
+      let E = model-enters k lists (sound-tidy c m S) w in
       let A = after (intern w) in
       let n = held-size here lists before in
       let n′ = held-size _ _ A in
