@@ -2,7 +2,7 @@
 -- enumeration (`solve`), all of it once they have ended, and they end (`ReadingClaim`). Assumes nothing.
 use mathlib.Core.Path.{_≡_, refl, ap, _∙_}
 use mathlib.Core.Logic.{_≢_, _⊎_, inl, inr}
-use mathlib.Core.Bool.{true, false, _&&_, false≢true}
+use mathlib.Core.Bool.{true, false, _&&_}
 use mathlib.Core.List.{List, [], _∷_}
 use Prim.Native.Nat.{ℕ, suc, _+_, _*_, _-_, _≤_, _<_}
 use native.Mathlib.Omega.{arith}
@@ -13,7 +13,7 @@ use Rattle.store.specs.declared.Position.{Position}
 use Rattle.store.specs.declared.Position.the-variants.{Subject, Predicate, Object}
 use Rattle.store.specs.declared.Counters.{Counters}
 use Rattle.store.specs.Tables.{Tables, fits}
-use Rattle.store.specs.Walk.{entryAt, pickChain}
+use Rattle.store.specs.Walk.{entryAt}
 use Rattle.store.specs.Soundness.{Sound}
 use Rattle.store.proofs.Tests.{and-l, and-r, fits-parts}
 use Rattle.graph.specs.declared.QueryPattern.{QueryPattern}
@@ -27,18 +27,18 @@ use Rattle.graph.specs.Query.{Answer, refused, found, ended, spent, answ
 use Rattle.graph.specs.Query.{openQueryOf, packed, nextQueryOf}
 use Rattle.graph.specs.Values.{queryValues}
 use Rattle.graph.specs.Order.{Descending, recordOf, statementsOf}
-use Rattle.graph.specs.Claims.{Reply, queryReply, AllPositive, statementsIn, AllInOrder, nextReply, reading, Ends, ReadingClaim}
+use Rattle.graph.specs.Claims.{Reply, queryReply, AllPositive, statementsIn, AllInOrder, nextReply, reading, ReadingClaim}
 use Rattle.graph.proofs.Accepted.{or-cases}
 use Rattle.graph.proofs.Laws.{Shallow, place-cursor}
 use Rattle.graph.proofs.Generations.{cursor-number, own-number, read-on}
 use Rattle.graph.proofs.Bind.{wordAt, Fit}
 use Rattle.graph.proofs.Solve.{solve, AllFit, solve-descending, statements, numberOf, descending-nodup}
 use Rattle.graph.proofs.Levels.{AllLow}
-use Rattle.graph.specs.Work.{work}
+use Rattle.graph.specs.Work.{workOf}
 use Rattle.graph.proofs.Reading.{leftAt, toilAt, visitsAt, Reached, Outcome, go-outcome, reached-ok}
 use Rattle.graph.proofs.Solutions.{positive, single, exactly, once-as-mappings}
 use Rattle.graph.proofs.ReadThrough as read
-use Rattle.graph.proofs.ReadThrough.{Told, Leaves, told}
+use Rattle.graph.proofs.ReadThrough.{Told, told-ends, Leaves, told}
 
 -- ---- words in order
 
@@ -225,10 +225,7 @@ module _ (c : Counters) (m : Tables) (S : Sound c m) (ws : List ℕ) (words : wo
   unfolding openQueryOf
   opens = rw (S .capacity, words)
 
-  abbrev cost : ℕ
-  cost = work (entryAt (m .statements)) (c .statements) (pickChain (m .resources)) (patternsOf ws) unbound
-
-  start-told : (bs : List ℕ) → AllPositive bs → Told everything cost (suc cost) bs (reading c m ws bs)
+  start-told : (bs : List ℕ) → AllPositive bs → Told everything (workOf c m ws) (suc (workOf c m ws)) bs (reading c m ws bs)
   unfolding leftAt visitsAt toilAt cursorAt
   start-told bs h = rw opens (told (nextReply c m ws) cursorHere leftFrom visitsFrom toilFrom At next-leaves bs start tt h)
 
@@ -248,17 +245,11 @@ module _ (c : Counters) (m : Tables) (S : Sound c m) (ws : List ℕ) (words : wo
     order = everything-order;
   }
 
-  ends-after : Ends c m ws cost
-  ends-after = record {
-    ends = λ bs h n. start-told bs h .ends (omega arith);
-    visits = λ bs h n. start-told bs h .visits n;
-    early = λ bs h n. start-told bs h .early false (λ z. absurd (false≢true z)) n;
-  }
-
 -- demand 2, queries: exactly the solutions, each once, in order
 pub query-reads : ReadingClaim
 query-reads c m S ws words = (
   rw (opens c m S ws words),
   (everything c m S ws words, in-order c m S ws words, λ bs h. start-told c m S ws words bs h .read),
-  ends-after c m S ws words,
+  told-ends (reading c m ws) (everything c m S ws words) (workOf c m ws) (suc (workOf c m ws)) (omega arith)
+      (start-told c m S ws words),
 )

@@ -6,7 +6,7 @@ use mathlib.Core.List.{List, [], _∷_, _++_, append-nil}
 use Prim.Native.Nat.{ℕ, _+_, _≤_, _<_}
 use native.Mathlib.Omega.{arith}
 use lib.ListN.{length}
-use Rattle.graph.specs.Claims.{Reply, readOn, AllPositive, foundIn, hasEnded, lastSpent, visitsIn, Read}
+use Rattle.graph.specs.Claims.{Reply, readOn, AllPositive, foundIn, hasEnded, lastSpent, visitsIn, Read, Ends}
 
 -- what one call comes to: ss is left before it, ss′ and w′ visits after it; at most k calls before it, k′ after it, do not end
 pub data Comes {A Q : Type 0} (ss ss′ : List A) (w′ k k′ : ℕ) (r : Reply A Q) : Type 0 where
@@ -79,6 +79,14 @@ module _ {A Q : Type 0} where
     visits = λ n. omega (arith, T .visits (rw s at n));
     ends = λ n. rw s (T .ends (omega arith));
     early = λ y g n. omega (arith, T .early true (λ q. o) (rw s at n));
+  }
+
+  pub told-ends : (read : List ℕ → List (Reply A Q)) (ss : List A) (n k : ℕ) → k ≤ n + 1
+      → ((bs : List ℕ) → AllPositive bs → Told ss n k bs (read bs)) → Ends read n
+  told-ends read ss n k h T = record {
+    ends = λ bs p l. T bs p .ends (omega arith);
+    visits = λ bs p e. T bs p .visits e;
+    early = λ bs p e. T bs p .early false (λ q. absurd (false≢true q)) e;
   }
 
 -- places with their cursors, what is left at each, the visits left, how many calls from it do not end, and which of them calls leave

@@ -27,12 +27,13 @@ use Rattle.store.specs.Dictionary.{nameAt}
 use Rattle.store.specs.Scan.{openOf, cursorIn, chainOk, recordOk, cursorOk, walkFrom, scannedAs, nextOf}
 use Rattle.store.specs.Soundness.{living, Sound}
 use Rattle.store.proofs.Tests.{decide, and-l, and-r, and-of, all3-at, all3-of, within-high, within-of}
-use Rattle.store.proofs.Falling.{below-cong, below-yes, below-no, below-nil, below-in, below-out, head-le, head-passes, length-le}
+use Rattle.store.proofs.Falling.{below-cong, below-yes, below-no, below-nil, below-in, below-out, head-le, head-passes}
 use Rattle.store.proofs.Words.{triple-at}
 use Rattle.store.proofs.Walks.{asStep, take-hit, take-miss}
 use Rattle.store.proofs.Picking.{pick-ok}
 use Rattle.store.proofs.LiveCounts.{counted-is}
 use Rattle.store.proofs.Chains.{onWords, pickChain-bound, chain-sits, chain-start, pickable-linked, walk-linked}
+use Rattle.graph.specs.Work.{scanWorkOf}
 use Rattle.graph.specs.Order.{Descending}
 use Rattle.graph.specs.Meaning.{RdfTriple, termAt}
 use Rattle.graph.specs.Graph.{named, graphOf}
@@ -42,7 +43,7 @@ use Rattle.graph.proofs.Solve.{descending-nodup}
 use Rattle.graph.proofs.Names.{named-at, names-apart, live-graph}
 use Rattle.graph.proofs.Solutions.{mem-map, map-mem, map-once}
 use Rattle.graph.proofs.ReadThrough as read
-use Rattle.graph.proofs.ReadThrough.{read-all, Told, Leaves, told}
+use Rattle.graph.proofs.ReadThrough.{read-all, Told, told-ends, Leaves, told}
 
 -- ---- positions
 
@@ -322,14 +323,7 @@ module _ (c : Counters) (m : Tables) (S : Sound c m) (x : Triple) (known : withi
     order = below-falling hit (c .statements);
   }
 
-  -- the records on the chain picked, live or not
-  abbrev cost : ℕ
-  cost = visitsAt picked picked-ok (c .statements)
-
-  cost-le : cost ≤ c .statements
-  cost-le = length-le (F picked picked-ok) (c .statements)
-
-  start-told : (bs : List ℕ) → AllPositive bs → Told every cost cost bs (scanning c m x bs)
+  start-told : (bs : List ℕ) → AllPositive bs → Told every (scanWorkOf c m x) (scanWorkOf c m x) bs (scanning c m x bs)
   start-told bs h = rw opens (told-from picked picked-ok bs (c .statements) (omega arith) h)
 
 pub scan-reads : ScanClaim
@@ -338,7 +332,7 @@ scan-reads c m S x known = record {
   all = every c m S x known;
   exactly = all-match c m S x known;
   read = λ bs h. start-told c m S x known bs h .read;
-  ends = λ bs h n. start-told c m S x known bs h .ends (omega (arith, cost-le c m S x known));
+  ends = told-ends (scanning c m x) (every c m S x known) (scanWorkOf c m x) (scanWorkOf c m x) (omega arith) (start-told c m S x known);
 }
 
 -- ---- live counts

@@ -29,7 +29,7 @@ use Rattle.store.specs.Claims.{SameButLive, listsOf, reclaimsIn}
 use Rattle.graph.specs.declared.QueryCursor.{QueryCursor}
 use Rattle.graph.specs.Words.{maxPatterns, variables, firstVariable, wordsOk, patternsOf, Bindings, unbound}
 use Rattle.graph.specs.Place.{placeOf, startCursor}
-use Rattle.graph.specs.Work.{workOf}
+use Rattle.graph.specs.Work.{workOf, scanWorkOf}
 use Rattle.graph.specs.Query.{placeOk, openQueryOf, nextQueryOf}
 use Rattle.graph.specs.Values.{QueryValues, queryValues, queryOpenedValues}
 use Rattle.graph.specs.Order.{Descending, NoDuplicates, statementsOf, onwardsOf}
@@ -109,6 +109,12 @@ module _ {A Q : Type 0} where
     pub split : all ≡ foundIn rs ++ rest
     pub ended : hasEnded rs ≡ true → rest ≡ []
 
+  -- n visits in all, whatever the budgets, and spent only while one of them is left; the reading ends after so many calls
+  pub record Ends (read : List ℕ → List (Reply A Q)) (n : ℕ) : Type 0 where
+    pub ends : (bs : List ℕ) → AllPositive bs → n + 1 < length bs → hasEnded (read bs) ≡ true
+    pub visits : (bs : List ℕ) → AllPositive bs → hasEnded (read bs) ≡ true → visitsIn (read bs) ≡ n
+    pub early : (bs : List ℕ) → AllPositive bs → lastSpent false (read bs) ≡ true → visitsIn (read bs) < n
+
 -- ---- 3. A query read through gives exactly the solution mappings, each once, in the paper's order.
 
 -- the statements of a solution, one a pattern
@@ -128,17 +134,11 @@ nextReply c m ws q b = queryReply (queryValues (nextQueryOf c m ws q b))
 abbrev pub reading : Counters → Tables → List ℕ → List ℕ → List (Reply Bindings QueryCursor)
 reading c m ws bs = readOn (nextReply c m ws) ((queryOpenedValues (openQueryOf c m ws)) .cursor) bs
 
--- n visits in all, whatever the budgets, and spent only while one of them is left; the reading ends after so many calls
-pub record Ends (c : Counters) (m : Tables) (ws : List ℕ) (n : ℕ) : Type 0 where
-  pub ends : (bs : List ℕ) → AllPositive bs → n + 2 < length bs → hasEnded (reading c m ws bs) ≡ true
-  pub visits : (bs : List ℕ) → AllPositive bs → hasEnded (reading c m ws bs) ≡ true → visitsIn (reading c m ws bs) ≡ n
-  pub early : (bs : List ℕ) → AllPositive bs → lastSpent false (reading c m ws bs) ≡ true → visitsIn (reading c m ws bs) < n
-
 abbrev pub ReadingClaim : Type 0
 ReadingClaim = (c : Counters) (m : Tables) → Sound c m → (ws : List ℕ) → wordsOk (c .resources) ws ≡ true
     → ((queryOpenedValues (openQueryOf c m ws)) .refusal ≡ 0)
     × ((ss : List Bindings) × AllInOrder c m ws ss × ((bs : List ℕ) → AllPositive bs → Read (reading c m ws bs) ss))
-    × Ends c m ws (workOf c m ws)
+    × Ends (reading c m ws) (workOf c m ws)
 
 -- the words that are accepted: three a pattern, no more patterns than the limit, each a number in 1..R or a variable
 pub record Accepts (r : ℕ) (ws : List ℕ) : Type 0 where
@@ -253,7 +253,7 @@ pub record ScanReads (c : Counters) (m : Tables) (x : Triple) : Type 0 where
   pub all : List ℕ
   pub exactly : AllMatches c m x all
   pub read : (bs : List ℕ) → AllPositive bs → Read (scanning c m x bs) all
-  pub ends : (bs : List ℕ) → AllPositive bs → c .statements < length bs → hasEnded (scanning c m x bs) ≡ true
+  pub ends : Ends (scanning c m x) (scanWorkOf c m x)
 
 abbrev pub ScanClaim : Type 0
 ScanClaim = (c : Counters) (m : Tables) → Sound c m → (x : Triple) → within (c .resources) x ≡ true → ScanReads c m x
