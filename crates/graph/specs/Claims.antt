@@ -179,9 +179,9 @@ NextClaim = (c : Counters) (m : Tables) → Sound c m → (ws : List ℕ) → wo
 -- a cursor that a next call answered is never refused 6 by a later one, whatever was called between
 abbrev pub KeptClaim : Type 0
 KeptClaim = (c : Counters) (m : Tables) → Sound c m → (ws : List ℕ) (q : QueryCursor) (b : ℕ)
-    → (queryValues (nextQueryOf c m ws q b)) .refusal ≡ 0
+    → let v = queryValues (nextQueryOf c m ws q b) in v .refusal ≡ 0
     → (qs : List ScanCursor) (calls : List Call) (b′ : ℕ) → let s = storeAfter (store c m qs) calls in
-    (queryValues (nextQueryOf (s .counters) (s .tables) ws ((nextQueryOf c m ws q b) .cursor) b′)) .refusal ≢ 6
+    (queryValues (nextQueryOf (s .counters) (s .tables) ws (v .cursor) b′)) .refusal ≢ 6
 
 -- On any tables a next is refused 13 exactly where 1 and 8 are not refused and the cursor, at the start and at the end too, has another
 -- number of reclaims, whatever the budget.
@@ -204,10 +204,10 @@ RefusalsBare = (c : Counters) (m : Tables) (ws : List ℕ)
 abbrev pub ReclaimedClaim : Type 0
 ReclaimedClaim = (c : Counters) (m : Tables) → Sound c m → (ws : List ℕ) (qs : List ScanCursor) (calls : List Call)
     → 0 < reclaimsIn calls (storeReplies (store c m qs) calls) → (b′ : ℕ) → let s = storeAfter (store c m qs) calls in
-    ((queryOpenedValues (openQueryOf c m ws)) .refusal ≡ 0
-    → (queryValues (nextQueryOf (s .counters) (s .tables) ws ((openQueryOf c m ws) .cursor) b′)) .refusal ≡ 13)
-    × ((q : QueryCursor) (b : ℕ) → (queryValues (nextQueryOf c m ws q b)) .refusal ≡ 0
-    → (queryValues (nextQueryOf (s .counters) (s .tables) ws ((nextQueryOf c m ws q b) .cursor) b′)) .refusal ≡ 13)
+    (let v = queryOpenedValues (openQueryOf c m ws) in v .refusal ≡ 0
+    → (queryValues (nextQueryOf (s .counters) (s .tables) ws (v .cursor) b′)) .refusal ≡ 13)
+    × ((q : QueryCursor) (b : ℕ) → let v = queryValues (nextQueryOf c m ws q b) in v .refusal ≡ 0
+    → (queryValues (nextQueryOf (s .counters) (s .tables) ws (v .cursor) b′)) .refusal ≡ 13)
 
 -- A call visits no more records than its budget, on any tables, words and cursor.
 abbrev pub BudgetClaim : Type 0
