@@ -1,5 +1,4 @@
--- On a sound store numbers and names are in bijection, and the live statements are an RDF graph (`GraphClaim`).
--- Assumes nothing.
+-- On a sound store numbers and names are in bijection, and the live statements are an RDF graph (`GraphClaim`). Assumes nothing.
 use mathlib.Core.Path.{_≡_, refl, sym, ap, _∙_}
 use mathlib.Core.Logic.{_≢_, _⊎_, inl, inr}
 use mathlib.Core.Bool.{true, false, not, _&&_, false≢true}
