@@ -8,8 +8,8 @@ ghost use Prim.Native.Nat.{_-_};
 ghost use Rattle.store.specs.Reclaim.{swept, sweepOne, sweep};
 ghost use Rattle.compaction.specs.Steps.{Sweepable, AllSweepable};
 
-// Record n, with t live ones before it: passed over if struck out, else moved down to record t + 1 and linked there. How
-// many live ones there are then.
+// Record n, with t live ones before it: passed over if struck out, else moved down to record t + 1 and linked there.
+// How many live ones there are then.
 pub fn sweep_one(resources: &mut [u32], statements: &mut [u32], n: u32, t: u32) -> u32
     requires { ⌜ Sweepable n (swept t (now resources) (now statements)) ⌝ }
     ensures { λ k. ⌜ swept k (now (resources .exit)) (now (statements .exit))
