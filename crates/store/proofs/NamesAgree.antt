@@ -18,10 +18,10 @@ use Rattle.store.specs.declared.Counters.{Counters}
 use Rattle.store.specs.declared.Interned.{Interned}
 use Rattle.store.specs.declared.IndexPlace.{IndexPlace}
 use Rattle.store.specs.declared.IndexPlace.the-variants.{At, Before, Torn}
-use Rattle.store.specs.Shared.{below, head0, wellFormed, nameOf, bytesOf}
+use Rattle.store.specs.Shared.{below, head0, wellFormed, nameOf, bytesOf, lookupName}
 use Rattle.store.specs.Tables.{Tables, word, resourceWords, resourceCapacity, textCapacity, offsetAt, kindAt}
 use Rattle.store.specs.Values.{Values, counted, internedValues}
-use Rattle.store.specs.Model.{Model, Capacities, lookupName, totals, withNames, internName, internModel}
+use Rattle.store.specs.Model.{Model, Capacities, totals, withNames, internName, internModel}
 use Rattle.store.specs.Dictionary.{storable, PlaceWithin}
 use Rattle.store.specs.Dictionary.{compare, equal, isLess, Indexed, Named, nameAt, rank, placeAt, indexPlaceOf}
 use Rattle.store.specs.Dictionary.{roomFor, oneNameMore, freshRecord, insertAt, withName, internAs, internOf}

@@ -23,9 +23,9 @@ use Rattle.store.specs.declared.NameRead.{NameRead}
 use Rattle.store.specs.declared.NameRead.the-variants.{Span, Refused as NotNamed}
 use Rattle.store.specs.declared.Lookup.{Lookup}
 use Rattle.store.specs.declared.Lookup.the-variants.{Number, Absent, Refused as NotFound}
-use Rattle.store.specs.Shared.{below, head0, wellFormed, nameOf}
+use Rattle.store.specs.Shared.{below, head0, wellFormed, nameOf, lookupName}
 use Rattle.store.specs.Tables.{Tables, fits, word, offsetAt}
-use Rattle.store.specs.Model.{lookupName, internModel}
+use Rattle.store.specs.Model.{internModel}
 use Rattle.store.specs.Reading.{inRange, zeroFrom, spanTo, nameSpanOf}
 use Rattle.store.specs.Dictionary.{storable, Named, joined, findOf, internOf}
 use Rattle.store.specs.Soundness.{Sound}

@@ -20,9 +20,9 @@ use Rattle.store.specs.Tables.{Tables, tables, fits, termAt, nextAt, fla
 use Rattle.store.specs.Tables.{kindAt, liveAt, resourceWords}
 use Rattle.store.specs.Values.{Values, refusedWith, numbered, counted, placed, stepped}
 use Rattle.store.specs.Model.{Call, intern, assert, retract, open′, next, reclaim, byValue, lent, Capacities, freshModel}
-use Rattle.store.specs.Model.{lookupName, internName, internModel}
+use Rattle.store.specs.Model.{internName, internModel}
+use Rattle.store.specs.Shared.{lookupName, pick}
 use Rattle.store.specs.Model.{lookup, mark, put, assertModel, strike, retractModel, onChain, holders, Model, unstruck, reclaimModel}
-use Rattle.store.specs.Shared.{pick}
 use Rattle.store.specs.Reclaim.{unlinked, sweepOne, sweep, blanked, sweptOf, reclaimOf}
 use Rattle.store.specs.Model.{pickModel, listing, openModel, take-off, takeFrom, turn, nextModel, callModel, modelReplies}
 use Rattle.store.specs.Walk.{entryAt, pickChain, pickable, startOf, linkOf, sits, visitable, walk}
