@@ -30,7 +30,7 @@ use Rattle.store.specs.Statement.{seek, countable, locate, tallyAt, tall
 use Rattle.store.specs.Statement.{assertOf, counting, retracting, retractOf, assertLentOf, retractLentOf}
 use Rattle.store.specs.Scan.{cursorIn, openOf, chainOk, recordOk, cursorOk, walkFrom, nextOf}
 use Rattle.store.specs.Dictionary.{compare, nameAt, rank, placeAt, indexPlaceOf, roomFor, bring, insertAt}
-use Rattle.store.specs.Dictionary.{findOf, internAs, internOf}
+use Rattle.store.specs.Dictionary.{namesUpTo, findOf, internAs, internOf}
 use Rattle.store.specs.History.{Store, store, freshStore, capacitiesOf, callStore, storeReplies, storeAfter}
 
 -- ---- histories: each call beside its answer
@@ -316,8 +316,8 @@ held = storeAfter (freshStore scant) (callsIn label)
 finds-run : map (findOf (held .counters) (held .tables)) (litA ∷ longA ∷ empty ∷ stringEnding ∷ [])
     ≡ Found (record { 0 = 1 }) ∷ Found (record { 0 = 1 }) ∷ Absent ∷ NotFound Malformed ∷ []
 unfolding litA longA empty label writesString canonical kindOf firstKindOf runOf stepOf wholeOf among letter alnum iriByte
-    textByte pairByte firstByte labelByte below wellFormed eqBytes fits offsetAt compare nameAt rank placeAt indexPlaceOf
-    findOf roomFor bring insertAt internAs internOf callStore storeAfter
+    textByte pairByte firstByte labelByte below wellFormed eqBytes fits offsetAt compare nameAt namesUpTo lookupName rank placeAt
+    indexPlaceOf findOf roomFor bring insertAt internAs internOf callStore storeAfter
 finds-run = refl
 
 -- the words after the reclaim: two records, one of zeros, the table's end as it was; links, counts and live counts anew,
