@@ -89,20 +89,20 @@ pub fn live_at(resources: &[u32], y: u32, p: Position) -> u32
 }
 
 // Where the name of resource y starts in the text.
-pub fn offset_at(resources: &[u32], y: u32) -> u32
-    requires { ⌜ ResourceHeld (now resources) y ⌝ }
-    ensures { λ r. ⌜ r ≡ offsetAt (now (resources .entry)) y ⌝ }
+pub fn offset_at(resources: &[u32], y: ResourceId) -> u32
+    requires { ⌜ ResourceHeld (now resources) (y .0) ⌝ }
+    ensures { λ r. ⌜ r ≡ offsetAt (now (resources .entry)) (y .0) ⌝ }
 {
-    let i = crate::RESOURCE_WORDS * (y as usize - 1) + crate::OFFSET;
+    let i = crate::RESOURCE_WORDS * (y.0 as usize - 1) + crate::OFFSET;
     resources[i]
 }
 
 // The kind of resource y.
-pub fn kind_at(resources: &[u32], y: u32) -> u32
-    requires { ⌜ ResourceHeld (now resources) y ⌝ }
-    ensures { λ r. ⌜ r ≡ kindAt (now (resources .entry)) y ⌝ }
+pub fn kind_at(resources: &[u32], y: ResourceId) -> u32
+    requires { ⌜ ResourceHeld (now resources) (y .0) ⌝ }
+    ensures { λ r. ⌜ r ≡ kindAt (now (resources .entry)) (y .0) ⌝ }
 {
-    let i = crate::RESOURCE_WORDS * (y as usize - 1) + crate::KIND;
+    let i = crate::RESOURCE_WORDS * (y.0 as usize - 1) + crate::KIND;
     resources[i]
 }
 

@@ -144,7 +144,7 @@ pub fn name_span(
     if !in_range(c.resources, n.0) {
         return NameRead::Refused(Refusal::UnknownNumber);
     }
-    let from = inner::offset_at(resources, n.0);
+    let from = inner::offset_at(resources, n);
     inner::span_at(text, c.text, from)
 }
 

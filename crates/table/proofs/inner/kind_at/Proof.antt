@@ -5,6 +5,9 @@ use Rattle.table.proofs.inner.kind_at.Tie as tie
 use Rattle.table.proofs.inner.kind_at.Reads as reads
 use Rattle.table.proofs.inner.kind_at.Lts as lts
 
+cast-i : tie.Need-cast-i
+cast-i c = search needs
+
 sub-i : tie.Need-sub-i
 sub-i c = search needs
 
@@ -25,4 +28,4 @@ unfolding kindAt
 returns c = search needs
 
 pub kind-at-spec : {M : Type 1} → statement M
-kind-at-spec = tie.close (tie.spec sub-i mul-i add-i mul-result shared-slice-read-result returns)
+kind-at-spec = tie.close (tie.spec cast-i sub-i mul-i add-i mul-result shared-slice-read-result returns)

@@ -5,6 +5,9 @@ use Rattle.table.proofs.inner.offset_at.Tie as tie
 use Rattle.table.proofs.inner.offset_at.Reads as reads
 use Rattle.table.proofs.inner.offset_at.Lts as lts
 
+cast-i : tie.Need-cast-i
+cast-i c = search needs
+
 sub-i : tie.Need-sub-i
 sub-i c = search needs
 
@@ -25,4 +28,4 @@ unfolding offsetAt
 returns c = search needs
 
 pub offset-at-spec : {M : Type 1} → statement M
-offset-at-spec = tie.close (tie.spec sub-i mul-i add-i mul-result shared-slice-read-result returns)
+offset-at-spec = tie.close (tie.spec cast-i sub-i mul-i add-i mul-result shared-slice-read-result returns)
