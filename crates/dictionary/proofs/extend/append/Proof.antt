@@ -14,8 +14,8 @@ write-record-requires c κs = search needs
 write-name-requires : tie.Need-write-name-requires
 write-name-requires c κs = search needs
 
-add-insert : tie.Need-add-insert
-add-insert c = search needs
+add-t15 : tie.Need-add-t15
+add-t15 c = search needs
 
 insert-requires : tie.Need-insert-requires
 insert-requires c κs = search needs
@@ -48,7 +48,7 @@ append-spec =
     (tie.spec
     write-record-requires
     write-name-requires
-    add-insert
+    add-t15
     insert-requires
     same-length
     same-length-2
