@@ -13,7 +13,6 @@ use borrow.Author.Tests.{lt-ltb, le-ltb, ltb-true, ltb-false, le-leb}
 use Rattle.term.specs.Scanner.{kindOf, firstKindOf}
 use Rattle.term.specs.Canonical.{canonical}
 use Rattle.store.specs.declared.Counters.{Counters}
-use Rattle.store.specs.declared.ResourceId.{ResourceId}
 use Rattle.store.specs.declared.Refusal.{Refusal}
 use Rattle.store.specs.declared.Refusal.the-variants.{Capacity, Malformed, Full, Damaged}
 use Rattle.store.specs.declared.IndexPlace.{IndexPlace}
@@ -128,12 +127,12 @@ found-is ns c m N w = rw (named-names ns c m N) (go (lookupName w ns) refl)
 abbrev WithinNumbers : ℕ → Lookup → Type 0
 WithinNumbers r a = (a ≡ NotFound Damaged) ⊎ ((n : ℕ) × (a ≡ foundAt n) × (n ≤ r))
 
-numbered : (n : ℕ) → 0 < n → Number (record { 0 = n }) ≡ foundAt n
-numbered zero h = absurd (omega arith)
-numbered (suc n) h = refl
+number-at : (n : ℕ) → 0 < n → Number (record { 0 = n }) ≡ foundAt n
+number-at zero h = absurd (omega arith)
+number-at (suc n) h = refl
 
 found-within : (r : ℕ) (x : IndexPlace) → PlaceWithin r x → WithinNumbers r (foundAs x)
-found-within r (At n k) h = inr (n .0, numbered (n .0) (h .0), h .1)
+found-within r (At n k) h = inr (n .0, number-at (n .0) (h .0), h .1)
 found-within r (Before k) h = inr (0, refl, omega arith)
 found-within r Torn h = inl refl
 
