@@ -384,3 +384,22 @@ unfolding r21 trips b4 b7 loading ia ip single writesString canonical kindOf fir
     recordOk cursorOk walkFrom nextOf compare nameAt rank placeAt indexPlaceOf roomFor bring insertAt internAs internOf
     callStore storeReplies storeAfter
 live-run = (refl, refl, refl, refl, refl)
+
+-- Refusal 6 after the one statement, a cursor for each clause: a number above R, a chain that is not bound, none where one is bound, a next
+-- above T, a record without the resource, this one without a budget too. One that stands is read on; 13 comes before 6.
+abbrev reading : List ScanCursor → Store
+reading qs = let s = storeAfter (freshStore wide) (callsIn single) in store (s .counters) (s .tables) qs
+
+bad-run : storeReplies (reading (cursorAt (triple 3 0 0) (By Subject) 0 ∷ cursorAt (triple 0 2 0) (By Subject) 1
+    ∷ cursorAt (triple 0 2 0) All 1 ∷ cursorAt (triple 0 2 0) (By Predicate) 2 ∷ cursorAt (triple 2 0 0) (By Subject) 1
+    ∷ cursorAt (triple 0 2 0) (By Predicate) 1 ∷ cursorIn 1 (triple 2 0 0) (By Subject) 1 ∷ []))
+    (next 0 1 ∷ next 1 1 ∷ next 2 1 ∷ next 3 1 ∷ next 4 1 ∷ next 4 0 ∷ next 5 1 ∷ next 6 1 ∷ [])
+    ≡ refusedWith 6 ∷ refusedWith 6 ∷ refusedWith 6 ∷ refusedWith 6 ∷ refusedWith 6 ∷ refusedWith 6
+    ∷ stepped 1 1 1 (cursorAt (triple 0 2 0) (By Predicate) 0) ∷ refusedWith 13 ∷ []
+unfolding ia ip single writesString canonical kindOf firstKindOf runOf stepOf wholeOf
+    among letter alnum iriByte textByte pairByte firstByte labelByte known within same agrees permitted below wellFormed
+    eqBytes matches better pick fits termAt nextAt flagAt tripleAt firstAt countAt offsetAt kindAt liveAt entryAt
+    pickChain pickable startOf linkOf sits visitable walk seek countable locate tallyAt tally appendRecord
+    linkFirst linkRecord kinded asserting assertOf chainOk recordOk cursorOk walkFrom nextOf compare nameAt rank placeAt
+    indexPlaceOf roomFor bring insertAt internAs internOf callStore storeReplies storeAfter
+bad-run = refl
