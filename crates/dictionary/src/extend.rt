@@ -88,7 +88,8 @@ pub fn append(
     kind: u32,
 )
     requires { ⌜ Roomy c (now resources) (now index) (now text) (now name) at ⌝ }
-    ensures { λ _. ⌜ Extended c (now (resources .entry)) (now (resources .exit)) (now (index .entry)) (now (index .exit)) (now (text .entry)) (now (text .exit)) (now (name .entry)) at kind ⌝ }
+    ensures { λ _. ⌜ Extended c (now (resources .entry)) (now (resources .exit)) (now (index .entry)) (now (index .exit))
+        (now (text .entry)) (now (text .exit)) (now (name .entry)) at kind ⌝ }
 {
     write_record(resources, c.resources, c.text, kind);
     write_name(text, c.text, name);

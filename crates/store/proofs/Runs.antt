@@ -305,8 +305,8 @@ unfolding r21 trips b4 b7 litA longA ia ib ic ip empty paper tight short label n
     among letter alnum iriByte textByte pairByte firstByte labelByte known within same agrees permitted below wellFormed
     eqBytes matches better pick fits termAt nextAt flagAt tripleAt firstAt countAt offsetAt kindAt liveAt entryAt pickChain
     pickable startOf linkOf sits visitable walk seek countable locate tallyAt tally counting appendRecord linkFirst linkRecord
-    kinded asserting assertOf retracting retractOf assertLentOf retractLentOf openOf chainOk recordOk cursorOk walkFrom nextOf compare nameAt rank
-    placeAt indexPlaceOf roomFor bring insertAt internAs internOf callStore storeReplies storeAfter
+    kinded asserting assertOf retracting retractOf assertLentOf retractLentOf openOf chainOk recordOk cursorOk walkFrom nextOf compare
+    nameAt rank placeAt indexPlaceOf roomFor bring insertAt internAs internOf callStore storeReplies storeAfter
 stores-run = (refl, refl, refl, refl, refl, refl)
 
 -- Find in the store that holds "A" alone: in either spelling, a name that is not there, and the string ending by itself.
@@ -364,9 +364,9 @@ unfolding ia ib ic ip until-reclaim since-reclaim writesString canonical kindOf 
     unlinked sweepOne sweep blanked sweptOf reclaimOf callStore storeReplies storeAfter
 reclaim-stores-run = (refl, refl, refl, refl)
 
--- Live counts: after the paper's lines, once statement 1 is retracted, and once it is revived. A live count above its count, here the predicate's, is
--- refused 9 by assert and retract, also where the triple is already there, and not by a listing; a live count of 0, here the
--- object's, is refused 9 by retract alone.
+-- Live counts: after the paper's lines, once statement 1 is retracted, and once it is revived. A live count above its count, here the
+-- predicate's, is refused 9 by assert and retract, also where the triple is already there, and not by a listing; a live count of 0, here
+-- the object's, is refused 9 by retract alone.
 live-run : (recordsAfter []
     ≡ rr 2 0 0 2 0 0 0 2 0 0 (rr 0 2 0 0 2 0 7 0 2 0 (rr 0 0 1 0 0 1 17 0 0 1 (rr 0 0 2 0 0 1 23 0 0 1 []))))
     × (recordsAfter (retract lent (triple 1 2 3) ∷ [])

@@ -31,15 +31,15 @@ same-length-3 c = search needs
 
 returns : tie.Need-returns
 returns c =
-    let a = c .before .before .before .before .before .before .before .before .before .before .before .before .before .before .before .before .before .args in
-    let write-record = c .before .before .before .before .before .before .before .before .before .before .before .write-record in
-    let write-name = c .before .before .before .before .before .before .before .write-name in
+    let named = c .before .before .before .before .before .before .before in
+    let recorded = named .before .before .before .before in
+    let a = recorded .before .before .before .before .before .before .args in
     let insert = c .before .before .insert in
     record {
-      new-record = write-record .ensures;
+      new-record = recorded .write-record .ensures;
       new-entry = rw (← add-one (a .c .resources))
           (insert .ensures);
-      new-name = write-name .ensures;
+      new-name = named .write-name .ensures;
     }
 
 pub append-spec : {M : Type 1} → statement M
