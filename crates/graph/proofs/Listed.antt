@@ -16,9 +16,9 @@ use Rattle.term.proofs.Booleans.{eqBytes-is}
 use Rattle.store.specs.declared.Position.{Position}
 use Rattle.store.specs.declared.Position.the-variants.{Subject, Predicate, Object}
 use Rattle.store.specs.declared.Triple.{Triple}
-use Rattle.store.specs.Shared.{at, known, same, permitted, maxReclaims, Entry, wellFormed, nameOf, bytesOf}
+use Rattle.store.specs.Shared.{at, known, same, permitted, maxReclaims, Entry, wellFormed, nameOf, bytesOf, lookupName}
 use Rattle.store.specs.Values.{Values}
-use Rattle.store.specs.Model.{Model, Capacities, intern, lookupName, internName, internModel, entry, lookup, mark, put, assertModel}
+use Rattle.store.specs.Model.{Model, Capacities, intern, internName, internModel, entry, lookup, mark, put, assertModel}
 use Rattle.store.specs.Model.{strike, retractModel, unstruck, reclaimModel, callModel}
 use Rattle.store.proofs.Tests.{decide, three, known-low, known-high, same-self, same-is}
 use Rattle.store.proofs.Falling.{head-le, head-passes, head-pos}
