@@ -15,10 +15,10 @@ use Rattle.term.specs.Canonical.{canonical}
 use Rattle.store.specs.declared.Position.{Position}
 use Rattle.store.specs.declared.Position.the-variants.{Subject, Predicate, Object}
 use Rattle.store.specs.declared.Triple.{Triple}
-use Rattle.store.specs.Shared.{at, triple, known, permitted, wellFormed, nameOf, bytesOf}
+use Rattle.store.specs.Shared.{at, triple, known, permitted, wellFormed, nameOf, bytesOf, lookupName}
 use Rattle.store.specs.Tables.{Tables}
 use Rattle.store.specs.Values.{Values}
-use Rattle.store.specs.Model.{Model, Capacities, byValue, intern, assert, lookupName, internName, internModel, entry, lookup, put}
+use Rattle.store.specs.Model.{Model, Capacities, byValue, intern, assert, internName, internModel, entry, lookup, put}
 use Rattle.store.specs.Model.{assertModel, callModel}
 use Rattle.store.specs.Dictionary.{nameAt}
 use Rattle.store.specs.History.{Store, store, capacitiesOf, callStore}
