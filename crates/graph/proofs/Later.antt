@@ -56,22 +56,15 @@ pub record Kept (r t : ℕ) (stm : List ℕ) (r′ t′ : ℕ) (stm′ : List �
   pub records : t ≤ t′
   pub terms : (p : Position) (i : ℕ) → i < t → termAt stm′ p i ≡ termAt stm p i
 
-module _ (r t : ℕ) (stm : List ℕ) (r′ t′ : ℕ) (stm′ : List ℕ) (K : Kept r t stm r′ t′ stm′)
-    (ps : List QueryPattern) where
-  record-kept : (n : ℕ) → 0 < n → n ≤ t → recordAt stm′ n ≡ recordAt stm n
-  unfolding recordAt
-  record-kept n h q =
-      let e = suc-prev n h in
-      let i : prev n < t = omega arith in triple-same stm stm′ (prev n) (λ p. K .terms p (prev n) i)
-
-  -- the tests of a level
-  first-part : (e : Level) (up : List Level) → enteredOk stm ps r t (e ∷ up) ≡ true
+-- the tests of an entered level
+module _ (r t : ℕ) (stm : List ℕ) (ps : List QueryPattern) where
+  pub level-parts : (e : Level) (up : List Level) → enteredOk stm ps r t (e ∷ up) ≡ true
       → (0 < e .statement .0) × (e .statement .0 ≤ t) × (chainOk (e .chain) (asked stm ps up) ≡ true)
       × (known r (recordAt stm (e .statement .0)) ≡ true)
       × (isSome (match (nextPattern ps up) (recordAt stm (e .statement .0)) (binds stm ps up)) ≡ true)
       × (enteredOk stm ps r t up ≡ true)
   unfolding enteredOk
-  first-part e up h =
+  level-parts e up h =
       let w = (ltb 0 (e .statement .0) && leb (e .statement .0) t) in
       let g = (chainOk (e .chain) (asked stm ps up) && (known r (recordAt stm (e .statement .0))
       && isSome (match (nextPattern ps up) (recordAt stm (e .statement .0)) (binds stm ps up)))) in
@@ -87,10 +80,18 @@ module _ (r t : ℕ) (stm : List ℕ) (r′ t′ : ℕ) (stm′ : List ℕ) (K :
         and-r (w && g) (enteredOk stm ps r t up) h,
       )
 
+module _ (r t : ℕ) (stm : List ℕ) (r′ t′ : ℕ) (stm′ : List ℕ) (K : Kept r t stm r′ t′ stm′)
+    (ps : List QueryPattern) where
+  record-kept : (n : ℕ) → 0 < n → n ≤ t → recordAt stm′ n ≡ recordAt stm n
+  unfolding recordAt
+  record-kept n h q =
+      let e = suc-prev n h in
+      let i : prev n < t = omega arith in triple-same stm stm′ (prev n) (λ p. K .terms p (prev n) i)
+
   binds-kept : (up : List Level) → enteredOk stm ps r t up ≡ true → binds stm′ ps up ≡ binds stm ps up
   unfolding binds
   binds-kept [] o = refl
-  binds-kept (e ∷ up) o = let f = first-part e up o in
+  binds-kept (e ∷ up) o = let f = level-parts r t stm ps e up o in
       rw (record-kept (e .statement .0) (f .0) (f .1), binds-kept up (f .5))
 
   asked-kept : (up : List Level) → enteredOk stm ps r t up ≡ true → asked stm′ ps up ≡ asked stm ps up
@@ -102,7 +103,7 @@ module _ (r t : ℕ) (stm : List ℕ) (r′ t′ : ℕ) (stm′ : List ℕ) (K :
       → enteredOk stm′ ps r′ t′ (e ∷ up) ≡ true
   unfolding enteredOk
   level-kept e up o ih =
-      let f = first-part e up o in
+      let f = level-parts r t stm ps e up o in
       rw (asked-kept up (f .5), record-kept (e .statement .0) (f .0) (f .1), binds-kept up (f .5))
       (and-of _ _
       (and-of _ _
@@ -113,7 +114,7 @@ module _ (r t : ℕ) (stm : List ℕ) (r′ t′ : ℕ) (stm′ : List ℕ) (K :
 
   entered-kept : (up : List Level) → enteredOk stm ps r t up ≡ true → enteredOk stm′ ps r′ t′ up ≡ true
   entered-kept [] o = unfold enteredOk in refl
-  entered-kept (e ∷ up) o = level-kept e up o (entered-kept up ((first-part e up o) .5))
+  entered-kept (e ∷ up) o = level-kept e up o (entered-kept up ((level-parts r t stm ps e up o) .5))
 
   next-kept : (ch : Chain) (x : Triple) (n : ℕ) → n ≤ t → recordOk stm ch x n ≡ true → recordOk stm′ ch x n ≡ true
   unfolding recordOk sits

@@ -31,7 +31,7 @@ use Rattle.graph.specs.Place.{Place, start, inside, finish}
 use Rattle.graph.specs.Words.{variables, Bindings, unbound, pattern, under}
 use Rattle.graph.specs.Query.{intact, anyStruck, pruned, nextPattern, binds, asked, enteredOk, placeOk, resume}
 use Rattle.graph.specs.Order.{atOrAfter, keep, numbersOn}
-use Rattle.graph.proofs.Bind.{or-l, or-r, Known3, match-matched}
+use Rattle.graph.proofs.Bind.{or-l, or-r, some-orElse, Known3, match-matched}
 use Rattle.graph.proofs.Solve.{down, each, solve, AllFit, hit-some, hit-of, statements, numberOf}
 use Rattle.graph.specs.Work.{hitAt}
 use Rattle.graph.proofs.Solve.{number-in}
@@ -254,10 +254,6 @@ module _ (r t : ℕ) (res stm : List ℕ) (ps : List QueryPattern) where
         (in-deep up (l .statement .0) h))
 
     -- ---- what refusal 6 leaves
-
-    some-orElse : (o : Option Bindings) (d : Bindings) → isSome o ≡ true → o ≡ some (orElse o d)
-    some-orElse none d e = absurd (false≢true e)
-    some-orElse (some a) d e = refl
 
     bits : (e : Level) (up : List Level) → enteredOk stm ps r t (e ∷ up) ≡ true → Bits e up
         × (enteredOk stm ps r t up ≡ true)
