@@ -1,26 +1,26 @@
--- Refusal 6 of a query in the paper's words (`PlaceClaim`, `BadPlaceClaim`): what the entered records bind is an assignment, on the variables of
--- their patterns, and each matches under the earlier ones exactly if one assignment serves them all. Assumes nothing.
+-- Refusal 6 of a query in the paper's words (`PlaceClaim`, `BadPlaceClaim`): entered records match, each under the earlier ones, exactly if one
+-- assignment serves them all, and what they bind is that assignment on the variables of their patterns. Assumes nothing.
 use mathlib.Core.Path.{_≡_, refl, sym, ap, _∙_, fun-ext}
 use mathlib.Core.Logic.{_≢_, _↔_, inl}
-use mathlib.Core.Bool.{Bool, true, false, cond, _&&_, true≢false}
+use mathlib.Core.Bool.{true, false, cond, true≢false}
 use mathlib.Core.List.{List, [], _∷_}
 use mathlib.Core.Option.{some}
 use Prim.Native.Nat.{ℕ, zero, suc, _+_, _-_, _≤_, _<_}
 use native.Mathlib.Omega.{arith}
 use lib.ListN.{length}
-use lib.Dec.{eqb, leb, ltb}
-use borrow.Author.Tests.{eqb-true, eqb-false, eq-eqb, leb-true, ltb-true, ltb-false, le-leb, lt-ltb}
+use lib.Dec.{eqb, ltb}
+use borrow.Author.Tests.{eqb-true, eqb-false, eq-eqb, ltb-true, ltb-false, le-leb, lt-ltb}
 use Rattle.store.specs.declared.Counters.{Counters}
 use Rattle.store.specs.declared.Position.{Position}
 use Rattle.store.specs.declared.Position.the-variants.{Subject, Predicate, Object}
 use Rattle.store.specs.declared.Chain.{Chain}
 use Rattle.store.specs.declared.Chain.the-variants.{All, By}
 use Rattle.store.specs.declared.Triple.{Triple}
-use Rattle.store.specs.Shared.{at, known}
+use Rattle.store.specs.Shared.{at}
 use Rattle.store.specs.Tables.{Tables, fits, termAt}
 use Rattle.store.specs.Walk.{sits}
 use Rattle.store.specs.Scan.{chainOk, recordOk}
-use Rattle.store.proofs.Tests.{decide, and-l, and-r, and-of, all3-at, all3-of, known-low, known-high, known-of}
+use Rattle.store.proofs.Tests.{decide, all3-at, all3-of, known-low, known-high, known-of}
 use Rattle.graph.specs.declared.QueryPattern.{QueryPattern}
 use Rattle.graph.specs.declared.Level.{Level}
 use Rattle.graph.specs.declared.QueryCursor.{QueryCursor}
@@ -30,8 +30,9 @@ use Rattle.graph.specs.Place.{Place, start, inside, finish, placeOf}
 use Rattle.graph.specs.Query.{match, isSome, recordAt, nextPattern, binds, asked, enteredOk, placeOk}
 use Rattle.graph.specs.Query.{answerOf, packed, stale, nextQueryOf}
 use Rattle.graph.specs.Values.{queryValues}
-use Rattle.graph.specs.Standing.{wordUnder, tripleUnder, Each, occursIn, boundBy, listed, ChainStands, Inside, PlaceStands}
+use Rattle.graph.specs.Standing.{wordUnder, tripleUnder, Each, occursIn, boundBy, scanUnder, ChainStands, recordOn, InsideStands, PlaceStands}
 use Rattle.graph.specs.Standing.{PlaceClaim, BadPlaceClaim}
+use Rattle.graph.proofs.Laws.{Tested, entered-tests, PlaceTested, place-tests}
 use Rattle.graph.proofs.Refusals.{says, answer-not, number-not}
 use Rattle.graph.proofs.Generations.{own-number, read-on, stale-number, stale-means}
 use Rattle.graph.proofs.Bind.{wordAt, Fit, More, Fits3, Known3, Matched, some-orElse, more-trans, match-matched, match-complete}
@@ -39,10 +40,9 @@ use Rattle.graph.proofs.Bind.{value-number, value-variable}
 use Rattle.graph.proofs.Solve.{AllFit, triple-ext, under-at, under-more, occursIn-at, matched-reads}
 use Rattle.graph.proofs.Levels.{fit-at}
 use Rattle.graph.proofs.Solutions.{tab, tab-length, tab-at, past-end, unbound-at}
-use Rattle.graph.proofs.Later.{level-parts}
 use Rattle.graph.proofs.Calls.{words-fitting}
 
--- ---- what a listing accepts
+-- ---- what a scan accepts
 
 chain-means : (ch : Chain) (x : Triple) → chainOk ch x ≡ true ↔ ChainStands ch x
 unfolding chainOk
@@ -166,19 +166,19 @@ module _ (stm : List ℕ) (ps : List QueryPattern) (fit : AllFit variables ps) w
         (λ z. let n = eqb-true (boundTo b v) 0 z in M .only v n d ∙ sym n ∙ ih)
         (λ z. let n : boundTo b v ≢ 0 = eqb-false (boundTo b v) 0 z in M .more v (omega arith) ∙ ih)))
 
-    asked-is : (up : List Level) → Each Step up → Served σ up → asked stm ps up ≡ listed ps σ up
-    unfolding asked listed
+    asked-is : (up : List Level) → Each Step up → Served σ up → asked stm ps up ≡ scanUnder ps σ up
+    unfolding asked scanUnder
     asked-is up S A =
         under-bound (binds stm ps up) (nextPattern ps up)
         ∙ ap (λ (f : ℕ → ℕ). tripleUnder f (nextPattern ps up)) (fun-ext (bound-is up S A))
 
     chains-are : (up : List Level) → Each Step up → Served σ up
-        → Each (λ e up. chainOk (e .chain) (asked stm ps up) ≡ true) up ↔ Each (λ e up. ChainStands (e .chain) (listed ps σ up)) up
+        → Each (λ e up. chainOk (e .chain) (asked stm ps up) ≡ true) up ↔ Each (λ e up. ChainStands (e .chain) (scanUnder ps σ up)) up
     chains-are [] S A = (λ C. tt, λ C. tt)
     chains-are (e ∷ up) S A =
         let k = chains-are up (S .1) (A .1) in
         let q = asked-is up (S .1) (A .1) in
-        let t = chain-means (e .chain) (listed ps σ up) in
+        let t = chain-means (e .chain) (scanUnder ps σ up) in
         (λ C. (t .0 (rw q at (C .0)), k .0 (C .1)), λ C. (rw q (t .1 (C .0)), k .1 (C .1)))
 
     -- a match is found where an assignment serves
@@ -201,58 +201,10 @@ module _ (stm : List ℕ) (ps : List QueryPattern) (fit : AllFit variables ps) w
 
 -- ---- the places
 
-each-map : (P Q : Level → List Level → Type 0) → ((e : Level) (up : List Level) → P e up → Q e up) → (up : List Level) → Each P up → Each Q up
+each-map : (P Q : Level → List Level → Type 0) → ((e : Level) (up : List Level) → P e up → Q e up) → (up : List Level)
+    → Each P up → Each Q up
 each-map P Q f [] h = tt
 each-map P Q f (e ∷ up) h = (f e up (h .0), each-map P Q f up (h .1))
-
-module _ (r t : ℕ) (stm : List ℕ) (ps : List QueryPattern) where
-  -- the tests of an entered level
-  pub record Tested (e : Level) (up : List Level) : Type 0 where
-    pub positive : 0 < e .statement .0
-    pub within : e .statement .0 ≤ t
-    pub chain : chainOk (e .chain) (asked stm ps up) ≡ true
-    pub resources : known r (recordAt stm (e .statement .0)) ≡ true
-    pub matched : isSome (match (nextPattern ps up) (recordAt stm (e .statement .0)) (binds stm ps up)) ≡ true
-
-  tested : (up : List Level) → enteredOk stm ps r t up ≡ true ↔ Each Tested up
-  unfolding enteredOk
-  tested [] = (λ o. tt, λ T. refl)
-  tested (e ∷ up) =
-      let k = tested up in (
-        λ o. let f = level-parts r t stm ps e up o in
-            (record { positive = f .0; within = f .1; chain = f .2; resources = f .3; matched = f .4 }, k .0 (f .5)),
-        λ T. and-of _ _
-            (and-of _ _ (and-of _ _ (lt-ltb 0 (e .statement .0) (T .0 .positive)) (le-leb (e .statement .0) t (T .0 .within)))
-            (and-of _ _ (T .0 .chain) (and-of _ _ (T .0 .resources) (T .0 .matched))))
-            (k .1 (T .1)),
-      )
-
-  module _ (fit : AllFit variables ps) where
-    tested-steps : (up : List Level) → length up ≤ length ps → Each Tested up → Each (Step stm ps fit) up
-    tested-steps [] h T = tt
-    tested-steps (e ∷ up) h T = (
-      record {
-        room = omega arith;
-        positive = known-low r (recordAt stm (e .statement .0)) (T .0 .resources);
-        matched = match-binds stm ps fit e up (T .0 .matched);
-      },
-      tested-steps up (omega arith) (T .1),
-    )
-
-    steps-tested : (up : List Level) → Each (λ e up. e .statement .0 ≤ t) up → Each (λ e up. 0 < e .statement .0) up
-        → Each (λ e up. (p : Position) → (0 < at p (recordAt stm (e .statement .0))) × (at p (recordAt stm (e .statement .0)) ≤ r)) up
-        → Each (λ e up. chainOk (e .chain) (asked stm ps up) ≡ true) up → Each (Step stm ps fit) up → Each Tested up
-    steps-tested [] n z k o S = tt
-    steps-tested (e ∷ up) n z k o S = (
-      record {
-        positive = z .0;
-        within = n .0;
-        chain = o .0;
-        resources = known-of r (recordAt stm (e .statement .0)) (λ p. (k .0 p) .0) (λ p. (k .0 p) .1);
-        matched = ap isSome (S .0 .matched);
-      },
-      steps-tested up (n .1) (z .1) (k .1) (o .1) (S .1),
-    )
 
 module _ (c : Counters) (m : Tables) (ws : List ℕ) (fit : AllFit variables (patternsOf ws)) where
   abbrev stm : List ℕ
@@ -264,55 +216,88 @@ module _ (c : Counters) (m : Tables) (ws : List ℕ) (fit : AllFit variables (pa
   abbrev Test : Level → List Level → Type 0
   Test = Tested (c .resources) (c .statements) stm ps
 
-  inside-stands : (l : Level) (up : List Level) → length up < length ps → Each Test up → l .statement .0 ≤ c .statements
-      → chainOk (l .chain) (asked stm ps up) ≡ true → recordOk stm (l .chain) (asked stm ps up) (l .statement .0) ≡ true
-      → Inside c m ws l up
-  inside-stands l up h T n o d =
-      let S = tested-steps (c .resources) (c .statements) stm ps fit up (omega arith) T in
+  abbrev Steps : List Level → Type 0
+  Steps = Each (Step stm ps fit)
+
+  tested : (up : List Level) → enteredOk stm ps (c .resources) (c .statements) up ≡ true ↔ Each Test up
+  unfolding enteredOk
+  tested [] = (λ o. tt, λ T. refl)
+  tested (e ∷ up) =
+      let k = tested up in
+      let f = entered-tests (c .resources) (c .statements) stm ps e up in
+      (λ o. ((f .0 o) .0, k .0 ((f .0 o) .1)), λ T. f .1 (T .0, k .1 (T .1)))
+
+  tested-steps : (up : List Level) → length up ≤ length ps → Each Test up → Steps up
+  tested-steps [] h T = tt
+  tested-steps (e ∷ up) h T = (
+    record {
+      room = omega arith;
+      positive = known-low (c .resources) (recordOn c m ws e) (T .0 .resources);
+      matched = match-binds stm ps fit e up (T .0 .matched);
+    },
+    tested-steps up (omega arith) (T .1),
+  )
+
+  steps-tested : (up : List Level) → Each (λ e up. e .statement .0 ≤ c .statements) up → Each (λ e up. 0 < e .statement .0) up
+      → Each (λ e up. (p : Position) → (0 < at p (recordOn c m ws e)) × (at p (recordOn c m ws e) ≤ c .resources)) up
+      → Each (λ e up. chainOk (e .chain) (asked stm ps up) ≡ true) up → Steps up → Each Test up
+  steps-tested [] n z k o S = tt
+  steps-tested (e ∷ up) n z k o S = (
+    record {
+      positive = z .0;
+      within = n .0;
+      chain = o .0;
+      resources = known-of (c .resources) (recordOn c m ws e) (λ p. (k .0 p) .0) (λ p. (k .0 p) .1);
+      matched = ap isSome (S .0 .matched);
+    },
+    steps-tested up (n .1) (z .1) (k .1) (o .1) (S .1),
+  )
+
+  stands-of : (l : Level) (up : List Level) → PlaceTested (c .resources) (c .statements) stm ps l up → InsideStands c m ws l up
+  stands-of l up P =
+      let T = (tested up) .0 (P .entered) in
+      let S = tested-steps up (omega (arith, P .room)) T in
       let σ = boundTo (binds stm ps up) in
       let A = served stm ps fit (binds stm ps up) up S (λ v q. refl) in
       let q = asked-is stm ps fit σ up S A in
       record {
-        levels = omega arith;
-        numbers = (n, each-map Test (λ e up. e .statement .0 ≤ c .statements) (λ e up P. P .within) up T);
-        entered = each-map Test (λ e up. 0 < e .statement .0) (λ e up P. P .positive) up T;
+        levels = P .room;
+        numbers = (P .within, each-map Test (λ e up. e .statement .0 ≤ c .statements) (λ e up U. U .within) up T);
+        entered = each-map Test (λ e up. 0 < e .statement .0) (λ e up U. U .positive) up T;
         resources = each-map Test _
-            (λ e up P p. (known-low (c .resources) _ (P .resources) p, known-high (c .resources) _ (P .resources) p)) up T;
+            (λ e up U p. (known-low (c .resources) _ (U .resources) p, known-high (c .resources) _ (U .resources) p)) up T;
         assignment = σ;
-        matches = A;
+        matching = A;
         chains = (
-          (chain-means (l .chain) (listed ps σ up)) .0 (rw q at o),
+          (chain-means (l .chain) (scanUnder ps σ up)) .0 (rw q at (P .chain)),
           (chains-are stm ps fit σ up S A) .0
-              (each-map Test (λ e up. chainOk (e .chain) (asked stm ps up) ≡ true) (λ e up P. P .chain) up T),
+              (each-map Test (λ e up. chainOk (e .chain) (asked stm ps up) ≡ true) (λ e up U. U .chain) up T),
         );
-        next = (next-means stm (l .chain) (listed ps σ up) (l .statement .0)) .0 (rw q at d);
+        next = (next-means stm (l .chain) (scanUnder ps σ up) (l .statement .0)) .0 (rw q at (P .next));
+      }
+
+  tests-of : (l : Level) (up : List Level) → InsideStands c m ws l up → PlaceTested (c .resources) (c .statements) stm ps l up
+  tests-of l up I =
+      let σ = I .assignment in
+      let A = I .matching in
+      let h : length up < length ps = I .levels in
+      let S = steps-of stm ps fit σ up (omega arith) (each-map _ _ (λ e up k p. (k p) .0) up (I .resources)) A in
+      let q = asked-is stm ps fit σ up S A in
+      record {
+        room = h;
+        entered = (tested up) .1
+            (steps-tested up (I .numbers .1) (I .entered) (I .resources) ((chains-are stm ps fit σ up S A) .1 (I .chains .1)) S);
+        within = I .numbers .0;
+        chain = rw q ((chain-means (l .chain) (scanUnder ps σ up)) .1 (I .chains .0));
+        next = rw q ((next-means stm (l .chain) (scanUnder ps σ up) (l .statement .0)) .1 (I .next));
       }
 
   place-means : (q : Place) → placeOk stm ps (c .resources) (c .statements) q ≡ true ↔ PlaceStands c m ws q
   unfolding placeOk
   place-means start = (λ o. tt, λ S. refl)
-  place-means (inside l up) = (
-    λ o. let a = and-r (ltb (length up) (length ps)) _ o in
-        let b = and-r (enteredOk stm ps (c .resources) (c .statements) up) _ a in
-        let d = and-r (leb (l .statement .0) (c .statements)) _ b in
-        inside-stands l up (ltb-true (length up) (length ps) (and-l _ _ o))
-        ((tested (c .resources) (c .statements) stm ps up) .0 (and-l (enteredOk stm ps (c .resources) (c .statements) up) _ a))
-        (leb-true (l .statement .0) (c .statements) (and-l _ _ b))
-        (and-l (chainOk (l .chain) (asked stm ps up)) _ d) (and-r (chainOk (l .chain) (asked stm ps up)) _ d),
-    λ I. let σ = I .assignment in
-        let A = I .matches in
-        let h : suc (length up) ≤ length ps = I .levels in
-        let S = steps-of stm ps fit σ up (omega arith) (each-map _ _ (λ e up P p. (P p) .0) up (I .resources)) A in
-        let q = asked-is stm ps fit σ up S A in
-        let T = steps-tested (c .resources) (c .statements) stm ps fit up (I .numbers .1) (I .entered) (I .resources)
-        ((chains-are stm ps fit σ up S A) .1 (I .chains .1)) S in
-        rw q
-        (and-of _ _ (lt-ltb (length up) (length ps) (omega arith))
-        (and-of _ _ ((tested (c .resources) (c .statements) stm ps up) .1 T)
-        (and-of _ _ (le-leb (l .statement .0) (c .statements) (I .numbers .0))
-        (and-of _ _ ((chain-means (l .chain) (listed ps σ up)) .1 (I .chains .0))
-        ((next-means stm (l .chain) (listed ps σ up) (l .statement .0)) .1 (I .next)))))),
-  )
+  place-means (inside l up) =
+      let f = place-tests (c .resources) (c .statements) stm ps l up in
+      (λ o. stands-of l up (f .0 o), λ I. f .1 (tests-of l up I))
   place-means finish = (λ o. tt, λ S. refl)
 
 pub place-stands : PlaceClaim
@@ -363,9 +348,12 @@ module _ (c : Counters) (m : Tables) (ws : List ℕ) (q : QueryCursor) (b : ℕ)
 
 pub bad-place : BadPlaceClaim
 bad-place c m ws q b = (
-  λ h. let k = six-tests c m ws q b h in
-      (k .0, k .1, six-number c m ws q b h,
-      λ S. true≢false (sym ((place-stands c m ws (k .0) (k .1) (placeOf q)) .1 S) ∙ k .2)),
+  λ h. let k = six-tests c m ws q b h in (
+    k .0,
+    k .1,
+    six-number c m ws q b h,
+    λ S. true≢false (sym ((place-stands c m ws (k .0) (k .1) (placeOf q)) .1 S) ∙ k .2),
+  ),
   λ h. rw (read-on c m ws q b (own-number c m ws q (h .2)))
       (six-of c m ws (placeOf q) b (h .0) (h .1)
       (decide (placeOk (m .statements) (patternsOf ws) (c .resources) (c .statements) (placeOf q))

@@ -1,5 +1,5 @@
--- Refusal 6 of a query in the paper's words (paper 01, "6 is exact"): the places that a next call accepts, a field for each clause. What the
--- definition binds as it goes (`match`, `binds`, `asked`) is not named: there is an assignment of resources to variables. Assumes nothing.
+-- Refusal 6 of a query in the paper's words (paper 01, "6 is exact"): the places that a next call accepts, a field for each clause. It goes
+-- by an assignment of resources to variables, not by what the definition binds level by level. Assumes nothing.
 use mathlib.Core.Path.{_≡_}
 use mathlib.Core.Logic.{_↔_}
 use mathlib.Core.Bool.{Bool, true, false, cond, _||_}
@@ -49,13 +49,13 @@ module _ (ps : List QueryPattern) where
   boundBy [] v = false
   boundBy (e ∷ earlier) v = occursIn v (nextPattern ps earlier) || boundBy earlier v
 
-  -- the next pattern as a listing's: 0 at a variable that they do not bind
-  unfoldable pub listed : (ℕ → ℕ) → List Level → Triple
-  listed σ earlier = tripleUnder (λ v. cond (boundBy earlier v) (σ v) 0) (nextPattern ps earlier)
+  -- the next pattern as a scan's, the paper's listing: 0 at a variable that they do not bind, even if the pattern has it twice
+  unfoldable pub scanUnder : (ℕ → ℕ) → List Level → Triple
+  scanUnder σ earlier = tripleUnder (λ v. cond (boundBy earlier v) (σ v) 0) (nextPattern ps earlier)
 
 -- ---- the places
 
--- a chain that a listing of x accepts: a bound position, or all records where nothing is bound
+-- a chain that a scan of x accepts: a bound position, or all records where nothing is bound
 pub record ChainStands (ch : Chain) (x : Triple) : Type 0 where
   pub bound : (p : Position) → ch ≡ By p → 0 < at p x
   pub unbound : ch ≡ All → (p : Position) → at p x ≡ 0
@@ -66,7 +66,7 @@ module _ (c : Counters) (m : Tables) (ws : List ℕ) where
   recordOn e = recordAt (m .statements) (e .statement .0)
 
   -- the deepest level l and those entered before it; flags are not looked at
-  pub record Inside (l : Level) (up : List Level) : Type 0 where
+  pub record InsideStands (l : Level) (up : List Level) : Type 0 where
     -- no more levels than patterns
     pub levels : length (l ∷ up) ≤ length (patternsOf ws)
     -- no number above T
@@ -77,17 +77,17 @@ module _ (c : Counters) (m : Tables) (ws : List ℕ) where
     pub resources : Each (λ e earlier. (p : Position) → (0 < at p (recordOn e)) × (at p (recordOn e) ≤ c .resources)) up
     -- and matches its pattern under the earlier ones: one assignment serves them all
     pub assignment : ℕ → ℕ
-    pub matches : Each (λ e earlier. recordOn e ≡ tripleUnder assignment (nextPattern (patternsOf ws) earlier)) up
-    -- at any level a chain that a listing accepts
-    pub chains : Each (λ e earlier. ChainStands (e .chain) (listed (patternsOf ws) assignment earlier)) (l ∷ up)
+    pub matching : Each (λ e earlier. recordOn e ≡ tripleUnder assignment (nextPattern (patternsOf ws) earlier)) up
+    -- at any level a chain that a scan accepts
+    pub chains : Each (λ e earlier. ChainStands (e .chain) (scanUnder (patternsOf ws) assignment earlier)) (l ∷ up)
     -- and a deepest next that it accepts: 0, or a record with the bound resource at the chain's position
     pub next : (p : Position) (i : ℕ) → l .chain ≡ By p → l .statement .0 ≡ suc i
-        → termAt (m .statements) p i ≡ at p (listed (patternsOf ws) assignment up)
+        → termAt (m .statements) p i ≡ at p (scanUnder (patternsOf ws) assignment up)
 
   -- start and end stand always
   abbrev pub PlaceStands : Place → Type 0
   PlaceStands start = Unit {0}
-  PlaceStands (inside l up) = Inside l up
+  PlaceStands (inside l up) = InsideStands l up
   PlaceStands finish = Unit {0}
 
 -- Where 1 and 8 are not refused, the definition's test accepts exactly the places that stand.
