@@ -17,8 +17,9 @@ use Rattle.store.specs.declared.Triple.{Triple}
 use Rattle.store.specs.Shared.{at}
 use Rattle.store.proofs.Tests.{decide}
 use Rattle.graph.specs.declared.QueryPattern.{QueryPattern}
-use Rattle.graph.specs.Query.{bind, after, match}
+use Rattle.graph.specs.Query.{bind, after, orElse, isSome, match}
 use Rattle.graph.specs.Words.{firstVariable, isVariable, Bindings, resource, boundTo, valueOf, under}
+unfoldable pub use Rattle.graph.specs.Standing.{isThe, occursIn}
 
 -- a pattern's word at a position
 abbrev pub wordAt : Position → QueryPattern → ℕ
@@ -48,13 +49,6 @@ pub record Fit (k w : ℕ) : Type 0 where
 abbrev pub More : Bindings → Bindings → Type 0
 More b s = (v : ℕ) → 0 < boundTo b v → boundTo s v ≡ boundTo b v
 
--- the word w is variable v
-unfoldable pub isThe : ℕ → ℕ → Bool
-isThe v w = eqb w (firstVariable + v)
-
-unfoldable pub occursIn : ℕ → QueryPattern → Bool
-occursIn v x = isThe v (x .subject) || (isThe v (x .predicate) || isThe v (x .object))
-
 pub or-l : (a b : Bool) → a || b ≡ false → a ≡ false
 or-l true b e = e
 or-l false b e = refl
@@ -72,6 +66,10 @@ none≢some e = absurd (true≢false (cc (ap isNone? e)))
 
 pub some-eq : {A : Type 0} {a b : A} → some a ≡ some b → a ≡ b
 some-eq e = cc
+
+pub some-orElse : {A : Type 0} (o : Option A) (d : A) → isSome o ≡ true → o ≡ some (orElse o d)
+some-orElse none d e = absurd (true≢false (sym e))
+some-orElse (some a) d e = refl
 
 pub value-number : (b : Bindings) (w : ℕ) → isVariable w ≡ false → valueOf b w ≡ w
 unfolding valueOf
@@ -158,7 +156,7 @@ Fits3 k x = (p : Position) → Fit k (wordAt p x)
 abbrev pub Known3 : Triple → Type 0
 Known3 t = (p : Position) → 0 < at p t
 
-more-trans : (a b d : Bindings) → More a b → More b d → More a d
+pub more-trans : (a b d : Bindings) → More a b → More b d → More a d
 more-trans a b d m n v q = n v (rw (m v q) q) ∙ m v q
 
 pub after-some : {A B : Type 0} (o : Option A) (f : A → Option B) (z : B) → after o f ≡ some z → (a : A)

@@ -105,6 +105,10 @@ words-few r ws e =
     leb-true (length (patternsOf ws)) maxPatterns (and-l (leb (length (patternsOf ws)) maxPatterns) _
     (and-r (eqb (3 * length (patternsOf ws)) (length ws)) _ e))
 
+pub words-fitting : (c : Counters) (m : Tables) (ws : List ℕ) → fits c m ≡ true → wordsOk (c .resources) ws ≡ true
+    → AllFit variables (patternsOf ws) × AllLow (c .resources) (patternsOf ws)
+words-fitting c m ws f w = words-fit (c .resources) ws (fits-small c m f) (words-all (c .resources) ws w)
+
 -- ---- parts of a list in order
 
 pub descending-cong : {A : Type 0} (k k′ : A → List ℕ) (xs : List A) → ((x : A) → k x ≡ k′ x) → Descending k xs
@@ -120,10 +124,10 @@ statements-are t stm (x ∷ ps) s = ap (λ (z : List ℕ). recordOf t stm (under
 
 module _ (c : Counters) (m : Tables) (S : Sound c m) (ws : List ℕ) (words : wordsOk (c .resources) ws ≡ true) where
   pub fit : AllFit variables (patternsOf ws)
-  fit = words-fit (c .resources) ws (fits-small c m (S .capacity)) (words-all (c .resources) ws words) .0
+  fit = (words-fitting c m ws (S .capacity) words) .0
 
   pub low : AllLow (c .resources) (patternsOf ws)
-  low = words-fit (c .resources) ws (fits-small c m (S .capacity)) (words-all (c .resources) ws words) .1
+  low = (words-fitting c m ws (S .capacity) words) .1
 
   -- all solutions, in order
   abbrev pub everything : List Bindings

@@ -80,7 +80,7 @@ stale-when c m ws q b h =
     (answer-not 13 (omega arith) (omega arith) (omega arith) (omega arith) c m ws (placeOf q) b (inr (omega arith)))
     (sym (ap (λ (a : QueryAnswer). (queryValues a) .refusal) (read-on c m ws q b e)) ∙ h)))
 
-stale-means : (c : Counters) (m : Tables) (ws : List ℕ) (q : QueryCursor) → stale c m ws q ≡ true
+pub stale-means : (c : Counters) (m : Tables) (ws : List ℕ) (q : QueryCursor) → stale c m ws q ≡ true
     → (fits c m ≡ true) × (wordsOk (c .resources) ws ≡ true) × (q .generation ≢ c .generation)
 unfolding stale
 stale-means c m ws q e = (

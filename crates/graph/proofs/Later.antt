@@ -2,14 +2,12 @@
 -- (`Kept`), and the number of reclaims tells whether one was answered. So a cursor that a next call answered is never refused 6 later
 -- (`KeptClaim`, put together in `Onwards`). No call takes a name away, and a sound store stays sound. Assumes nothing.
 use mathlib.Core.Path.{_≡_, refl, _∙_}
-use mathlib.Core.Bool.{true, _&&_}
+use mathlib.Core.Bool.{true}
 use mathlib.Core.List.{List, [], _∷_}
 use mathlib.Core.Option.{Option, none, some}
 use Prim.Native.Nat.{ℕ, zero, suc, _+_, _-_, _≤_, _<_}
 use native.Mathlib.Omega.{arith}
-use lib.ListN.{length}
-use lib.Dec.{eqb, leb, ltb}
-use borrow.Author.Tests.{leb-true, ltb-true, le-leb, lt-ltb}
+use lib.Dec.{eqb, ltb}
 use Rattle.term.specs.Canonical.{canonical}
 use Rattle.store.specs.declared.Position.{Position}
 use Rattle.store.specs.declared.Chain.{Chain}
@@ -30,7 +28,7 @@ use Rattle.store.specs.Tables.{Tables, fits, termAt, kindAt, flagAt, statementC
 use Rattle.store.specs.Values.{reclaimedValues}
 use Rattle.store.specs.Model.{Call, intern, assert, retract, open′, next, reclaim, byValue, lent}
 use Rattle.store.specs.Walk.{sits}
-use Rattle.store.specs.Scan.{chainOk, recordOk}
+use Rattle.store.specs.Scan.{recordOk}
 use Rattle.store.specs.Statement.{locate, kinded, withFlag, counting, asserting, assertOf, retracting, retractOf, countersAfter}
 use Rattle.store.specs.Statement.{assertLentOf, retractLentOf}
 use Rattle.store.specs.Dictionary.{indexPlaceOf, roomFor, internAs, internOf}
@@ -38,16 +36,17 @@ use Rattle.store.specs.Reclaim.{reclaimOf}
 use Rattle.store.specs.Soundness.{Sound}
 use Rattle.store.specs.History.{Store, store, capacitiesOf, internedCounters, afterReclaim, callStore, storeReplies, storeAfter}
 use Rattle.store.specs.Claims.{listsOf, reclaims, reclaimsIn}
-use Rattle.store.proofs.Tests.{decide, and-l, and-r, and-of, cond-all, known-more}
+use Rattle.store.proofs.Tests.{decide, cond-all, known-more}
 use Rattle.store.proofs.Words.{triple-same, append-term-old, flag-term}
 use Rattle.store.proofs.Histories.{call-agrees}
 use Rattle.store.proofs.Kept.{tidy-call, agreeing-sound}
 use Rattle.store.proofs.Held.{sound-agrees, sound-tidy}
 use Rattle.graph.specs.declared.QueryPattern.{QueryPattern}
 use Rattle.graph.specs.declared.Level.{Level}
-use Rattle.graph.specs.Query.{match, isSome, recordAt, nextPattern, binds, asked, enteredOk, placeOk}
+use Rattle.graph.specs.Query.{recordAt, binds, asked, enteredOk, placeOk}
 use Rattle.graph.specs.Place.{Place, start, inside, finish}
 use Rattle.graph.specs.Claims.{SoundStore}
+use Rattle.graph.proofs.Laws.{entered-tests, place-tests}
 use Rattle.graph.proofs.Levels.{suc-prev}
 
 -- no record fewer, and each with its triple
@@ -64,56 +63,32 @@ module _ (r t : ℕ) (stm : List ℕ) (r′ t′ : ℕ) (stm′ : List ℕ) (K :
       let e = suc-prev n h in
       let i : prev n < t = omega arith in triple-same stm stm′ (prev n) (λ p. K .terms p (prev n) i)
 
-  -- the tests of a level
-  first-part : (e : Level) (up : List Level) → enteredOk stm ps r t (e ∷ up) ≡ true
-      → (0 < e .statement .0) × (e .statement .0 ≤ t) × (chainOk (e .chain) (asked stm ps up) ≡ true)
-      × (known r (recordAt stm (e .statement .0)) ≡ true)
-      × (isSome (match (nextPattern ps up) (recordAt stm (e .statement .0)) (binds stm ps up)) ≡ true)
-      × (enteredOk stm ps r t up ≡ true)
-  unfolding enteredOk
-  first-part e up h =
-      let w = (ltb 0 (e .statement .0) && leb (e .statement .0) t) in
-      let g = (chainOk (e .chain) (asked stm ps up) && (known r (recordAt stm (e .statement .0))
-      && isSome (match (nextPattern ps up) (recordAt stm (e .statement .0)) (binds stm ps up)))) in
-      let x = and-l (w && g) (enteredOk stm ps r t up) h in
-      let y = and-l w _ x in
-      let z = and-r w _ x in
-      let k = and-r (chainOk (e .chain) (asked stm ps up)) _ z in (
-        ltb-true 0 (e .statement .0) (and-l _ _ y),
-        leb-true (e .statement .0) t (and-r (ltb 0 (e .statement .0)) _ y),
-        and-l (chainOk (e .chain) (asked stm ps up)) _ z,
-        and-l (known r (recordAt stm (e .statement .0))) _ k,
-        and-r (known r (recordAt stm (e .statement .0))) _ k,
-        and-r (w && g) (enteredOk stm ps r t up) h,
-      )
-
   binds-kept : (up : List Level) → enteredOk stm ps r t up ≡ true → binds stm′ ps up ≡ binds stm ps up
   unfolding binds
   binds-kept [] o = refl
-  binds-kept (e ∷ up) o = let f = first-part e up o in
-      rw (record-kept (e .statement .0) (f .0) (f .1), binds-kept up (f .5))
+  binds-kept (e ∷ up) o = let f = (entered-tests r t stm ps e up) .0 o in
+      rw (record-kept (e .statement .0) (f .0 .positive) (f .0 .within), binds-kept up (f .1))
 
   asked-kept : (up : List Level) → enteredOk stm ps r t up ≡ true → asked stm′ ps up ≡ asked stm ps up
   unfolding asked
   asked-kept up o = rw (binds-kept up o)
 
-  level-kept : (e : Level) (up : List Level) → enteredOk stm ps r t (e ∷ up) ≡ true
-      → enteredOk stm′ ps r′ t′ up ≡ true
-      → enteredOk stm′ ps r′ t′ (e ∷ up) ≡ true
-  unfolding enteredOk
-  level-kept e up o ih =
-      let f = first-part e up o in
-      rw (asked-kept up (f .5), record-kept (e .statement .0) (f .0) (f .1), binds-kept up (f .5))
-      (and-of _ _
-      (and-of _ _
-      (and-of _ _ (lt-ltb 0 (e .statement .0) (f .0)) (le-leb (e .statement .0) t′ (omega (arith, f .1, K .records))))
-      (and-of _ _ (f .2) (and-of _ _ (known-more r r′ (recordAt stm (e .statement .0)) (K .resources) (f .3))
-      (f .4))))
-      ih)
-
   entered-kept : (up : List Level) → enteredOk stm ps r t up ≡ true → enteredOk stm′ ps r′ t′ up ≡ true
   entered-kept [] o = unfold enteredOk in refl
-  entered-kept (e ∷ up) o = level-kept e up o (entered-kept up ((first-part e up o) .5))
+  entered-kept (e ∷ up) o =
+      let f = (entered-tests r t stm ps e up) .0 o in
+      let T = f .0 in
+      let d = record-kept (e .statement .0) (T .positive) (T .within) in
+      (entered-tests r′ t′ stm′ ps e up) .1 (
+        record {
+          positive = T .positive;
+          within = omega (arith, T .within, K .records);
+          chain = rw (asked-kept up (f .1)) (T .chain);
+          resources = rw d (known-more r r′ (recordAt stm (e .statement .0)) (K .resources) (T .resources));
+          matched = rw (d, binds-kept up (f .1)) (T .matched);
+        },
+        entered-kept up (f .1),
+      )
 
   next-kept : (ch : Chain) (x : Triple) (n : ℕ) → n ≤ t → recordOk stm ch x n ≡ true → recordOk stm′ ch x n ≡ true
   unfolding recordOk sits
@@ -122,22 +97,18 @@ module _ (r t : ℕ) (stm : List ℕ) (r′ t′ : ℕ) (stm′ : List ℕ) (K :
   next-kept (By p) x (suc i) h e = rw (K .terms p i (omega arith)) e
 
   pub place-kept : (q : Place) → placeOk stm ps r t q ≡ true → placeOk stm′ ps r′ t′ q ≡ true
-  unfolding placeOk
-  place-kept start o = refl
+  place-kept start o = unfold placeOk in refl
   place-kept (inside l up) o =
-      let a = and-r (ltb (length up) (length ps)) _ o in
-      let b = and-r (enteredOk stm ps r t up) _ a in
-      let d = and-r (leb (l .statement .0) t) _ b in
-      let e = and-l (enteredOk stm ps r t up) _ a in
-      let n = leb-true (l .statement .0) t (and-l _ _ b) in
-      rw (asked-kept up e)
-      (and-of _ _ (and-l (ltb (length up) (length ps)) _ o)
-      (and-of _ _ (entered-kept up e)
-      (and-of _ _ (le-leb (l .statement .0) t′ (omega (arith, K .records)))
-      (and-of _ _ (and-l (chainOk (l .chain) (asked stm ps up)) _ d)
-      (next-kept (l .chain) (asked stm ps up) (l .statement .0) n
-      (and-r (chainOk (l .chain) (asked stm ps up)) _ d))))))
-  place-kept finish o = refl
+      let P = (place-tests r t stm ps l up) .0 o in
+      let d = asked-kept up (P .entered) in
+      (place-tests r′ t′ stm′ ps l up) .1 (record {
+        room = P .room;
+        entered = entered-kept up (P .entered);
+        within = omega (arith, P .within, K .records);
+        chain = rw d (P .chain);
+        next = rw d (next-kept (l .chain) (asked stm ps up) (l .statement .0) (P .within) (P .next));
+      })
+  place-kept finish o = unfold placeOk in refl
 
 -- ---- the calls keep
 

@@ -1,21 +1,23 @@
 -- One law for each way out of the walk and of its inner loops, on any tables, in the terms of code; the words of a pattern; the levels in a
--- cursor's array. Assumes nothing.
+-- cursor's array; refusal 6, test by test. Assumes nothing.
 use mathlib.Core.Path.{_≡_, refl, sym, ap, _∙_}
-use mathlib.Core.Logic.{_≢_}
-use mathlib.Core.Bool.{true, false, cond}
+use mathlib.Core.Logic.{_≢_, _↔_}
+use mathlib.Core.Bool.{true, false, cond, _&&_}
 use mathlib.Core.List.{List, [], _∷_}
 use Prim.Native.Nat.{ℕ, zero, suc, _+_, _*_, _-_, _≤_, _<_}
 use native.Mathlib.Omega.{arith}
 use lib.ListN.{length, getD, set, length-set, replicate}
 use lib.Seq.{getD-set-same, getD-set-other, ext-getD}
-use lib.Dec.{eqb, ltb}
-use borrow.Author.Tests.{eqb-true, eqb-false, eq-eqb, ne-eqb, ltb-true, ltb-false, lt-ltb, le-ltb}
+use lib.Dec.{eqb, leb, ltb}
+use borrow.Author.Tests.{eqb-true, eqb-false, eq-eqb, ne-eqb, leb-true, ltb-true, ltb-false, le-leb, lt-ltb, le-ltb}
 use Rattle.store.specs.declared.Refusal.the-variants.{Damaged}
-use Rattle.store.specs.Shared.{prev}
-use Rattle.store.proofs.Tests.{decide}
+use Rattle.store.specs.Shared.{known, prev}
+use Rattle.store.specs.Scan.{chainOk, recordOk}
+use Rattle.store.proofs.Tests.{decide, and-l, and-r, and-of}
 use Rattle.graph.specs.declared.QueryPattern.{QueryPattern}
 use Rattle.graph.specs.declared.Level.{Level}
 use Rattle.graph.specs.Query.{bad, go, whole, refused, found, ended, spent, past, settle, remains, visit, walk}
+use Rattle.graph.specs.Query.{match, isSome, recordAt, nextPattern, binds, asked, enteredOk, placeOk}
 use Rattle.graph.specs.Place.{Place, start, inside, finish, noLevel, levelsOf, insideOf, placeAs, placeOf, written, cursorAt}
 use Rattle.graph.specs.Words.{patternsOf, pattern, maxPatterns, Bindings}
 -- Every law stands on this file, and so on the closed runs: a definition that changes an answer is refused there first.
@@ -238,3 +240,66 @@ patterns-length [] = (omega arith, omega arith)
 patterns-length (a ∷ []) = (omega arith, omega arith)
 patterns-length (a ∷ b ∷ []) = (omega arith, omega arith)
 patterns-length (a ∷ b ∷ e ∷ r) = let h = patterns-length r in (omega (arith, h .0), omega (arith, h .1))
+
+-- ---- refusal 6, test by test
+
+module _ (r t : ℕ) (stm : List ℕ) (ps : List QueryPattern) where
+  -- of an entered level
+  pub record Tested (e : Level) (up : List Level) : Type 0 where
+    pub positive : 0 < e .statement .0
+    pub within : e .statement .0 ≤ t
+    pub chain : chainOk (e .chain) (asked stm ps up) ≡ true
+    pub resources : known r (recordAt stm (e .statement .0)) ≡ true
+    pub matched : isSome (match (nextPattern ps up) (recordAt stm (e .statement .0)) (binds stm ps up)) ≡ true
+
+  pub entered-tests : (e : Level) (up : List Level)
+      → enteredOk stm ps r t (e ∷ up) ≡ true ↔ Tested e up × (enteredOk stm ps r t up ≡ true)
+  unfolding enteredOk
+  entered-tests e up =
+      let w = (ltb 0 (e .statement .0) && leb (e .statement .0) t) in
+      let o = chainOk (e .chain) (asked stm ps up) in
+      let k = known r (recordAt stm (e .statement .0)) in
+      let f = isSome (match (nextPattern ps up) (recordAt stm (e .statement .0)) (binds stm ps up)) in (
+        λ h. let x = and-l (w && (o && (k && f))) _ h in
+            let y = and-l w _ x in
+            let z = and-r w _ x in
+            let d = and-r o _ z in (
+              record {
+                positive = ltb-true 0 (e .statement .0) (and-l _ _ y);
+                within = leb-true (e .statement .0) t (and-r (ltb 0 (e .statement .0)) _ y);
+                chain = and-l o _ z;
+                resources = and-l k _ d;
+                matched = and-r k _ d;
+              },
+              and-r (w && (o && (k && f))) _ h,
+            ),
+        λ h. and-of _ _
+            (and-of _ _ (and-of _ _ (lt-ltb 0 (e .statement .0) (h .0 .positive)) (le-leb (e .statement .0) t (h .0 .within)))
+            (and-of _ _ (h .0 .chain) (and-of _ _ (h .0 .resources) (h .0 .matched))))
+            (h .1),
+      )
+
+  -- of a place with the deepest level l
+  pub record PlaceTested (l : Level) (up : List Level) : Type 0 where
+    pub room : length up < length ps
+    pub entered : enteredOk stm ps r t up ≡ true
+    pub within : l .statement .0 ≤ t
+    pub chain : chainOk (l .chain) (asked stm ps up) ≡ true
+    pub next : recordOk stm (l .chain) (asked stm ps up) (l .statement .0) ≡ true
+
+  pub place-tests : (l : Level) (up : List Level) → placeOk stm ps r t (inside l up) ≡ true ↔ PlaceTested l up
+  unfolding placeOk
+  place-tests l up = (
+    λ o. let a = and-r (ltb (length up) (length ps)) _ o in
+        let b = and-r (enteredOk stm ps r t up) _ a in
+        let d = and-r (leb (l .statement .0) t) _ b in
+        record {
+          room = ltb-true (length up) (length ps) (and-l _ _ o);
+          entered = and-l (enteredOk stm ps r t up) _ a;
+          within = leb-true (l .statement .0) t (and-l _ _ b);
+          chain = and-l (chainOk (l .chain) (asked stm ps up)) _ d;
+          next = and-r (chainOk (l .chain) (asked stm ps up)) _ d;
+        },
+    λ P. and-of _ _ (lt-ltb (length up) (length ps) (P .room))
+        (and-of _ _ (P .entered) (and-of _ _ (le-leb (l .statement .0) t (P .within)) (and-of _ _ (P .chain) (P .next)))),
+  )

@@ -92,7 +92,7 @@ abbrev pub AllLow : ℕ → List QueryPattern → Type 0
 AllLow k [] = Unit {0}
 AllLow k (x ∷ ps) = ((p : Position) → isVariable (wordAt p x) ≡ false → wordAt p x ≤ k) × AllLow k ps
 
-fit-at : (k : ℕ) (ps : List QueryPattern) (i : ℕ) → AllFit k ps → i < length ps → Fits3 k (getD ps i (pattern 0 0 0))
+pub fit-at : (k : ℕ) (ps : List QueryPattern) (i : ℕ) → AllFit k ps → i < length ps → Fits3 k (getD ps i (pattern 0 0 0))
 fit-at k [] i f h = absurd (omega arith)
 fit-at k (x ∷ ps) zero f h = f .0
 fit-at k (x ∷ ps) (suc i) f h = fit-at k ps i (f .1) (omega arith)

@@ -14,6 +14,7 @@ pub mod Accepted
 pub mod Calls
 pub mod Onwards
 pub mod Budget
+pub mod Standing
 pub mod Scans
 pub mod Unseen
 pub mod Listed

@@ -2,36 +2,37 @@
 -- hold now, at or after the place; levels below a record struck out since do not count. Assumes nothing.
 use mathlib.Core.Path.{_≡_, refl, sym, ap, _∙_, fun-ext}
 use mathlib.Core.Logic.{_≢_}
-use mathlib.Core.Bool.{Bool, true, false, _&&_, _||_, true≢false, false≢true}
+use mathlib.Core.Bool.{Bool, true, false, _||_, true≢false, false≢true}
 use mathlib.Core.List.{List, [], _∷_, _++_, append-assoc, append-nil, List·Memᴰ, List·Memᴰ·head, List·Memᴰ·tail}
 use mathlib.Core.Option.{Option, none, some}
 use Prim.Native.Nat.{ℕ, zero, suc, _+_, _-_, _≤_, _<_}
 use native.Mathlib.Omega.{arith}
 use lib.ListN.{length, drop}
 use lib.Seq.{drop-cons}
-use lib.Dec.{eqb, leb, ltb}
-use borrow.Author.Tests.{eqb-true, eqb-false, eq-eqb, ne-eqb, leb-true, ltb-true, le-leb, lt-ltb, le-ltb}
+use lib.Dec.{eqb}
+use borrow.Author.Tests.{eqb-true, eqb-false, eq-eqb, ne-eqb, le-leb, lt-ltb, le-ltb}
 use Rattle.store.specs.declared.Chain.{Chain}
 use Rattle.store.specs.declared.Chain.the-variants.{All, By}
 use Rattle.store.specs.declared.Triple.{Triple}
-use Rattle.store.specs.Shared.{at, known, prev, Entry}
+use Rattle.store.specs.Shared.{at, prev, Entry}
 use Rattle.store.specs.Tables.{tripleAt, termAt, flagAt}
 use Rattle.store.specs.Model.{onChain}
 use Rattle.store.specs.Walk.{entryAt, linkOf, sits}
 use Rattle.store.specs.Scan.{chainOk, recordOk}
 use Rattle.store.specs.Soundness.{Linked, holding}
-use Rattle.store.proofs.Tests.{decide, and-l, and-r, and-of}
+use Rattle.store.proofs.Tests.{decide, and-of}
 use Rattle.store.proofs.Falling.{head-le}
 use Rattle.store.proofs.Words.{triple-at}
 use Rattle.store.proofs.Chains.{onWords}
 use Rattle.graph.specs.declared.QueryPattern.{QueryPattern}
 use Rattle.graph.specs.declared.Level.{Level}
-use Rattle.graph.specs.Query.{match, isSome, orElse, Answer, refused, found, ended, spent, recordAt, past, struck}
+use Rattle.graph.specs.Query.{match, Answer, refused, found, ended, spent, recordAt, past, struck}
 use Rattle.graph.specs.Place.{Place, start, inside, finish}
 use Rattle.graph.specs.Words.{variables, Bindings, unbound, pattern, under}
 use Rattle.graph.specs.Query.{intact, anyStruck, pruned, nextPattern, binds, asked, enteredOk, placeOk, resume}
 use Rattle.graph.specs.Order.{atOrAfter, keep, numbersOn}
-use Rattle.graph.proofs.Bind.{or-l, or-r, Known3, match-matched}
+use Rattle.graph.proofs.Laws.{entered-tests, place-tests}
+use Rattle.graph.proofs.Bind.{or-l, or-r, some-orElse, Known3, match-matched}
 use Rattle.graph.proofs.Solve.{down, each, solve, AllFit, hit-some, hit-of, statements, numberOf}
 use Rattle.graph.specs.Work.{hitAt}
 use Rattle.graph.proofs.Solve.{number-in}
@@ -255,34 +256,13 @@ module _ (r t : ℕ) (res stm : List ℕ) (ps : List QueryPattern) where
 
     -- ---- what refusal 6 leaves
 
-    some-orElse : (o : Option Bindings) (d : Bindings) → isSome o ≡ true → o ≡ some (orElse o d)
-    some-orElse none d e = absurd (false≢true e)
-    some-orElse (some a) d e = refl
-
     bits : (e : Level) (up : List Level) → enteredOk stm ps r t (e ∷ up) ≡ true → Bits e up
         × (enteredOk stm ps r t up ≡ true)
-    unfolding enteredOk binds recordAt
+    unfolding binds recordAt
     bits e up h =
-        let x : (ltb 0 (e .statement .0) && leb (e .statement .0) t)
-        && (chainOk (e .chain) (asked stm ps up)
-        && (known r (tripleAt stm (prev (e .statement .0)))
-        && isSome (match (nextPattern ps up) (tripleAt stm (prev (e .statement .0))) (binds stm ps up)))) ≡ true
-        = and-l _ (enteredOk stm ps r t up) h in
-        let y = and-l (ltb 0 (e .statement .0) && leb (e .statement .0) t) _ x in
-        let z = and-r (ltb 0 (e .statement .0) && leb (e .statement .0) t) _ x in
-        let m = and-r (known r (tripleAt stm (prev (e .statement .0)))) _
-        (and-r (chainOk (e .chain) (asked stm ps up)) _ z) in (
-          record {
-            pos = ltb-true 0 (e .statement .0) (and-l _ _ y);
-            le = leb-true (e .statement .0) t (and-r (ltb 0 (e .statement .0)) _ y);
-            picked = and-l (chainOk (e .chain) (asked stm ps up)) _ z;
-            matched = some-orElse _ (binds stm ps up) m;
-          },
-          and-r ((ltb 0 (e .statement .0) && leb (e .statement .0) t)
-              && (chainOk (e .chain) (asked stm ps up)
-              && (known r (tripleAt stm (prev (e .statement .0)))
-              && isSome (match (nextPattern ps up) (tripleAt stm (prev (e .statement .0))) (binds stm ps up))))) _ h,
-        )
+        let f = (entered-tests r t stm ps e up) .0 h in
+        let T = f .0 in
+        (record { pos = T .positive; le = T .within; picked = T .chain; matched = some-orElse _ (binds stm ps up) (T .matched) }, f .1)
 
     deep-of : (e : Level) (up : List Level) → Entered r t res stm ps up → length up < length ps → Bits e up
         → Deep r t res stm ps e up
@@ -435,21 +415,6 @@ module _ (r t : ℕ) (res stm : List ℕ) (ps : List QueryPattern) where
     next-on ch x zero e i h = absurd (omega arith)
     next-on ch x (suc n) e i h = let k : n ≡ i = omega arith in rw (← k) (sits-on ch x n e)
 
-    cursor-bits : (l : Level) (up : List Level) → placeOk stm ps r t (inside l up) ≡ true → (length up < length ps)
-        × (enteredOk stm ps r t up ≡ true) × (l .statement .0 ≤ t) × (chainOk (l .chain) (asked stm ps up) ≡ true)
-        × (recordOk stm (l .chain) (asked stm ps up) (l .statement .0) ≡ true)
-    unfolding placeOk
-    cursor-bits l up o =
-        let a = and-r (ltb (length up) (length ps)) _ o in
-        let b = and-r (enteredOk stm ps r t up) _ a in
-        let d = and-r (leb (l .statement .0) t) _ b in (
-          ltb-true (length up) (length ps) (and-l _ _ o),
-          and-l (enteredOk stm ps r t up) _ a,
-          leb-true (l .statement .0) t (and-l _ _ b),
-          and-l (chainOk (l .chain) (asked stm ps up)) _ d,
-          and-r (chainOk (l .chain) (asked stm ps up)) _ d,
-        )
-
     reached-place : (q : Place) → Reached r t res stm ps q → leftAt r t res stm ps q ≡ fromPlace q
     unfolding leftAt fromPlace
     reached-place start R = refl
@@ -472,30 +437,25 @@ module _ (r t : ℕ) (res stm : List ℕ) (ps : List QueryPattern) where
     any-place start b o h =
         gives start b (leftAt r t res stm ps start) (visitsAt r t res stm ps start) (toilAt r t res stm ps start)
         (resume r t res stm ps start b) (sym (reached-place start tt)) (start-outcome r t res stm ps L fit low b h)
-    any-place (inside l up) b o h = taken (cursor-bits l up o)
-      where
-        taken : (length up < length ps) × (enteredOk stm ps r t up ≡ true) × (l .statement .0 ≤ t)
-            × (chainOk (l .chain) (asked stm ps up) ≡ true)
-            × (recordOk stm (l .chain) (asked stm ps up) (l .statement .0) ≡ true)
-            → Gives (inside l up) b (resume r t res stm ps (inside l up) b)
-        taken K =
-            let D : Deep r t res stm ps l up =
-            record {
-              room = K .0;
-              picked = K .3;
-              le = K .2;
-              here =
-                  next-on (l .chain) (asked stm ps up) (l .statement .0) (K .4);
-            } in
-            let P = pruned-is up l (K .0) (K .1) (λ z. D) in
-            gives (inside l up) b (left r t res stm ps ((pruned stm l up) .0) ((pruned stm l up) .1))
-            (toilLeft r t res stm ps ((pruned stm l up) .0) ((pruned stm l up) .1))
-            (toilLeft r t res stm ps ((pruned stm l up) .0) ((pruned stm l up) .1))
-            (resume r t res stm ps (inside l up) b)
-            (unfold fromPlace in (sym (P .2)))
-            (unfold resume in (rw (intact-any up (K .1))
-            (walk-outcome r t res stm ps L fit low b ((pruned stm l up) .0) ((pruned stm l up) .1) 0 (P .0)
-            (P .1))))
+    any-place (inside l up) b o h =
+        let K = (place-tests r t stm ps l up) .0 o in
+        let D : Deep r t res stm ps l up =
+        record {
+          room = K .room;
+          picked = K .chain;
+          le = K .within;
+          here =
+              next-on (l .chain) (asked stm ps up) (l .statement .0) (K .next);
+        } in
+        let P = pruned-is up l (K .room) (K .entered) (λ z. D) in
+        gives (inside l up) b (left r t res stm ps ((pruned stm l up) .0) ((pruned stm l up) .1))
+        (toilLeft r t res stm ps ((pruned stm l up) .0) ((pruned stm l up) .1))
+        (toilLeft r t res stm ps ((pruned stm l up) .0) ((pruned stm l up) .1))
+        (resume r t res stm ps (inside l up) b)
+        (unfold fromPlace in (sym (P .2)))
+        (unfold resume in (rw (intact-any up (K .entered))
+        (walk-outcome r t res stm ps L fit low b ((pruned stm l up) .0) ((pruned stm l up) .1) 0 (P .0)
+        (P .1))))
     any-place finish b o h = unfold resume fromPlace in refl
 
     -- the numbers of a place are those of records
@@ -511,6 +471,6 @@ module _ (r t : ℕ) (res stm : List ℕ) (ps : List QueryPattern) where
         ≡ keep (λ s. atOrAfter (numbersOn up (l .statement .0 ∷ [])) (statements (entryAt stm) t ps s))
         (solve (entryAt stm) t ps unbound)
     unfolding fromPlace entryAt
-    place-keeps once l up o = let K = cursor-bits l up o in
+    place-keeps once l up o = let K = (place-tests r t stm ps l up) .0 o in
         from-keep (entryAt stm) t (tri-low r t res stm ps L fit low) once ps unbound
-        (numbersOn up (l .statement .0 ∷ [])) fit (place-le up (l .statement .0 ∷ []) (K .1) (K .2, tt))
+        (numbersOn up (l .statement .0 ∷ [])) fit (place-le up (l .statement .0 ∷ []) (K .entered) (K .within, tt))

@@ -77,6 +77,17 @@ lone = store 4 1 (rr 1 0 0 1 0 0 (rr 0 1 0 0 1 0 (rr 0 0 0 0 0 0 (rr 0 0 1 0 0 1
 much : Lent
 much = store 4 1 (rr 1 0 0 1 0 0 (rr 0 1 0 0 1 0 (rr 0 0 1 99 0 1 (rr 0 0 0 0 0 0 [])))) (sr 1 2 3 0 0 0 0 [])
 
+-- 1 = (1,2,n), whatever n is
+odd : ℕ → Lent
+odd n = store 4 1 (rr 1 0 0 1 0 0 (rr 0 1 0 0 1 0 (rr 0 0 0 0 0 0 (rr 0 0 0 0 0 0 [])))) (sr 1 2 n 0 0 0 0 [])
+
+-- the same tables with t for T
+abbrev counted : ℕ → Lent → Lent
+counted t s = record {
+  counters = record { resources = s .counters .resources; statements = t; text = s .counters .text; generation = s .counters .generation };
+  lent = s .lent;
+}
+
 -- the same tables with g for the number of reclaims
 abbrev numbered : ℕ → Lent → Lent
 numbered g s = record {
@@ -186,6 +197,9 @@ paper-words = v 0 ∷ 2 ∷ 3 ∷ v 0 ∷ 2 ∷ v 1 ∷ []
 abbrev hops : List ℕ
 hops = v 0 ∷ 2 ∷ v 1 ∷ v 1 ∷ 2 ∷ v 2 ∷ []
 
+abbrev three-hops : List ℕ
+three-hops = hops ++ v 2 ∷ 2 ∷ v 3 ∷ []
+
 copies : ℕ → List ℕ
 copies zero = []
 copies (suc n) = 1 ∷ 2 ∷ 3 ∷ copies n
@@ -275,19 +289,31 @@ variable-thrice = record {
   due = spent 1 (in1 (level All 1)) ∷ ended 1 ∷ ended 2 ∷ [];
 }
 
--- 6: the chain of each level is a bound position, not one that is open; it need not be the least
-chains-accepted : Case
-chains-accepted = record {
-  given = next (three 0 0) hops (in2 (P 1) (O 0)) 9
+-- 6, clause by clause: two places that stand, the chain of one not the least; a level more than patterns; a number above T, entered and
+-- deepest; an entered record 0, one with a resource above R, one with 0, one that is not its pattern's, one that does not match under the
+-- earlier ones; a chain that a scan refuses, entered and deepest; a deepest next without the chain's resource. Nothing else of the deepest
+-- record is tested: the visit refuses it 9.
+places-accepted : Case
+places-accepted = record {
+  given = next (three 0 0) hops (in2 (P 1) (S 3)) 9
       ∷ next (three 0 0) hops (in2 (P 1) (P 3)) 9
-      ∷ next (three 0 0) hops (in2 (level All 1) (P 3)) 9
-      ∷ next (three 0 0) hops (in2 (P 0) (S 0)) 9
-      ∷ next (three 0 0) hops (in2 (P 4) (S 0)) 9 ∷ [];
-  due = refusedWith 6
+      ∷ next (three 0 0) hops (in3 (P 1) (S 3) (level All 0)) 9
+      ∷ next (counted 2 (three 0 0)) hops (in2 (P 3) (S 0)) 9
+      ∷ next (counted 2 (three 0 0)) hops (in2 (P 1) (S 3)) 9
+      ∷ next (three 0 0) hops (in2 (P 0) (S 3)) 9
+      ∷ next (odd 5) hops (in2 (P 1) (S 0)) 9
+      ∷ next (odd 0) hops (in2 (P 1) (P 0)) 9
+      ∷ next (three 0 0) paper-words (in2 (P 2) (P 2)) 9
+      ∷ next (three 0 0) three-hops (in3 (P 1) (P 2) (P 0)) 9
+      ∷ next (three 0 0) hops (in2 (O 1) (S 3)) 9
+      ∷ next (three 0 0) hops (in2 (level All 1) (S 3)) 9
+      ∷ next (three 0 0) hops (in2 (P 1) (O 0)) 9
+      ∷ next (three 0 0) hops (in2 (P 1) (level All 3)) 9
+      ∷ next (three 0 0) hops (in2 (P 1) (S 2)) 9
+      ∷ next (odd 5) (1 ∷ 2 ∷ v 0 ∷ []) (in1 (S 1)) 9 ∷ [];
+  due = found 1 (resource 1 ∷ resource 3 ∷ resource 4 ∷ replicate 13 (resource 0)) (in2 (P 1) (S 0))
       ∷ found 1 (resource 1 ∷ resource 3 ∷ resource 4 ∷ replicate 13 (resource 0)) (in2 (P 1) (P 2))
-      ∷ refusedWith 6
-      ∷ refusedWith 6
-      ∷ refusedWith 6 ∷ [];
+      ∷ replicate 13 (refusedWith 6) ++ refusedWith 9 ∷ [];
 }
 
 -- the entered record 1 is struck out since, and nothing is below it on its chain
@@ -405,7 +431,7 @@ reclaimed-between = record {
 }
 
 cases : List Case
-cases = paper ∷ opened ∷ no-patterns ∷ eight-patterns ∷ slots-ignored ∷ variable-thrice ∷ chains-accepted ∷ struck-since ∷ enter-refused ∷
+cases = paper ∷ opened ∷ no-patterns ∷ eight-patterns ∷ slots-ignored ∷ variable-thrice ∷ places-accepted ∷ struck-since ∷ enter-refused ∷
     run-out-stays ∷ nothing-remains ∷ found-run-out ∷ damaged-below ∷ large-budget ∷ stale-places ∷ refusals-in-order ∷ carried ∷
     reclaimed-between ∷ []
 
@@ -461,9 +487,9 @@ scans-due = due [] 1 false true
 
 all-as-due : (map (λ (x : Case). x .given) cases ≡ map (λ (x : Case). x .due) cases)
     × (queries-heard ≡ queries-due) × (scans-heard ≡ scans-due)
-unfolding cases paper opened no-patterns eight-patterns slots-ignored variable-thrice chains-accepted struck-since
+unfolding cases paper opened no-patterns eight-patterns slots-ignored variable-thrice places-accepted struck-since
     enter-refused run-out-stays nothing-remains found-run-out damaged-below large-budget stale-places refusals-in-order
-    carried reclaimed-between queries-heard queries-due scans-heard scans-due two three latest-struck lone much copies
+    carried reclaimed-between queries-heard queries-due scans-heard scans-due two three latest-struck lone much odd copies
     wordOk allOk wordsOk patternsOf valueOf under bind match recordAt past struck intact anyStruck pruned settle
     remains nextPattern binds asked enteredOk placeOk enter hit tried visit walk begun resume answerOf levelsOf
     insideOf placeAs written cursorAt openQueryOf packed stale nextQueryOf readOn foundIn hasEnded lastSpent visitsIn

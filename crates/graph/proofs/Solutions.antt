@@ -33,7 +33,7 @@ use Rattle.graph.proofs.Bind.{wordAt, bound-ext, Fits3, Known3, isThe, 
 use Rattle.graph.proofs.Bind.{value-number, value-variable}
 use Rattle.graph.proofs.Solve.{down-out, each, each-out, hit-some, solve, occurs, Among, Holds, Solved}
 use Rattle.graph.specs.Work.{hitAt}
-use Rattle.graph.proofs.Solve.{AllFit, solve-sound, solve-complete, under-at, value-var, triple-ext}
+use Rattle.graph.proofs.Solve.{AllFit, occursIn-at, solve-sound, solve-complete, under-at, value-var, triple-ext}
 use Rattle.graph.proofs.Levels.{Low, AllLow, match-low, low-none}
 use Rattle.graph.proofs.Names.{named-at, names-apart, numberOfName, number-le, number-name}
 
@@ -69,22 +69,22 @@ map-once f (x ∷ l) h d = (
 )
 
 -- a list of n resources by a function
-unfoldable tab : (ℕ → ℕ) → ℕ → Bindings
+unfoldable pub tab : (ℕ → ℕ) → ℕ → Bindings
 tab f zero = []
 tab f (suc n) = resource (f 0) ∷ tab (λ i. f (suc i)) n
 
-tab-length : (f : ℕ → ℕ) (n : ℕ) → length (tab f n) ≡ n
+pub tab-length : (f : ℕ → ℕ) (n : ℕ) → length (tab f n) ≡ n
 unfolding tab
 tab-length f zero = refl
 tab-length f (suc n) = ap suc (tab-length (λ i. f (suc i)) n)
 
-tab-at : (f : ℕ → ℕ) (n v : ℕ) → v < n → boundTo (tab f n) v ≡ f v
+pub tab-at : (f : ℕ → ℕ) (n v : ℕ) → v < n → boundTo (tab f n) v ≡ f v
 unfolding tab
 tab-at f zero v h = absurd (omega arith)
 tab-at f (suc n) zero h = refl
 tab-at f (suc n) (suc v) h = tab-at (λ i. f (suc i)) n v (omega arith)
 
-past-end : (b : Bindings) (v : ℕ) → length b ≤ v → boundTo b v ≡ 0
+pub past-end : (b : Bindings) (v : ℕ) → length b ≤ v → boundTo b v ≡ 0
 past-end b v h = ap (λ (z : ResourceId). z .0) (List·getD-eq-default b (resource 0) {n = v} h)
 
 pub unbound-at : (k v : ℕ) → _≡_ {A = ℕ} (boundTo (replicate k (resource 0)) v) 0
@@ -97,10 +97,6 @@ unbound-at (suc k) (suc v) = unbound-at k v
 the-at : (v w : ℕ) → w ≡ firstVariable + v → isThe v w ≡ true
 unfolding isThe
 the-at v w e = eq-eqb w (firstVariable + v) e
-
-at-the : (v w : ℕ) → isThe v w ≡ true → w ≡ firstVariable + v
-unfolding isThe
-at-the v w e = eqb-true w (firstVariable + v) e
 
 occursIn-of : (v : ℕ) (y : QueryPattern) (p : Position) → wordAt p y ≡ firstVariable + v → occursIn v y ≡ true
 unfolding occursIn
@@ -116,15 +112,6 @@ occursIn-of v y Object e = rw (the-at v (y .object) e) (both (isThe v (y .subjec
     both true b = refl
     both false true = refl
     both false false = refl
-
-occursIn-at : (v : ℕ) (y : QueryPattern) → occursIn v y ≡ true → (p : Position) × (wordAt p y ≡ firstVariable + v)
-unfolding occursIn
-occursIn-at v y e =
-    decide (isThe v (y .subject))
-    (λ d. (Subject, at-the v (y .subject) d))
-    (λ d. decide (isThe v (y .predicate))
-    (λ f. (Predicate, at-the v (y .predicate) f))
-    (λ f. (Object, at-the v (y .object) (rw (d, f) at e))))
 
 occurs-of : (v : ℕ) (ps : List QueryPattern) (y : QueryPattern) (p : Position) → List·Memᴰ y ps
     → wordAt p y ≡ firstVariable + v

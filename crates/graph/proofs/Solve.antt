@@ -101,7 +101,7 @@ under-at b x Subject = refl
 under-at b x Predicate = refl
 under-at b x Object = refl
 
-under-more : (b s : Bindings) (x : QueryPattern) (t : Triple) → More b s → Known3 t
+pub under-more : (b s : Bindings) (x : QueryPattern) (t : Triple) → More b s → Known3 t
     → ((p : Position) → at p (under b x) ≡ at p t) → t ≡ under s x
 under-more b s x t m k h = triple-ext t (under s x) (λ p.
     let e : valueOf b (wordAt p x) ≡ at p t = sym (under-at b x p) ∙ h p in
@@ -112,9 +112,9 @@ isThe-at : (v w : ℕ) → isThe v w ≡ true → w ≡ firstVariable + v
 unfolding isThe
 isThe-at v w e = eqb-true w (firstVariable + v) e
 
-occurs-at : (v : ℕ) (x : QueryPattern) → occursIn v x ≡ true → (p : Position) × (wordAt p x ≡ firstVariable + v)
+pub occursIn-at : (v : ℕ) (x : QueryPattern) → occursIn v x ≡ true → (p : Position) × (wordAt p x ≡ firstVariable + v)
 unfolding occursIn
-occurs-at v x e = decide (isThe v (x .subject))
+occursIn-at v x e = decide (isThe v (x .subject))
     (λ d. (Subject, isThe-at v (x .subject) d))
     (λ d. decide (isThe v (x .predicate))
     (λ f. (Predicate, isThe-at v (x .predicate) f))
@@ -126,13 +126,14 @@ value-var b v = let e : firstVariable + v - firstVariable ≡ v = omega arith in
     value-variable b (firstVariable + v) (le-leb firstVariable (firstVariable + v) (omega arith))
     ∙ ap (λ (z : ℕ). boundTo b z) e
 
+pub matched-reads : (x : QueryPattern) (t : Triple) (b b′ : Bindings) → Matched x t b b′ → (v : ℕ) (p : Position)
+    → wordAt p x ≡ firstVariable + v → boundTo b′ v ≡ at p t
+matched-reads x t b b′ M v p e = sym (value-var b′ v) ∙ ap (valueOf b′) (sym e) ∙ sym (under-at b′ x p) ∙ M .reads p
+
 matched-binds : (x : QueryPattern) (t : Triple) (b b′ : Bindings) → Matched x t b b′ → Known3 t → (v : ℕ)
     → occursIn v x ≡ true → 0 < boundTo b′ v
 matched-binds x t b b′ M k v e =
-    let r = occurs-at v x e in
-    let q : boundTo b′ v ≡ at (r .0) t = sym (value-var b′ v) ∙ ap (valueOf b′) (sym (r .1))
-    ∙ sym (under-at b′ x (r .0)) ∙ M .reads (r .0) in
-    rw q (k (r .0))
+    let r = occursIn-at v x e in rw (matched-reads x t b b′ M v (r .0) (r .1)) (k (r .0))
 
 pub hit-some : (E : ℕ → Entry) (x : QueryPattern) (b b′ : Bindings) (i : ℕ) → hitAt E x b i ≡ some b′
     → ((E i) .retracted ≡ false) × (match x ((E i) .spo) b ≡ some b′)

@@ -1,8 +1,9 @@
--- Every claim of `specs/Claims.antt` with its proof: a declaration of each type. Assumes nothing.
+-- Every claim of `specs/Claims.antt` and `specs/Standing.antt` with its proof: a declaration of each type. Assumes nothing.
 use Rattle.graph.specs.Claims.{GraphClaim, WordsClaim, ReadingClaim, NextClaim, KeptClaim, BudgetClaim, SplitClaim}
 use Rattle.graph.specs.Claims.{StaleClaim, RefusalsBare, ReclaimedClaim}
 use Rattle.graph.specs.Claims.{ScanClaim, LiveCountClaim, QueriesDoNotLook}
 use Rattle.graph.specs.Claims.{WriteClaim, LoadClaim}
+use Rattle.graph.specs.Standing.{PlaceClaim, BadPlaceClaim}
 use Rattle.graph.proofs.Names as names
 use Rattle.graph.proofs.Accepted as accepted
 use Rattle.graph.proofs.Calls as calls
@@ -10,6 +11,7 @@ use Rattle.graph.proofs.Generations as generations
 use Rattle.graph.proofs.Refusals as refusals
 use Rattle.graph.proofs.Onwards as onwards
 use Rattle.graph.proofs.Budget as budget
+use Rattle.graph.proofs.Standing as standing
 use Rattle.graph.proofs.Scans as scans
 use Rattle.graph.proofs.Unseen as unseen
 use Rattle.graph.proofs.Writes as writes
@@ -32,6 +34,12 @@ cursor-kept = onwards.cursor-kept
 
 pub stale-refused : StaleClaim
 stale-refused = generations.stale-refused
+
+pub place-stands : PlaceClaim
+place-stands = standing.place-stands
+
+pub bad-place : BadPlaceClaim
+bad-place = standing.bad-place
 
 pub refusals-bare : RefusalsBare
 refusals-bare = refusals.refusals-bare

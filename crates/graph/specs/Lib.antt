@@ -6,4 +6,5 @@ pub mod Work
 pub mod Order
 pub mod Meaning
 pub mod Graph
+pub mod Standing
 pub mod Claims
