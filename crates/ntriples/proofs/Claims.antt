@@ -361,20 +361,101 @@ enterable m text i l r s p o e h =
       objectShort = rw (← h .objectAt, object-bytes text i d r e) (short .once);
     }
 
+-- Two derivations of one line have parts of the same lengths, and so the same strings.
+cancel : (a b s t : List ℕ) → length a ≡ length b → a ++ s ≡ b ++ t → (a ≡ b) × (s ≡ t)
+cancel [] [] s t h e = (refl, e)
+cancel [] (y ∷ b) s t h e = absurd (omega arith)
+cancel (x ∷ a) [] s t h e = absurd (omega arith)
+cancel (x ∷ a) (y ∷ b) s t h e =
+    let e′ : a ++ s ≡ b ++ t = cc in
+    let xy : x ≡ y = cc in
+    let w = cancel a b s t (omega arith) e′ in
+    (cons-both x y a b xy (w .0), w .1)
+
+dark-dot : {C : Type 0} (b : ℕ) → white b ≡ true → 46 ≡ b → C
+unfolding white among
+dark-dot b h e = never (rw (← e) at h)
+
+first-dot : {a b : List ℕ} (s t : List ℕ) → WhiteSpace a → WhiteSpace b → a ++ (46 ∷ s) ≡ b ++ (46 ∷ t)
+    → (a ≡ b) × (s ≡ t)
+first-dot s t WhiteSpace.none WhiteSpace.none e = (refl, cc)
+first-dot s t WhiteSpace.none (WhiteSpace.more {b = y} h v) e = dark-dot y h (cc)
+first-dot s t (WhiteSpace.more {b = x} h u) WhiteSpace.none e = dark-dot x h (cc)
+first-dot s t (WhiteSpace.more {b = x} {s = a} h u) (WhiteSpace.more {b = y} {s = b} k v) e =
+    let e′ : a ++ (46 ∷ s) ≡ b ++ (46 ∷ t) = cc in
+    let xy : x ≡ y = cc in
+    let w = first-dot s t u v e′ in
+    (cons-both x y a b xy (w .0), w .1)
+
+record SameLengths {l : List ℕ} (d e : Triple l) : Type 0 where
+  before : length (d .before) ≡ length (e .before)
+  subject : length (d .subject) ≡ length (e .subject)
+  between₁ : length (d .between₁) ≡ length (e .between₁)
+  predicate : length (d .predicate) ≡ length (e .predicate)
+  between₂ : length (d .between₂) ≡ length (e .between₂)
+  object : length (d .object) ≡ length (e .object)
+
+same-spans : (s p o s′ p′ o′ : Span) → Terms (s ∷ (p ∷ (o ∷ []))) ≡ Terms (s′ ∷ (p′ ∷ (o′ ∷ [])))
+    → (s ≡ s′) × (p ≡ p′) × (o ≡ o′)
+same-spans s p o s′ p′ o′ e = (cc, cc, cc)
+
+same-lengths : {l : List ℕ} (d e : Triple l) → SameLengths d e
+same-lengths {l} d e =
+    let w =
+    same-spans _ _ _ _ _ _
+    (unique 0 l (Terms (partsOf 0 d)) (Terms (partsOf 0 e)) (Derives.triple (rest-of 0 d)) (Derives.triple (rest-of 0 e)))
+    in
+    let a = ap (λ (z : Span). z .start) (w .0) in
+    let b = ap (λ (z : Span). z .end) (w .0) in
+    let c = ap (λ (z : Span). z .start) (w .1) in
+    let f = ap (λ (z : Span). z .end) (w .1) in
+    let g = ap (λ (z : Span). z .start) (w .2) in
+    let h = ap (λ (z : Span). z .end) (w .2) in
+    record {
+      before = omega arith;
+      subject = omega arith;
+      between₁ = omega arith;
+      predicate = omega arith;
+      between₂ = omega arith;
+      object = omega arith;
+    }
+
+same-strings : {l : List ℕ} (d e : Triple l) → SameStrings d e
+same-strings d e =
+    let n = same-lengths d e in
+    let a = cancel (d .before) (e .before) _ _ (n .before) (sym (d .spells) ∙ e .spells) in
+    let b = cancel (d .subject) (e .subject) _ _ (n .subject) (a .1) in
+    let c = cancel (d .between₁) (e .between₁) _ _ (n .between₁) (b .1) in
+    let f = cancel (d .predicate) (e .predicate) _ _ (n .predicate) (c .1) in
+    let g = cancel (d .between₂) (e .between₂) _ _ (n .between₂) (f .1) in
+    let h = cancel (d .object) (e .object) _ _ (n .object) (g .1) in
+    let k = first-dot (d .after) (e .after) (d .white₃) (e .white₃) (h .1) in
+    record {
+      before = a .0;
+      subject = b .0;
+      between₁ = c .0;
+      predicate = f .0;
+      between₂ = g .0;
+      object = h .0;
+      between₃ = k .0;
+      after = k .1;
+    }
+
+-- The terms of the parts, by every derivation.
 meant : (m : ℕ) (text : List ℕ) (i : ℕ) (l r : List ℕ) (s p o : Span) → drop i text ≡ l ++ r → Derived m i l s p o
     → Meant l text s p o
 meant m text i l r s p o e h =
-    let d = h .derivation in
-    let b = spelled text i d r e in
+    let b = spelled text i (h .derivation) r e in
+    let same : (d : Triple l) → SameStrings (h .derivation) d = λ d. same-strings (h .derivation) d in
     record {
-      derivation = d;
-      subjectMeans = ap (λ (z : Span). termOf (bytesOf text z)) (sym (h .subjectAt)) ∙ (ap termOf (b .subject)
-          ∙ subject-is (d .isSubject));
-      predicateMeans =
-          ap (λ (z : Span). termOf (bytesOf text z)) (sym (h .predicateAt)) ∙ (ap termOf (b .predicate) ∙ predicate-is
-          (d .isPredicate));
-      objectMeans = ap (λ (z : Span). termOf (bytesOf text z)) (sym (h .objectAt)) ∙ (ap termOf (object-bytes text i d r e)
-          ∙ (object-same (d .isObject) ∙ object-is (d .isObject)));
+      derivation = h .derivation;
+      subjectMeans = λ d. ap (λ (z : Span). termOf (bytesOf text z)) (sym (h .subjectAt)) ∙ (ap termOf
+          (b .subject ∙ same d .subject) ∙ subject-is (d .isSubject));
+      predicateMeans = λ d. ap (λ (z : Span). termOf (bytesOf text z)) (sym (h .predicateAt)) ∙ (ap termOf
+          (b .predicate ∙ same d .predicate) ∙ predicate-is (d .isPredicate));
+      objectMeans = λ d. ap (λ (z : Span). termOf (bytesOf text z)) (sym (h .objectAt)) ∙ (ap termOf
+          (object-bytes text i (h .derivation) r e ∙ ap canonical (same d .object)) ∙ (object-same (d .isObject)
+          ∙ object-is (d .isObject)));
     }
 
 pub read-at : (m : ℕ) (text : List ℕ) (i : ℕ) (l : List ℕ) (n : ℕ) → i < length text → FirstLine (drop i text) l n
@@ -489,86 +570,6 @@ one-first-line s =
     let w = line-exists s in
     let x = line-found s (w .0) (w .1) (w .2) in
     (w .0, w .1, w .2, λ k j f. let y = line-found s k j f in (sym (y .0) ∙ x .0, sym (y .1) ∙ x .1))
-
--- Two derivations of one line have parts of the same lengths, and so the same strings.
-cancel : (a b s t : List ℕ) → length a ≡ length b → a ++ s ≡ b ++ t → (a ≡ b) × (s ≡ t)
-cancel [] [] s t h e = (refl, e)
-cancel [] (y ∷ b) s t h e = absurd (omega arith)
-cancel (x ∷ a) [] s t h e = absurd (omega arith)
-cancel (x ∷ a) (y ∷ b) s t h e =
-    let e′ : a ++ s ≡ b ++ t = cc in
-    let xy : x ≡ y = cc in
-    let w = cancel a b s t (omega arith) e′ in
-    (cons-both x y a b xy (w .0), w .1)
-
-dark-dot : {C : Type 0} (b : ℕ) → white b ≡ true → 46 ≡ b → C
-unfolding white among
-dark-dot b h e = never (rw (← e) at h)
-
-first-dot : {a b : List ℕ} (s t : List ℕ) → WhiteSpace a → WhiteSpace b → a ++ (46 ∷ s) ≡ b ++ (46 ∷ t)
-    → (a ≡ b) × (s ≡ t)
-first-dot s t WhiteSpace.none WhiteSpace.none e = (refl, cc)
-first-dot s t WhiteSpace.none (WhiteSpace.more {b = y} h v) e = dark-dot y h (cc)
-first-dot s t (WhiteSpace.more {b = x} h u) WhiteSpace.none e = dark-dot x h (cc)
-first-dot s t (WhiteSpace.more {b = x} {s = a} h u) (WhiteSpace.more {b = y} {s = b} k v) e =
-    let e′ : a ++ (46 ∷ s) ≡ b ++ (46 ∷ t) = cc in
-    let xy : x ≡ y = cc in
-    let w = first-dot s t u v e′ in
-    (cons-both x y a b xy (w .0), w .1)
-
-record SameLengths {l : List ℕ} (d e : Triple l) : Type 0 where
-  before : length (d .before) ≡ length (e .before)
-  subject : length (d .subject) ≡ length (e .subject)
-  between₁ : length (d .between₁) ≡ length (e .between₁)
-  predicate : length (d .predicate) ≡ length (e .predicate)
-  between₂ : length (d .between₂) ≡ length (e .between₂)
-  object : length (d .object) ≡ length (e .object)
-
-same-spans : (s p o s′ p′ o′ : Span) → Terms (s ∷ (p ∷ (o ∷ []))) ≡ Terms (s′ ∷ (p′ ∷ (o′ ∷ [])))
-    → (s ≡ s′) × (p ≡ p′) × (o ≡ o′)
-same-spans s p o s′ p′ o′ e = (cc, cc, cc)
-
-same-lengths : {l : List ℕ} (d e : Triple l) → SameLengths d e
-same-lengths {l} d e =
-    let w =
-    same-spans _ _ _ _ _ _
-    (unique 0 l (Terms (partsOf 0 d)) (Terms (partsOf 0 e)) (Derives.triple (rest-of 0 d)) (Derives.triple (rest-of 0 e)))
-    in
-    let a = ap (λ (z : Span). z .start) (w .0) in
-    let b = ap (λ (z : Span). z .end) (w .0) in
-    let c = ap (λ (z : Span). z .start) (w .1) in
-    let f = ap (λ (z : Span). z .end) (w .1) in
-    let g = ap (λ (z : Span). z .start) (w .2) in
-    let h = ap (λ (z : Span). z .end) (w .2) in
-    record {
-      before = omega arith;
-      subject = omega arith;
-      between₁ = omega arith;
-      predicate = omega arith;
-      between₂ = omega arith;
-      object = omega arith;
-    }
-
-same-strings : {l : List ℕ} (d e : Triple l) → SameStrings d e
-same-strings d e =
-    let n = same-lengths d e in
-    let a = cancel (d .before) (e .before) _ _ (n .before) (sym (d .spells) ∙ e .spells) in
-    let b = cancel (d .subject) (e .subject) _ _ (n .subject) (a .1) in
-    let c = cancel (d .between₁) (e .between₁) _ _ (n .between₁) (b .1) in
-    let f = cancel (d .predicate) (e .predicate) _ _ (n .predicate) (c .1) in
-    let g = cancel (d .between₂) (e .between₂) _ _ (n .between₂) (f .1) in
-    let h = cancel (d .object) (e .object) _ _ (n .object) (g .1) in
-    let k = first-dot (d .after) (e .after) (d .white₃) (e .white₃) (h .1) in
-    record {
-      before = a .0;
-      subject = b .0;
-      between₁ = c .0;
-      predicate = f .0;
-      between₂ = g .0;
-      object = h .0;
-      between₃ = k .0;
-      after = k .1;
-    }
 
 terms-empty : {C : Type 0} (ms : List Span) → Terms ms ≡ Empty → C
 terms-empty ms e = let z : _≡_ {A = ℕ} 0 1 = cc in absurd (omega arith)

@@ -6,6 +6,7 @@ pub mod Derivation
 pub mod Lines
 pub mod Terms
 pub mod Claims
+pub mod Standard
 pub mod Runs
 pub mod Halts
 pub mod Sequence

@@ -3,15 +3,17 @@
 -- nothing.
 use Prim.Native.Nat.{ℕ, zero, suc, _+_, _-_, _≤_, _<_}
 use mathlib.Core.Path.{_≡_}
-use mathlib.Core.List.{List}
+use mathlib.Core.List.{List, [], _∷_}
 use mathlib.Core.Logic.{_⊎_, _↔_}
 use lib.ListN.{length, drop}
+use Rattle.term.specs.Spelling.{All}
 use Rattle.term.specs.Grammar.{Name}
 use Rattle.term.specs.Scanner.{kindOf}
 use Rattle.term.specs.Canonical.{canonical}
 use Rattle.ntriples.specs.declared.Span.{Span}
 use Rattle.ntriples.specs.declared.Line.the-variants as answer
-use Rattle.ntriples.specs.Grammar.{span, Trail, Triple, subjectSpan, predicateSpan, objectSpan, Within, Longest}
+use Rattle.ntriples.specs.Grammar.{span, Trail, Triple, commentByte, subjectSpan, predicateSpan, objectSpan, Within, Longest}
+use Rattle.ntriples.specs.Standard as standard
 use Rattle.ntriples.specs.Text.{FirstLine, bytesOf, valuesOf, readOf}
 use Rattle.ntriples.specs.Terms.{termOf, subjectTerm, predicateTerm, objectTerm}
 
@@ -41,12 +43,12 @@ pub record Enterable (m : ℕ) (text : List ℕ) (s p o : Span) : Type 0 where
   pub objectKind : (kindOf m (bytesOf text o) ≡ 1) ⊎ ((kindOf m (bytesOf text o) ≡ 2) ⊎ (kindOf m (bytesOf text o) ≡ 3))
   pub objectShort : canonical (bytesOf text o) ≡ bytesOf text o
 
--- The terms of the parts are those that N-Triples gives the line's derivation.
+-- The line has a derivation, and by every one of its derivations the terms of the parts are those that N-Triples gives it.
 pub record Meant (l : List ℕ) (text : List ℕ) (s p o : Span) : Type 0 where
   pub derivation : Triple l
-  pub subjectMeans : termOf (bytesOf text s) ≡ subjectTerm (derivation .isSubject)
-  pub predicateMeans : termOf (bytesOf text p) ≡ predicateTerm (derivation .isPredicate)
-  pub objectMeans : termOf (bytesOf text o) ≡ objectTerm (derivation .isObject)
+  pub subjectMeans : (d : Triple l) → termOf (bytesOf text s) ≡ subjectTerm (d .isSubject)
+  pub predicateMeans : (d : Triple l) → termOf (bytesOf text p) ≡ predicateTerm (d .isPredicate)
+  pub objectMeans : (d : Triple l) → termOf (bytesOf text o) ≡ objectTerm (d .isObject)
 
 -- What is answered at position i, where the line there is l and has n bytes with its EOL.
 pub record LineAnswered (m : ℕ) (text : List ℕ) (i : ℕ) (l : List ℕ) (n : ℕ) : Type 0 where
@@ -91,6 +93,35 @@ pub record SameStrings {l : List ℕ} (d e : Triple l) : Type 0 where
 
 abbrev pub OneDerivation : Type 0
 OneDerivation = (l : List ℕ) (d : Triple l) → ((e : Triple l) → SameStrings d e) × (Trail l → ⊥)
+
+-- A derivation of the standard (specs/Standard.antt) lies in the paper's subset: its terms are names of the paper, and all that
+-- follows the dot is tabs and bytes 32..126. The names' kinds are not asked for: the places give them.
+pub record InSubset {l : List ℕ} (e : standard.Triple l) : Type 0 where
+  pub subject : (k : ℕ) × Name k (e .subject)
+  pub predicate : (k : ℕ) × Name k (e .predicate)
+  pub object : (k : ℕ) × Name k (e .object)
+  pub after : All commentByte (e .after)
+
+-- the strings of a derivation in the paper's grammar, and of one in the standard's
+abbrev pub stringsOf : {l : List ℕ} → Triple l → List (List ℕ)
+stringsOf d =
+    d .before ∷ d .subject ∷ d .between₁ ∷ d .predicate ∷ d .between₂ ∷ d .object ∷ d .between₃ ∷ d .after ∷ []
+
+abbrev pub standardStringsOf : {l : List ℕ} → standard.Triple l → List (List ℕ)
+standardStringsOf e =
+    e .before ∷ e .subject ∷ e .between₁ ∷ e .predicate ∷ e .between₂ ∷ e .object ∷ e .between₃ ∷ e .after ∷ []
+
+-- A line's derivations in the paper's grammar are, string for string, its derivations in the standard's that lie in the subset.
+abbrev pub SubsetOfStandard : Type 0
+SubsetOfStandard =
+    (l : List ℕ)
+    → ((d : Triple l) → (e : standard.Triple l) × InSubset e × (stringsOf d ≡ standardStringsOf e))
+    × ((e : standard.Triple l) → InSubset e → (d : Triple l) × (stringsOf d ≡ standardStringsOf e))
+
+-- So, by `OneDerivation`, a line has one such derivation in the standard's grammar at most.
+abbrev pub OneStandardDerivation : Type 0
+OneStandardDerivation =
+    (l : List ℕ) (e f : standard.Triple l) → InSubset e → InSubset f → standardStringsOf e ≡ standardStringsOf f
 
 -- RDF 1.1 gives two names one term exactly if they are the same without the string ending. (RDF 1.1 also lets a store take language tags
 -- without their case; here a tag is as it is written.)
