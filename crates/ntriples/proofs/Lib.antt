@@ -7,6 +7,7 @@ pub mod Lines
 pub mod Terms
 pub mod Claims
 pub mod Standard
+pub mod StandardNames
 pub mod Runs
 pub mod Halts
 pub mod Sequence

@@ -28,11 +28,11 @@ use Rattle.ntriples.proofs.Claims.{one-derivation}
 
 -- ---- classes of bytes
 
-within : (lo hi c : ℕ) → between lo hi c ≡ true → (lo ≤ c) × (c ≤ hi)
+pub within : (lo hi c : ℕ) → between lo hi c ≡ true → (lo ≤ c) × (c ≤ hi)
 within lo hi c h =
     cases (λ x. x ≡ true) (leb lo c) (leb c hi) false (λ e k. (leb-true lo c e, leb-true c hi k)) (λ _ z. never z) h
 
-between-is : (lo hi c : ℕ) → lo ≤ c → c ≤ hi → between lo hi c ≡ true
+pub between-is : (lo hi c : ℕ) → lo ≤ c → c ≤ hi → between lo hi c ≡ true
 between-is lo hi c h k = rw (le-leb lo c h, le-leb c hi k)
 
 wider : (lo hi lo′ hi′ c : ℕ) → lo′ ≤ lo → hi ≤ hi′ → between lo hi c ≡ true → between lo′ hi′ c ≡ true
@@ -49,7 +49,7 @@ not-among : (t : Bool) (ys xs : List ℕ) (c : ℕ) → among ys c ≡ t → All
 not-among true ys xs c e f h = never (sym h ∙ among-in ys xs c f e)
 not-among false ys xs c e f h = refl
 
-split : {C : Type 0} (t : Bool) → (t ≡ true → C) → (t ≡ false → C) → C
+pub split : {C : Type 0} (t : Bool) → (t ≡ true → C) → (t ≡ false → C) → C
 split true f g = f refl
 split false f g = g refl
 
@@ -152,7 +152,7 @@ iri-rest : {s : List ℕ} → g.IriRest s → (many (one std.iriChar ∣ std.UCH
 iri-rest (g.IriRest.byte {b = c} e r) = front _ _ (_∣_.left (one.char (iri-byte c e))) (iri-rest r)
 iri-rest g.IriRest.close = _▸_.pair many.none the.char
 
-iri : {s : List ℕ} → g.Iri s → std.IRIREF s
+pub iri : {s : List ℕ} → g.Iri s → std.IRIREF s
 iri (g.Iri.open′ {b = c} e r) = _▸_.pair the.char (front _ _ (_∣_.left (one.char (iri-byte c e))) (iri-rest r))
 
 label-rest : {s : List ℕ} → g.LabelRest s → (many (one std.PN-CHARS ∣ the 46) ▸ one std.PN-CHARS) s
@@ -160,7 +160,7 @@ label-rest (g.LabelRest.last {b = c} e) = _▸_.pair many.none (one.char (label-
 label-rest (g.LabelRest.byte {b = c} e r) = front _ _ (_∣_.left (one.char (label-byte c e))) (label-rest r)
 label-rest (g.LabelRest.dot r) = front _ _ (_∣_.right the.char) (label-rest r)
 
-blank : {s : List ℕ} → g.Blank s → std.BLANK-NODE-LABEL s
+pub blank : {s : List ℕ} → g.Blank s → std.BLANK-NODE-LABEL s
 blank (g.Blank.single {b = c} e) = _▸_.pair the.char (_▸_.pair the.char (_▸_.pair (first-byte c e) maybe.none))
 blank (g.Blank.longer {b = c} e r) =
     _▸_.pair the.char (_▸_.pair the.char (_▸_.pair (first-byte c e) (maybe.some (label-rest r))))
@@ -210,7 +210,7 @@ text-rest (g.TextRest.pair {b = c} e r) =
     front-pair _ _ _ (_∣_.right (_∣_.left (_▸_.pair the.char (one.char (pair-byte c e))))) (text-rest r)
 text-rest (g.TextRest.close r) = _▸_.pair (_▸_.pair many.none the.char) (suffix r)
 
-literal : {s : List ℕ} → g.Literal s → std.Literal s
+pub literal : {s : List ℕ} → g.Literal s → std.Literal s
 literal (g.Literal.open′ r) = before-pair _ _ _ the.char (text-rest r)
 
 -- ---- a derivation of the paper is one of the standard

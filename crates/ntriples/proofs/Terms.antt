@@ -52,7 +52,7 @@ inner-is (g.IriRest.byte {b = b} e g.IriRest.close) = refl
 inner-is g.IriRest.close = refl
 
 -- a byte of a text is neither the quote nor `\`
-plain : (b : ℕ) → textByte b ≡ true → (eqb b 34 ≡ false) × (eqb b 92 ≡ false)
+pub plain : (b : ℕ) → textByte b ≡ true → (eqb b 34 ≡ false) × (eqb b 92 ≡ false)
 unfolding textByte among
 plain b h =
     cases (λ x. x ≡ true) (among (34 ∷ (92 ∷ [])) b) false _ (λ _ z. never z)
@@ -119,7 +119,7 @@ blank-spelled (g.Blank.single e) = refl
 blank-spelled (g.Blank.longer e r) = refl
 
 -- the four pairs stand for four bytes that are no text by themselves
-pair-cases : {C : Type 0} (b : ℕ) → (b ≡ 34 → C) → (b ≡ 92 → C) → (b ≡ 110 → C) → (b ≡ 114 → C) → pairByte b ≡ true → C
+pub pair-cases : {C : Type 0} (b : ℕ) → (b ≡ 34 → C) → (b ≡ 92 → C) → (b ≡ 110 → C) → (b ≡ 114 → C) → pairByte b ≡ true → C
 unfolding pairByte among
 pair-cases b f₁ f₂ f₃ f₄ h =
     let P : Bool → Type 0 = λ x. x ≡ true in

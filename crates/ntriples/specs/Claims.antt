@@ -4,10 +4,13 @@
 use Prim.Native.Nat.{ℕ, zero, suc, _+_, _-_, _≤_, _<_}
 use mathlib.Core.Path.{_≡_}
 use mathlib.Core.List.{List, [], _∷_}
+use mathlib.Core.Bool.{Bool, true, false}
 use mathlib.Core.Logic.{_⊎_, _↔_}
+use lib.Dec.{leb, eqb}
 use lib.ListN.{length, drop}
+use Rattle.term.specs.Bytes.{pick, between, pairByte}
 use Rattle.term.specs.Spelling.{All}
-use Rattle.term.specs.Grammar.{Name}
+use Rattle.term.specs.Grammar.{Iri, Blank, Literal, Name}
 use Rattle.term.specs.Scanner.{kindOf}
 use Rattle.term.specs.Canonical.{canonical}
 use Rattle.ntriples.specs.declared.Span.{Span}
@@ -15,7 +18,7 @@ use Rattle.ntriples.specs.declared.Line.the-variants as answer
 use Rattle.ntriples.specs.Grammar.{span, Trail, Triple, commentByte, subjectSpan, predicateSpan, objectSpan, Within, Longest}
 use Rattle.ntriples.specs.Standard as standard
 use Rattle.ntriples.specs.Text.{FirstLine, bytesOf, valuesOf, readOf}
-use Rattle.ntriples.specs.Terms.{termOf, subjectTerm, predicateTerm, objectTerm}
+use Rattle.ntriples.specs.Terms.{suffixFrom, termOf, subjectTerm, predicateTerm, objectTerm}
 
 -- The part of a derivation's object without the string ending: it begins where the object does.
 abbrev pub objectPart : {l : List ℕ} → ℕ → Triple l → Span
@@ -122,6 +125,39 @@ SubsetOfStandard =
 abbrev pub OneStandardDerivation : Type 0
 OneStandardDerivation =
     (l : List ℕ) (e f : standard.Triple l) → InSubset e → InSubset f → standardStringsOf e ≡ standardStringsOf f
+
+-- What the paper leaves out of the standard's terms. Of IRIs: the empty one, `\` (UCHAR begins with it), and all over 126.
+abbrev pub bare : ℕ → Bool
+bare c = pick (eqb c 92) false (leb c 126)
+
+abbrev pub IrisOfStandard : Type 0
+IrisOfStandard = (s : List ℕ) → Iri s ↔ (standard.IRIREF s × All bare s × (s ≡ 60 ∷ 62 ∷ [] → ⊥))
+
+-- Of labels: `:`, and all over 126.
+abbrev pub unmarked : ℕ → Bool
+unmarked c = pick (eqb c 58) false (leb c 126)
+
+abbrev pub BlanksOfStandard : Type 0
+BlanksOfStandard = (s : List ℕ) → Blank s ↔ (standard.BLANK-NODE-LABEL s × All unmarked (drop 2 s))
+
+-- Of literals: all but 32..126, every `\` with another second byte than `"`, `\`, `n`, `r`, and after the closing quote white
+-- space, `\`, and the empty datatype.
+unfoldable pub fourPairs : Bool → List ℕ → Bool
+fourPairs escaped [] = true
+fourPairs true (c ∷ s) = pick (pairByte c) (fourPairs false s) false
+fourPairs false (c ∷ s) = fourPairs (eqb c 92) s
+
+abbrev pub visible : ℕ → Bool
+visible c = pick (eqb c 92) false (between 33 126 c)
+
+pub record Plain (s : List ℕ) : Type 0 where
+  pub bytes : All (λ c. between 32 126 c) s
+  pub escapes : fourPairs false s ≡ true
+  pub suffix : All visible (suffixFrom false (drop 1 s))
+  pub typed : suffixFrom false (drop 1 s) ≡ 94 ∷ 94 ∷ 60 ∷ 62 ∷ [] → ⊥
+
+abbrev pub LiteralsOfStandard : Type 0
+LiteralsOfStandard = (s : List ℕ) → Literal s ↔ (standard.Literal s × Plain s)
 
 -- RDF 1.1 gives two names one term exactly if they are the same without the string ending. (RDF 1.1 also lets a store take language tags
 -- without their case; here a tag is as it is written.)
