@@ -5,7 +5,7 @@
 // `line_at` has plain parameters: its callers need no walk.
 ghost use mathlib.Core.Path.{_≡_};
 ghost use Rattle.term.specs.Grammar.{nameLimit};
-ghost use Rattle.ntriples.specs.Text.{readOf};
+ghost use Rattle.ntriples.specs.Reader.{readOf};
 use ntriples::Line;
 use ntriples::LineRead;
 

@@ -18,8 +18,9 @@ use Rattle.store.specs.Soundness.{Sound}
 use Rattle.store.specs.History.{Store, callStore}
 use Rattle.ntriples.specs.declared.Span.{Span}
 use Rattle.ntriples.specs.declared.Line.the-variants as answer
-use Rattle.ntriples.specs.Text.{FirstLine, bytesOf, readOf}
-use Rattle.ntriples.specs.Terms.{termOf}
+use Rattle.ntriples.specs.Text.{FirstLine, bytesOf}
+use Rattle.ntriples.specs.Reader.{readOf}
+use Rattle.ntriples.specs.TermOf.{termOf}
 use Rattle.ntriples.specs.Claims.{Meant, Enterable}
 use Rattle.graph.specs.Meaning.{RdfTriple, termAt}
 use Rattle.graph.specs.Graph.{named, LiveAt}

@@ -39,9 +39,10 @@ use Rattle.ntriples.specs.Grammar.{
   Longest,
 }
 use Rattle.ntriples.specs.Reader.{Outcome, Empty, Terms, Fails, Begin, placeOf, lineOf}
-use Rattle.ntriples.specs.Text.{FirstLine, bytesOf, answerOf, valuesOf, readSpelled, shortPart, shortLine}
-use Rattle.ntriples.specs.Text.{readOf}
-use Rattle.ntriples.specs.Terms.{termOf}
+use Rattle.ntriples.specs.Text.{FirstLine, bytesOf, valuesOf}
+use Rattle.ntriples.specs.Reader.{answerOf, readSpelled, shortPart, shortLine}
+use Rattle.ntriples.specs.Reader.{readOf}
+use Rattle.ntriples.specs.TermOf.{termOf}
 use Rattle.ntriples.specs.Claims.{
   objectPart,
   Derived,

@@ -10,7 +10,8 @@ use native.Mathlib.Omega.{arith}
 use borrow.Author.Tests.{eqb-true}
 use Rattle.term.specs.Bytes.{pick}
 use Rattle.term.proofs.Names.{never}
-use Rattle.ntriples.specs.Text.{Unbroken, endsInCr, FirstLine, untilLf, hasLf, dropCr, firstLineOf, takenOf}
+use Rattle.ntriples.specs.Text.{Unbroken, endsInCr, FirstLine}
+use Rattle.ntriples.specs.Reader.{untilLf, hasLf, dropCr, firstLineOf, takenOf}
 
 -- of a line l before a LF
 until-lf : (l r : List ℕ) → Unbroken l → (untilLf (l ++ (10 ∷ r)) ≡ l) × (hasLf (l ++ (10 ∷ r)) ≡ true)

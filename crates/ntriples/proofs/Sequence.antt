@@ -39,7 +39,8 @@ use Rattle.ntriples.specs.Reader.{
   endOf,
   lineOf,
 }
-use Rattle.ntriples.specs.Text.{Unbroken, endsInCr, FirstLine, answerOf, readSpelled}
+use Rattle.ntriples.specs.Text.{Unbroken, endsInCr, FirstLine}
+use Rattle.ntriples.specs.Reader.{answerOf, readSpelled}
 use Rattle.ntriples.specs.Productions.{Inline, Dark, RunEnd, runEnd, onward, TermEnds, ObjectEnds, crDropped, EolAt}
 use Rattle.ntriples.proofs.Forth.{gap-space}
 use Rattle.ntriples.proofs.Halts.{decide, strictly, step-to, at-end, onward-broken}

@@ -13,7 +13,7 @@ use Rattle.term.specs.Spelling.{All}
 use Rattle.term.specs.Grammar as g
 use Rattle.term.proofs.Names.{never}
 use Rattle.term.proofs.Table.{spans, at-range, eqBool, same-bool}
-use Rattle.ntriples.specs.Terms.{suffixFrom}
+use Rattle.ntriples.specs.TermOf.{suffixFrom}
 use Rattle.ntriples.specs.Standard as std
 use Rattle.ntriples.specs.Standard.{one, the, _▸_, _∣_, maybe, many, many1, any, except}
 use Rattle.ntriples.specs.Claims.{

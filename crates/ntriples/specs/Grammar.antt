@@ -1,15 +1,10 @@
 -- The grammar of a line (scope paper, "Names", last paragraph): the productions of RDF 1.1 N-Triples, by their names there
 -- (triple, subject, predicate, object), with white space and comments as the paper has them, over the terms that it permits. Assumes nothing.
-use Prim.Native.Nat.{ℕ, _+_, _≤_, min}
-use mathlib.Core.Path.{_≡_}
-use mathlib.Core.List.{List, [], _∷_, _++_}
-use mathlib.Core.Bool.{Bool, true, false}
-use mathlib.Core.Logic.{_⊎_}
-use lib.Dec.{leb, eqb}
-use lib.ListN.{length}
+use Rattle.term.specs.Prelude.{ℕ, _+_, _≤_, min, _≡_, List, [], _∷_, _++_, Bool, true, false, _⊎_, eqb, length}
 use Rattle.term.specs.Bytes.{pick, between, among}
 use Rattle.term.specs.Grammar.{Iri, Blank, Literal}
 use Rattle.ntriples.specs.declared.Span.{Span}
+use Rattle.ntriples.specs.Standard.{TripleOf}
 
 -- a space or a tab
 unfoldable pub white : ℕ → Bool
@@ -47,27 +42,9 @@ pub data Object : List ℕ → Type 0 where
   blank : {t : List ℕ} → Blank t → Object t
   literal : {t : List ℕ} → Literal t → Object t
 
--- a derivation of the line l: subject, predicate, object, a dot, with any spaces or tabs around and between, and possibly a
--- comment after
-pub record Triple (l : List ℕ) : Type 0 where
-  pub before : List ℕ
-  pub subject : List ℕ
-  pub between₁ : List ℕ
-  pub predicate : List ℕ
-  pub between₂ : List ℕ
-  pub object : List ℕ
-  pub between₃ : List ℕ
-  pub after : List ℕ
-  pub spells : l ≡ before ++ (subject ++ (between₁ ++ (predicate ++ (between₂ ++ (object ++ (between₃ ++
-      (46 ∷ after)))))))
-  pub white₀ : WhiteSpace before
-  pub isSubject : Subject subject
-  pub white₁ : WhiteSpace between₁
-  pub isPredicate : Predicate predicate
-  pub white₂ : WhiteSpace between₂
-  pub isObject : Object object
-  pub white₃ : WhiteSpace between₃
-  pub trail : Trail after
+-- a line: subject, predicate, object, a dot, with any spaces or tabs around and between, and possibly a comment after
+abbrev pub Triple : List ℕ → Type 0
+Triple = TripleOf Subject Predicate Object WhiteSpace Trail
 
 abbrev pub span : ℕ → ℕ → Span
 span a b = record { start = a; end = b }

@@ -1,7 +1,9 @@
+pub mod Standard
 pub mod Grammar
-pub mod Reader
 pub mod Text
 pub mod Terms
-pub mod Standard
+pub mod TermOf
+pub mod Reader
 pub mod Claims
+pub mod Subset
 pub mod Productions

@@ -1,11 +1,6 @@
--- The grammar of RDF 1.1 N-Triples (W3C Recommendation of 25 February 2014, "Grammar") over lists of code points: a definition
--- for each production, under its name (with `-` for `_`) and below its number and text there. Nothing in it is the scope paper's.
--- Assumes nothing.
-use Prim.Native.Nat.{ℕ}
-use mathlib.Core.Path.{_≡_}
-use mathlib.Core.List.{List, [], _∷_, _++_}
-use mathlib.Core.Bool.{Bool, true, false}
-use lib.Dec.{leb, eqb}
+-- The grammar of RDF 1.1 N-Triples (W3C Recommendation of 25 February 2014, "Grammar") over lists of code points: a definition for each
+-- production, under its name (with `-` for `_`) and below its number and text there. Nothing in it is the scope paper's. Assumes nothing.
+use Rattle.term.specs.Prelude.{ℕ, _≡_, List, [], _∷_, _++_, Bool, true, false, eqb}
 use Rattle.term.specs.Bytes.{pick, between, among}
 
 -- ---- the recommendation's notation
@@ -72,9 +67,8 @@ iriChar c = except (60 ∷ 62 ∷ 34 ∷ 123 ∷ 125 ∷ 124 ∷ 94 ∷ 96 ∷ 9
 unfoldable pub stringChar : ℕ → Bool
 stringChar c = except (0x22 ∷ 0x5C ∷ 0xA ∷ 0xD ∷ []) 0 c
 
--- [157s] PN_CHARS_BASE ::= [A-Z] | [a-z] | [#x00C0-#x00D6] | [#x00D8-#x00F6] | [#x00F8-#x02FF] | [#x0370-#x037D]
---   | [#x037F-#x1FFF] | [#x200C-#x200D] | [#x2070-#x218F] | [#x2C00-#x2FEF] | [#x3001-#xD7FF] | [#xF900-#xFDCF]
---   | [#xFDF0-#xFFFD] | [#x10000-#xEFFFF]
+-- [157s] PN_CHARS_BASE ::= [A-Z] | [a-z] | [#x00C0-#x00D6] | [#x00D8-#x00F6] | [#x00F8-#x02FF] | [#x0370-#x037D] | [#x037F-#x1FFF]
+--   | [#x200C-#x200D] | [#x2070-#x218F] | [#x2C00-#x2FEF] | [#x3001-#xD7FF] | [#xF900-#xFDCF] | [#xFDF0-#xFFFD] | [#x10000-#xEFFFF]
 unfoldable pub PN-CHARS-BASE : ℕ → Bool
 PN-CHARS-BASE c =
     any
@@ -99,11 +93,10 @@ HEX c = any (between 48 57 c ∷ between 65 70 c ∷ between 97 102 c ∷ [])
 
 -- ---- terminals
 
--- HEX HEX HEX HEX
+-- [10] UCHAR ::= '\u' HEX HEX HEX HEX | '\U' HEX HEX HEX HEX HEX HEX HEX HEX
 abbrev pub HEX4 : List ℕ → Type 0
 HEX4 = one HEX ▸ one HEX ▸ one HEX ▸ one HEX
 
--- [10] UCHAR ::= '\u' HEX HEX HEX HEX | '\U' HEX HEX HEX HEX HEX HEX HEX HEX
 abbrev pub UCHAR : List ℕ → Type 0
 UCHAR = (the 92 ▸ the 117 ▸ HEX4) ∣ (the 92 ▸ the 85 ▸ HEX4 ▸ HEX4)
 
@@ -139,8 +132,11 @@ COMMENT = the 35 ▸ many (one (except (0xD ∷ 0xA ∷ []) 0))
 -- ---- a line
 
 -- [6] literal ::= STRING_LITERAL_QUOTE ('^^' IRIREF | LANGTAG)?, with white space between its terminals
+abbrev pub Suffix : List ℕ → Type 0
+Suffix = maybe ((WS ▸ the 94 ▸ the 94 ▸ WS ▸ IRIREF) ∣ (WS ▸ LANGTAG))
+
 abbrev pub Literal : List ℕ → Type 0
-Literal = STRING-LITERAL-QUOTE ▸ maybe ((WS ▸ the 94 ▸ the 94 ▸ WS ▸ IRIREF) ∣ (WS ▸ LANGTAG))
+Literal = STRING-LITERAL-QUOTE ▸ Suffix
 
 -- [3] subject ::= IRIREF | BLANK_NODE_LABEL
 abbrev pub Subject : List ℕ → Type 0
@@ -155,8 +151,8 @@ abbrev pub Object : List ℕ → Type 0
 Object = IRIREF ∣ BLANK-NODE-LABEL ∣ Literal
 
 -- [2] triple ::= subject predicate object '.'
--- A derivation of the line l, with white space around and between, and possibly a comment after.
-pub record Triple (l : List ℕ) : Type 0 where
+-- A derivation of the line l, by productions for its terms, for the white space around and between them, and for what may follow the dot.
+pub record TripleOf (S P O W E : List ℕ → Type 0) (l : List ℕ) : Type 0 where
   pub before : List ℕ
   pub subject : List ℕ
   pub between₁ : List ℕ
@@ -165,13 +161,20 @@ pub record Triple (l : List ℕ) : Type 0 where
   pub object : List ℕ
   pub between₃ : List ℕ
   pub after : List ℕ
-  pub spells : l ≡ before ++ (subject ++ (between₁ ++ (predicate ++ (between₂ ++ (object ++ (between₃ ++
-      (46 ∷ after)))))))
-  pub white₀ : WS before
-  pub isSubject : Subject subject
-  pub white₁ : WS between₁
-  pub isPredicate : Predicate predicate
-  pub white₂ : WS between₂
-  pub isObject : Object object
-  pub white₃ : WS between₃
-  pub trail : (WS ▸ maybe COMMENT) after
+  pub spells : l ≡ before ++ (subject ++ (between₁ ++ (predicate ++ (between₂ ++ (object ++ (between₃ ++ (46 ∷ after)))))))
+  pub white₀ : W before
+  pub isSubject : S subject
+  pub white₁ : W between₁
+  pub isPredicate : P predicate
+  pub white₂ : W between₂
+  pub isObject : O object
+  pub white₃ : W between₃
+  pub trail : E after
+
+-- its strings
+abbrev pub stringsOf : {S P O W E : List ℕ → Type 0} {l : List ℕ} → TripleOf S P O W E l → List (List ℕ)
+stringsOf d =
+    d .before ∷ d .subject ∷ d .between₁ ∷ d .predicate ∷ d .between₂ ∷ d .object ∷ d .between₃ ∷ d .after ∷ []
+
+abbrev pub Triple : List ℕ → Type 0
+Triple = TripleOf Subject Predicate Object WS (WS ▸ maybe COMMENT)

@@ -13,7 +13,7 @@ ghost use lib.ListN.{length};
 ghost use Rattle.term.specs.Grammar.{nameLimit};
 ghost use Rattle.ntriples.specs.Grammar.{white, commentByte};
 ghost use Rattle.ntriples.specs.Reader.{isDot, opens, Begin, Gap, After, Remark};
-ghost use Rattle.ntriples.specs.Text.{answerOf, readSpelled, readOf};
+ghost use Rattle.ntriples.specs.Reader.{answerOf, readSpelled, readOf};
 ghost use Rattle.ntriples.specs.Productions.{Inline, OnLine, TermAt, Dark, Reached, RunEnd, onward, TermEnds, EarlierEnds, ObjectEnds, cutOf, crDropped, Seen, BlockSeen, Passed, EolAt};
 use term::Scan;
 

@@ -46,7 +46,7 @@ use denote.Triple.Spec.{Meets, tripleOf}
 use denote.Triple.Table.{entered, cited}
 use denote.Triple.Walked.{says, Stays, stay-ref, walkOf, goes-ref, Walks, ends-at, walked, walk-meets}
 use denote.Triple.Clauses.{ensured, lasts}
-use Rattle.ntriples.specs.Text.{readOf}
+use Rattle.ntriples.specs.Reader.{readOf}
 use Rattle.line_reader.specs.declared.LineReader.{LineReader}
 use Rattle.ntriples.specs.declared.LineRead.{LineRead}
 use Rattle.line_reader.proofs.LineReader as T
