@@ -7,8 +7,7 @@ use lib.Dec.{leb, eqb}
 use native.Mathlib.Omega.{arith}
 use borrow.Author.Tests.{eqb-true, leb-true, le-leb}
 use Rattle.term.specs.Bytes as b
-use Rattle.term.specs.Bytes.{pick, between, among}
-use Rattle.term.specs.Spelling.{All}
+use Rattle.term.specs.Bytes.{pick, between, among, All}
 use Rattle.term.specs.Scanner.{firstKindOf}
 use Rattle.term.specs.Grammar as g
 use Rattle.term.proofs.Names.{never, name-kind}
@@ -16,15 +15,8 @@ use Rattle.term.proofs.Turn.{unlike}
 use Rattle.ntriples.specs.Grammar.{white, commentByte, WhiteSpace, Comment, Trail, Subject, Predicate, Object, Triple}
 use Rattle.ntriples.specs.Standard as std
 use Rattle.ntriples.specs.Standard.{one, the, _▸_, _∣_, maybe, many, many1, any, except}
-use Rattle.ntriples.specs.Claims.{
-  InSubset,
-  stringsOf,
-  standardStringsOf,
-  SubsetOfStandard,
-  OneStandardDerivation,
-}
+use Rattle.ntriples.specs.Claims.{InSubset, SubsetOfStandard}
 use Rattle.ntriples.proofs.Residual.{cases}
-use Rattle.ntriples.proofs.Claims.{one-derivation}
 
 -- ---- classes of bytes
 
@@ -191,8 +183,7 @@ langtag : {c : ℕ} {s : List ℕ} → b.letter c ≡ true → g.TagRest s → s
 langtag {c} e r = _▸_.pair the.char (before-pair _ _ _ (one.char (letter-byte c e)) (tag-rest r))
 
 -- literals
-suffix : {s : List ℕ} → g.Suffix s
-    → maybe ((std.WS ▸ the 94 ▸ the 94 ▸ std.WS ▸ std.IRIREF) ∣ (std.WS ▸ std.LANGTAG)) s
+suffix : {s : List ℕ} → g.Suffix s → std.Suffix s
 suffix g.Suffix.none = maybe.none
 suffix (g.Suffix.tag e r) = maybe.some (_∣_.right (_▸_.pair many.none (langtag e r)))
 suffix (g.Suffix.datatype i) =
@@ -203,8 +194,7 @@ module _ (A B C : List ℕ → Type 0) where
   front-pair {s} a (_▸_.pair {s = u} {t = v} m r) = rw (← append-assoc) (_▸_.pair (front A B a m) r)
 
 text-rest : {s : List ℕ} → g.TextRest s
-    → ((many (one std.stringChar ∣ std.ECHAR ∣ std.UCHAR) ▸ the 34) ▸ maybe ((std.WS ▸ the 94 ▸ the 94 ▸ std.WS ▸ std.IRIREF)
-    ∣ (std.WS ▸ std.LANGTAG))) s
+    → ((many (one std.stringChar ∣ std.ECHAR ∣ std.UCHAR) ▸ the 34) ▸ std.Suffix) s
 text-rest (g.TextRest.byte {b = c} e r) = front-pair _ _ _ (_∣_.left (one.char (text-byte c e))) (text-rest r)
 text-rest (g.TextRest.pair {b = c} e r) =
     front-pair _ _ _ (_∣_.right (_∣_.left (_▸_.pair the.char (one.char (pair-byte c e))))) (text-rest r)
@@ -243,14 +233,14 @@ trail (Trail.space h r) = front _ _ (one.char h) (trail r)
 trail (Trail.comment r) = _▸_.pair many.none (maybe.some (_▸_.pair the.char (comment r)))
 
 -- its terms are names, and its trail has the paper's bytes
-subject-name : {t : List ℕ} → Subject t → (k : ℕ) × g.Name k t
+pub subject-name : {t : List ℕ} → Subject t → (k : ℕ) × g.Name k t
 subject-name (Subject.iri h) = (1, g.Name.iri h)
 subject-name (Subject.blank h) = (2, g.Name.blank h)
 
-predicate-name : {t : List ℕ} → Predicate t → (k : ℕ) × g.Name k t
+pub predicate-name : {t : List ℕ} → Predicate t → (k : ℕ) × g.Name k t
 predicate-name (Predicate.iri h) = (1, g.Name.iri h)
 
-object-name : {t : List ℕ} → Object t → (k : ℕ) × g.Name k t
+pub object-name : {t : List ℕ} → Object t → (k : ℕ) × g.Name k t
 object-name (Object.iri h) = (1, g.Name.iri h)
 object-name (Object.blank h) = (2, g.Name.blank h)
 object-name (Object.literal h) = (3, g.Name.literal h)
@@ -325,13 +315,13 @@ literal-of (g.Name.iri h) e = absurd (omega arith)
 literal-of (g.Name.blank h) e = absurd (omega arith)
 literal-of (g.Name.literal h) e = h
 
-iri-back : {k : ℕ} {s : List ℕ} → std.IRIREF s → g.Name k s → g.Iri s
+pub iri-back : {k : ℕ} {s : List ℕ} → std.IRIREF s → g.Name k s → g.Iri s
 iri-back x n = iri-of n (sym (name-kind n) ∙ iri-kind x)
 
 blank-back : {k : ℕ} {s : List ℕ} → std.BLANK-NODE-LABEL s → g.Name k s → g.Blank s
 blank-back x n = blank-of n (sym (name-kind n) ∙ blank-kind x)
 
-literal-back : {k : ℕ} {s : List ℕ} → std.Literal s → g.Name k s → g.Literal s
+pub literal-back : {k : ℕ} {s : List ℕ} → std.Literal s → g.Name k s → g.Literal s
 literal-back x n = literal-of n (sym (name-kind n) ∙ literal-kind x)
 
 subject-back : {k : ℕ} {s : List ℕ} → std.Subject s → g.Name k s → Subject s
@@ -401,10 +391,3 @@ subset-of-standard l = (
   ),
   λ e h. (back e h, refl),
 )
-
-same : {l : List ℕ} (d e : Triple l) → stringsOf d ≡ stringsOf e
-same {l} d e = let h = one-derivation l d .0 e in cc
-
-pub one-standard-derivation : OneStandardDerivation
-unfolding back
-one-standard-derivation l e f h k = same (back e h) (back f k)

@@ -1,4 +1,4 @@
--- What the paper leaves out of the standard's terms (specs/Claims.antt). Assumes nothing.
+-- What the paper leaves out of the standard's terms (specs/Subset.antt). Assumes nothing.
 use Prim.Native.Nat.{ℕ, _≤_}
 use mathlib.Core.Path.{_≡_, refl, sym, _∙_, ap}
 use mathlib.Core.List.{List, [], _∷_, _++_}
@@ -8,24 +8,14 @@ use lib.ListN.{drop}
 use native.Mathlib.Omega.{arith}
 use borrow.Author.Tests.{eqb-true, leb-true, le-leb}
 use Rattle.term.specs.Bytes as b
-use Rattle.term.specs.Bytes.{pick, between, among}
-use Rattle.term.specs.Spelling.{All}
+use Rattle.term.specs.Bytes.{pick, between, among, All}
 use Rattle.term.specs.Grammar as g
 use Rattle.term.proofs.Names.{never}
 use Rattle.term.proofs.Table.{spans, at-range, eqBool, same-bool}
 use Rattle.ntriples.specs.TermOf.{suffixFrom}
 use Rattle.ntriples.specs.Standard as std
 use Rattle.ntriples.specs.Standard.{one, the, _▸_, _∣_, maybe, many, many1, any, except}
-use Rattle.ntriples.specs.Claims.{
-  bare,
-  unmarked,
-  fourPairs,
-  visible,
-  Plain,
-  IrisOfStandard,
-  BlanksOfStandard,
-  LiteralsOfStandard,
-}
+use Rattle.ntriples.specs.Subset.{bare, unmarked, fourPairs, visible, Plain, IrisOfStandard, BlanksOfStandard, LiteralsOfStandard}
 use Rattle.ntriples.proofs.Residual.{cases}
 use Rattle.ntriples.proofs.Terms.{plain, pair-cases}
 use Rattle.ntriples.proofs.Standard.{within, split, iri, blank, literal}
@@ -60,7 +50,7 @@ rest-bare : {s : List ℕ} → g.IriRest s → All bare s
 rest-bare (g.IriRest.byte {b = c} e r) = (iri-bare c e, rest-bare r)
 rest-bare g.IriRest.close = (refl, tt)
 
-iri-bares : {s : List ℕ} → g.Iri s → All bare s
+pub iri-bares : {s : List ℕ} → g.Iri s → All bare s
 iri-bares (g.Iri.open′ {b = c} e r) = (refl, (iri-bare c e, rest-bare r))
 
 no-close : {C : Type 0} (c : ℕ) (s : List ℕ) → b.iriByte c ≡ true → 60 ∷ (c ∷ s) ≡ 60 ∷ 62 ∷ [] → C
@@ -224,7 +214,7 @@ visible-bound c h =
 visible-bare : (c : ℕ) → visible c ≡ true → bare c ≡ true
 visible-bare c h = implied visible bare tt c (visible-bound c h) h
 
-visibles : (s : List ℕ) → All visible s → All bare s
+pub visibles : (s : List ℕ) → All visible s → All bare s
 visibles [] f = tt
 visibles (c ∷ s) f = (visible-bare c (f .0), visibles s (f .1))
 
@@ -232,13 +222,12 @@ clash : {C : Type 0} (t : Bool) → t ≡ true → pick t false true ≡ true �
 clash true e h = never h
 clash false e h = never e
 
-no-white : {C : Type 0} (c : ℕ) → among (32 ∷ 9 ∷ []) c ≡ true → visible c ≡ true → C
+pub no-white : {C : Type 0} (c : ℕ) → among (32 ∷ 9 ∷ []) c ≡ true → visible c ≡ true → C
 unfolding among
 no-white c e h =
     clash (visible c) h (implied (among (32 ∷ 9 ∷ [])) (λ i. pick (visible i) false true) tt c (visible-bound c h) e)
 
-suffix-back : {s : List ℕ} → maybe ((std.WS ▸ the 94 ▸ the 94 ▸ std.WS ▸ std.IRIREF) ∣ (std.WS ▸ std.LANGTAG)) s
-    → All visible s → (s ≡ 94 ∷ 94 ∷ 60 ∷ 62 ∷ [] → ⊥) → g.Suffix s
+suffix-back : {s : List ℕ} → std.Suffix s → All visible s → (s ≡ 94 ∷ 94 ∷ 60 ∷ 62 ∷ [] → ⊥) → g.Suffix s
 suffix-back maybe.none f n = g.Suffix.none
 suffix-back (maybe.some (_∣_.left (_▸_.pair many.none (_▸_.pair the.char (_▸_.pair the.char (_▸_.pair {t =
     t} many.none i)))))) f n =
@@ -297,11 +286,11 @@ suffix-typed (g.Suffix.datatype i) h = iri-filled i (cc)
 -- ---- the text of a literal
 
 -- what `Plain` says, without the opening quote
-record Fit (s : List ℕ) : Type 0 where
-  bytes : All (λ c. between 32 126 c) s
-  escapes : fourPairs false s ≡ true
-  suffix : All visible (suffixFrom false s)
-  typed : suffixFrom false s ≡ 94 ∷ 94 ∷ 60 ∷ 62 ∷ [] → ⊥
+pub record Fit (s : List ℕ) : Type 0 where
+  pub bytes : All (λ c. between 32 126 c) s
+  pub escapes : fourPairs false s ≡ true
+  pub suffix : All visible (suffixFrom false s)
+  pub typed : suffixFrom false s ≡ 94 ∷ 94 ∷ 60 ∷ 62 ∷ [] → ⊥
 
 byte-pairs : (c : ℕ) (s : List ℕ) → b.textByte c ≡ true → fourPairs false (c ∷ s) ≡ fourPairs false s
 unfolding fourPairs
@@ -323,7 +312,7 @@ pair-pairs : (c : ℕ) (s : List ℕ) → b.pairByte c ≡ true → fourPairs fa
 unfolding fourPairs
 pair-pairs c s e = rw e
 
-pair-only : (c : ℕ) (s : List ℕ) → fourPairs false (92 ∷ (c ∷ s)) ≡ true → b.pairByte c ≡ true
+pub pair-only : (c : ℕ) (s : List ℕ) → fourPairs false (92 ∷ (c ∷ s)) ≡ true → b.pairByte c ≡ true
 unfolding fourPairs
 pair-only c s h =
     cases (λ x. x ≡ true) (b.pairByte c) (fourPairs false s) false (λ e _. e) (λ _ z. never z) h
@@ -376,13 +365,13 @@ text-fit (g.TextRest.close {s = s} r) =
       typed = λ h. suffix-typed r (sym (close-suffix s) ∙ h);
     }
 
-string-char : (c : ℕ) → std.stringChar c ≡ true → between 32 126 c ≡ true → b.textByte c ≡ true
+pub string-char : (c : ℕ) → std.stringChar c ≡ true → between 32 126 c ≡ true → b.textByte c ≡ true
 unfolding std.stringChar b.textByte among
 string-char c h k =
     implied (λ i. pick (between 32 126 i) (std.stringChar i) false) b.textByte tt c (within 32 126 c k .1)
     (both (between 32 126 c) (std.stringChar c) k h)
 
-after-byte : (c : ℕ) (s : List ℕ) → b.textByte c ≡ true → Fit (c ∷ s) → Fit s
+pub after-byte : (c : ℕ) (s : List ℕ) → b.textByte c ≡ true → Fit (c ∷ s) → Fit s
 after-byte c s e f =
     record {
       bytes = f .bytes .1;
@@ -391,7 +380,7 @@ after-byte c s e f =
       typed = λ h. f .typed (byte-suffix c s e ∙ h);
     }
 
-after-pair : (c : ℕ) (s : List ℕ) → b.pairByte c ≡ true → Fit (92 ∷ (c ∷ s)) → Fit s
+pub after-pair : (c : ℕ) (s : List ℕ) → b.pairByte c ≡ true → Fit (92 ∷ (c ∷ s)) → Fit s
 after-pair c s e f =
     record {
       bytes = f .bytes .1 .1;
@@ -400,11 +389,11 @@ after-pair c s e f =
       typed = λ h. f .typed (pair-suffix c s ∙ h);
     }
 
-no-u : {C : Type 0} (s : List ℕ) → fourPairs false (92 ∷ (117 ∷ s)) ≡ true → C
+pub no-u : {C : Type 0} (s : List ℕ) → fourPairs false (92 ∷ (117 ∷ s)) ≡ true → C
 unfolding fourPairs b.pairByte among
 no-u s h = never h
 
-no-U : {C : Type 0} (s : List ℕ) → fourPairs false (92 ∷ (85 ∷ s)) ≡ true → C
+pub no-U : {C : Type 0} (s : List ℕ) → fourPairs false (92 ∷ (85 ∷ s)) ≡ true → C
 unfolding fourPairs b.pairByte among
 no-U s h = never h
 
@@ -421,7 +410,7 @@ text-back t (many.more (_∣_.right (_∣_.right (_∣_.left (_▸_.pair the.cha
 text-back t (many.more (_∣_.right (_∣_.right (_∣_.right (_▸_.pair the.char (_▸_.pair the.char x))))) m) f k =
     no-U _ (f .escapes)
 
-fit : (s : List ℕ) → Plain (34 ∷ s) → Fit s
+pub fit : (s : List ℕ) → Plain (34 ∷ s) → Fit s
 fit s p =
     record { bytes = p .bytes .1; escapes = sym (close-pairs s) ∙ p .escapes; suffix = p .suffix; typed = p .typed }
 
@@ -429,7 +418,7 @@ literal-narrow : {s : List ℕ} → std.Literal s → Plain s → g.Literal s
 literal-narrow (_▸_.pair {t = t} (_▸_.pair the.char (_▸_.pair m the.char)) x) p =
     g.Literal.open′ (text-back t m (fit _ p) (λ v n. suffix-back x v n))
 
-literal-plain : {s : List ℕ} → g.Literal s → Plain s
+pub literal-plain : {s : List ℕ} → g.Literal s → Plain s
 literal-plain (g.Literal.open′ {s = s} r) =
     let f = text-fit r in
     record { bytes = (refl, f .bytes); escapes = close-pairs s ∙ f .escapes; suffix = f .suffix; typed = f .typed }

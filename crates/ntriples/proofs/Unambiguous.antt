@@ -212,6 +212,263 @@ label-ends x (_▸_.pair the.char (_▸_.pair the.char (_▸_.pair f maybe.none)
     let z : c .0 ≡ 46 = ap (λ (l : List ℕ). final (95 ∷ (58 ∷ (l ++ [])))) (sym (c .1)) ∙ (ap final e ∙ final-is x 46) in
     never (rw z at (c .2))
 label-ends x (_▸_.pair the.char (_▸_.pair the.char (_▸_.pair {s = a} f (maybe.some (_▸_.pair {s = b} m (one.char {c = c} h)))))) e =
-    let l = 95 ∷ (58 ∷ (a ++ b)) in
+    let l : List ℕ = 95 ∷ (58 ∷ (a ++ b)) in
     let z : c ≡ 46 = sym (final-is l c) ∙ (ap final (ap (λ (y : List ℕ). 95 ∷ (58 ∷ y)) (append-assoc a b (c ∷ [])) ∙ e) ∙ final-is x 46) in
     never (rw z at h)
+
+-- what may follow the line's dot does not go on with a label
+trail-ends : (f : ℕ → Bool) {r : List ℕ} → f 32 ≡ false → f 9 ≡ false → f 35 ≡ false → (std.WS ▸ maybe std.COMMENT) r → Ends f r
+trail-ends f p q k (_▸_.pair w maybe.none) = white-ends f [] p q w tt
+trail-ends f p q k (_▸_.pair {t = t} w (maybe.some (_▸_.pair the.char x))) = white-ends f t p q w k
+
+white-labels : (labelled 32 ≡ false) × (labelled 9 ≡ false) × (labelled 35 ≡ false) × (labelled 60 ≡ false)
+unfolding std.PN-CHARS std.PN-CHARS-U std.PN-CHARS-BASE std.digit
+white-labels = (refl, refl, refl, refl)
+
+-- A label and the white space and the dot after it. Where the dot follows at once it is the last of the run of a label's characters.
+label-one : {s t w v p q : List ℕ} → std.BLANK-NODE-LABEL s → std.BLANK-NODE-LABEL t → std.WS w → std.WS v
+    → (std.WS ▸ maybe std.COMMENT) p → (std.WS ▸ maybe std.COMMENT) q
+    → s ++ (w ++ (46 ∷ p)) ≡ t ++ (v ++ (46 ∷ q)) → s ≡ t
+label-one {s} {t} {p = p} {q = q} x y many.none many.none h k e =
+    let c = white-labels in
+    let z = run labelled (s ++ (46 ∷ [])) (t ++ (46 ∷ [])) p q (all-append labelled s (46 ∷ []) (label-all x) (refl, tt))
+    (all-append labelled t (46 ∷ []) (label-all y) (refl, tt)) (trail-ends labelled (c .0) (c .1) (c .2) h)
+    (trail-ends labelled (c .0) (c .1) (c .2) k)
+    (append-assoc s (46 ∷ []) p ∙ (e ∙ sym (append-assoc t (46 ∷ []) q))) in
+    front-same s t (46 ∷ []) (46 ∷ []) refl (z .0)
+label-one {s} {t} {p = p} x y many.none (many.more (one.char {c = d} i) v) h k e =
+    let c = white-labels in
+    let z = run labelled (s ++ (46 ∷ [])) t p _ (all-append labelled s (46 ∷ []) (label-all x) (refl, tt)) (label-all y)
+    (trail-ends labelled (c .0) (c .1) (c .2) h) (white-out labelled d (c .0) (c .1) i) (append-assoc s (46 ∷ []) p ∙ e) in
+    absurd (label-ends s y (sym (z .0)))
+label-one {s} {t} {q = q} x y (many.more (one.char {c = d} i) w) many.none h k e =
+    let c = white-labels in
+    let z = run labelled s (t ++ (46 ∷ [])) _ q (label-all x) (all-append labelled t (46 ∷ []) (label-all y) (refl, tt))
+    (white-out labelled d (c .0) (c .1) i) (trail-ends labelled (c .0) (c .1) (c .2) k) (e ∙ sym (append-assoc t (46 ∷ []) q)) in
+    absurd (label-ends t x (z .0))
+label-one {s} {t} x y (many.more (one.char {c = d} i) w) (many.more (one.char {c = b} j) v) h k e =
+    let c = white-labels in
+    run labelled s t _ _ (label-all x) (label-all y) (white-out labelled d (c .0) (c .1) i) (white-out labelled b (c .0) (c .1) j) e .0
+
+-- ---- literals
+
+abbrev unquoted : ℕ → Bool
+unquoted c = pick (eqb c 34) false (pick (eqb c 92) false true)
+
+hex-unquoted : (c : ℕ) → std.HEX c ≡ true → unquoted c ≡ true
+unfolding std.HEX
+hex-unquoted c h = rw (other std.HEX 34 c refl h, other std.HEX 92 c refl h)
+
+skip-char : (c : ℕ) (s : List ℕ) → eqb c 34 ≡ false → eqb c 92 ≡ false → suffixFrom false (c ∷ s) ≡ suffixFrom false s
+unfolding suffixFrom
+skip-char c s p q = rw (p, q)
+
+unquoted-cases : (c : ℕ) → unquoted c ≡ true → (eqb c 34 ≡ false) × (eqb c 92 ≡ false)
+unquoted-cases c h = (other unquoted 34 c refl h, other unquoted 92 c refl h)
+
+skip-all : (s z : List ℕ) → All unquoted s → suffixFrom false (s ++ z) ≡ suffixFrom false z
+skip-all [] z f = refl
+skip-all (c ∷ s) z f = let u = unquoted-cases c (f .0) in skip-char c (s ++ z) (u .0) (u .1) ∙ skip-all s z (f .1)
+
+skip-escape : (c : ℕ) (s : List ℕ) → suffixFrom false (92 ∷ (c ∷ s)) ≡ suffixFrom false s
+unfolding suffixFrom
+skip-escape c s = refl
+
+skip-close : (s : List ℕ) → suffixFrom false (34 ∷ s) ≡ s
+unfolding suffixFrom
+skip-close s = refl
+
+string-out : (std.stringChar 34 ≡ false) × (std.stringChar 92 ≡ false)
+unfolding std.stringChar among
+string-out = (refl, refl)
+
+-- what follows the closing quote
+pub string-rest : {s : List ℕ} (z : List ℕ) → many (one std.stringChar ∣ std.ECHAR ∣ std.UCHAR) s → suffixFrom false (s ++ (34 ∷ z)) ≡ z
+string-rest z many.none = skip-close z
+string-rest z (many.more {t = t} (_∣_.left (one.char {c = c} h)) r) =
+    skip-char c (t ++ (34 ∷ z)) (other std.stringChar 34 c (string-out .0) h) (other std.stringChar 92 c (string-out .1) h) ∙ string-rest z r
+string-rest z (many.more {t = t} (_∣_.right (_∣_.left (_▸_.pair the.char (one.char {c = c} h)))) r) =
+    skip-escape c (t ++ (34 ∷ z)) ∙ string-rest z r
+string-rest z (many.more {t = t} (_∣_.right (_∣_.right (_∣_.left (_▸_.pair the.char (_▸_.pair {t = x} the.char h))))) r) =
+    skip-escape 117 _ ∙ (ap (suffixFrom false) (append-assoc x t (34 ∷ z)) ∙ (skip-all x (t ++ (34 ∷ z)) (hex4-all unquoted hex-unquoted h)
+    ∙ string-rest z r))
+string-rest z (many.more {t = t} (_∣_.right (_∣_.right (_∣_.right (_▸_.pair the.char (_▸_.pair {t = x} the.char h))))) r) =
+    skip-escape 85 _ ∙ (ap (suffixFrom false) (append-assoc x t (34 ∷ z)) ∙ (skip-all x (t ++ (34 ∷ z)) (hex8-all unquoted hex-unquoted h)
+    ∙ string-rest z r))
+
+-- language tags
+abbrev tagged : ℕ → Bool
+tagged c = pick (eqb c 64) true (pick (eqb c 45) true (std.letterOrDigit c))
+
+alnum-tagged : (c : ℕ) → std.letterOrDigit c ≡ true → tagged c ≡ true
+alnum-tagged c h = split (eqb c 64) (λ p. rw p) (λ p. split (eqb c 45) (λ q. rw (p, q)) (λ q. rw (p, q, h)))
+
+letter-tagged : (c : ℕ) → std.letter c ≡ true → tagged c ≡ true
+unfolding std.letter std.letterOrDigit
+letter-tagged c h =
+    alnum-tagged c (split (between 97 122 c) (λ p. rw p)
+    (λ p. split (between 65 90 c) (λ q. rw (p, q)) (λ q. never (rw (p, q) at h))))
+
+all-wider : (f g : ℕ → Bool) → ((c : ℕ) → f c ≡ true → g c ≡ true) → (s : List ℕ) → All f s → All g s
+all-wider f g h [] p = tt
+all-wider f g h (c ∷ s) p = (h c (p .0), all-wider f g h s (p .1))
+
+group-tagged : {s : List ℕ} → (the 45 ▸ many1 (one std.letterOrDigit)) s → All tagged s
+group-tagged (_▸_.pair the.char (_▸_.pair {t = t} (one.char {c = c} h) r)) =
+    (refl, (alnum-tagged c h, all-wider std.letterOrDigit tagged alnum-tagged t (all-many std.letterOrDigit r)))
+
+groups-tagged : {s : List ℕ} → many (the 45 ▸ many1 (one std.letterOrDigit)) s → All tagged s
+groups-tagged many.none = tt
+groups-tagged (many.more {s = s} {t = t} g r) = all-append tagged s t (group-tagged g) (groups-tagged r)
+
+tag-all : {s : List ℕ} → std.LANGTAG s → All tagged s
+tag-all (_▸_.pair the.char (_▸_.pair {t = t} (_▸_.pair {t = s} (one.char {c = c} h) m) r)) =
+    (refl, (letter-tagged c h, all-append tagged s t (all-wider std.letter tagged letter-tagged s (all-many std.letter m))
+    (groups-tagged r)))
+
+tag-out : (tagged 32 ≡ false) × (tagged 9 ≡ false) × (tagged 46 ≡ false)
+unfolding std.letterOrDigit
+tag-out = (refl, refl, refl)
+
+-- the first character that is no white space
+dark : List ℕ → ℕ
+dark [] = 0
+dark (c ∷ s) = pick (white c) (dark s) c
+
+dark-is : {w : List ℕ} (c : ℕ) (s : List ℕ) → white c ≡ false → std.WS w → dark (w ++ (c ∷ s)) ≡ c
+unfolding dark
+dark-is c s h many.none = rw h
+dark-is c s h (many.more (one.char i) r) = rw i (dark-is c s h r)
+
+mark-out : (white 94 ≡ false) × (white 64 ≡ false) × (white 60 ≡ false) × (white 95 ≡ false) × (white 34 ≡ false)
+unfolding among
+mark-out = (refl, refl, refl, refl, refl)
+
+abbrev Typed : List ℕ → Type 0
+Typed = std.WS ▸ the 94 ▸ the 94 ▸ std.WS ▸ std.IRIREF
+
+typed-dark : {s : List ℕ} (u : List ℕ) → Typed s → dark (s ++ u) ≡ 94
+typed-dark u (_▸_.pair {s = w} {t = t} h (_▸_.pair the.char x)) =
+    ap dark (append-assoc w t u) ∙ dark-is 94 _ (mark-out .0) h
+
+tag-dark : {s : List ℕ} (u : List ℕ) → (std.WS ▸ std.LANGTAG) s → dark (s ++ u) ≡ 64
+tag-dark u (_▸_.pair {s = w} {t = t} h (_▸_.pair the.char x)) =
+    ap dark (append-assoc w t u) ∙ dark-is 64 _ (mark-out .1) h
+
+differ : {C : Type 0} (s t : List ℕ) (a b : ℕ) → dark s ≡ a → dark t ≡ b → (a ≡ b → ⊥) → s ≡ t → C
+differ s t a b p q n e = absurd (n (sym p ∙ (ap dark e ∙ q)))
+
+typed-one : {s t : List ℕ} (u v : List ℕ) → Typed s → Typed t → s ++ u ≡ t ++ v → s ≡ t
+typed-one u v (_▸_.pair {s = w} {t = a} h (_▸_.pair the.char (_▸_.pair the.char (_▸_.pair {s = x} {t = i} j m)))) (_▸_.pair {s =
+    w′} {t = a′} h′ (_▸_.pair the.char (_▸_.pair the.char (_▸_.pair {s = x′} {t = i′} j′ m′)))) e =
+    let p = run white w w′ _ _ (all-many white h) (all-many white h′) (mark-out .0) (mark-out .0)
+    (sym (append-assoc w a u) ∙ (e ∙ append-assoc w′ a′ v)) in
+    let y = tails 94 _ _ (tails 94 _ _ (p .1)) in
+    let q = run white x x′ (i ++ u) (i′ ++ v) (all-many white j) (all-many white j′) (iri-ends white u (mark-out .2) m)
+    (iri-ends white v (mark-out .2) m′) (sym (append-assoc x i u) ∙ (y ∙ append-assoc x′ i′ v)) in
+    let z = iri-one u v m m′ (q .1) in
+    rw (p .0, q .0, z)
+
+tag-ends : {s : List ℕ} (r : List ℕ) → std.LANGTAG s → Ends white (s ++ r)
+tag-ends r (_▸_.pair the.char x) = mark-out .1
+
+tag-one : {s t w v : List ℕ} (p q : List ℕ) → (std.WS ▸ std.LANGTAG) s → (std.WS ▸ std.LANGTAG) t → std.WS w → std.WS v
+    → s ++ (w ++ (46 ∷ p)) ≡ t ++ (v ++ (46 ∷ q)) → s ≡ t
+tag-one {w = w} {v = v} p q (_▸_.pair {s = a} {t = b} h x) (_▸_.pair {s = a′} {t = b′} h′ x′) i j e =
+    let c = tag-out in
+    let y = run white a a′ _ _ (all-many white h) (all-many white h′) (tag-ends _ x) (tag-ends _ x′)
+    (sym (append-assoc a b _) ∙ (e ∙ append-assoc a′ b′ _)) in
+    let z = run tagged b b′ _ _ (tag-all x) (tag-all x′) (white-ends tagged (46 ∷ p) (c .0) (c .1) i (c .2))
+    (white-ends tagged (46 ∷ q) (c .0) (c .1) j (c .2)) (y .1) in
+    rw (y .0, z .0)
+
+suffix-one : {s t w v : List ℕ} (p q : List ℕ) → std.Suffix s → std.Suffix t → std.WS w → std.WS v
+    → s ++ (w ++ (46 ∷ p)) ≡ t ++ (v ++ (46 ∷ q)) → s ≡ t
+suffix-one p q maybe.none maybe.none h k e = refl
+suffix-one p q maybe.none (maybe.some (_∣_.left y)) h k e =
+    differ _ _ 46 94 (dark-is 46 p dot-white h) (typed-dark _ y) (λ z. omega arith) e
+suffix-one p q maybe.none (maybe.some (_∣_.right y)) h k e =
+    differ _ _ 46 64 (dark-is 46 p dot-white h) (tag-dark _ y) (λ z. omega arith) e
+suffix-one p q (maybe.some (_∣_.left x)) maybe.none h k e =
+    differ _ _ 94 46 (typed-dark _ x) (dark-is 46 q dot-white k) (λ z. omega arith) e
+suffix-one p q (maybe.some (_∣_.left x)) (maybe.some (_∣_.left y)) h k e = typed-one _ _ x y e
+suffix-one p q (maybe.some (_∣_.left x)) (maybe.some (_∣_.right y)) h k e =
+    differ _ _ 94 64 (typed-dark _ x) (tag-dark _ y) (λ z. omega arith) e
+suffix-one p q (maybe.some (_∣_.right x)) maybe.none h k e =
+    differ _ _ 64 46 (tag-dark _ x) (dark-is 46 q dot-white k) (λ z. omega arith) e
+suffix-one p q (maybe.some (_∣_.right x)) (maybe.some (_∣_.left y)) h k e =
+    differ _ _ 64 94 (tag-dark _ x) (typed-dark _ y) (λ z. omega arith) e
+suffix-one p q (maybe.some (_∣_.right x)) (maybe.some (_∣_.right y)) h k e = tag-one p q x y h k e
+
+-- the string and the suffix of a literal, with what follows
+literal-one : {s t w v : List ℕ} (p q : List ℕ) → std.Literal s → std.Literal t → std.WS w → std.WS v
+    → s ++ (w ++ (46 ∷ p)) ≡ t ++ (v ++ (46 ∷ q)) → s ≡ t
+literal-one {w = w} {v = v} p q (_▸_.pair {t = x} (_▸_.pair the.char (_▸_.pair {s = m} a the.char)) c) (_▸_.pair {t =
+    y} (_▸_.pair the.char (_▸_.pair {s = n} b the.char)) d) h k e =
+    let u = w ++ (46 ∷ p) in
+    let z = v ++ (46 ∷ q) in
+    let e′ : m ++ (34 ∷ (x ++ u)) ≡ n ++ (34 ∷ (y ++ z)) =
+    sym (three m x u) ∙ (tails 34 _ _ e ∙ three n y z) in
+    let r : x ++ u ≡ y ++ z = sym (string-rest (x ++ u) a) ∙ (ap (suffixFrom false) e′ ∙ string-rest (y ++ z) b) in
+    let f = front-same m n (34 ∷ (x ++ u)) (34 ∷ (y ++ z)) (ap (λ (l : List ℕ). 34 ∷ l) r) e′ in
+    let g = suffix-one p q c d h k r in
+    rw (f, g)
+  where
+    three : (a b c : List ℕ) → ((a ++ (34 ∷ [])) ++ b) ++ c ≡ a ++ (34 ∷ (b ++ c))
+    three a b c = append-assoc (a ++ (34 ∷ [])) b c ∙ append-assoc a (34 ∷ []) (b ++ c)
+
+-- ---- a line
+
+subject-ends : {s : List ℕ} (r : List ℕ) → std.Subject s → Ends white (s ++ r)
+subject-ends r (_∣_.left x) = iri-ends white r (mark-out .2) x
+subject-ends r (_∣_.right (_▸_.pair the.char x)) = mark-out .3
+
+object-ends : {s : List ℕ} (r : List ℕ) → std.Object s → Ends white (s ++ r)
+object-ends r (_∣_.left x) = iri-ends white r (mark-out .2) x
+object-ends r (_∣_.right (_∣_.left (_▸_.pair the.char x))) = mark-out .3
+object-ends r (_∣_.right (_∣_.right (_▸_.pair (_▸_.pair the.char x) y))) = mark-out .4
+
+subject-one : {s t : List ℕ} (u v : List ℕ) → std.Subject s → std.Subject t → Ends labelled u → Ends labelled v
+    → s ++ u ≡ t ++ v → s ≡ t
+subject-one u v (_∣_.left x) (_∣_.left y) h k e = iri-one u v x y e
+subject-one u v (_∣_.left (_▸_.pair the.char x)) (_∣_.right (_▸_.pair the.char y)) h k e = heads 60 95 _ _ (λ z. omega arith) e
+subject-one u v (_∣_.right (_▸_.pair the.char x)) (_∣_.left (_▸_.pair the.char y)) h k e = heads 95 60 _ _ (λ z. omega arith) e
+subject-one u v (_∣_.right x) (_∣_.right y) h k e = run labelled _ _ u v (label-all x) (label-all y) h k e .0
+
+object-one : {s t w v p q : List ℕ} → std.Object s → std.Object t → std.WS w → std.WS v → (std.WS ▸ maybe std.COMMENT) p
+    → (std.WS ▸ maybe std.COMMENT) q → s ++ (w ++ (46 ∷ p)) ≡ t ++ (v ++ (46 ∷ q)) → s ≡ t
+object-one (_∣_.left x) (_∣_.left y) w v h k e = iri-one _ _ x y e
+object-one (_∣_.left (_▸_.pair the.char x)) (_∣_.right (_∣_.left (_▸_.pair the.char y))) w v h k e = heads 60 95 _ _ (λ z. omega arith) e
+object-one (_∣_.left (_▸_.pair the.char x)) (_∣_.right (_∣_.right (_▸_.pair (_▸_.pair the.char y) z))) w v h k e =
+    heads 60 34 _ _ (λ z. omega arith) e
+object-one (_∣_.right (_∣_.left (_▸_.pair the.char x))) (_∣_.left (_▸_.pair the.char y)) w v h k e = heads 95 60 _ _ (λ z. omega arith) e
+object-one (_∣_.right (_∣_.left x)) (_∣_.right (_∣_.left y)) w v h k e = label-one x y w v h k e
+object-one (_∣_.right (_∣_.left (_▸_.pair the.char x))) (_∣_.right (_∣_.right (_▸_.pair (_▸_.pair the.char y) z))) w v h k e =
+    heads 95 34 _ _ (λ z. omega arith) e
+object-one (_∣_.right (_∣_.right (_▸_.pair (_▸_.pair the.char x) z))) (_∣_.left (_▸_.pair the.char y)) w v h k e =
+    heads 34 60 _ _ (λ z. omega arith) e
+object-one (_∣_.right (_∣_.right (_▸_.pair (_▸_.pair the.char x) z))) (_∣_.right (_∣_.left (_▸_.pair the.char y))) w v h k e =
+    heads 34 95 _ _ (λ z. omega arith) e
+object-one (_∣_.right (_∣_.right x)) (_∣_.right (_∣_.right y)) w v h k e = literal-one _ _ x y w v e
+
+predicate-ends : {w s : List ℕ} (r : List ℕ) → std.WS w → std.IRIREF s → Ends labelled (w ++ (s ++ r))
+predicate-ends {s = s} r h x =
+    let c = white-labels in white-ends labelled (s ++ r) (c .0) (c .1) h (iri-ends labelled r (c .3) x)
+
+pub one-standard-derivation : OneStandardDerivation
+one-standard-derivation l d e =
+    let a = run white (d .before) (e .before) _ _ (all-many white (d .white₀)) (all-many white (e .white₀))
+    (subject-ends _ (d .isSubject)) (subject-ends _ (e .isSubject)) (sym (d .spells) ∙ e .spells) in
+    let s = subject-one _ _ (d .isSubject) (e .isSubject) (predicate-ends _ (d .white₁) (d .isPredicate))
+    (predicate-ends _ (e .white₁) (e .isPredicate)) (a .1) in
+    let b = run white (d .between₁) (e .between₁) _ _ (all-many white (d .white₁)) (all-many white (e .white₁))
+    (iri-ends white _ (mark-out .2) (d .isPredicate)) (iri-ends white _ (mark-out .2) (e .isPredicate))
+    (rest-same (d .subject) (e .subject) _ _ s (a .1)) in
+    let p = iri-one _ _ (d .isPredicate) (e .isPredicate) (b .1) in
+    let c = run white (d .between₂) (e .between₂) _ _ (all-many white (d .white₂)) (all-many white (e .white₂))
+    (object-ends _ (d .isObject)) (object-ends _ (e .isObject)) (rest-same (d .predicate) (e .predicate) _ _ p (b .1)) in
+    let o = object-one (d .isObject) (e .isObject) (d .white₃) (e .white₃) (d .trail) (e .trail) (c .1) in
+    let f = run white (d .between₃) (e .between₃) _ _ (all-many white (d .white₃)) (all-many white (e .white₃)) dot-white dot-white
+    (rest-same (d .object) (e .object) _ _ o (c .1)) in
+    let r = tails 46 _ _ (f .1) in
+    rw (a .0, s, b .0, p, c .0, o, f .0, r)
