@@ -322,9 +322,14 @@ groups-tagged many.none = tt
 groups-tagged (many.more {s = s} {t = t} g r) = all-append tagged s t (group-tagged g) (groups-tagged r)
 
 tag-all : {s : List ℕ} → std.LANGTAG s → All tagged s
-tag-all (_▸_.pair the.char (_▸_.pair {t = t} (_▸_.pair {t = s} (one.char {c = c} h) m) r)) =
-    (refl, (letter-tagged c h, all-append tagged s t (all-wider std.letter tagged letter-tagged s (all-many std.letter m))
-    (groups-tagged r)))
+tag-all (_▸_.pair the.char (_▸_.pair {t = t} (_▸_.pair {t = s} (one.char {c = c} h) m) r)) = (
+  refl,
+  (
+    letter-tagged c h,
+    all-append tagged s t (all-wider std.letter tagged letter-tagged s (all-many std.letter m))
+        (groups-tagged r),
+  ),
+)
 
 tag-out : (tagged 32 ≡ false) × (tagged 9 ≡ false) × (tagged 46 ≡ false)
 unfolding std.letterOrDigit
