@@ -13,7 +13,7 @@ use Rattle.store.specs.Dictionary.{nameAt, findOf}
 use Rattle.store.specs.Soundness.{Sound}
 use Rattle.store.specs.History.{Store, callStore}
 use Rattle.ntriples.specs.declared.Span.{Span}
-use Rattle.ntriples.specs.Text.{FirstLine, bytesOf, values}
+use Rattle.ntriples.specs.Grammar.{FirstLine, bytesOf, values}
 use Rattle.ntriples.specs.TermOf.{termOf}
 use Rattle.ntriples.specs.Claims.{Meant, Enterable, answerAt}
 use Rattle.graph.specs.Meaning.{RdfTriple, termAt}

@@ -24,7 +24,6 @@ use Rattle.ntriples.specs.declared.Line.the-variants as answer
 use Rattle.ntriples.specs.Grammar.{
   span,
   white,
-  WhiteSpace,
   Trail,
   Subject,
   Predicate,
@@ -40,7 +39,7 @@ use Rattle.ntriples.specs.Grammar.{
 }
 use Rattle.ntriples.specs.Reader.{Outcome, Empty, Terms, Fails, Begin, placeOf, lineOf}
 use Rattle.ntriples.specs.Reader.{answerOf, readSpelled, shortPart, shortLine, readOf}
-use Rattle.ntriples.specs.Text.{FirstLine, bytesOf, Values, values, noPart, valuesOf}
+use Rattle.ntriples.specs.Grammar.{FirstLine, bytesOf, Values, values, noPart, valuesOf}
 use Rattle.ntriples.specs.TermOf.{termOf}
 use Rattle.ntriples.specs.Standard as standard
 use Rattle.ntriples.specs.Claims.{
@@ -62,7 +61,7 @@ use Rattle.ntriples.proofs.Derivation.{partsOf, rest-of, derivation, wi
 use Rattle.ntriples.proofs.Lines.{line-found, line-exists, line-first}
 use Rattle.ntriples.proofs.Terms.{canonical-term}
 use Rattle.ntriples.proofs.Standard.{subject-name, predicate-name, object-name, subset-of-standard}
-use Rattle.ntriples.proofs.Unambiguous.{one-standard-derivation}
+use Rattle.ntriples.proofs.Unambiguous.{cons-both, one-standard-derivation}
 use Rattle.ntriples.proofs.StandardTerms.{subject-term, predicate-term, term-of-standard}
 
 -- a line with a derivation is read so
@@ -156,9 +155,6 @@ record Further (f b f′ : List ℕ) : Type 0 where
   more : List ℕ
   back : b ≡ byte ∷ later
   front : f′ ≡ (f ++ (byte ∷ [])) ++ more
-
-cons-both : (x y : ℕ) (s t : List ℕ) → x ≡ y → s ≡ t → x ∷ s ≡ y ∷ t
-cons-both x y s t p q = cc
 
 further : (f b f′ b′ : List ℕ) → f ++ b ≡ f′ ++ b′ → length f < length f′ → Further f b f′
 further [] b [] b′ e h = absurd (omega arith)

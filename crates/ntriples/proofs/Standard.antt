@@ -12,9 +12,9 @@ use Rattle.term.specs.Scanner.{firstKindOf}
 use Rattle.term.specs.Grammar as g
 use Rattle.term.proofs.Names.{never, name-kind}
 use Rattle.term.proofs.Turn.{unlike}
-use Rattle.ntriples.specs.Grammar.{white, commentByte, WhiteSpace, Comment, Trail, Subject, Predicate, Object, Triple}
+use Rattle.ntriples.specs.Grammar.{white, commentByte, Trail, Subject, Predicate, Object, Triple}
 use Rattle.ntriples.specs.Standard as std
-use Rattle.ntriples.specs.Standard.{one, the, _▸_, _∣_, maybe, many, many1, any, except}
+use Rattle.ntriples.specs.Standard.{one, the, _▸_, _∣_, maybe, many, except}
 use Rattle.ntriples.specs.Claims.{InSubset, SubsetOfStandard}
 use Rattle.ntriples.proofs.Residual.{cases}
 
@@ -121,14 +121,13 @@ base-under : (c : ℕ) → std.PN-CHARS-BASE c ≡ true → std.PN-CHARS-U c ≡
 unfolding std.PN-CHARS-U
 base-under c e = rw e
 
-first-byte : (c : ℕ) → b.firstByte c ≡ true → (one std.PN-CHARS-U ∣ one std.digit) (c ∷ [])
-unfolding std.digit
+first-byte : (c : ℕ) → b.firstByte c ≡ true → (one std.PN-CHARS-U ∣ one (between 48 57)) (c ∷ [])
 first-byte c h =
     first-cases c (λ e. _∣_.left (one.char (under-byte c e))) (λ e. _∣_.left (one.char (base-under c e)))
     (λ e. _∣_.right (one.char e)) h
 
 label-byte : (c : ℕ) → b.labelByte c ≡ true → std.PN-CHARS c ≡ true
-unfolding b.labelByte std.PN-CHARS std.digit
+unfolding b.labelByte std.PN-CHARS
 label-byte c h =
     split (std.PN-CHARS-U c) (λ p. rw p)
     (λ p. cases (λ x. x ≡ true) (eqb c 45) true (b.firstByte c) (λ e _. rw (p, e))
@@ -159,17 +158,17 @@ blank (g.Blank.longer {b = c} e r) =
 
 -- language tags
 new-group : {c : ℕ} {s : List ℕ} → std.letterOrDigit c ≡ true
-    → (many (one std.letterOrDigit) ▸ many (the 45 ▸ many1 (one std.letterOrDigit))) s
-    → many (the 45 ▸ many1 (one std.letterOrDigit)) (45 ∷ (c ∷ s))
+    → (many (one std.letterOrDigit) ▸ many (the 45 ▸ one std.letterOrDigit ▸ many (one std.letterOrDigit))) s
+    → many (the 45 ▸ one std.letterOrDigit ▸ many (one std.letterOrDigit)) (45 ∷ (c ∷ s))
 new-group e (_▸_.pair m r) = many.more (_▸_.pair the.char (_▸_.pair (one.char e) m)) r
 
 group-rest : {s : List ℕ} → g.GroupRest s
-    → (many (one std.letterOrDigit) ▸ many (the 45 ▸ many1 (one std.letterOrDigit))) s
+    → (many (one std.letterOrDigit) ▸ many (the 45 ▸ one std.letterOrDigit ▸ many (one std.letterOrDigit))) s
 group-rest g.GroupRest.end = _▸_.pair many.none many.none
 group-rest (g.GroupRest.byte {b = c} e r) = front _ _ (one.char (alnum-byte c e)) (group-rest r)
 group-rest (g.GroupRest.group {b = c} e r) = _▸_.pair many.none (new-group (alnum-byte c e) (group-rest r))
 
-tag-rest : {s : List ℕ} → g.TagRest s → (many (one std.letter) ▸ many (the 45 ▸ many1 (one std.letterOrDigit))) s
+tag-rest : {s : List ℕ} → g.TagRest s → (many (one std.letter) ▸ many (the 45 ▸ one std.letterOrDigit ▸ many (one std.letterOrDigit))) s
 tag-rest g.TagRest.end = _▸_.pair many.none many.none
 tag-rest (g.TagRest.byte {b = c} e r) = front _ _ (one.char (letter-byte c e)) (tag-rest r)
 tag-rest (g.TagRest.group {b = c} e r) = _▸_.pair many.none (new-group (alnum-byte c e) (group-rest r))
@@ -180,7 +179,7 @@ module _ (A B C : List ℕ → Type 0) where
   before-pair a (_▸_.pair m r) = _▸_.pair (_▸_.pair a m) r
 
 langtag : {c : ℕ} {s : List ℕ} → b.letter c ≡ true → g.TagRest s → std.LANGTAG (64 ∷ (c ∷ s))
-langtag {c} e r = _▸_.pair the.char (before-pair _ _ _ (one.char (letter-byte c e)) (tag-rest r))
+langtag {c} e r = _▸_.pair the.char (_▸_.pair (one.char (letter-byte c e)) (tag-rest r))
 
 -- literals
 suffix : {s : List ℕ} → g.Suffix s → std.Suffix s
@@ -217,20 +216,20 @@ object (Object.iri h) = _∣_.left (iri h)
 object (Object.blank h) = _∣_.right (_∣_.left (blank h))
 object (Object.literal h) = _∣_.right (_∣_.right (literal h))
 
-white-space : {s : List ℕ} → WhiteSpace s → std.WS s
+white-space : (s : List ℕ) → All white s → std.WS s
 unfolding white
-white-space WhiteSpace.none = many.none
-white-space (WhiteSpace.more h r) = many.more (one.char h) (white-space r)
+white-space [] h = many.none
+white-space (c ∷ s) h = many.more (one.char (h .0)) (white-space s (h .1))
 
-comment : {s : List ℕ} → Comment s → many (one (except (13 ∷ 10 ∷ []) 0)) s
-comment Comment.end = many.none
-comment (Comment.byte {b = c} h r) = many.more (one.char (comment-byte c h)) (comment r)
+comment : (s : List ℕ) → All commentByte s → many (one (except (13 ∷ 10 ∷ []) 0)) s
+comment [] h = many.none
+comment (c ∷ s) h = many.more (one.char (comment-byte c (h .0))) (comment s (h .1))
 
 trail : {s : List ℕ} → Trail s → (std.WS ▸ maybe std.COMMENT) s
 unfolding white
 trail Trail.end = _▸_.pair many.none maybe.none
 trail (Trail.space h r) = front _ _ (one.char h) (trail r)
-trail (Trail.comment r) = _▸_.pair many.none (maybe.some (_▸_.pair the.char (comment r)))
+trail (Trail.comment {s = s} h) = _▸_.pair many.none (maybe.some (_▸_.pair the.char (comment s h)))
 
 -- its terms are names, and its trail has the paper's bytes
 pub subject-name : {t : List ℕ} → Subject t → (k : ℕ) × g.Name k t
@@ -245,10 +244,6 @@ object-name (Object.iri h) = (1, g.Name.iri h)
 object-name (Object.blank h) = (2, g.Name.blank h)
 object-name (Object.literal h) = (3, g.Name.literal h)
 
-comment-bytes : {s : List ℕ} → Comment s → All commentByte s
-comment-bytes Comment.end = tt
-comment-bytes (Comment.byte h r) = (h, comment-bytes r)
-
 white-comment : (c : ℕ) → white c ≡ true → commentByte c ≡ true
 unfolding white among commentByte
 white-comment c h =
@@ -262,7 +257,7 @@ hash-comment = refl
 trail-bytes : {s : List ℕ} → Trail s → All commentByte s
 trail-bytes Trail.end = tt
 trail-bytes (Trail.space {b = c} h r) = (white-comment c h, trail-bytes r)
-trail-bytes (Trail.comment r) = (hash-comment, comment-bytes r)
+trail-bytes (Trail.comment h) = (hash-comment, h)
 
 forth : {l : List ℕ} → Triple l → std.Triple l
 forth d =
@@ -276,13 +271,13 @@ forth d =
       between₃ = d .between₃;
       after = d .after;
       spells = d .spells;
-      white₀ = white-space (d .white₀);
+      white₀ = white-space (d .before) (d .white₀);
       isSubject = subject (d .isSubject);
-      white₁ = white-space (d .white₁);
+      white₁ = white-space (d .between₁) (d .white₁);
       isPredicate = predicate (d .isPredicate);
-      white₂ = white-space (d .white₂);
+      white₂ = white-space (d .between₂) (d .white₂);
       isObject = object (d .isObject);
-      white₃ = white-space (d .white₃);
+      white₃ = white-space (d .between₃) (d .white₃);
       trail = trail (d .trail);
     }
 
@@ -333,18 +328,14 @@ object-back (_∣_.left x) n = Object.iri (iri-back x n)
 object-back (_∣_.right (_∣_.left x)) n = Object.blank (blank-back x n)
 object-back (_∣_.right (_∣_.right x)) n = Object.literal (literal-back x n)
 
-white-back : {s : List ℕ} → std.WS s → WhiteSpace s
+white-back : {s : List ℕ} → std.WS s → All white s
 unfolding white
-white-back many.none = WhiteSpace.none
-white-back (many.more (one.char h) r) = WhiteSpace.more h (white-back r)
-
-comment-back : (s : List ℕ) → All commentByte s → Comment s
-comment-back [] f = Comment.end
-comment-back (c ∷ s) f = Comment.byte (f .0) (comment-back s (f .1))
+white-back many.none = tt
+white-back (many.more (one.char h) r) = (h, white-back r)
 
 noted : {s : List ℕ} → maybe std.COMMENT s → All commentByte s → Trail s
 noted maybe.none f = Trail.end
-noted (maybe.some (_▸_.pair {t = t} the.char r)) f = Trail.comment (comment-back t (f .1))
+noted (maybe.some (_▸_.pair the.char r)) f = Trail.comment (f .1)
 
 spaced : {s : List ℕ} (t : List ℕ) → std.WS s → (All commentByte t → Trail t) → All commentByte (s ++ t) → Trail (s ++ t)
 unfolding white

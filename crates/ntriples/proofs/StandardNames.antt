@@ -14,11 +14,12 @@ use Rattle.term.proofs.Names.{never}
 use Rattle.term.proofs.Table.{spans, at-range, eqBool, same-bool}
 use Rattle.ntriples.specs.TermOf.{suffixFrom}
 use Rattle.ntriples.specs.Standard as std
-use Rattle.ntriples.specs.Standard.{one, the, _▸_, _∣_, maybe, many, many1, any, except}
+use Rattle.ntriples.specs.Standard.{one, the, _▸_, _∣_, maybe, many, except}
 use Rattle.ntriples.specs.Subset.{bare, unmarked, fourPairs, visible, Plain, IrisOfStandard, BlanksOfStandard, LiteralsOfStandard}
 use Rattle.ntriples.proofs.Residual.{cases}
 use Rattle.ntriples.proofs.Terms.{plain, pair-cases}
 use Rattle.ntriples.proofs.Standard.{within, split, iri, blank, literal}
+use Rattle.ntriples.proofs.Unambiguous.{skip-char, skip-escape, skip-close}
 
 -- a class in another, by computing both up to 126
 implied : (f h : ℕ → Bool) → T (spans eqBool same-bool (λ i. pick (f i) (h i) true) true [] 0 126)
@@ -133,12 +134,12 @@ under-char c h k =
     implied (λ i. pick (unmarked i) (std.PN-CHARS-U i) false) b.firstByte tt c (unmarked-bound c k)
     (both (unmarked c) (std.PN-CHARS-U c) k h)
 
-digit-char : (c : ℕ) → std.digit c ≡ true → unmarked c ≡ true → b.firstByte c ≡ true
-unfolding std.digit b.firstByte b.alnum b.letter
-digit-char c h k = implied std.digit b.firstByte tt c (unmarked-bound c k) h
+digit-char : (c : ℕ) → between 48 57 c ≡ true → unmarked c ≡ true → b.firstByte c ≡ true
+unfolding b.firstByte b.alnum b.letter
+digit-char c h k = implied (between 48 57) b.firstByte tt c (unmarked-bound c k) h
 
 label-char : (c : ℕ) → std.PN-CHARS c ≡ true → unmarked c ≡ true → b.labelByte c ≡ true
-unfolding std.PN-CHARS std.PN-CHARS-U std.PN-CHARS-BASE std.digit b.labelByte b.firstByte b.alnum b.letter
+unfolding std.PN-CHARS std.PN-CHARS-U std.PN-CHARS-BASE b.labelByte b.firstByte b.alnum b.letter
 label-char c h k =
     implied (λ i. pick (unmarked i) (std.PN-CHARS i) false) b.labelByte tt c (unmarked-bound c k)
     (both (unmarked c) (std.PN-CHARS c) k h)
@@ -191,18 +192,18 @@ letters-back : {s : List ℕ} (t : List ℕ) → many (one std.letter) s → g.T
 letters-back t many.none r = r
 letters-back t (many.more (one.char {c = c} e) m) r = g.TagRest.byte (letter-char c e) (letters-back t m r)
 
-groups-back : {s : List ℕ} → many (the 45 ▸ many1 (one std.letterOrDigit)) s → g.GroupRest s
+groups-back : {s : List ℕ} → many (the 45 ▸ one std.letterOrDigit ▸ many (one std.letterOrDigit)) s → g.GroupRest s
 groups-back many.none = g.GroupRest.end
 groups-back (many.more {t = t} (_▸_.pair the.char (_▸_.pair (one.char {c = c} e) m)) r) =
     g.GroupRest.group (alnum-char c e) (alnums-back t m (groups-back r))
 
-tags-back : {s : List ℕ} → many (the 45 ▸ many1 (one std.letterOrDigit)) s → g.TagRest s
+tags-back : {s : List ℕ} → many (the 45 ▸ one std.letterOrDigit ▸ many (one std.letterOrDigit)) s → g.TagRest s
 tags-back many.none = g.TagRest.end
 tags-back (many.more {t = t} (_▸_.pair the.char (_▸_.pair (one.char {c = c} e) m)) r) =
     g.TagRest.group (alnum-char c e) (alnums-back t m (groups-back r))
 
 tag-back : {s : List ℕ} → std.LANGTAG s → g.Suffix s
-tag-back (_▸_.pair the.char (_▸_.pair {t = t} (_▸_.pair (one.char {c = c} e) m) r)) =
+tag-back (_▸_.pair the.char (_▸_.pair (one.char {c = c} e) (_▸_.pair {t = t} m r))) =
     g.Suffix.tag (letter-char c e) (letters-back t m (tags-back r))
 
 -- ---- what follows the closing quote
@@ -297,16 +298,7 @@ unfolding fourPairs
 byte-pairs c s e = rw (plain c e .1)
 
 byte-suffix : (c : ℕ) (s : List ℕ) → b.textByte c ≡ true → suffixFrom false (c ∷ s) ≡ suffixFrom false s
-unfolding suffixFrom
-byte-suffix c s e = rw (plain c e .0, plain c e .1)
-
-pair-suffix : (c : ℕ) (s : List ℕ) → suffixFrom false (92 ∷ (c ∷ s)) ≡ suffixFrom false s
-unfolding suffixFrom
-pair-suffix c s = refl
-
-close-suffix : (s : List ℕ) → suffixFrom false (34 ∷ s) ≡ s
-unfolding suffixFrom
-close-suffix s = refl
+byte-suffix c s e = skip-char c s (plain c e .0) (plain c e .1)
 
 pair-pairs : (c : ℕ) (s : List ℕ) → b.pairByte c ≡ true → fourPairs false (92 ∷ (c ∷ s)) ≡ fourPairs false s
 unfolding fourPairs
@@ -353,16 +345,16 @@ text-fit (g.TextRest.pair {b = c} {s = s} e r) =
     record {
       bytes = (refl, (pair-bound c e, f .bytes));
       escapes = pair-pairs c s e ∙ f .escapes;
-      suffix = rw (pair-suffix c s) (f .suffix);
-      typed = λ h. f .typed (sym (pair-suffix c s) ∙ h);
+      suffix = rw (skip-escape c s) (f .suffix);
+      typed = λ h. f .typed (sym (skip-escape c s) ∙ h);
     }
 text-fit (g.TextRest.close {s = s} r) =
     let v = suffix-visible r in
     record {
       bytes = (refl, visible-bytes s v);
       escapes = close-pairs s ∙ bare-pairs s (visibles s v);
-      suffix = rw (close-suffix s) v;
-      typed = λ h. suffix-typed r (sym (close-suffix s) ∙ h);
+      suffix = rw (skip-close s) v;
+      typed = λ h. suffix-typed r (sym (skip-close s) ∙ h);
     }
 
 pub string-char : (c : ℕ) → std.stringChar c ≡ true → between 32 126 c ≡ true → b.textByte c ≡ true
@@ -385,8 +377,8 @@ after-pair c s e f =
     record {
       bytes = f .bytes .1 .1;
       escapes = sym (pair-pairs c s e) ∙ f .escapes;
-      suffix = rw (pair-suffix c s) at (f .suffix);
-      typed = λ h. f .typed (pair-suffix c s ∙ h);
+      suffix = rw (skip-escape c s) at (f .suffix);
+      typed = λ h. f .typed (skip-escape c s ∙ h);
     }
 
 pub no-u : {C : Type 0} (s : List ℕ) → fourPairs false (92 ∷ (117 ∷ s)) ≡ true → C
@@ -400,7 +392,7 @@ no-U s h = never h
 text-back : {s : List ℕ} (t : List ℕ) → many (one std.stringChar ∣ std.ECHAR ∣ std.UCHAR) s → Fit ((s ++ (34 ∷ [])) ++ t)
     → (All visible t → (t ≡ 94 ∷ 94 ∷ 60 ∷ 62 ∷ [] → ⊥) → g.Suffix t) → g.TextRest ((s ++ (34 ∷ [])) ++ t)
 text-back t many.none f k =
-    g.TextRest.close (k (rw (close-suffix t) at (f .suffix)) (λ h. f .typed (close-suffix t ∙ h)))
+    g.TextRest.close (k (rw (skip-close t) at (f .suffix)) (λ h. f .typed (skip-close t ∙ h)))
 text-back t (many.more (_∣_.left (one.char {c = c} e)) m) f k =
     let x = string-char c e (f .bytes .0) in g.TextRest.byte x (text-back t m (after-byte c _ x f) k)
 text-back t (many.more (_∣_.right (_∣_.left (_▸_.pair the.char (one.char {c = c} e)))) m) f k =

@@ -9,8 +9,8 @@ use Rattle.term.specs.Grammar as g
 use Rattle.term.proofs.Names.{never}
 use Rattle.ntriples.specs.Standard as std
 use Rattle.ntriples.specs.Standard.{one, the, _▸_, _∣_, maybe, many}
-use Rattle.ntriples.specs.Terms.{Term, iri, blank, literal, tagged, unescaped, iriChars, iriOf, stringChars, suffixed, literalOf}
-use Rattle.ntriples.specs.Terms.{subjectTerm, predicateTerm, objectTerm}
+use Rattle.ntriples.specs.Standard.{Term, iri, blank, literal, tagged, unescaped, iriChars, iriOf, stringChars, suffixed, literalOf}
+use Rattle.ntriples.specs.Standard.{subjectTerm, predicateTerm, objectTerm}
 use Rattle.ntriples.specs.TermOf.{inner, lexicalFrom, suffixFrom, literalWith, termOf}
 use Rattle.ntriples.specs.Subset.{bare, visible, Plain}
 use Rattle.ntriples.specs.Claims.{TermOfStandard}

@@ -18,7 +18,7 @@ use Rattle.term.proofs.Names.{never, kinds, name-forth}
 use Rattle.term.proofs.Booleans.{decide}
 use Rattle.term.proofs.WellFormed.{name-positive}
 use Rattle.term.proofs.Shortened.{kept, rejoined, writes-joined, at-quote, isQuote, past-quote, quote-last, canonical-name}
-use Rattle.ntriples.specs.Terms.{Term, iri, blank, literal, tagged, unescaped}
+use Rattle.ntriples.specs.Standard.{Term, iri, blank, literal, tagged, unescaped}
 use Rattle.ntriples.specs.TermOf.{inner, lexicalFrom, suffixFrom, literalWith, termOf}
 use Rattle.ntriples.specs.Claims.{DistinctTerms}
 use Rattle.ntriples.proofs.Residual.{cases}

@@ -12,7 +12,7 @@ use borrow.Author.Tests.{eqb-true}
 use Rattle.term.specs.Bytes.{pick, between, among, All}
 use Rattle.term.proofs.Names.{never}
 use Rattle.ntriples.specs.Standard as std
-use Rattle.ntriples.specs.Standard.{one, the, _▸_, _∣_, maybe, many, many1, any, except}
+use Rattle.ntriples.specs.Standard.{one, the, _▸_, _∣_, maybe, many}
 use Rattle.ntriples.specs.TermOf.{suffixFrom}
 use Rattle.ntriples.specs.Claims.{OneStandardDerivation}
 use Rattle.ntriples.proofs.Residual.{cases}
@@ -29,7 +29,7 @@ tails a s t e = cc
 no-nil : {C : Type 0} (a : ℕ) (s : List ℕ) → [] ≡ a ∷ s → C
 no-nil a s e = let z : _≡_ {A = ℕ} 0 1 = cc in absurd (omega arith)
 
-cons-both : (x y : ℕ) (s t : List ℕ) → x ≡ y → s ≡ t → x ∷ s ≡ y ∷ t
+pub cons-both : (x y : ℕ) (s t : List ℕ) → x ≡ y → s ≡ t → x ∷ s ≡ y ∷ t
 cons-both x y s t p q = cc
 
 -- two lists of one length that begin one list are the same
@@ -108,13 +108,21 @@ dot-white = refl
 
 -- ---- UCHAR
 
-hex4-all : (f : ℕ → Bool) → ((c : ℕ) → std.HEX c ≡ true → f c ≡ true) → {s : List ℕ} → std.HEX4 s → All f s
+abbrev Hex4 : List ℕ → Type 0
+Hex4 = one std.HEX ▸ one std.HEX ▸ one std.HEX ▸ one std.HEX
+
+abbrev Hex8 : List ℕ → Type 0
+Hex8 = one std.HEX ▸ one std.HEX ▸ one std.HEX ▸ one std.HEX ▸ Hex4
+
+hex4-all : (f : ℕ → Bool) → ((c : ℕ) → std.HEX c ≡ true → f c ≡ true) → {s : List ℕ} → Hex4 s → All f s
 hex4-all f h (_▸_.pair (one.char {c = a} x) (_▸_.pair (one.char {c = b} y) (_▸_.pair (one.char {c = c} z) (one.char {c =
     d} w)))) =
     (h a x, (h b y, (h c z, (h d w, tt))))
 
-hex8-all : (f : ℕ → Bool) → ((c : ℕ) → std.HEX c ≡ true → f c ≡ true) → {s : List ℕ} → (std.HEX4 ▸ std.HEX4) s → All f s
-hex8-all f h (_▸_.pair {s = s} {t = t} x y) = all-append f s t (hex4-all f h x) (hex4-all f h y)
+hex8-all : (f : ℕ → Bool) → ((c : ℕ) → std.HEX c ≡ true → f c ≡ true) → {s : List ℕ} → Hex8 s → All f s
+hex8-all f h (_▸_.pair (one.char {c = a} x) (_▸_.pair (one.char {c = b} y) (_▸_.pair (one.char {c = c} z) (_▸_.pair (one.char {c =
+    d} w) r)))) =
+    (h a x, (h b y, (h c z, (h d w, hex4-all f h r))))
 
 uchar-all : (f : ℕ → Bool) → f 92 ≡ true → f 117 ≡ true → f 85 ≡ true → ((c : ℕ) → std.HEX c ≡ true → f c ≡ true)
     → {s : List ℕ} → std.UCHAR s → All f s
@@ -161,12 +169,12 @@ under-part : (c : ℕ) → std.PN-CHARS-U c ≡ true → std.PN-CHARS c ≡ true
 unfolding std.PN-CHARS
 under-part c h = rw h
 
-digit-part : (c : ℕ) → std.digit c ≡ true → std.PN-CHARS c ≡ true
+digit-part : (c : ℕ) → between 48 57 c ≡ true → std.PN-CHARS c ≡ true
 unfolding std.PN-CHARS
 digit-part c h =
     split (std.PN-CHARS-U c) (λ p. rw p) (λ p. split (eqb c 45) (λ q. rw (p, q)) (λ q. rw (p, q, h)))
 
-first-part : {s : List ℕ} → (one std.PN-CHARS-U ∣ one std.digit) s → many (one std.PN-CHARS ∣ the 46) s
+first-part : {s : List ℕ} → (one std.PN-CHARS-U ∣ one (between 48 57)) s → many (one std.PN-CHARS ∣ the 46) s
 first-part (_∣_.left (one.char {c = c} h)) = many.more (_∣_.left (one.char (under-part c h))) many.none
 first-part (_∣_.right (one.char {c = c} h)) = many.more (_∣_.left (one.char (digit-part c h))) many.none
 
@@ -200,13 +208,13 @@ final-is [] c = refl
 final-is (a ∷ []) c = refl
 final-is (a ∷ (b ∷ s)) c = final-is (b ∷ s) c
 
-first-char : {s : List ℕ} → (one std.PN-CHARS-U ∣ one std.digit) s → (c : ℕ) × (s ≡ c ∷ []) × (std.PN-CHARS c ≡ true)
+first-char : {s : List ℕ} → (one std.PN-CHARS-U ∣ one (between 48 57)) s → (c : ℕ) × (s ≡ c ∷ []) × (std.PN-CHARS c ≡ true)
 first-char (_∣_.left (one.char {c = c} h)) = (c, refl, under-part c h)
 first-char (_∣_.right (one.char {c = c} h)) = (c, refl, digit-part c h)
 
 -- no label ends in a dot
 label-ends : {s : List ℕ} (x : List ℕ) → std.BLANK-NODE-LABEL s → s ≡ x ++ (46 ∷ []) → ⊥
-unfolding final std.PN-CHARS std.PN-CHARS-U std.PN-CHARS-BASE std.digit
+unfolding final std.PN-CHARS std.PN-CHARS-U std.PN-CHARS-BASE
 label-ends x (_▸_.pair the.char (_▸_.pair the.char (_▸_.pair f maybe.none))) e =
     let c = first-char f in
     let z : c .0 ≡ 46 = ap (λ (l : List ℕ). final (95 ∷ (58 ∷ (l ++ [])))) (sym (c .1)) ∙ (ap final e ∙ final-is x 46) in
@@ -222,7 +230,7 @@ trail-ends f p q k (_▸_.pair w maybe.none) = white-ends f [] p q w tt
 trail-ends f p q k (_▸_.pair {t = t} w (maybe.some (_▸_.pair the.char x))) = white-ends f t p q w k
 
 white-labels : (labelled 32 ≡ false) × (labelled 9 ≡ false) × (labelled 35 ≡ false) × (labelled 60 ≡ false)
-unfolding std.PN-CHARS std.PN-CHARS-U std.PN-CHARS-BASE std.digit
+unfolding std.PN-CHARS std.PN-CHARS-U std.PN-CHARS-BASE
 white-labels = (refl, refl, refl, refl)
 
 -- A label and the white space and the dot after it. Where the dot follows at once it is the last of the run of a label's characters.
@@ -259,7 +267,7 @@ hex-unquoted : (c : ℕ) → std.HEX c ≡ true → unquoted c ≡ true
 unfolding std.HEX
 hex-unquoted c h = rw (other std.HEX 34 c refl h, other std.HEX 92 c refl h)
 
-skip-char : (c : ℕ) (s : List ℕ) → eqb c 34 ≡ false → eqb c 92 ≡ false → suffixFrom false (c ∷ s) ≡ suffixFrom false s
+pub skip-char : (c : ℕ) (s : List ℕ) → eqb c 34 ≡ false → eqb c 92 ≡ false → suffixFrom false (c ∷ s) ≡ suffixFrom false s
 unfolding suffixFrom
 skip-char c s p q = rw (p, q)
 
@@ -270,11 +278,11 @@ skip-all : (s z : List ℕ) → All unquoted s → suffixFrom false (s ++ z) ≡
 skip-all [] z f = refl
 skip-all (c ∷ s) z f = let u = unquoted-cases c (f .0) in skip-char c (s ++ z) (u .0) (u .1) ∙ skip-all s z (f .1)
 
-skip-escape : (c : ℕ) (s : List ℕ) → suffixFrom false (92 ∷ (c ∷ s)) ≡ suffixFrom false s
+pub skip-escape : (c : ℕ) (s : List ℕ) → suffixFrom false (92 ∷ (c ∷ s)) ≡ suffixFrom false s
 unfolding suffixFrom
 skip-escape c s = refl
 
-skip-close : (s : List ℕ) → suffixFrom false (34 ∷ s) ≡ s
+pub skip-close : (s : List ℕ) → suffixFrom false (34 ∷ s) ≡ s
 unfolding suffixFrom
 skip-close s = refl
 
@@ -313,23 +321,18 @@ all-wider : (f g : ℕ → Bool) → ((c : ℕ) → f c ≡ true → g c ≡ tru
 all-wider f g h [] p = tt
 all-wider f g h (c ∷ s) p = (h c (p .0), all-wider f g h s (p .1))
 
-group-tagged : {s : List ℕ} → (the 45 ▸ many1 (one std.letterOrDigit)) s → All tagged s
+group-tagged : {s : List ℕ} → (the 45 ▸ one std.letterOrDigit ▸ many (one std.letterOrDigit)) s → All tagged s
 group-tagged (_▸_.pair the.char (_▸_.pair {t = t} (one.char {c = c} h) r)) =
     (refl, (alnum-tagged c h, all-wider std.letterOrDigit tagged alnum-tagged t (all-many std.letterOrDigit r)))
 
-groups-tagged : {s : List ℕ} → many (the 45 ▸ many1 (one std.letterOrDigit)) s → All tagged s
+groups-tagged : {s : List ℕ} → many (the 45 ▸ one std.letterOrDigit ▸ many (one std.letterOrDigit)) s → All tagged s
 groups-tagged many.none = tt
 groups-tagged (many.more {s = s} {t = t} g r) = all-append tagged s t (group-tagged g) (groups-tagged r)
 
 tag-all : {s : List ℕ} → std.LANGTAG s → All tagged s
-tag-all (_▸_.pair the.char (_▸_.pair {t = t} (_▸_.pair {t = s} (one.char {c = c} h) m) r)) = (
-  refl,
-  (
-    letter-tagged c h,
-    all-append tagged s t (all-wider std.letter tagged letter-tagged s (all-many std.letter m))
-        (groups-tagged r),
-  ),
-)
+tag-all (_▸_.pair the.char (_▸_.pair (one.char {c = c} h) (_▸_.pair {s = s} {t = t} m r))) =
+    let p = all-wider std.letter tagged letter-tagged s (all-many std.letter m) in
+    (refl, (letter-tagged c h, all-append tagged s t p (groups-tagged r)))
 
 tag-out : (tagged 32 ≡ false) × (tagged 9 ≡ false) × (tagged 46 ≡ false)
 unfolding std.letterOrDigit

@@ -8,10 +8,9 @@ use Rattle.term.specs.Scanner.{kindOf}
 use Rattle.term.specs.Canonical.{canonical}
 use Rattle.ntriples.specs.declared.Span.{Span}
 use Rattle.ntriples.specs.Grammar.{span, commentByte, Trail, Triple, subjectSpan, predicateSpan, objectSpan, Within, Longest}
+use Rattle.ntriples.specs.Grammar.{FirstLine, bytesOf, Values, values, noPart, valuesOf}
 use Rattle.ntriples.specs.Standard as standard
-use Rattle.ntriples.specs.Standard.{stringsOf}
-use Rattle.ntriples.specs.Text.{FirstLine, bytesOf, Values, values, noPart, valuesOf}
-use Rattle.ntriples.specs.Terms.{subjectTerm, predicateTerm, objectTerm}
+use Rattle.ntriples.specs.Standard.{stringsOf, subjectTerm, predicateTerm, objectTerm}
 use Rattle.ntriples.specs.TermOf.{termOf}
 use Rattle.ntriples.specs.Reader.{readOf}
 

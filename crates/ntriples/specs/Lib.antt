@@ -1,7 +1,5 @@
 pub mod Standard
 pub mod Grammar
-pub mod Text
-pub mod Terms
 pub mod TermOf
 pub mod Reader
 pub mod Claims

@@ -35,7 +35,7 @@ use Rattle.ntriples.specs.declared.Line.{Line}
 use Rattle.ntriples.specs.declared.Line.the-variants.{End, Nothing, Triple, Refused}
 use Rattle.ntriples.specs.declared.LineRead.{LineRead}
 use Rattle.ntriples.specs.Grammar.{span, white, commentByte}
-use Rattle.ntriples.specs.Text.{bytesOf}
+use Rattle.ntriples.specs.Grammar.{bytesOf}
 
 -- What a line gives: nothing, the parts of its terms in order, or a refusal with the position of the byte.
 pub data Outcome : Type 0 where

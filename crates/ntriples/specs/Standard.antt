@@ -1,7 +1,8 @@
--- The grammar of RDF 1.1 N-Triples (W3C Recommendation of 25 February 2014, "Grammar") over lists of code points: a definition for each
--- production, under its name (with `-` for `_`) and below its number and text there. Nothing in it is the scope paper's. Assumes nothing.
-use Rattle.term.specs.Prelude.{ℕ, _≡_, List, [], _∷_, _++_, Bool, true, false, eqb}
+-- RDF 1.1 N-Triples (W3C Recommendation of 25 February 2014): its grammar over lists of code points, a definition for each production,
+-- under its name (with `-` for `_`) and below its number and text there, and the terms. Nothing in it is the scope paper's. Assumes nothing.
+use Rattle.term.specs.Prelude.{ℕ, _+_, _-_, _*_, _≡_, List, [], _∷_, _++_, Bool, true, false, _||_, leb, eqb, drop}
 use Rattle.term.specs.Bytes.{pick, between, among}
+use Rattle.term.specs.Canonical.{xsdString}
 
 -- ---- the recommendation's notation
 
@@ -29,19 +30,10 @@ pub data maybe (A : List ℕ → Type 0) : List ℕ → Type 0 where
   none : maybe A []
   some : {s : List ℕ} → A s → maybe A s
 
--- A*
+-- A*, and A+ is A ▸ many A
 pub data many (A : List ℕ → Type 0) : List ℕ → Type 0 where
   none : many A []
   more : {s t : List ℕ} → A s → many A t → many A (s ++ t)
-
--- A+
-abbrev pub many1 : (List ℕ → Type 0) → List ℕ → Type 0
-many1 A = A ▸ many A
-
--- a class of several parts
-abbrev pub any : List Bool → Bool
-any [] = false
-any (t ∷ ts) = pick t true (any ts)
 
 -- [^ .. ]: every code point from `lo` up to U+10FFFF, these excepted
 abbrev pub except : List ℕ → ℕ → ℕ → Bool
@@ -49,15 +41,12 @@ except cs lo c = pick (among cs c) false (between lo 0x10FFFF c)
 
 -- ---- characters
 
--- [0-9], [a-zA-Z], [a-zA-Z0-9]
-unfoldable pub digit : ℕ → Bool
-digit c = between 48 57 c
-
+-- [a-zA-Z], [a-zA-Z0-9]
 unfoldable pub letter : ℕ → Bool
-letter c = any (between 97 122 c ∷ between 65 90 c ∷ [])
+letter c = between 97 122 c || between 65 90 c
 
 unfoldable pub letterOrDigit : ℕ → Bool
-letterOrDigit c = any (between 97 122 c ∷ between 65 90 c ∷ between 48 57 c ∷ [])
+letterOrDigit c = between 97 122 c || between 65 90 c || between 48 57 c
 
 -- [^#x00-#x20<>"{}|^`\]
 unfoldable pub iriChar : ℕ → Bool
@@ -71,34 +60,30 @@ stringChar c = except (0x22 ∷ 0x5C ∷ 0xA ∷ 0xD ∷ []) 0 c
 --   | [#x200C-#x200D] | [#x2070-#x218F] | [#x2C00-#x2FEF] | [#x3001-#xD7FF] | [#xF900-#xFDCF] | [#xFDF0-#xFFFD] | [#x10000-#xEFFFF]
 unfoldable pub PN-CHARS-BASE : ℕ → Bool
 PN-CHARS-BASE c =
-    any
-    (between 65 90 c ∷ between 97 122 c ∷ between 0x00C0 0x00D6 c ∷ between 0x00D8 0x00F6 c ∷ between 0x00F8 0x02FF c
-    ∷ between 0x0370 0x037D c ∷ between 0x037F 0x1FFF c ∷ between 0x200C 0x200D c ∷ between 0x2070 0x218F c
-    ∷ between 0x2C00 0x2FEF c ∷ between 0x3001 0xD7FF c ∷ between 0xF900 0xFDCF c ∷ between 0xFDF0 0xFFFD c
-    ∷ between 0x10000 0xEFFFF c ∷ [])
+    between 65 90 c || between 97 122 c || between 0x00C0 0x00D6 c || between 0x00D8 0x00F6 c || between 0x00F8 0x02FF c
+    || between 0x0370 0x037D c || between 0x037F 0x1FFF c || between 0x200C 0x200D c || between 0x2070 0x218F c
+    || between 0x2C00 0x2FEF c || between 0x3001 0xD7FF c || between 0xF900 0xFDCF c || between 0xFDF0 0xFFFD c
+    || between 0x10000 0xEFFFF c
 
 -- [158s] PN_CHARS_U ::= PN_CHARS_BASE | '_' | ':'
 unfoldable pub PN-CHARS-U : ℕ → Bool
-PN-CHARS-U c = any (PN-CHARS-BASE c ∷ eqb c 95 ∷ eqb c 58 ∷ [])
+PN-CHARS-U c = PN-CHARS-BASE c || eqb c 95 || eqb c 58
 
 -- [160s] PN_CHARS ::= PN_CHARS_U | '-' | [0-9] | #x00B7 | [#x0300-#x036F] | [#x203F-#x2040]
 unfoldable pub PN-CHARS : ℕ → Bool
-PN-CHARS c =
-    any
-    (PN-CHARS-U c ∷ eqb c 45 ∷ digit c ∷ eqb c 0x00B7 ∷ between 0x0300 0x036F c ∷ between 0x203F 0x2040 c ∷ [])
+PN-CHARS c = PN-CHARS-U c || eqb c 45 || between 48 57 c || eqb c 0x00B7 || between 0x0300 0x036F c || between 0x203F 0x2040 c
 
 -- [162s] HEX ::= [0-9] | [A-F] | [a-f]
 unfoldable pub HEX : ℕ → Bool
-HEX c = any (between 48 57 c ∷ between 65 70 c ∷ between 97 102 c ∷ [])
+HEX c = between 48 57 c || between 65 70 c || between 97 102 c
 
 -- ---- terminals
 
 -- [10] UCHAR ::= '\u' HEX HEX HEX HEX | '\U' HEX HEX HEX HEX HEX HEX HEX HEX
-abbrev pub HEX4 : List ℕ → Type 0
-HEX4 = one HEX ▸ one HEX ▸ one HEX ▸ one HEX
-
 abbrev pub UCHAR : List ℕ → Type 0
-UCHAR = (the 92 ▸ the 117 ▸ HEX4) ∣ (the 92 ▸ the 85 ▸ HEX4 ▸ HEX4)
+UCHAR =
+    (the 92 ▸ the 117 ▸ one HEX ▸ one HEX ▸ one HEX ▸ one HEX)
+    ∣ (the 92 ▸ the 85 ▸ one HEX ▸ one HEX ▸ one HEX ▸ one HEX ▸ one HEX ▸ one HEX ▸ one HEX ▸ one HEX)
 
 -- [153s] ECHAR ::= '\' [tbnrf"'\]
 abbrev pub ECHAR : List ℕ → Type 0
@@ -115,11 +100,11 @@ STRING-LITERAL-QUOTE = the 34 ▸ many (one stringChar ∣ ECHAR ∣ UCHAR) ▸ 
 -- [141s] BLANK_NODE_LABEL ::= '_:' (PN_CHARS_U | [0-9]) ((PN_CHARS | '.')* PN_CHARS)?
 abbrev pub BLANK-NODE-LABEL : List ℕ → Type 0
 BLANK-NODE-LABEL =
-    the 95 ▸ the 58 ▸ (one PN-CHARS-U ∣ one digit) ▸ maybe (many (one PN-CHARS ∣ the 46) ▸ one PN-CHARS)
+    the 95 ▸ the 58 ▸ (one PN-CHARS-U ∣ one (between 48 57)) ▸ maybe (many (one PN-CHARS ∣ the 46) ▸ one PN-CHARS)
 
 -- [144s] LANGTAG ::= '@' [a-zA-Z]+ ('-' [a-zA-Z0-9]+)*
 abbrev pub LANGTAG : List ℕ → Type 0
-LANGTAG = the 64 ▸ many1 (one letter) ▸ many (the 45 ▸ many1 (one letterOrDigit))
+LANGTAG = the 64 ▸ one letter ▸ many (one letter) ▸ many (the 45 ▸ one letterOrDigit ▸ many (one letterOrDigit))
 
 -- White space, which may stand between any two terminals: spaces (#x20) and tabs (#x9).
 abbrev pub WS : List ℕ → Type 0
@@ -178,3 +163,59 @@ stringsOf d =
 
 abbrev pub Triple : List ℕ → Type 0
 Triple = TripleOf Subject Predicate Object WS (WS ▸ maybe COMMENT)
+
+-- ---- terms as RDF 1.1 Concepts has them, and the term of a derivation ("Parsing", "RDF Term Constructors")
+
+-- A literal has a lexical form and a datatype; one with a language tag has the datatype rdf:langString, which is not written.
+pub data Term : Type 0 where
+  iri : List ℕ → Term
+  blank : List ℕ → Term
+  literal : List ℕ → List ℕ → Term
+  tagged : List ℕ → List ℕ → Term
+
+-- the character of an ECHAR: for `\` and t, b, n, r, f a control character, otherwise the second one itself
+abbrev pub unescaped : ℕ → ℕ
+unescaped c = pick (eqb c 116) 9 (pick (eqb c 98) 8 (pick (eqb c 110) 10 (pick (eqb c 114) 13 (pick (eqb c 102) 12 c))))
+
+-- the number of HEX digits after n, and so the character of an UCHAR: that of its digits
+abbrev pub hex : ℕ → List ℕ → ℕ
+hex n [] = n
+hex n (c ∷ s) = hex (16 * n + (c - pick (leb c 57) 48 (pick (leb c 70) 55 87))) s
+
+-- IRIREF: the characters between `<` and `>`, each UCHAR as its character
+abbrev pub iriChars : {s : List ℕ} → many (one iriChar ∣ UCHAR) s → List ℕ
+iriChars many.none = []
+iriChars (many.more (_∣_.left (one.char {c = c} e)) r) = c ∷ iriChars r
+iriChars (many.more {s = s} (_∣_.right u) r) = hex 0 (drop 2 s) ∷ iriChars r
+
+abbrev pub iriOf : {s : List ℕ} → IRIREF s → List ℕ
+iriOf (_▸_.pair the.char (_▸_.pair r the.char)) = iriChars r
+
+-- STRING_LITERAL_QUOTE: the characters between the quotes, each ECHAR and UCHAR as its character
+abbrev pub stringChars : {s : List ℕ} → many (one stringChar ∣ ECHAR ∣ UCHAR) s → List ℕ
+stringChars many.none = []
+stringChars (many.more (_∣_.left (one.char {c = c} e)) r) = c ∷ stringChars r
+stringChars (many.more (_∣_.right (_∣_.left (_▸_.pair the.char (one.char {c = c} e)))) r) = unescaped c ∷ stringChars r
+stringChars (many.more {s = s} (_∣_.right (_∣_.right u)) r) = hex 0 (drop 2 s) ∷ stringChars r
+
+-- literal: that lexical form, and the datatype, xsd:string where none is written, or the tag, which is what follows `@`
+abbrev pub suffixed : {s : List ℕ} → List ℕ → Suffix s → Term
+suffixed x maybe.none = literal x xsdString
+suffixed x (maybe.some (_∣_.left (_▸_.pair w (_▸_.pair the.char (_▸_.pair the.char (_▸_.pair v i)))))) = literal x (iriOf i)
+suffixed x (maybe.some (_∣_.right (_▸_.pair {t = t} w r))) = tagged x (drop 1 t)
+
+abbrev pub literalOf : {s : List ℕ} → Literal s → Term
+literalOf (_▸_.pair (_▸_.pair the.char (_▸_.pair r the.char)) x) = suffixed (stringChars r) x
+
+-- a blank node is its label, what follows `_:`
+abbrev pub subjectTerm : {s : List ℕ} → Subject s → Term
+subjectTerm (_∣_.left i) = iri (iriOf i)
+subjectTerm {s} (_∣_.right b) = blank (drop 2 s)
+
+abbrev pub predicateTerm : {s : List ℕ} → Predicate s → Term
+predicateTerm i = iri (iriOf i)
+
+abbrev pub objectTerm : {s : List ℕ} → Object s → Term
+objectTerm (_∣_.left i) = iri (iriOf i)
+objectTerm {s} (_∣_.right (_∣_.left b)) = blank (drop 2 s)
+objectTerm (_∣_.right (_∣_.right x)) = literalOf x

@@ -2,7 +2,7 @@
 use Rattle.term.specs.Prelude.{ℕ, List, [], _∷_, Bool, true, false, eqb, drop}
 use Rattle.term.specs.Bytes.{pick}
 use Rattle.term.specs.Canonical.{xsdString}
-use Rattle.ntriples.specs.Terms.{Term, iri, blank, literal, tagged, unescaped}
+use Rattle.ntriples.specs.Standard.{Term, iri, blank, literal, tagged, unescaped}
 
 -- without the last byte
 unfoldable pub inner : List ℕ → List ℕ

@@ -5,9 +5,9 @@ use mathlib.Core.List.{List, [], _∷_, _++_}
 use mathlib.Core.Bool.{Bool, true, false}
 use lib.Dec.{eqb}
 use borrow.Author.Tests.{eqb-true}
-use Rattle.term.specs.Bytes.{pick, iriByte, firstByte, labelByte, labelOrDot, letter, alnum, All}
+use Rattle.term.specs.Bytes.{pick, iriByte, firstByte, labelByte, letter, alnum, All}
 use Rattle.term.specs.Grammar as g
-use Rattle.term.specs.Spelling.{lastOf, SpelledIri, SpelledBlank, Group, AllGroups, groups, SpelledTag}
+use Rattle.term.specs.Spelling.{labelOrDot, lastOf, SpelledIri, SpelledBlank, Group, AllGroups, groups, SpelledTag}
 use Rattle.term.specs.Spelling.{IriIsSpelled, BlankIsSpelled, TagIsSpelled}
 use Rattle.term.proofs.Names.{never}
 

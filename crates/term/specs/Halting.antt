@@ -1,7 +1,6 @@
 -- Where a scan must halt, and what it then has read, in the grammar's words; and what is proved of the scanner, for the proofs of lines
 -- and of the store. The proofs are in `proofs/Names.antt`, `WellFormed.antt` and `Halts.antt`. Assumes nothing.
-use Rattle.term.specs.Prelude.{ℕ, _+_, _≤_, _≡_, List, [], _∷_, _++_, true, _⊎_, _↔_, length, take}
-use Rattle.term.specs.Bytes.{clean}
+use Rattle.term.specs.Prelude.{ℕ, zero, suc, _+_, _≤_, _≡_, List, [], _∷_, _++_, Bool, true, false, _⊎_, _↔_, length, take}
 use Rattle.term.specs.Grammar.{Name}
 use Rattle.term.specs.Scanner.{runOf, wholeOf, firstKindOf, kindOf, haltOf, longestOf}
 use Rattle.term.specs.declared.Halt.{Halt}
@@ -37,6 +36,12 @@ ScannerIsGrammar = (s : List ℕ) → (wholeOf (runOf Start s) ≡ true) ↔ Nam
 -- Kinds are 1, 2, 3; 0 is none.
 abbrev pub KindAtMostThree : Type 0
 KindAtMostThree = (limit : ℕ) (s : List ℕ) → kindOf limit s ≤ 3
+
+-- no byte is 0
+abbrev pub clean : List ℕ → Bool
+clean [] = true
+clean (zero ∷ r) = false
+clean (suc b ∷ r) = clean r
 
 -- A name has no byte 0, so that 0 can close it in the text, and two bytes at least.
 abbrev pub NameIsClean : Type 0
