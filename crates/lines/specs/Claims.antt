@@ -1,6 +1,5 @@
--- What a line of N-Triples does to the graph (demand 2, its last sentence): a line read as a triple gives the terms that the standard
--- gives it, and entering and asserting its parts adds exactly that triple to the graph; a refusal leaves the graph as it was. And what the
--- numbers of a sound store are in RDF 1.1: a term each. Assumes nothing.
+-- What a line of N-Triples does to the graph (demand 2, its last sentence), from its text to the triple in the graph; and what the numbers
+-- of a sound store are in RDF 1.1: a term each. Assumes nothing.
 use Rattle.term.specs.Prelude.{ℕ, _≤_, _<_, _≡_, List, _↔_, length, drop}
 use Rattle.term.specs.Grammar.{nameLimit}
 use Rattle.store.specs.declared.Position.{Position}
@@ -19,8 +18,6 @@ use Rattle.ntriples.specs.Claims.{Meant, Enterable, answerAt}
 use Rattle.graph.specs.Meaning.{RdfTriple, termAt}
 use Rattle.graph.specs.Graph.{named, LiveAt}
 use Rattle.graph.specs.Claims.{SoundStore, Loaded, loadOf, canonicalTriple}
-
--- ---- loading a line
 
 -- the triple of names that stand in the parts answered
 abbrev pub namesIn : List ℕ → Span → Span → Span → RdfTriple
@@ -42,8 +39,6 @@ abbrev pub LinesLoad : Type 0
 LinesLoad = (text : List ℕ) (at : ℕ) (l : List ℕ) (n : ℕ) → at < length text → FirstLine (drop at text) l n
     → (s p o : Span) → answerAt nameLimit text at ≡ values 0 2 0 s p o → (before : Store) → SoundStore before
     → LineLoads text l s p o before
-
--- ---- a number, a term
 
 -- On a sound store two numbers are two terms of RDF 1.1,
 abbrev pub NumbersAreTerms : Type 0

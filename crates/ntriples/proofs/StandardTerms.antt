@@ -10,7 +10,7 @@ use Rattle.term.proofs.Names.{never}
 use Rattle.ntriples.specs.Standard as std
 use Rattle.ntriples.specs.Standard.{one, the, _▸_, _∣_, maybe, many}
 use Rattle.ntriples.specs.Standard.{Term, iri, blank, literal, tagged, unescaped, iriChars, iriOf, stringChars, suffixed, literalOf}
-use Rattle.ntriples.specs.Standard.{subjectTerm, predicateTerm, objectTerm}
+use Rattle.ntriples.specs.Standard.{subjectTerm, objectTerm}
 use Rattle.ntriples.specs.TermOf.{inner, lexicalFrom, suffixFrom, literalWith, termOf}
 use Rattle.ntriples.specs.Subset.{bare, visible, Plain}
 use Rattle.ntriples.specs.Claims.{TermOfStandard}
@@ -100,7 +100,7 @@ pub subject-term : {k : ℕ} {s : List ℕ} → g.Name k s → (x : std.Subject 
 subject-term n (_∣_.left x) = iri-term x (iri-back x n)
 subject-term n (_∣_.right x) = blank-term x
 
-pub predicate-term : {k : ℕ} {s : List ℕ} → g.Name k s → (x : std.Predicate s) → termOf s ≡ predicateTerm x
+pub predicate-term : {k : ℕ} {s : List ℕ} → g.Name k s → (x : std.Predicate s) → termOf s ≡ iri (iriOf x)
 predicate-term n x = iri-term x (iri-back x n)
 
 pub term-of-standard : TermOfStandard

@@ -1,6 +1,5 @@
 -- What is proved of reading a line (scope paper, "Names", last paragraph, and "Read a line"; paper 02, note 7), for every limit m of a
--- term's bytes from 1 up; the paper's is 255. Each claim is a type; the values are in `proofs/Claims.antt`, `Standard.antt`,
--- `Unambiguous.antt`, `StandardTerms.antt` and `Terms.antt`. Assumes nothing.
+-- term's bytes from 1 up; the paper's is 255. Each claim is a type, and `proofs/` has a value of each. Assumes nothing.
 use Rattle.term.specs.Prelude.{ℕ, _+_, _≤_, _<_, _≡_, List, _⊎_, _↔_, length, drop}
 use Rattle.term.specs.Bytes.{All}
 use Rattle.term.specs.Grammar.{Name}
@@ -10,7 +9,7 @@ use Rattle.ntriples.specs.declared.Span.{Span}
 use Rattle.ntriples.specs.Grammar.{span, commentByte, Trail, Triple, subjectSpan, predicateSpan, objectSpan, Within, Longest}
 use Rattle.ntriples.specs.Grammar.{FirstLine, bytesOf, Values, values, noPart, valuesOf}
 use Rattle.ntriples.specs.Standard as standard
-use Rattle.ntriples.specs.Standard.{stringsOf, subjectTerm, predicateTerm, objectTerm}
+use Rattle.ntriples.specs.Standard.{stringsOf, iri, iriOf, subjectTerm, objectTerm}
 use Rattle.ntriples.specs.TermOf.{termOf}
 use Rattle.ntriples.specs.Reader.{readOf}
 
@@ -18,8 +17,7 @@ use Rattle.ntriples.specs.Reader.{readOf}
 abbrev pub objectPart : {l : List ℕ} → ℕ → Triple l → Span
 objectPart i d = let a = objectSpan i d .start in span a (a + length (canonical (d .object)))
 
--- The line l, whose first byte has position i, has a derivation with the parts s, p, o, the object's without the string ending, and
--- terms of at most m bytes as spelled.
+-- The line l at position i has a derivation with the parts s, p, o, the object's without the string ending, and terms of at most m bytes.
 pub record Derived (m i : ℕ) (l : List ℕ) (s p o : Span) : Type 0 where
   pub derivation : Triple l
   pub within : Within m derivation
@@ -40,12 +38,11 @@ pub record Enterable (m : ℕ) (text : List ℕ) (s p o : Span) : Type 0 where
   pub objectKind : (kindOf m (bytesOf text o) ≡ 1) ⊎ ((kindOf m (bytesOf text o) ≡ 2) ⊎ (kindOf m (bytesOf text o) ≡ 3))
   pub objectShort : canonical (bytesOf text o) ≡ bytesOf text o
 
--- The line has a derivation in the standard's grammar, and by every such derivation the terms of the parts are those that the standard
--- gives it.
+-- The line has a derivation in the standard's grammar, and by every one the terms of the parts are those that the standard gives.
 pub record Meant (l : List ℕ) (text : List ℕ) (s p o : Span) : Type 0 where
   pub derivation : standard.Triple l
   pub subjectMeans : (e : standard.Triple l) → termOf (bytesOf text s) ≡ subjectTerm (e .isSubject)
-  pub predicateMeans : (e : standard.Triple l) → termOf (bytesOf text p) ≡ predicateTerm (e .isPredicate)
+  pub predicateMeans : (e : standard.Triple l) → termOf (bytesOf text p) ≡ iri (iriOf (e .isPredicate))
   pub objectMeans : (e : standard.Triple l) → termOf (bytesOf text o) ≡ objectTerm (e .isObject)
 
 -- the paper's number and values of what is answered at position i

@@ -79,8 +79,6 @@ pub record Longest (m : ℕ) (l : List ℕ) (k : ℕ) : Type 0 where
   pub viable : Viable m front
   pub longest : (b : ℕ) (s : List ℕ) → back ≡ b ∷ s → Viable m (front ++ (b ∷ [])) → ⊥
 
--- ---- lines of a text, and what reading one answers
-
 -- no byte of l is LF
 pub data Unbroken : List ℕ → Type 0 where
   none : Unbroken []
@@ -99,7 +97,7 @@ abbrev pub bytesOf : List ℕ → Span → List ℕ
 bytesOf text p = take (p .end - p .start) (drop (p .start) text)
 
 -- The paper's number and values for each answer: the refusal, or 0; what was read, 1 nothing, 2 a triple, 0 at the end and beside a
--- refusal; the refusal's offset in the line; the three parts.
+-- refusal; the refusal's offset in the line; the three parts, 0 to 0 where there is none.
 pub record Values : Type 0 where
   pub refusal : ℕ
   pub status : ℕ
@@ -111,7 +109,6 @@ pub record Values : Type 0 where
 abbrev pub values : ℕ → ℕ → ℕ → Span → Span → Span → Values
 values r a k s p o = record { refusal = r; status = a; offset = k; subject = s; predicate = p; object = o }
 
--- no part
 abbrev pub noPart : Span
 noPart = span 0 0
 

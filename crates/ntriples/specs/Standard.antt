@@ -39,8 +39,6 @@ pub data many (A : List ℕ → Type 0) : List ℕ → Type 0 where
 abbrev pub except : List ℕ → ℕ → ℕ → Bool
 except cs lo c = pick (among cs c) false (between lo 0x10FFFF c)
 
--- ---- characters
-
 -- [a-zA-Z], [a-zA-Z0-9]
 unfoldable pub letter : ℕ → Bool
 letter c = between 97 122 c || between 65 90 c
@@ -77,8 +75,6 @@ PN-CHARS c = PN-CHARS-U c || eqb c 45 || between 48 57 c || eqb c 0x00B7 || betw
 unfoldable pub HEX : ℕ → Bool
 HEX c = between 48 57 c || between 65 70 c || between 97 102 c
 
--- ---- terminals
-
 -- [10] UCHAR ::= '\u' HEX HEX HEX HEX | '\U' HEX HEX HEX HEX HEX HEX HEX HEX
 abbrev pub UCHAR : List ℕ → Type 0
 UCHAR =
@@ -114,8 +110,6 @@ WS = many (one (among (0x20 ∷ 0x9 ∷ [])))
 abbrev pub COMMENT : List ℕ → Type 0
 COMMENT = the 35 ▸ many (one (except (0xD ∷ 0xA ∷ []) 0))
 
--- ---- a line
-
 -- [6] literal ::= STRING_LITERAL_QUOTE ('^^' IRIREF | LANGTAG)?, with white space between its terminals
 abbrev pub Suffix : List ℕ → Type 0
 Suffix = maybe ((WS ▸ the 94 ▸ the 94 ▸ WS ▸ IRIREF) ∣ (WS ▸ LANGTAG))
@@ -136,7 +130,7 @@ abbrev pub Object : List ℕ → Type 0
 Object = IRIREF ∣ BLANK-NODE-LABEL ∣ Literal
 
 -- [2] triple ::= subject predicate object '.'
--- A derivation of the line l, by productions for its terms, for the white space around and between them, and for what may follow the dot.
+-- A derivation of the line l, by productions for the terms, for the white space around and between them, and for what may follow the dot.
 pub record TripleOf (S P O W E : List ℕ → Type 0) (l : List ℕ) : Type 0 where
   pub before : List ℕ
   pub subject : List ℕ
@@ -177,7 +171,7 @@ pub data Term : Type 0 where
 abbrev pub unescaped : ℕ → ℕ
 unescaped c = pick (eqb c 116) 9 (pick (eqb c 98) 8 (pick (eqb c 110) 10 (pick (eqb c 114) 13 (pick (eqb c 102) 12 c))))
 
--- the number of HEX digits after n, and so the character of an UCHAR: that of its digits
+-- the character of an UCHAR: the number that its digits write, where n is that of the digits before
 abbrev pub hex : ℕ → List ℕ → ℕ
 hex n [] = n
 hex n (c ∷ s) = hex (16 * n + (c - pick (leb c 57) 48 (pick (leb c 70) 55 87))) s
@@ -211,9 +205,6 @@ literalOf (_▸_.pair (_▸_.pair the.char (_▸_.pair r the.char)) x) = suffixe
 abbrev pub subjectTerm : {s : List ℕ} → Subject s → Term
 subjectTerm (_∣_.left i) = iri (iriOf i)
 subjectTerm {s} (_∣_.right b) = blank (drop 2 s)
-
-abbrev pub predicateTerm : {s : List ℕ} → Predicate s → Term
-predicateTerm i = iri (iriOf i)
 
 abbrev pub objectTerm : {s : List ℕ} → Object s → Term
 objectTerm (_∣_.left i) = iri (iriOf i)

@@ -31,11 +31,11 @@ abbrev pub CanonicalKeeps : Type 0
 CanonicalKeeps = (w : List ℕ) → ((x : List ℕ) → w ≡ x ++ stringEnding → ⊥) → canonical w ≡ w
 
 -- What it leaves of a name w: a name within the same limit, of the same kind, without the string ending, so that the step is done once.
+-- Only a literal has that ending.
 pub record Canonical (limit : ℕ) (w : List ℕ) : Type 0 where
   pub kind : kindOf limit (canonical w) ≡ kindOf limit w
   pub ending : writesString (canonical w) ≡ false
   pub once : canonical (canonical w) ≡ canonical w
-  -- only a literal has that ending
   pub other : (kindOf limit w ≡ 3 → ⊥) → canonical w ≡ w
 
 abbrev pub CanonicalName : Type 0
