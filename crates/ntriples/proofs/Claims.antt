@@ -402,29 +402,40 @@ meant m text i l r s p o e h =
           ∙ (canonical-term (z .1) ∙ (ap termOf q ∙ term-of-standard (z .0) _ (subst (g.Name (z .0)) q (z .1)) (f .isObject))));
     }
 
--- An answer by its values.
+-- An answer by its values: two that differ in the status or the refusal are two.
+statuses : {C : Type 0} {u v : Values} → (u .status ≡ v .status → ⊥) → u ≡ v → C
+statuses n e = absurd (n (ap (λ (z : Values). z .status) e))
+
+refusals : {C : Type 0} {u v : Values} → (u .refusal ≡ v .refusal → ⊥) → u ≡ v → C
+refusals n e = absurd (n (ap (λ (z : Values). z .refusal) e))
+
+triple-values : (a b c s p o : Span) → values 0 2 0 a b c ≡ values 0 2 0 s p o → answer.Triple a b c ≡ answer.Triple s p o
+triple-values a b c s p o e =
+    triple-parts a b c s p o (ap (λ (v : Values). v .subject) e) (ap (λ (v : Values). v .predicate) e)
+    (ap (λ (v : Values). v .object) e)
+
+values-triple : (a b c s p o : Span) → answer.Triple a b c ≡ answer.Triple s p o → values 0 2 0 a b c ≡ values 0 2 0 s p o
+values-triple a b c s p o e = let x : a ≡ s = cc in let y : b ≡ p = cc in let z : c ≡ o = cc in rw (x, y, z)
+
 is-triple : (r : Line) (s p o : Span) → (valuesOf r ≡ values 0 2 0 s p o) ↔ (r ≡ answer.Triple s p o)
 unfolding valuesOf
-is-triple answer.End s p o = (λ e. let z = ap (λ (v : Values). v .status) e in absurd (omega arith), λ e. end-triple s p o e)
-is-triple answer.Nothing s p o = (λ e. let z = ap (λ (v : Values). v .status) e in absurd (omega arith), λ e. nothing-triple s p o e)
-is-triple (answer.Triple a b c) s p o = (
-  λ e. triple-parts a b c s p o (ap (λ (v : Values). v .subject) e) (ap (λ (v : Values). v .predicate) e) (ap (λ (v : Values). v .object) e),
-  λ e. let x : a ≡ s = cc in let y : b ≡ p = cc in let z : c ≡ o = cc in rw (x, y, z),
-)
-is-triple (answer.Refused k) s p o = (λ e. let z = ap (λ (v : Values). v .refusal) e in absurd (omega arith), λ e. refused-triple k s p o e)
+is-triple answer.End s p o = (λ e. statuses (λ z. omega arith) e, λ e. end-triple s p o e)
+is-triple answer.Nothing s p o = (λ e. statuses (λ z. omega arith) e, λ e. nothing-triple s p o e)
+is-triple (answer.Triple a b c) s p o = (λ e. triple-values a b c s p o e, λ e. values-triple a b c s p o e)
+is-triple (answer.Refused k) s p o = (λ e. refusals (λ z. omega arith) e, λ e. refused-triple k s p o e)
 
 is-nothing : (r : Line) → (valuesOf r ≡ values 0 1 0 noPart noPart noPart) ↔ (r ≡ answer.Nothing)
 unfolding valuesOf
-is-nothing answer.End = (λ e. let z = ap (λ (v : Values). v .status) e in absurd (omega arith), λ e. end-nothing e)
+is-nothing answer.End = (λ e. statuses (λ z. omega arith) e, λ e. end-nothing e)
 is-nothing answer.Nothing = (λ e. refl, λ e. refl)
-is-nothing (answer.Triple a b c) = (λ e. let z = ap (λ (v : Values). v .status) e in absurd (omega arith), λ e. triple-nothing a b c e)
-is-nothing (answer.Refused k) = (λ e. let z = ap (λ (v : Values). v .refusal) e in absurd (omega arith), λ e. refused-nothing k e)
+is-nothing (answer.Triple a b c) = (λ e. statuses (λ z. omega arith) e, λ e. triple-nothing a b c e)
+is-nothing (answer.Refused k) = (λ e. refusals (λ z. omega arith) e, λ e. refused-nothing k e)
 
 is-refused : (r : Line) (j : ℕ) → (valuesOf r ≡ values 10 0 j noPart noPart noPart) ↔ (r ≡ answer.Refused j)
 unfolding valuesOf
-is-refused answer.End j = (λ e. let z = ap (λ (v : Values). v .refusal) e in absurd (omega arith), λ e. end-refused j e)
-is-refused answer.Nothing j = (λ e. let z = ap (λ (v : Values). v .refusal) e in absurd (omega arith), λ e. nothing-refused j e)
-is-refused (answer.Triple a b c) j = (λ e. let z = ap (λ (v : Values). v .refusal) e in absurd (omega arith), λ e. triple-refused j a b c e)
+is-refused answer.End j = (λ e. refusals (λ z. omega arith) e, λ e. end-refused j e)
+is-refused answer.Nothing j = (λ e. refusals (λ z. omega arith) e, λ e. nothing-refused j e)
+is-refused (answer.Triple a b c) j = (λ e. refusals (λ z. omega arith) e, λ e. triple-refused j a b c e)
 is-refused (answer.Refused k) j = (
   λ e. ap answer.Refused (ap (λ (v : Values). v .offset) e),
   λ e. let z : k ≡ j = cc in rw z,
@@ -433,9 +444,9 @@ is-refused (answer.Refused k) j = (
 is-end : (r : Line) → (valuesOf r ≡ values 0 0 0 noPart noPart noPart) ↔ (r ≡ answer.End)
 unfolding valuesOf
 is-end answer.End = (λ e. refl, λ e. refl)
-is-end answer.Nothing = (λ e. let z = ap (λ (v : Values). v .status) e in absurd (omega arith), λ e. end-nothing (sym e))
-is-end (answer.Triple a b c) = (λ e. let z = ap (λ (v : Values). v .status) e in absurd (omega arith), λ e. end-triple a b c (sym e))
-is-end (answer.Refused k) = (λ e. let z = ap (λ (v : Values). v .refusal) e in absurd (omega arith), λ e. end-refused k (sym e))
+is-end answer.Nothing = (λ e. statuses (λ z. omega arith) e, λ e. end-nothing (sym e))
+is-end (answer.Triple a b c) = (λ e. statuses (λ z. omega arith) e, λ e. end-triple a b c (sym e))
+is-end (answer.Refused k) = (λ e. refusals (λ z. omega arith) e, λ e. end-refused k (sym e))
 
 pub read-at : (m : ℕ) (text : List ℕ) (i : ℕ) (l : List ℕ) (n : ℕ) → i < length text → FirstLine (drop i text) l n
     → readSpelled m text i ≡ record { line = answerOf i (lineOf m i l); next = i + n }

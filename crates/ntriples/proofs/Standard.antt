@@ -114,8 +114,8 @@ first-cases c f₁ f₂ f₃ h =
     (λ _ k. cases (λ x. x ≡ true) (b.letter c) true (between 48 57 c) (λ e _. f₂ (base-byte c e)) (λ _ d. f₃ d) k) h
 
 under-byte : (c : ℕ) → eqb c 95 ≡ true → std.PN-CHARS-U c ≡ true
-unfolding std.PN-CHARS-U
-under-byte c e = split (std.PN-CHARS-BASE c) (λ p. rw p) (λ p. rw (p, e))
+unfolding std.PN-CHARS-U std.PN-CHARS-BASE
+under-byte c e = rw (eqb-true c 95 e)
 
 base-under : (c : ℕ) → std.PN-CHARS-BASE c ≡ true → std.PN-CHARS-U c ≡ true
 unfolding std.PN-CHARS-U

@@ -294,7 +294,8 @@ string-out = (refl, refl)
 pub string-rest : {s : List ℕ} (z : List ℕ) → many (one std.stringChar ∣ std.ECHAR ∣ std.UCHAR) s → suffixFrom false (s ++ (34 ∷ z)) ≡ z
 string-rest z many.none = skip-close z
 string-rest z (many.more {t = t} (_∣_.left (one.char {c = c} h)) r) =
-    skip-char c (t ++ (34 ∷ z)) (other std.stringChar 34 c (string-out .0) h) (other std.stringChar 92 c (string-out .1) h) ∙ string-rest z r
+    skip-char c (t ++ (34 ∷ z)) (other std.stringChar 34 c (string-out .0) h) (other std.stringChar 92 c (string-out .1) h)
+    ∙ string-rest z r
 string-rest z (many.more {t = t} (_∣_.right (_∣_.left (_▸_.pair the.char (one.char {c = c} h)))) r) =
     skip-escape c (t ++ (34 ∷ z)) ∙ string-rest z r
 string-rest z (many.more {t = t} (_∣_.right (_∣_.right (_∣_.left (_▸_.pair the.char (_▸_.pair {t = x} the.char h))))) r) =

@@ -1,4 +1,4 @@
--- What is proved of reading a line (scope paper, "Names", last paragraph, and "Read a line"; paper 02, note 7), for every limit m of a
+-- What is proved of reading a line (paper 01, "Names", last paragraph, and "Read a line"; paper 02, note 7), for every limit m of a
 -- term's bytes from 1 up; the paper's is 255. Each claim is a type, and `proofs/` has a value of each. Assumes nothing.
 use Rattle.term.specs.Prelude.{ℕ, _+_, _≤_, _<_, _≡_, List, _⊎_, _↔_, length, drop}
 use Rattle.term.specs.Bytes.{All}

@@ -1,6 +1,6 @@
--- The grammar of a line (scope paper, "Names", last paragraph): the productions of RDF 1.1 N-Triples, by their names there (triple,
--- subject, predicate, object), with white space and comments as the paper has them, over the terms that it permits; lines of a text; and the
--- paper's number and values for each answer ("Read a line"). Assumes nothing.
+-- The grammar of a line (paper 01, "Names", last paragraph): the productions of RDF 1.1 N-Triples, by their names there (triple,
+-- subject, predicate, object), with white space and comments as the paper has them, over the terms that it permits; lines of a text; and
+-- the paper's number and values for each answer ("Read a line"). Assumes nothing.
 use Rattle.term.specs.Prelude.{ℕ, _+_, _-_, _≤_, min, _≡_, List, [], _∷_, _++_, Bool, true, false, _⊎_, eqb, length, take, drop}
 use Rattle.term.specs.Bytes.{pick, between, among, All}
 use Rattle.term.specs.Grammar.{Iri, Blank, Literal}

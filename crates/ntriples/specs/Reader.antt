@@ -1,4 +1,4 @@
--- Reading a line by one pass over its bytes (scope paper, "Read a line"; paper 02, note 7): the executable definition that the code's
+-- Reading a line by one pass over its bytes (paper 01, "Read a line"; paper 02, note 7): the executable definition that the code's
 -- contracts cite. The limit of a term's bytes is a parameter throughout. Assumes nothing.
 use Prim.Native.Nat.{ℕ, zero, suc, _+_, _-_}
 use mathlib.Core.List.{List, [], _∷_, _++_}

@@ -1,5 +1,5 @@
 -- RDF 1.1 N-Triples (W3C Recommendation of 25 February 2014): its grammar over lists of code points, a definition for each production,
--- under its name (with `-` for `_`) and below its number and text there, and the terms. Nothing in it is the scope paper's. Assumes nothing.
+-- under its name (with `-` for `_`) and below its number and text there, and the terms. Nothing in it is paper 01's. Assumes nothing.
 use Rattle.term.specs.Prelude.{ℕ, _+_, _-_, _*_, _≡_, List, [], _∷_, _++_, Bool, true, false, _||_, leb, eqb, drop}
 use Rattle.term.specs.Bytes.{pick, between, among}
 use Rattle.term.specs.Canonical.{xsdString}

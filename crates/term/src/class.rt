@@ -1,4 +1,4 @@
-// The classes of bytes in a name (scope paper, "Names"), each a match on byte ranges. No class has the byte 0, which
+// The classes of bytes in a name (paper 01, "Names"), each a match on byte ranges. No class has the byte 0, which
 // `byte_at` gives past the end, so that a run of one class ends at the end of the bytes too.
 ghost use Prim.Native.Nat.{_<_};
 ghost use mathlib.Core.Path.{_≡_};

@@ -1,4 +1,4 @@
--- `line_reader::read_line` meets its contract: a walk of its MIR, by hand (scope paper, "The right form for each place"). The borrow
+-- `line_reader::read_line` meets its contract: a walk of its MIR, by hand (paper 01, "The right form for each place"). The borrow
 -- of the reader is opened, `ntriples::read_line` is called on the reader's text, which is Copy, and its position, the position that
 -- came back is stored, and the borrow is closed. All that the proof knows of `ntriples::read_line` is that it meets its contract.
 -- Assumes nothing.
