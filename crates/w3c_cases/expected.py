@@ -1,5 +1,5 @@
 #!/usr/bin/env python3
-"""The expected output of `w3c_cases`, from the papers alone (scope paper, "Names" and "Read a line").
+"""The expected output of `w3c_cases`, from the papers alone (paper 01, "Names" and "Read a line").
 
     expected.py            what the program is to print (stored in `stdout`)
     expected.py --table    the rows of the table in docs/W3C.md

@@ -14,7 +14,7 @@ use Rattle.store.specs.Dictionary.{internOf}
 use Rattle.ntriples.specs.Grammar.{white, commentByte}
 use Rattle.ntriples.specs.Reader.{permitted, isDot, opens, dotted, afterOf, enterOf, gapOf, goesOnOf, leaveOf, advanceOf, placeOf}
 use Rattle.ntriples.specs.Reader.{endOf, lineOf}
-use Rattle.ntriples.specs.Text.{untilLf, hasLf, dropCr, firstLineOf, takenOf, answerOf, readSpelled, shortLine, readOf}
+use Rattle.ntriples.specs.Reader.{untilLf, hasLf, dropCr, firstLineOf, takenOf, answerOf, readSpelled, shortLine, readOf}
 use Rattle.capi_calls.specs.Words.{lent, done, countersOf}
 use Rattle.capi_calls.specs.Calls.{kindCall, findAs, enterAs, lineCall}
 

@@ -16,7 +16,7 @@ use Rattle.store.specs.declared.Triple.{Triple}
 use Rattle.store.specs.Tables.{Tables}
 use Rattle.store.specs.Statement.{assertOf, retractOf}
 use Rattle.store.specs.Scan.{openOf}
-use Rattle.ntriples.specs.Text.{readOf}
+use Rattle.ntriples.specs.Reader.{readOf}
 use Rattle.store.specs.Soundness.{Sound}
 use Rattle.store.specs.Reading.{nameSpanOf, statementOf}
 use Rattle.store.specs.Dictionary.{FindAnswer, InternAnswer}

@@ -1,11 +1,11 @@
-// A reader that carries the text and how far it has read (scope paper, "The right form for each place"): thin over
+// A reader that carries the text and how far it has read (paper 01, "The right form for each place"): thin over
 // `ntriples::read_line`, which takes a plain text and a position.
 //
 // A function that takes, makes or holds a `LineReader` is proved by a walk of its code, since the struct holds a reference.
 // `line_at` has plain parameters: its callers need no walk.
 ghost use mathlib.Core.Path.{_≡_};
 ghost use Rattle.term.specs.Grammar.{nameLimit};
-ghost use Rattle.ntriples.specs.Text.{readOf};
+ghost use Rattle.ntriples.specs.Reader.{readOf};
 use ntriples::Line;
 use ntriples::LineRead;
 

@@ -20,8 +20,8 @@ use Rattle.store.proofs.Tests.{decide}
 use Rattle.store.proofs.RoundTrips.{number-is, named-is}
 use Rattle.store.proofs.Theorems.{round-trips, spellings-agree}
 use Rattle.ntriples.specs.declared.Span.{Span}
-use Rattle.ntriples.specs.Text.{bytesOf}
-use Rattle.ntriples.specs.Terms.{termOf}
+use Rattle.ntriples.specs.Grammar.{bytesOf}
+use Rattle.ntriples.specs.TermOf.{termOf}
 use Rattle.ntriples.specs.Claims.{Enterable}
 use Rattle.ntriples.proofs.Claims.{reads-a-line}
 use Rattle.ntriples.proofs.Terms.{distinct-terms}

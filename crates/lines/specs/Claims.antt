@@ -1,11 +1,6 @@
--- What a line of N-Triples does to the graph (demand 2, its last sentence): a line read as a triple gives the terms that the standard
--- gives it, and entering and asserting its parts adds exactly that triple to the graph; a refusal leaves the graph as it was. And what the
--- numbers of a sound store are in RDF 1.1: a term each. Assumes nothing.
-use mathlib.Core.Path.{_≡_}
-use mathlib.Core.Logic.{_↔_}
-use mathlib.Core.List.{List}
-use Prim.Native.Nat.{ℕ, _≤_, _<_}
-use lib.ListN.{length, drop}
+-- What a line of N-Triples does to the graph (demand 2, its last sentence), from its text to the triple in the graph; and what the numbers
+-- of a sound store are in RDF 1.1: a term each. Assumes nothing.
+use Rattle.term.specs.Prelude.{ℕ, _≤_, _<_, _≡_, List, _↔_, length, drop}
 use Rattle.term.specs.Grammar.{nameLimit}
 use Rattle.store.specs.declared.Position.{Position}
 use Rattle.store.specs.declared.Counters.{Counters}
@@ -17,15 +12,12 @@ use Rattle.store.specs.Dictionary.{nameAt, findOf}
 use Rattle.store.specs.Soundness.{Sound}
 use Rattle.store.specs.History.{Store, callStore}
 use Rattle.ntriples.specs.declared.Span.{Span}
-use Rattle.ntriples.specs.declared.Line.the-variants as answer
-use Rattle.ntriples.specs.Text.{FirstLine, bytesOf, readOf}
-use Rattle.ntriples.specs.Terms.{termOf}
-use Rattle.ntriples.specs.Claims.{Meant, Enterable}
+use Rattle.ntriples.specs.Grammar.{FirstLine, bytesOf, values}
+use Rattle.ntriples.specs.TermOf.{termOf}
+use Rattle.ntriples.specs.Claims.{Meant, Enterable, answerAt}
 use Rattle.graph.specs.Meaning.{RdfTriple, termAt}
 use Rattle.graph.specs.Graph.{named, LiveAt}
 use Rattle.graph.specs.Claims.{SoundStore, Loaded, loadOf, canonicalTriple}
-
--- ---- loading a line
 
 -- the triple of names that stand in the parts answered
 abbrev pub namesIn : List ℕ → Span → Span → Span → RdfTriple
@@ -45,10 +37,8 @@ pub record LineLoads (text l : List ℕ) (s p o : Span) (before : Store) : Type 
 
 abbrev pub LinesLoad : Type 0
 LinesLoad = (text : List ℕ) (at : ℕ) (l : List ℕ) (n : ℕ) → at < length text → FirstLine (drop at text) l n
-    → (s p o : Span) → readOf nameLimit text at .line ≡ answer.Triple s p o → (before : Store) → SoundStore before
+    → (s p o : Span) → answerAt nameLimit text at ≡ values 0 2 0 s p o → (before : Store) → SoundStore before
     → LineLoads text l s p o before
-
--- ---- a number, a term
 
 -- On a sound store two numbers are two terms of RDF 1.1,
 abbrev pub NumbersAreTerms : Type 0

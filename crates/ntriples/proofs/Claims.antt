@@ -24,7 +24,6 @@ use Rattle.ntriples.specs.declared.Line.the-variants as answer
 use Rattle.ntriples.specs.Grammar.{
   span,
   white,
-  WhiteSpace,
   Trail,
   Subject,
   Predicate,
@@ -39,27 +38,31 @@ use Rattle.ntriples.specs.Grammar.{
   Longest,
 }
 use Rattle.ntriples.specs.Reader.{Outcome, Empty, Terms, Fails, Begin, placeOf, lineOf}
-use Rattle.ntriples.specs.Text.{FirstLine, bytesOf, answerOf, valuesOf, readSpelled, shortPart, shortLine}
-use Rattle.ntriples.specs.Text.{readOf}
-use Rattle.ntriples.specs.Terms.{termOf}
+use Rattle.ntriples.specs.Reader.{answerOf, readSpelled, shortPart, shortLine, readOf}
+use Rattle.ntriples.specs.Grammar.{FirstLine, bytesOf, Values, values, noPart, valuesOf}
+use Rattle.ntriples.specs.TermOf.{termOf}
+use Rattle.ntriples.specs.Standard as standard
 use Rattle.ntriples.specs.Claims.{
   objectPart,
   Derived,
   Underivable,
   Enterable,
   Meant,
+  answerAt,
   LineAnswered,
   Reading,
   ReadsALine,
   OneFirstLine,
-  SameStrings,
   OneDerivation,
 }
 use Rattle.ntriples.proofs.Rest.{Rest, Derives, ShortParts, ShortOutcome}
 use Rattle.ntriples.proofs.Reading.{broken, continued, answered, reads, unique, Stopped, stopped}
 use Rattle.ntriples.proofs.Derivation.{partsOf, rest-of, derivation, within-back, within-forth, viable-is}
 use Rattle.ntriples.proofs.Lines.{line-found, line-exists, line-first}
-use Rattle.ntriples.proofs.Terms.{subject-is, predicate-is, object-is, object-same}
+use Rattle.ntriples.proofs.Terms.{canonical-term}
+use Rattle.ntriples.proofs.Standard.{subject-name, predicate-name, object-name, subset-of-standard}
+use Rattle.ntriples.proofs.Unambiguous.{cons-both, one-standard-derivation}
+use Rattle.ntriples.proofs.StandardTerms.{subject-term, predicate-term, term-of-standard}
 
 -- a line with a derivation is read so
 triple-reads : {l : List ℕ} (m i : ℕ) → 1 ≤ m → (d : Triple l) → Within m d → lineOf m i l ≡ Terms (partsOf i d)
@@ -153,9 +156,6 @@ record Further (f b f′ : List ℕ) : Type 0 where
   back : b ≡ byte ∷ later
   front : f′ ≡ (f ++ (byte ∷ [])) ++ more
 
-cons-both : (x y : ℕ) (s t : List ℕ) → x ≡ y → s ≡ t → x ∷ s ≡ y ∷ t
-cons-both x y s t p q = cc
-
 further : (f b f′ b′ : List ℕ) → f ++ b ≡ f′ ++ b′ → length f < length f′ → Further f b f′
 further [] b [] b′ e h = absurd (omega arith)
 further [] b (x ∷ f′) b′ e h = record { byte = x; later = f′ ++ b′; more = f′; back = e; front = refl }
@@ -246,6 +246,15 @@ nothing-triple s p o e = let z : _≡_ {A = ℕ} 0 1 = cc in absurd (omega arith
 refused-triple : {C : Type 0} (k : ℕ) (s p o : Span) → answer.Refused k ≡ answer.Triple s p o → C
 refused-triple k s p o e = let z : _≡_ {A = ℕ} 0 1 = cc in absurd (omega arith)
 
+end-triple : {C : Type 0} (s p o : Span) → answer.End ≡ answer.Triple s p o → C
+end-triple s p o e = let z : _≡_ {A = ℕ} 0 1 = cc in absurd (omega arith)
+
+end-nothing : {C : Type 0} → answer.End ≡ answer.Nothing → C
+end-nothing e = let z : _≡_ {A = ℕ} 0 1 = cc in absurd (omega arith)
+
+end-refused : {C : Type 0} (k : ℕ) → answer.End ≡ answer.Refused k → C
+end-refused k e = let z : _≡_ {A = ℕ} 0 1 = cc in absurd (omega arith)
+
 triple-nothing : {C : Type 0} (s p o : Span) → answer.Triple s p o ≡ answer.Nothing → C
 triple-nothing s p o e = nothing-triple s p o (sym e)
 
@@ -323,9 +332,9 @@ ten-reads m i text l r (Read.refused k v x) u = refl
 
 no-end : (m i : ℕ) (text l : List ℕ) (r : Outcome) → Read m i l r → shortLine text (answerOf i r) ≡ answer.End → ⊥
 unfolding answerOf shortLine
-no-end m i text l r (Read.nothing t) e = let z : _≡_ {A = ℕ} 0 1 = cc in omega arith
-no-end m i text l r (Read.triple d w) e = let z : _≡_ {A = ℕ} 0 1 = cc in omega arith
-no-end m i text l r (Read.refused k u x) e = let z : _≡_ {A = ℕ} 0 1 = cc in omega arith
+no-end m i text l r (Read.nothing t) e = end-nothing (sym e)
+no-end m i text l r (Read.triple d w) e = end-triple _ _ _ (sym e)
+no-end m i text l r (Read.refused k u x) e = end-refused _ (sym e)
 
 subject-kind : {t : List ℕ} (m : ℕ) → Subject t → length t ≤ m → (kindOf m t ≡ 1) ⊎ (kindOf m t ≡ 2)
 subject-kind {t} m (Subject.iri h) k = inl (kinds m 1 t (omega arith) .1 (k, g.Name.iri h))
@@ -361,21 +370,83 @@ enterable m text i l r s p o e h =
       objectShort = rw (← h .objectAt, object-bytes text i d r e) (short .once);
     }
 
+-- Every derivation of the standard has the terms of the paper's derivation, and so the parts' terms are the standard's.
+same-terms : {l : List ℕ} (d : Triple l) (e : standard.Triple l)
+    → (d .subject ≡ e .subject) × (d .predicate ≡ e .predicate) × (d .object ≡ e .object)
+same-terms {l} d e =
+    let w = subset-of-standard l .0 d in
+    let h = w .2 ∙ one-standard-derivation l (w .0) e in
+    (cc, cc, cc)
+
 meant : (m : ℕ) (text : List ℕ) (i : ℕ) (l r : List ℕ) (s p o : Span) → drop i text ≡ l ++ r → Derived m i l s p o
     → Meant l text s p o
 meant m text i l r s p o e h =
     let d = h .derivation in
     let b = spelled text i d r e in
+    let x = subject-name (d .isSubject) in
+    let y = predicate-name (d .isPredicate) in
+    let z = object-name (d .isObject) in
     record {
-      derivation = d;
-      subjectMeans = ap (λ (z : Span). termOf (bytesOf text z)) (sym (h .subjectAt)) ∙ (ap termOf (b .subject)
-          ∙ subject-is (d .isSubject));
-      predicateMeans =
-          ap (λ (z : Span). termOf (bytesOf text z)) (sym (h .predicateAt)) ∙ (ap termOf (b .predicate) ∙ predicate-is
-          (d .isPredicate));
-      objectMeans = ap (λ (z : Span). termOf (bytesOf text z)) (sym (h .objectAt)) ∙ (ap termOf (object-bytes text i d r e)
-          ∙ (object-same (d .isObject) ∙ object-is (d .isObject)));
+      derivation = subset-of-standard l .0 d .0;
+      subjectMeans = λ f.
+          let q = same-terms d f .0 in
+          ap (λ (w : Span). termOf (bytesOf text w)) (sym (h .subjectAt)) ∙ (ap termOf (b .subject ∙ q)
+          ∙ subject-term (subst (g.Name (x .0)) q (x .1)) (f .isSubject));
+      predicateMeans = λ f.
+          let q = same-terms d f .1 in
+          ap (λ (w : Span). termOf (bytesOf text w)) (sym (h .predicateAt)) ∙ (ap termOf (b .predicate ∙ q)
+          ∙ predicate-term (subst (g.Name (y .0)) q (y .1)) (f .isPredicate));
+      objectMeans = λ f.
+          let q = same-terms d f .2 in
+          ap (λ (w : Span). termOf (bytesOf text w)) (sym (h .objectAt)) ∙ (ap termOf (object-bytes text i d r e)
+          ∙ (canonical-term (z .1) ∙ (ap termOf q ∙ term-of-standard (z .0) _ (subst (g.Name (z .0)) q (z .1)) (f .isObject))));
     }
+
+-- An answer by its values: two that differ in the status or the refusal are two.
+statuses : {C : Type 0} {u v : Values} → (u .status ≡ v .status → ⊥) → u ≡ v → C
+statuses n e = absurd (n (ap (λ (z : Values). z .status) e))
+
+refusals : {C : Type 0} {u v : Values} → (u .refusal ≡ v .refusal → ⊥) → u ≡ v → C
+refusals n e = absurd (n (ap (λ (z : Values). z .refusal) e))
+
+triple-values : (a b c s p o : Span) → values 0 2 0 a b c ≡ values 0 2 0 s p o → answer.Triple a b c ≡ answer.Triple s p o
+triple-values a b c s p o e =
+    triple-parts a b c s p o (ap (λ (v : Values). v .subject) e) (ap (λ (v : Values). v .predicate) e)
+    (ap (λ (v : Values). v .object) e)
+
+values-triple : (a b c s p o : Span) → answer.Triple a b c ≡ answer.Triple s p o → values 0 2 0 a b c ≡ values 0 2 0 s p o
+values-triple a b c s p o e = let x : a ≡ s = cc in let y : b ≡ p = cc in let z : c ≡ o = cc in rw (x, y, z)
+
+is-triple : (r : Line) (s p o : Span) → (valuesOf r ≡ values 0 2 0 s p o) ↔ (r ≡ answer.Triple s p o)
+unfolding valuesOf
+is-triple answer.End s p o = (λ e. statuses (λ z. omega arith) e, λ e. end-triple s p o e)
+is-triple answer.Nothing s p o = (λ e. statuses (λ z. omega arith) e, λ e. nothing-triple s p o e)
+is-triple (answer.Triple a b c) s p o = (λ e. triple-values a b c s p o e, λ e. values-triple a b c s p o e)
+is-triple (answer.Refused k) s p o = (λ e. refusals (λ z. omega arith) e, λ e. refused-triple k s p o e)
+
+is-nothing : (r : Line) → (valuesOf r ≡ values 0 1 0 noPart noPart noPart) ↔ (r ≡ answer.Nothing)
+unfolding valuesOf
+is-nothing answer.End = (λ e. statuses (λ z. omega arith) e, λ e. end-nothing e)
+is-nothing answer.Nothing = (λ e. refl, λ e. refl)
+is-nothing (answer.Triple a b c) = (λ e. statuses (λ z. omega arith) e, λ e. triple-nothing a b c e)
+is-nothing (answer.Refused k) = (λ e. refusals (λ z. omega arith) e, λ e. refused-nothing k e)
+
+is-refused : (r : Line) (j : ℕ) → (valuesOf r ≡ values 10 0 j noPart noPart noPart) ↔ (r ≡ answer.Refused j)
+unfolding valuesOf
+is-refused answer.End j = (λ e. refusals (λ z. omega arith) e, λ e. end-refused j e)
+is-refused answer.Nothing j = (λ e. refusals (λ z. omega arith) e, λ e. nothing-refused j e)
+is-refused (answer.Triple a b c) j = (λ e. refusals (λ z. omega arith) e, λ e. triple-refused j a b c e)
+is-refused (answer.Refused k) j = (
+  λ e. ap answer.Refused (ap (λ (v : Values). v .offset) e),
+  λ e. let z : k ≡ j = cc in rw z,
+)
+
+is-end : (r : Line) → (valuesOf r ≡ values 0 0 0 noPart noPart noPart) ↔ (r ≡ answer.End)
+unfolding valuesOf
+is-end answer.End = (λ e. refl, λ e. refl)
+is-end answer.Nothing = (λ e. statuses (λ z. omega arith) e, λ e. end-nothing (sym e))
+is-end (answer.Triple a b c) = (λ e. statuses (λ z. omega arith) e, λ e. end-triple a b c (sym e))
+is-end (answer.Refused k) = (λ e. refusals (λ z. omega arith) e, λ e. end-refused k (sym e))
 
 pub read-at : (m : ℕ) (text : List ℕ) (i : ℕ) (l : List ℕ) (n : ℕ) → i < length text → FirstLine (drop i text) l n
     → readSpelled m text i ≡ record { line = answerOf i (lineOf m i l); next = i + n }
@@ -397,18 +468,25 @@ line-answered m text i l n h k f =
     let derived : (s p o : Span) → readOf m text i .line ≡ answer.Triple s p o → Derived m i l s p o =
     λ s p o q. derived-by m i text l (r .0) s p o (lineOf m i l) (r .1) v (rw e at q)
     in
+    let a = readOf m text i .line in
     record {
       moves = rw e;
-      triple = λ s p o. (derived s p o, λ d. rw e (derived-reads m i text l (r .0) s p o h (r .1) d));
-      nothing = (λ q. nothing-by m i text l (lineOf m i l) v (rw e at q), λ t. rw e (nothing-reads m i text l h t));
+      triple = λ s p o. (
+        λ q. derived s p o (is-triple a s p o .0 q),
+        λ d. is-triple a s p o .1 (rw e (derived-reads m i text l (r .0) s p o h (r .1) d)),
+      );
+      nothing = (
+        λ q. nothing-by m i text l (lineOf m i l) v (rw e at (is-nothing a .0 q)),
+        λ t. is-nothing a .1 (rw e (nothing-reads m i text l h t)),
+      );
       ten = (λ q. ten-by m i text l (lineOf m i l) v (rw e at q), λ u. rw e (ten-reads m i text l (lineOf m i l) v u));
       refused = λ j. (
-        λ q. refused-by m i text l j (lineOf m i l) v (rw e at q),
-        λ u. rw e (refused-reads m i text l j (lineOf m i l) v u),
+        λ q. refused-by m i text l j (lineOf m i l) v (rw e at (is-refused a j .0 q)),
+        λ u. is-refused a j .1 (rw e (refused-reads m i text l j (lineOf m i l) v u)),
       );
-      notEnd = λ q. no-end m i text l (lineOf m i l) v (rw e at q);
-      enterable = λ s p o q. enterable m text i l (r .0) s p o (r .1) (derived s p o q);
-      meant = λ s p o q. meant m text i l (r .0) s p o (r .1) (derived s p o q);
+      notEnd = λ q. no-end m i text l (lineOf m i l) v (rw e at (is-end a .0 q));
+      enterable = λ s p o q. enterable m text i l (r .0) s p o (r .1) (derived s p o (is-triple a s p o .0 q));
+      meant = λ s p o q. meant m text i l (r .0) s p o (r .1) (derived s p o (is-triple a s p o .0 q));
     }
 
 -- the object's part of a line as spelled lies in the text
@@ -424,9 +502,6 @@ inside-by m i text l t s p o r h z (Read.triple d w) e =
     let n = simp length-append at (ap length (d .spells)) in
     (omega arith, omega arith)
 inside-by m i text l t s p o r h z (Read.refused k u x) e = refused-triple (i + k - i) s p o e
-
-end-triple : {C : Type 0} (s p o : Span) → answer.End ≡ answer.Triple s p o → C
-end-triple s p o e = let z : _≡_ {A = ℕ} 0 1 = cc in absurd (omega arith)
 
 pub object-inside : (m : ℕ) (text : List ℕ) (i : ℕ) {r : LineRead} {s p o : Span} → 1 ≤ m → r ≡ readSpelled m text i
     → r .line ≡ answer.Triple s p o → (o .start ≤ o .end) × (o .end ≤ length text)
@@ -480,9 +555,12 @@ unfolding shortLine
 refused-short text k = refl
 
 pub reads-a-line : ReadsALine
-unfolding readOf readSpelled shortLine
+unfolding readOf readSpelled shortLine valuesOf
 reads-a-line m text i h =
-    record { ended = λ k. rw (le-leb (length text) i k); answered = λ l n k f. line-answered m text i l n h k f }
+    record {
+      ended = λ k. let e = le-leb (length text) i k in (rw e, rw e);
+      answered = λ l n k f. line-answered m text i l n h k f;
+    }
 
 pub one-first-line : OneFirstLine
 one-first-line s =
@@ -490,92 +568,15 @@ one-first-line s =
     let x = line-found s (w .0) (w .1) (w .2) in
     (w .0, w .1, w .2, λ k j f. let y = line-found s k j f in (sym (y .0) ∙ x .0, sym (y .1) ∙ x .1))
 
--- Two derivations of one line have parts of the same lengths, and so the same strings.
-cancel : (a b s t : List ℕ) → length a ≡ length b → a ++ s ≡ b ++ t → (a ≡ b) × (s ≡ t)
-cancel [] [] s t h e = (refl, e)
-cancel [] (y ∷ b) s t h e = absurd (omega arith)
-cancel (x ∷ a) [] s t h e = absurd (omega arith)
-cancel (x ∷ a) (y ∷ b) s t h e =
-    let e′ : a ++ s ≡ b ++ t = cc in
-    let xy : x ≡ y = cc in
-    let w = cancel a b s t (omega arith) e′ in
-    (cons-both x y a b xy (w .0), w .1)
-
-dark-dot : {C : Type 0} (b : ℕ) → white b ≡ true → 46 ≡ b → C
-unfolding white among
-dark-dot b h e = never (rw (← e) at h)
-
-first-dot : {a b : List ℕ} (s t : List ℕ) → WhiteSpace a → WhiteSpace b → a ++ (46 ∷ s) ≡ b ++ (46 ∷ t)
-    → (a ≡ b) × (s ≡ t)
-first-dot s t WhiteSpace.none WhiteSpace.none e = (refl, cc)
-first-dot s t WhiteSpace.none (WhiteSpace.more {b = y} h v) e = dark-dot y h (cc)
-first-dot s t (WhiteSpace.more {b = x} h u) WhiteSpace.none e = dark-dot x h (cc)
-first-dot s t (WhiteSpace.more {b = x} {s = a} h u) (WhiteSpace.more {b = y} {s = b} k v) e =
-    let e′ : a ++ (46 ∷ s) ≡ b ++ (46 ∷ t) = cc in
-    let xy : x ≡ y = cc in
-    let w = first-dot s t u v e′ in
-    (cons-both x y a b xy (w .0), w .1)
-
-record SameLengths {l : List ℕ} (d e : Triple l) : Type 0 where
-  before : length (d .before) ≡ length (e .before)
-  subject : length (d .subject) ≡ length (e .subject)
-  between₁ : length (d .between₁) ≡ length (e .between₁)
-  predicate : length (d .predicate) ≡ length (e .predicate)
-  between₂ : length (d .between₂) ≡ length (e .between₂)
-  object : length (d .object) ≡ length (e .object)
-
-same-spans : (s p o s′ p′ o′ : Span) → Terms (s ∷ (p ∷ (o ∷ []))) ≡ Terms (s′ ∷ (p′ ∷ (o′ ∷ [])))
-    → (s ≡ s′) × (p ≡ p′) × (o ≡ o′)
-same-spans s p o s′ p′ o′ e = (cc, cc, cc)
-
-same-lengths : {l : List ℕ} (d e : Triple l) → SameLengths d e
-same-lengths {l} d e =
-    let w =
-    same-spans _ _ _ _ _ _
-    (unique 0 l (Terms (partsOf 0 d)) (Terms (partsOf 0 e)) (Derives.triple (rest-of 0 d)) (Derives.triple (rest-of 0 e)))
-    in
-    let a = ap (λ (z : Span). z .start) (w .0) in
-    let b = ap (λ (z : Span). z .end) (w .0) in
-    let c = ap (λ (z : Span). z .start) (w .1) in
-    let f = ap (λ (z : Span). z .end) (w .1) in
-    let g = ap (λ (z : Span). z .start) (w .2) in
-    let h = ap (λ (z : Span). z .end) (w .2) in
-    record {
-      before = omega arith;
-      subject = omega arith;
-      between₁ = omega arith;
-      predicate = omega arith;
-      between₂ = omega arith;
-      object = omega arith;
-    }
-
-same-strings : {l : List ℕ} (d e : Triple l) → SameStrings d e
-same-strings d e =
-    let n = same-lengths d e in
-    let a = cancel (d .before) (e .before) _ _ (n .before) (sym (d .spells) ∙ e .spells) in
-    let b = cancel (d .subject) (e .subject) _ _ (n .subject) (a .1) in
-    let c = cancel (d .between₁) (e .between₁) _ _ (n .between₁) (b .1) in
-    let f = cancel (d .predicate) (e .predicate) _ _ (n .predicate) (c .1) in
-    let g = cancel (d .between₂) (e .between₂) _ _ (n .between₂) (f .1) in
-    let h = cancel (d .object) (e .object) _ _ (n .object) (g .1) in
-    let k = first-dot (d .after) (e .after) (d .white₃) (e .white₃) (h .1) in
-    record {
-      before = a .0;
-      subject = b .0;
-      between₁ = c .0;
-      predicate = f .0;
-      between₂ = g .0;
-      object = h .0;
-      between₃ = k .0;
-      after = k .1;
-    }
-
 terms-empty : {C : Type 0} (ms : List Span) → Terms ms ≡ Empty → C
 terms-empty ms e = let z : _≡_ {A = ℕ} 0 1 = cc in absurd (omega arith)
 
 pub one-derivation : OneDerivation
 one-derivation l d = (
-  λ e. same-strings d e,
+  λ e.
+      let x = subset-of-standard l .0 d in
+      let y = subset-of-standard l .0 e in
+      x .2 ∙ (one-standard-derivation l (x .0) (y .0) ∙ sym (y .2)),
   λ t. terms-empty (partsOf 0 d) (unique 0 l (Terms (partsOf 0 d)) Empty (Derives.triple (rest-of 0 d))
       (Derives.nothing t)),
 )

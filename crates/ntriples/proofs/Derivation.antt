@@ -8,6 +8,7 @@ use mathlib.Core.Logic.{_⊎_, ⊎-elim, inl, inr, _↔_}
 use lib.Dec.{leb, ltb, eqb}
 use lib.ListN.{length, length-append}
 use native.Mathlib.Omega.{arith}
+use Rattle.term.specs.Bytes.{All}
 use Rattle.term.specs.Grammar.{Name}
 use Rattle.term.specs.Grammar as names
 use Rattle.term.proofs.Names.{never}
@@ -15,8 +16,6 @@ use Rattle.ntriples.specs.declared.Span.{Span}
 use Rattle.ntriples.specs.Grammar.{
   span,
   white,
-  WhiteSpace,
-  Comment,
   Trail,
   Subject,
   Predicate,
@@ -78,10 +77,10 @@ abbrev pub partsOf : {l : List ℕ} → ℕ → Triple l → List Span
 partsOf i d = subjectSpan i d ∷ (predicateSpan i d ∷ (objectSpan i d ∷ []))
 
 -- spaces before the rest of a line
-pad : {w : List ℕ} (n i : ℕ) (s : List ℕ) (ms : List Span) → WhiteSpace w → Rest n (i + length w) s ms
+pad : (w : List ℕ) (n i : ℕ) (s : List ℕ) (ms : List Span) → All white w → Rest n (i + length w) s ms
     → Rest n i (w ++ s) ms
-pad n i s ms WhiteSpace.none r = rw (plus-zero i) at r
-pad n i s ms (WhiteSpace.more {s = w} e v) r = Rest.space e (pad n (i + 1) s ms v (rw (shift i (length w)) r))
+pad [] n i s ms h r = rw (plus-zero i) at r
+pad (b ∷ w) n i s ms h r = Rest.space (h .0) (pad w n (i + 1) s ms (h .1) (rw (shift i (length w)) r))
 
 along : {n i : ℕ} {l x : List ℕ} {ms : List Span} → l ≡ x → Rest n i x ms → Rest n i l ms
 along e r = rw e r
@@ -92,10 +91,10 @@ put {s = s} t p r = Rest.term t s refl (p .name) (p .fits) r
 
 pub rest-of : {l : List ℕ} (i : ℕ) (d : Triple l) → Rest 3 i l (partsOf i d)
 rest-of i d =
-    let r₃ = pad 0 (objectSpan i d .end) (46 ∷ d .after) [] (d .white₃) (Rest.dot (d .trail)) in
-    let r₂ = pad 1 (predicateSpan i d .end) _ _ (d .white₂) (put (d .object) (object-forth (d .isObject)) r₃) in
-    let r₁ = pad 2 (subjectSpan i d .end) _ _ (d .white₁) (put (d .predicate) (predicate-forth (d .isPredicate)) r₂) in
-    along (d .spells) (pad 3 i _ _ (d .white₀) (put (d .subject) (subject-forth (d .isSubject)) r₁))
+    let r₃ = pad (d .between₃) 0 (objectSpan i d .end) (46 ∷ d .after) [] (d .white₃) (Rest.dot (d .trail)) in
+    let r₂ = pad (d .between₂) 1 (predicateSpan i d .end) _ _ (d .white₂) (put (d .object) (object-forth (d .isObject)) r₃) in
+    let r₁ = pad (d .between₁) 2 (subjectSpan i d .end) _ _ (d .white₁) (put (d .predicate) (predicate-forth (d .isPredicate)) r₂) in
+    along (d .spells) (pad (d .before) 3 i _ _ (d .white₀) (put (d .subject) (subject-forth (d .isSubject)) r₁))
 
 -- the rest of a line up to the end of its next term
 record NextTerm (n i : ℕ) (l : List ℕ) (ms : List Span) : Type 0 where
@@ -103,7 +102,7 @@ record NextTerm (n i : ℕ) (l : List ℕ) (ms : List Span) : Type 0 where
   name : List ℕ
   tail : List ℕ
   splits : l ≡ gap ++ (name ++ tail)
-  blank : WhiteSpace gap
+  blank : All white gap
   kind : ℕ
   named : Name kind name
   fits : permitted n kind ≡ true
@@ -119,7 +118,7 @@ next-term {n} {i} {l} {ms} (Rest.space {b = b} e r) =
       name = t .name;
       tail = t .tail;
       splits = ap (λ (z : List ℕ). b ∷ z) (t .splits);
-      blank = WhiteSpace.more e (t .blank);
+      blank = (e, t .blank);
       kind = t .kind;
       named = t .named;
       fits = t .fits;
@@ -133,7 +132,7 @@ next-term {n} {i} {l} {ms} (Rest.term {k = k} {ms = ps} t s e h p r) =
       name = t;
       tail = s;
       splits = e;
-      blank = WhiteSpace.none;
+      blank = tt;
       kind = k;
       named = h;
       fits = p;
@@ -147,7 +146,7 @@ record LastDot (l : List ℕ) (ms : List Span) : Type 0 where
   gap : List ℕ
   tail : List ℕ
   splits : l ≡ gap ++ (46 ∷ tail)
-  blank : WhiteSpace gap
+  blank : All white gap
   trail : Trail tail
   parts : ms ≡ []
 
@@ -158,12 +157,12 @@ last-dot (Rest.space {b = b} e r) =
       gap = b ∷ t .gap;
       tail = t .tail;
       splits = ap (λ (z : List ℕ). b ∷ z) (t .splits);
-      blank = WhiteSpace.more e (t .blank);
+      blank = (e, t .blank);
       trail = t .trail;
       parts = t .parts;
     }
 last-dot (Rest.dot {s =
-    s} t) = record { gap = []; tail = s; splits = refl; blank = WhiteSpace.none; trail = t; parts = refl }
+    s} t) = record { gap = []; tail = s; splits = refl; blank = tt; trail = t; parts = refl }
 
 join : (l s t : List ℕ) (w x : List ℕ) → l ≡ w ++ (x ++ s) → s ≡ t → l ≡ w ++ (x ++ t)
 join l s t w x e f = e ∙ rw f

@@ -26,8 +26,8 @@ use Rattle.ntriples.specs.Reader.{
   endOf,
   lineOf,
 }
-use Rattle.ntriples.specs.Text.{untilLf, hasLf, dropCr, firstLineOf, takenOf, answerOf, readSpelled, shortLine, readOf}
-use Rattle.ntriples.specs.Terms.{inner, lexicalFrom, suffixFrom, literalWith, termOf}
+use Rattle.ntriples.specs.Reader.{untilLf, hasLf, dropCr, firstLineOf, takenOf, answerOf, readSpelled, shortLine, readOf}
+use Rattle.ntriples.specs.TermOf.{inner, lexicalFrom, suffixFrom, literalWith, termOf}
 
 -- a text, a position, and what reading there answers
 record Row : Type 0 where

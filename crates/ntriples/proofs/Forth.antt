@@ -9,7 +9,7 @@ use lib.Dec.{leb, ltb, eqb}
 use lib.ListN.{length}
 use native.Mathlib.Omega.{arith}
 use borrow.Author.Tests.{eqb-true, eq-eqb, ltb-true, ltb-false, lt-ltb, le-ltb}
-use Rattle.term.specs.Bytes.{pick, among, iriByte, textByte, pairByte, firstByte, labelByte, letter, alnum}
+use Rattle.term.specs.Bytes.{pick, among, iriByte, textByte, pairByte, firstByte, labelByte, letter, alnum, All}
 use Rattle.term.specs.Scanner.{stepOf, runOf, wholeOf, isBad, firstKindOf}
 use Rattle.term.specs.Grammar.{Name}
 use Rattle.term.specs.Grammar as names
@@ -37,7 +37,7 @@ use Rattle.term.specs.declared.Scan.the-variants.{
 }
 use Rattle.term.proofs.Names.{Accepts, never, bad, name-back, name-forth, name-kind}
 use Rattle.ntriples.specs.declared.Span.{Span}
-use Rattle.ntriples.specs.Grammar.{span, white, commentByte, Trail, Comment, Short}
+use Rattle.ntriples.specs.Grammar.{span, white, commentByte, Trail, Short}
 use Rattle.ntriples.proofs.Rest.{Rest, Derives, ShortParts, ShortOutcome, Continued}
 use Rattle.ntriples.specs.Reader.{
   Outcome,
@@ -444,15 +444,15 @@ begin-forth : (m i b : ℕ) (l : List ℕ) (r : Outcome) → Derives i (b ∷ l)
 begin-forth m i b l r (Derives.nothing t) = begin-trail m i b l t
 begin-forth m i b l r (Derives.triple {ms = parts} t) = begin-rest m i b l parts t
 
-note-forth : (m i : ℕ) (ms : List Span) (b : ℕ) (l : List ℕ) (r : Outcome) → Comment (b ∷ l) → r ≡ Terms ms
+note-forth : (m i : ℕ) (ms : List Span) (b : ℕ) (l : List ℕ) (r : Outcome) → All commentByte (b ∷ l) → r ≡ Terms ms
     → Residual (i + 1) (advanceOf m i (Noted ms) b) l r
 unfolding advanceOf
-note-forth m i ms b l r (Comment.byte e t) g = rw e (t, g)
+note-forth m i ms b l r c g = rw (c .0) (c .1, g)
 
-remark-forth : (m i : ℕ) (b : ℕ) (l : List ℕ) (r : Outcome) → Comment (b ∷ l) → r ≡ Empty
+remark-forth : (m i : ℕ) (b : ℕ) (l : List ℕ) (r : Outcome) → All commentByte (b ∷ l) → r ≡ Empty
     → Residual (i + 1) (advanceOf m i Remark b) l r
 unfolding advanceOf
-remark-forth m i b l r (Comment.byte e t) g = rw e (t, g)
+remark-forth m i b l r c g = rw (c .0) (c .1, g)
 
 -- What may follow b may follow after b, if no term is too long so far.
 pub advance-forth : (m c i : ℕ) (p : Place) (b : ℕ) (l : List ℕ) (r : Outcome) → Good m i p → ShortOutcome m c r

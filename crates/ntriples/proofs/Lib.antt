@@ -5,6 +5,10 @@ pub mod Reading
 pub mod Derivation
 pub mod Lines
 pub mod Terms
+pub mod Standard
+pub mod Unambiguous
+pub mod StandardNames
+pub mod StandardTerms
 pub mod Claims
 pub mod Runs
 pub mod Halts

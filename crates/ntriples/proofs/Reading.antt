@@ -37,7 +37,7 @@ use Rattle.term.specs.declared.Scan.the-variants.{
 }
 use Rattle.term.proofs.Names.{Accepts, never, bad, name-back, name-forth, name-kind}
 use Rattle.ntriples.specs.declared.Span.{Span}
-use Rattle.ntriples.specs.Grammar.{span, white, commentByte, Trail, Comment, Short}
+use Rattle.ntriples.specs.Grammar.{span, white, commentByte, Trail, Short}
 use Rattle.ntriples.proofs.Rest.{Rest, Derives, ShortParts, ShortOutcome, Continued}
 use Rattle.ntriples.specs.Reader.{
   Outcome,
@@ -304,8 +304,8 @@ complete m i (Inside ms n q a) h g =
           (rest-later m i (r .2) (omega arith)),
     )
 complete m i (After ms) h g = ([], Terms ms, (Trail.end, refl), fit-short m i ms g)
-complete m i (Noted ms) h g = ([], Terms ms, (Comment.end, refl), fit-short m i ms g)
-complete m i Remark h g = ([], Empty, (Comment.end, refl), tt)
+complete m i (Noted ms) h g = ([], Terms ms, (tt, refl), fit-short m i ms g)
+complete m i Remark h g = ([], Empty, (tt, refl), tt)
 complete m i (Broken k) h g = never (sym h)
 
 -- the offset after the bytes s
@@ -415,8 +415,8 @@ end-back i (Inside ms n q a) r h e =
     cases (λ x. x ≡ r) (dotted n q) (Terms (ms ++ (span a (i - 1) ∷ []))) (Fails i)
     (λ z w. inr record { lone = z; trail = Trail.end; gives = sym w }) (λ _ w. refused-no i r w h) e
 end-back i (After ms) r h e = (Trail.end, sym e)
-end-back i (Noted ms) r h e = (Comment.end, sym e)
-end-back i Remark r h e = (Comment.end, sym e)
+end-back i (Noted ms) r h e = (tt, sym e)
+end-back i Remark r h e = (tt, sym e)
 end-back i (Broken k) r h e = refused-no k r e h
 
 end-short : (m c i : ℕ) (p : Place) → Good m i p → ShortOutcome m c (endOf i p)

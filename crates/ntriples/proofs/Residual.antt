@@ -9,7 +9,7 @@ use lib.Dec.{leb, ltb, eqb}
 use lib.ListN.{length}
 use native.Mathlib.Omega.{arith}
 use borrow.Author.Tests.{eqb-true, eq-eqb, ltb-true, ltb-false, lt-ltb, le-ltb}
-use Rattle.term.specs.Bytes.{pick, among, iriByte, textByte, pairByte, firstByte, labelByte, letter, alnum}
+use Rattle.term.specs.Bytes.{pick, among, iriByte, textByte, pairByte, firstByte, labelByte, letter, alnum, All}
 use Rattle.term.specs.Scanner.{stepOf, runOf, wholeOf, isBad, firstKindOf}
 use Rattle.term.specs.Grammar.{Name}
 use Rattle.term.specs.declared.Scan.{Scan}
@@ -36,7 +36,7 @@ use Rattle.term.specs.declared.Scan.the-variants.{
 }
 use Rattle.term.proofs.Names.{Accepts, never, bad, name-back, name-forth, name-kind}
 use Rattle.ntriples.specs.declared.Span.{Span}
-use Rattle.ntriples.specs.Grammar.{span, white, commentByte, Trail, Comment, Short}
+use Rattle.ntriples.specs.Grammar.{span, white, commentByte, Trail, Short}
 use Rattle.ntriples.proofs.Rest.{Rest, Derives, ShortParts, ShortOutcome, Continued}
 use Rattle.ntriples.specs.Reader.{
   Outcome,
@@ -88,8 +88,8 @@ Residual i Begin l r = Derives i l r
 Residual i (Gap ms n) l r = Following i ms n l r
 Residual i (Inside ms n q a) l r = Going i ms n q a l r ⊎ Dotting i ms n q a l r
 Residual i (After ms) l r = Trail l × (r ≡ Terms ms)
-Residual i (Noted ms) l r = Comment l × (r ≡ Terms ms)
-Residual i Remark l r = Comment l × (r ≡ Empty)
+Residual i (Noted ms) l r = All commentByte l × (r ≡ Terms ms)
+Residual i Remark l r = All commentByte l × (r ≡ Empty)
 Residual i (Broken k) l r = ⊥
 
 -- the two cases of a value by a test
@@ -276,9 +276,9 @@ advance-back m i (Gap ms n) b l r h = gap-back i ms n b l r h
 advance-back m i (Inside ms n q a) b l r h = inside-back m i ms n q a b l r h
 advance-back m i (After ms) b l r h = after-back i ms b l r h
 advance-back m i (Noted ms) b l r h =
-    cases (λ p. Residual (i + 1) p l r) (commentByte b) (Noted ms) (Broken i) (λ e w. (Comment.byte e (w .0), w .1))
+    cases (λ p. Residual (i + 1) p l r) (commentByte b) (Noted ms) (Broken i) (λ e w. ((e, w .0), w .1))
     (λ _ w. absurd w) h
 advance-back m i Remark b l r h =
-    cases (λ p. Residual (i + 1) p l r) (commentByte b) Remark (Broken i) (λ e w. (Comment.byte e (w .0), w .1))
+    cases (λ p. Residual (i + 1) p l r) (commentByte b) Remark (Broken i) (λ e w. ((e, w .0), w .1))
     (λ _ w. absurd w) h
 advance-back m i (Broken k) b l r h = h

@@ -39,11 +39,13 @@ use Rattle.ntriples.specs.Reader.{
   endOf,
   lineOf,
 }
-use Rattle.ntriples.specs.Text.{Unbroken, endsInCr, FirstLine, answerOf, readSpelled}
+use Rattle.ntriples.specs.Grammar.{Unbroken, FirstLine}
+use Rattle.ntriples.specs.Reader.{answerOf, readSpelled}
 use Rattle.ntriples.specs.Productions.{Inline, Dark, RunEnd, runEnd, onward, TermEnds, ObjectEnds, crDropped, EolAt}
 use Rattle.ntriples.proofs.Forth.{gap-space}
 use Rattle.ntriples.proofs.Halts.{decide, strictly, step-to, at-end, onward-broken}
 use Rattle.ntriples.proofs.Runs.{slice-next, slice-none, run-turn, run-out, run-end, onward-next, onward-end}
+use Rattle.ntriples.proofs.Lines.{endsInCr, ends-snoc, no-cr}
 use Rattle.ntriples.proofs.Claims.{read-at}
 
 -- A run of bytes that do not leave a place is read over.
@@ -275,11 +277,6 @@ unbroken-front : (l : List ℕ) (b : ℕ) → Unbroken (l ++ (b ∷ [])) → Unb
 unbroken-front [] b u = Unbroken.none
 unbroken-front (x ∷ l) b (Unbroken.byte h u) = Unbroken.byte h (unbroken-front l b u)
 
-ends-snoc : (l : List ℕ) (b : ℕ) → endsInCr (l ++ (b ∷ [])) ≡ eqb b 13
-ends-snoc [] b = refl
-ends-snoc (x ∷ []) b = refl
-ends-snoc (x ∷ (y ∷ l)) b = ends-snoc (y ∷ l) b
-
 pub eol-begin : (text : List ℕ) (i : ℕ) → Unbroken (slice i i text)
 eol-begin text i = rw (slice-empty i text) Unbroken.none
 
@@ -343,7 +340,7 @@ read-lf text i e h t k c =
     let l = slice i e text in
     let n = length-slice i e text (t .before) in
     let a = t .after in
-    let f = FirstLine.lf l (drop (e + 1) text) (at-lf text i e t k) (t .unbroken) c in
+    let f = FirstLine.lf l (drop (e + 1) text) (at-lf text i e t k) (t .unbroken) (no-cr l c) in
     let j : i + (length l + 1) ≡ e + 1 = omega arith in
     read-at 255 text i l (length l + 1) h f ∙ rw (whole-line text i e (t .after) (t .before), j)
 

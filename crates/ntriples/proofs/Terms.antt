@@ -18,32 +18,51 @@ use Rattle.term.proofs.Names.{never, kinds, name-forth}
 use Rattle.term.proofs.Booleans.{decide}
 use Rattle.term.proofs.WellFormed.{name-positive}
 use Rattle.term.proofs.Shortened.{kept, rejoined, writes-joined, at-quote, isQuote, past-quote, quote-last, canonical-name}
-use Rattle.ntriples.specs.Grammar.{Subject, Predicate, Object}
-use Rattle.ntriples.specs.Terms.{
-  Term,
-  iri,
-  blank,
-  literal,
-  tagged,
-  unescaped,
-  iriRest,
-  iriOf,
-  labelOf,
-  suffixed,
-  lexicalOf,
-  textOf,
-  literalOf,
-  subjectTerm,
-  predicateTerm,
-  objectTerm,
-  inner,
-  lexicalFrom,
-  suffixFrom,
-  literalWith,
-  termOf,
-}
+use Rattle.ntriples.specs.Standard.{Term, iri, blank, literal, tagged, unescaped}
+use Rattle.ntriples.specs.TermOf.{inner, lexicalFrom, suffixFrom, literalWith, termOf}
 use Rattle.ntriples.specs.Claims.{DistinctTerms}
 use Rattle.ntriples.proofs.Residual.{cases}
+
+-- ---- the term of a name by its derivation in the paper's grammar
+
+-- an IRI is what stands between `<` and `>`
+abbrev iriRest : {s : List ℕ} → g.IriRest s → List ℕ
+iriRest (g.IriRest.byte {b = b} e r) = b ∷ iriRest r
+iriRest g.IriRest.close = []
+
+abbrev iriOf : {s : List ℕ} → g.Iri s → List ℕ
+iriOf (g.Iri.open′ {b = b} e r) = b ∷ iriRest r
+
+-- a blank node is its label, without `_:`
+abbrev labelOf : {s : List ℕ} → g.Blank s → List ℕ
+labelOf (g.Blank.single {b = b} e) = b ∷ []
+labelOf (g.Blank.longer {b = b} {s = s} e r) = b ∷ s
+
+-- a literal is the bytes between the quotes with the pairs unescaped, and its tag or datatype
+abbrev suffixed : {s : List ℕ} → List ℕ → g.Suffix s → Term
+suffixed x g.Suffix.none = literal x xsdString
+suffixed x (g.Suffix.tag {b = b} {s = s} e r) = tagged x (b ∷ s)
+suffixed x (g.Suffix.datatype i) = literal x (iriOf i)
+
+abbrev lexicalOf : {s : List ℕ} → g.TextRest s → List ℕ
+lexicalOf (g.TextRest.byte {b = b} e r) = b ∷ lexicalOf r
+lexicalOf (g.TextRest.pair {b = b} e r) = unescaped b ∷ lexicalOf r
+lexicalOf (g.TextRest.close r) = []
+
+abbrev textOf : {s : List ℕ} → List ℕ → g.TextRest s → Term
+textOf x (g.TextRest.byte e r) = textOf x r
+textOf x (g.TextRest.pair e r) = textOf x r
+textOf x (g.TextRest.close r) = suffixed x r
+
+abbrev literalOf : {s : List ℕ} → g.Literal s → Term
+literalOf (g.Literal.open′ r) = textOf (lexicalOf r) r
+
+abbrev nameTerm : {k : ℕ} {s : List ℕ} → g.Name k s → Term
+nameTerm (g.Name.iri h) = iri (iriOf h)
+nameTerm (g.Name.blank h) = blank (labelOf h)
+nameTerm (g.Name.literal h) = literalOf h
+
+-- ---- by one pass over the bytes it is the same
 
 inner-is : {s : List ℕ} (r : g.IriRest s) → inner s ≡ iriRest r
 unfolding inner
@@ -52,7 +71,7 @@ inner-is (g.IriRest.byte {b = b} e g.IriRest.close) = refl
 inner-is g.IriRest.close = refl
 
 -- a byte of a text is neither the quote nor `\`
-plain : (b : ℕ) → textByte b ≡ true → (eqb b 34 ≡ false) × (eqb b 92 ≡ false)
+pub plain : (b : ℕ) → textByte b ≡ true → (eqb b 34 ≡ false) × (eqb b 92 ≡ false)
 unfolding textByte among
 plain b h =
     cases (λ x. x ≡ true) (among (34 ∷ (92 ∷ [])) b) false _ (λ _ z. never z)
@@ -94,19 +113,14 @@ literal-is : {s : List ℕ} (h : g.Literal s) → termOf s ≡ literalOf h
 unfolding termOf
 literal-is (g.Literal.open′ r) = rw (lexical-is r) (suffix-is (lexicalOf r) r)
 
-pub subject-is : {t : List ℕ} (h : Subject t) → termOf t ≡ subjectTerm h
-subject-is (Subject.iri h) = iri-is h
-subject-is (Subject.blank h) = blank-is h
+name-is : {k : ℕ} {s : List ℕ} (h : g.Name k s) → termOf s ≡ nameTerm h
+name-is (g.Name.iri h) = iri-is h
+name-is (g.Name.blank h) = blank-is h
+name-is (g.Name.literal h) = literal-is h
 
-pub predicate-is : {t : List ℕ} (h : Predicate t) → termOf t ≡ predicateTerm h
-predicate-is (Predicate.iri h) = iri-is h
+-- ---- two names have two terms
 
-pub object-is : {t : List ℕ} (h : Object t) → termOf t ≡ objectTerm h
-object-is (Object.iri h) = iri-is h
-object-is (Object.blank h) = blank-is h
-object-is (Object.literal h) = literal-is h
-
--- Two names have two terms. An IRI and a blank node are spelled by their terms.
+-- an IRI and a blank node are spelled by their terms
 iri-rest-spelled : {s : List ℕ} (r : g.IriRest s) → s ≡ iriRest r ++ (62 ∷ [])
 iri-rest-spelled (g.IriRest.byte {b = b} e r) = ap (λ (z : List ℕ). b ∷ z) (iri-rest-spelled r)
 iri-rest-spelled g.IriRest.close = refl
@@ -119,7 +133,7 @@ blank-spelled (g.Blank.single e) = refl
 blank-spelled (g.Blank.longer e r) = refl
 
 -- the four pairs stand for four bytes that are no text by themselves
-pair-cases : {C : Type 0} (b : ℕ) → (b ≡ 34 → C) → (b ≡ 92 → C) → (b ≡ 110 → C) → (b ≡ 114 → C) → pairByte b ≡ true → C
+pub pair-cases : {C : Type 0} (b : ℕ) → (b ≡ 34 → C) → (b ≡ 92 → C) → (b ≡ 110 → C) → (b ≡ 114 → C) → pairByte b ≡ true → C
 unfolding pairByte among
 pair-cases b f₁ f₂ f₃ f₄ h =
     let P : Bool → Type 0 = λ x. x ≡ true in
@@ -262,17 +276,6 @@ text-sort x (g.TextRest.close r) = suffix-sort x r
 literal-sort : {s : List ℕ} (h : g.Literal s) → sortOf (literalOf h) ≡ 3
 literal-sort (g.Literal.open′ h) = text-sort (lexicalOf h) h
 
-nameTerm : {k : ℕ} {s : List ℕ} → g.Name k s → Term
-nameTerm (g.Name.iri h) = iri (iriOf h)
-nameTerm (g.Name.blank h) = blank (labelOf h)
-nameTerm (g.Name.literal h) = literalOf h
-
-name-is : {k : ℕ} {s : List ℕ} (h : g.Name k s) → termOf s ≡ nameTerm h
-unfolding nameTerm
-name-is (g.Name.iri h) = iri-is h
-name-is (g.Name.blank h) = blank-is h
-name-is (g.Name.literal h) = literal-is h
-
 iri-of : (x y : List ℕ) → iri x ≡ iri y → x ≡ y
 iri-of x y e = cc
 
@@ -284,7 +287,7 @@ unlike a b n m p q d e = absurd (d (sym p ∙ (ap sortOf e ∙ q)))
 
 same-name : {k j : ℕ} {s t : List ℕ} (h : g.Name k s) (i : g.Name j t) → (HasEnding s → ⊥) → (HasEnding t → ⊥)
     → nameTerm h ≡ nameTerm i → s ≡ t
-unfolding nameTerm sortOf
+unfolding sortOf
 same-name (g.Name.iri h) (g.Name.iri i) u v e = same-iri h i (iri-of _ _ e)
 same-name (g.Name.iri h) (g.Name.blank i) u v e = unlike _ _ 1 2 refl refl (λ z. omega arith) e
 same-name (g.Name.iri h) (g.Name.literal i) u v e = unlike _ _ 1 3 refl (literal-sort i) (λ z. omega arith) e
@@ -343,7 +346,7 @@ ending-same (b ∷ x) h =
     (λ g w. past-quote x Bad refl w) j) k) h
 
 -- the term of a name is that of its spelling without the ending
-canonical-term : {k : ℕ} {s : List ℕ} → g.Name k s → termOf (canonical s) ≡ termOf s
+pub canonical-term : {k : ℕ} {s : List ℕ} → g.Name k s → termOf (canonical s) ≡ termOf s
 canonical-term {s = s} h =
     decide (writesString s)
     (λ e. let j = rejoined s e in
@@ -376,8 +379,3 @@ distinct-terms k j a b h i = (
       distinct (x .0) (y .0) (x .1) (y .1) (canonical-term h ∙ (e ∙ sym (canonical-term i))),
   λ e. sym (canonical-term h) ∙ (ap termOf e ∙ canonical-term i),
 )
-
-pub object-same : {t : List ℕ} → Object t → termOf (canonical t) ≡ termOf t
-object-same (Object.iri h) = canonical-term (g.Name.iri h)
-object-same (Object.blank h) = canonical-term (g.Name.blank h)
-object-same (Object.literal h) = canonical-term (g.Name.literal h)

@@ -1,15 +1,13 @@
--- The grammar of a line (scope paper, "Names", last paragraph): the productions of RDF 1.1 N-Triples, by their names there
--- (triple, subject, predicate, object), with white space and comments as the paper has them, over the terms that it permits. Assumes nothing.
-use Prim.Native.Nat.{ℕ, _+_, _≤_, min}
-use mathlib.Core.Path.{_≡_}
-use mathlib.Core.List.{List, [], _∷_, _++_}
-use mathlib.Core.Bool.{Bool, true, false}
-use mathlib.Core.Logic.{_⊎_}
-use lib.Dec.{leb, eqb}
-use lib.ListN.{length}
-use Rattle.term.specs.Bytes.{pick, between, among}
+-- The grammar of a line (paper 01, "Names", last paragraph): the productions of RDF 1.1 N-Triples, by their names there (triple,
+-- subject, predicate, object), with white space and comments as the paper has them, over the terms that it permits; lines of a text; and
+-- the paper's number and values for each answer ("Read a line"). Assumes nothing.
+use Rattle.term.specs.Prelude.{ℕ, _+_, _-_, _≤_, min, _≡_, List, [], _∷_, _++_, Bool, true, false, _⊎_, eqb, length, take, drop}
+use Rattle.term.specs.Bytes.{pick, between, among, All}
 use Rattle.term.specs.Grammar.{Iri, Blank, Literal}
 use Rattle.ntriples.specs.declared.Span.{Span}
+use Rattle.ntriples.specs.declared.Line.{Line}
+use Rattle.ntriples.specs.declared.Line.the-variants as answer
+use Rattle.ntriples.specs.Standard.{TripleOf}
 
 -- a space or a tab
 unfoldable pub white : ℕ → Bool
@@ -19,21 +17,11 @@ white b = among (32 ∷ 9 ∷ []) b
 unfoldable pub commentByte : ℕ → Bool
 commentByte b = pick (eqb b 9) true (between 32 126 b)
 
--- any spaces and tabs, also none
-pub data WhiteSpace : List ℕ → Type 0 where
-  none : WhiteSpace []
-  more : {b : ℕ} {s : List ℕ} → white b ≡ true → WhiteSpace s → WhiteSpace (b ∷ s)
-
--- the bytes of a comment after its `#`
-pub data Comment : List ℕ → Type 0 where
-  end : Comment []
-  byte : {b : ℕ} {s : List ℕ} → commentByte b ≡ true → Comment s → Comment (b ∷ s)
-
 -- spaces and tabs, and possibly a comment: a line that gives nothing, and what may follow a triple's dot
 pub data Trail : List ℕ → Type 0 where
   end : Trail []
   space : {b : ℕ} {s : List ℕ} → white b ≡ true → Trail s → Trail (b ∷ s)
-  comment : {s : List ℕ} → Comment s → Trail (35 ∷ s)
+  comment : {s : List ℕ} → All commentByte s → Trail (35 ∷ s)
 
 pub data Subject : List ℕ → Type 0 where
   iri : {t : List ℕ} → Iri t → Subject t
@@ -47,27 +35,9 @@ pub data Object : List ℕ → Type 0 where
   blank : {t : List ℕ} → Blank t → Object t
   literal : {t : List ℕ} → Literal t → Object t
 
--- a derivation of the line l: subject, predicate, object, a dot, with any spaces or tabs around and between, and possibly a
--- comment after
-pub record Triple (l : List ℕ) : Type 0 where
-  pub before : List ℕ
-  pub subject : List ℕ
-  pub between₁ : List ℕ
-  pub predicate : List ℕ
-  pub between₂ : List ℕ
-  pub object : List ℕ
-  pub between₃ : List ℕ
-  pub after : List ℕ
-  pub spells : l ≡ before ++ (subject ++ (between₁ ++ (predicate ++ (between₂ ++ (object ++ (between₃ ++
-      (46 ∷ after)))))))
-  pub white₀ : WhiteSpace before
-  pub isSubject : Subject subject
-  pub white₁ : WhiteSpace between₁
-  pub isPredicate : Predicate predicate
-  pub white₂ : WhiteSpace between₂
-  pub isObject : Object object
-  pub white₃ : WhiteSpace between₃
-  pub trail : Trail after
+-- a line: subject, predicate, object, a dot, with any spaces or tabs around and between, and possibly a comment after
+abbrev pub Triple : List ℕ → Type 0
+Triple = TripleOf Subject Predicate Object (All white) Trail
 
 abbrev pub span : ℕ → ℕ → Span
 span a b = record { start = a; end = b }
@@ -108,3 +78,42 @@ pub record Longest (m : ℕ) (l : List ℕ) (k : ℕ) : Type 0 where
   pub long : length front ≡ k
   pub viable : Viable m front
   pub longest : (b : ℕ) (s : List ℕ) → back ≡ b ∷ s → Viable m (front ++ (b ∷ [])) → ⊥
+
+-- no byte of l is LF
+pub data Unbroken : List ℕ → Type 0 where
+  none : Unbroken []
+  byte : {b : ℕ} {s : List ℕ} → eqb b 10 ≡ false → Unbroken s → Unbroken (b ∷ s)
+
+-- l is the line that s begins with, and n the number of its bytes with its EOL: a LF with one CR before it dropped, or the end of the
+-- text, where a CR stays
+pub data FirstLine : List ℕ → List ℕ → ℕ → Type 0 where
+  lf : {s : List ℕ} (l r : List ℕ) → s ≡ l ++ (10 ∷ r) → Unbroken l → ((k : List ℕ) → l ≡ k ++ (13 ∷ []) → ⊥)
+      → FirstLine s l (length l + 1)
+  crlf : {s : List ℕ} (l r : List ℕ) → s ≡ l ++ (13 ∷ (10 ∷ r)) → Unbroken l → FirstLine s l (length l + 2)
+  last : {l : List ℕ} → Unbroken l → FirstLine l l (length l)
+
+-- the bytes of the part p of the text
+abbrev pub bytesOf : List ℕ → Span → List ℕ
+bytesOf text p = take (p .end - p .start) (drop (p .start) text)
+
+-- The paper's number and values for each answer: the refusal, or 0; what was read, 1 nothing, 2 a triple, 0 at the end and beside a
+-- refusal; the refusal's offset in the line; the three parts, 0 to 0 where there is none.
+pub record Values : Type 0 where
+  pub refusal : ℕ
+  pub status : ℕ
+  pub offset : ℕ
+  pub subject : Span
+  pub predicate : Span
+  pub object : Span
+
+abbrev pub values : ℕ → ℕ → ℕ → Span → Span → Span → Values
+values r a k s p o = record { refusal = r; status = a; offset = k; subject = s; predicate = p; object = o }
+
+abbrev pub noPart : Span
+noPart = span 0 0
+
+unfoldable pub valuesOf : Line → Values
+valuesOf answer.End = values 0 0 0 noPart noPart noPart
+valuesOf answer.Nothing = values 0 1 0 noPart noPart noPart
+valuesOf (answer.Triple s p o) = values 0 2 0 s p o
+valuesOf (answer.Refused k) = values 10 0 k noPart noPart noPart

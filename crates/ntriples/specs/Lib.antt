@@ -1,6 +1,7 @@
+pub mod Standard
 pub mod Grammar
+pub mod TermOf
 pub mod Reader
-pub mod Text
-pub mod Terms
 pub mod Claims
+pub mod Subset
 pub mod Productions

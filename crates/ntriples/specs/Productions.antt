@@ -17,7 +17,7 @@ use Rattle.ntriples.specs.declared.ObjectEnd.{ObjectEnd}
 use Rattle.ntriples.specs.declared.ObjectEnd.the-variants as object
 use Rattle.ntriples.specs.Grammar.{span, white}
 use Rattle.ntriples.specs.Reader.{Outcome, Fails, Place, Gap, After, opens, placeOf, endOf}
-use Rattle.ntriples.specs.Text.{Unbroken}
+use Rattle.ntriples.specs.Grammar.{Unbroken}
 
 -- i is a position of the line that ends at `stop`, or its end
 pub record Inline (text : List ℕ) (i stop : ℕ) : Type 0 where

@@ -1,11 +1,12 @@
--- Reading a line by one pass over its bytes (scope paper, "Read a line"). The limit of a term's bytes is a parameter
--- throughout. Assumes nothing.
+-- Reading a line by one pass over its bytes (paper 01, "Read a line"; paper 02, note 7): the executable definition that the code's
+-- contracts cite. The limit of a term's bytes is a parameter throughout. Assumes nothing.
 use Prim.Native.Nat.{ℕ, zero, suc, _+_, _-_}
 use mathlib.Core.List.{List, [], _∷_, _++_}
 use mathlib.Core.Bool.{Bool, true, false}
 use lib.Dec.{leb, ltb, eqb}
-use lib.ListN.{length}
+use lib.ListN.{length, drop}
 use Rattle.term.specs.Bytes.{pick}
+use Rattle.term.specs.Canonical.{canonical}
 use Rattle.term.specs.Scanner.{stepOf, wholeOf, isBad, firstKindOf}
 use Rattle.term.specs.declared.Scan.{Scan}
 use Rattle.term.specs.declared.Scan.the-variants.{
@@ -30,7 +31,11 @@ use Rattle.term.specs.declared.Scan.the-variants.{
   Bad,
 }
 use Rattle.ntriples.specs.declared.Span.{Span}
+use Rattle.ntriples.specs.declared.Line.{Line}
+use Rattle.ntriples.specs.declared.Line.the-variants.{End, Nothing, Triple, Refused}
+use Rattle.ntriples.specs.declared.LineRead.{LineRead}
 use Rattle.ntriples.specs.Grammar.{span, white, commentByte}
+use Rattle.ntriples.specs.Grammar.{bytesOf}
 
 -- What a line gives: nothing, the parts of its terms in order, or a refusal with the position of the byte.
 pub data Outcome : Type 0 where
@@ -140,3 +145,55 @@ endOf i (Broken k) = Fails k
 -- what the line l, its ending apart, gives, where its first byte has position i
 unfoldable pub lineOf : ℕ → ℕ → List ℕ → Outcome
 lineOf limit i l = endOf (i + length l) (placeOf limit i Begin l)
+
+-- the first line of a text
+unfoldable pub untilLf : List ℕ → List ℕ
+untilLf [] = []
+untilLf (b ∷ s) = pick (eqb b 10) [] (b ∷ untilLf s)
+
+unfoldable pub hasLf : List ℕ → Bool
+hasLf [] = false
+hasLf (b ∷ s) = pick (eqb b 10) true (hasLf s)
+
+unfoldable pub dropCr : List ℕ → List ℕ
+dropCr [] = []
+dropCr (b ∷ []) = pick (eqb b 13) [] (b ∷ [])
+dropCr (b ∷ (c ∷ s)) = b ∷ dropCr (c ∷ s)
+
+unfoldable pub firstLineOf : List ℕ → List ℕ
+firstLineOf s = pick (hasLf s) (dropCr (untilLf s)) (untilLf s)
+
+unfoldable pub takenOf : List ℕ → ℕ
+takenOf s = length (untilLf s) + pick (hasLf s) 1 0
+
+-- the answer for a line that begins at position i: a refusal's offset counts from there
+unfoldable pub answerOf : ℕ → Outcome → Line
+answerOf i Empty = Nothing
+answerOf i (Terms []) = Nothing
+answerOf i (Terms (s ∷ [])) = Nothing
+answerOf i (Terms (s ∷ (p ∷ []))) = Nothing
+answerOf i (Terms (s ∷ (p ∷ (o ∷ [])))) = Triple s p o
+answerOf i (Terms (s ∷ (p ∷ (o ∷ (q ∷ ms))))) = Nothing
+answerOf i (Fails k) = Refused (k - i)
+
+-- reading a line as it is spelled: the answer, and the position after
+unfoldable pub readSpelled : ℕ → List ℕ → ℕ → LineRead
+readSpelled limit text at =
+    pick (leb (length text) at) record { line = End; next = at }
+    record { line = answerOf at (lineOf limit at (firstLineOf (drop at text))); next = at + takenOf (drop at text) }
+
+-- a part of the text without the string ending
+abbrev pub shortPart : List ℕ → Span → Span
+shortPart text o = span (o .start) (o .start + length (canonical (bytesOf text o)))
+
+-- an answer with that part for the object: no subject and no predicate of a line is a literal
+unfoldable pub shortLine : List ℕ → Line → Line
+shortLine text End = End
+shortLine text Nothing = Nothing
+shortLine text (Triple s p o) = Triple s p (shortPart text o)
+shortLine text (Refused k) = Refused k
+
+-- reading a line: the object's part without the string ending; the position after the line and a refusal's offset by the line as spelled
+unfoldable pub readOf : ℕ → List ℕ → ℕ → LineRead
+readOf limit text at =
+    record { line = shortLine text (readSpelled limit text at .line); next = readSpelled limit text at .next }

@@ -1,4 +1,4 @@
-// Reading N-Triples lines (scope paper, "Names", last paragraph, and "Read a line").
+// Reading N-Triples lines (paper 01, "Names", last paragraph, and "Read a line").
 //
 // A function for each production of the line's grammar has the production's name: white space, comment, subject, predicate,
 // object, triple. Each takes the text, the position where the production begins and the position `stop` where the line ends,
@@ -12,9 +12,9 @@ ghost use mathlib.Core.List.{[], _∷_};
 ghost use lib.ListN.{length};
 ghost use Rattle.term.specs.Grammar.{nameLimit};
 ghost use Rattle.ntriples.specs.Grammar.{white, commentByte};
-ghost use Rattle.ntriples.specs.Reader.{isDot, opens, Begin, Gap, After, Remark};
-ghost use Rattle.ntriples.specs.Text.{answerOf, readSpelled, readOf};
-ghost use Rattle.ntriples.specs.Productions.{Inline, OnLine, TermAt, Dark, Reached, RunEnd, onward, TermEnds, EarlierEnds, ObjectEnds, cutOf, crDropped, Seen, BlockSeen, Passed, EolAt};
+ghost use Rattle.ntriples.specs.Reader.{isDot, opens, Begin, Gap, After, Remark, answerOf, readSpelled, readOf};
+ghost use Rattle.ntriples.specs.Productions.{Inline, OnLine, TermAt, Dark, Reached, RunEnd, onward, TermEnds, EarlierEnds};
+ghost use Rattle.ntriples.specs.Productions.{ObjectEnds, cutOf, crDropped, Seen, BlockSeen, Passed, EolAt};
 use term::Scan;
 
 // A part of the text: the position of its first byte, and the position after its last.

@@ -2,7 +2,7 @@
 // stand for a byte and `\{N}` for N letters a. Reads the text's line at the position, and prints one line a case: its number,
 // its name, the answer and the position after.
 //
-// The input and the expected output are those of `reference.py`, which follows the scope paper and knows nothing of this
+// The input and the expected output are those of `reference.py`, which follows paper 01 and knows nothing of this
 // library; the answers that docs/DECISIONS.md gives as examples are written out there by hand.
 use store::Refusal;
 use store::refusal_number;

@@ -12,9 +12,8 @@ use native.Mathlib.Omega.{arith}
 use Rattle.term.specs.Bytes.{pick, among, iriByte, textByte, pairByte, firstByte, labelByte, letter, alnum}
 use Rattle.term.specs.Grammar.{Name}
 use Rattle.term.specs.Scanner.{stepOf, runOf, wholeOf, isBad, haltOf, firstKindOf, longestOf}
-use Rattle.term.specs.Halting.{Begins, Breaks, LongestName}
-use Rattle.term.specs.Theorems.{HaltIsFirstBreak, BeginningHasOneKind, LongestIsLongest}
-use Rattle.term.specs.Theorems.{LongestEndsByHalt, WholeAtHalt, WholeBeforeDot}
+use Rattle.term.specs.Halting.{Begins, Breaks, LongestName, HaltIsFirstBreak, BeginningHasOneKind}
+use Rattle.term.specs.Halting.{LongestIsLongest, LongestEndsByHalt, WholeAtHalt, WholeBeforeDot}
 use Rattle.term.specs.declared.Scan.{Scan}
 use Rattle.term.specs.declared.Halt.{Halt}
 use Rattle.term.specs.declared.Scan.the-variants.{Start, IriOpen, Iri, Closed, Under, Colon, Label, Dot, Dots}

@@ -8,8 +8,7 @@ use lib.ListN.{getD}
 use native.Mathlib.Omega.{arith}
 use Rattle.term.specs.Bytes.{textByte, pairByte, among}
 use Rattle.term.specs.Grammar as g
-use Rattle.term.specs.Spelling.{Piece, AllAllowed, spelling, SpelledLiteral}
-use Rattle.term.specs.Theorems.{LiteralIsSpelled, TextReadOneWay, LiteralReadOneWay}
+use Rattle.term.specs.Spelling.{Piece, AllAllowed, spelling, SpelledLiteral, LiteralIsSpelled, TextReadOneWay, LiteralReadOneWay}
 use Rattle.term.proofs.Names.{never}
 
 head-same : (a b : ℕ) (s t : List ℕ) → a ∷ s ≡ b ∷ t → a ≡ b

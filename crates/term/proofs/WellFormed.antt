@@ -7,11 +7,11 @@ use mathlib.Core.Bool.{Bool, true, false}
 use lib.Dec.{leb, eqb}
 use lib.ListN.{length}
 use native.Mathlib.Omega.{arith}
-use Rattle.term.specs.Bytes.{pick, clean}
+use Rattle.term.specs.Bytes.{pick}
 use Rattle.term.specs.Grammar as g
 use Rattle.term.specs.Scanner.{stepOf, runOf, wholeOf, firstKindOf, kindOf, numberOf, refusalOf}
-use Rattle.term.specs.Theorems.{KindIsWellFormed, RefusedIsMalformed, KindAtMostThree}
-use Rattle.term.specs.Theorems.{NameIsClean, NameHasTwoBytes}
+use Rattle.term.specs.Theorems.{KindIsWellFormed, RefusedIsMalformed}
+use Rattle.term.specs.Halting.{KindAtMostThree, clean, NameIsClean, NameHasTwoBytes}
 use Rattle.term.specs.declared.Scan.{Scan}
 use Rattle.term.specs.declared.Scan.the-variants.{Start, IriOpen, Under, Text, Bad}
 use Rattle.term.specs.declared.NameKind.{NameKind}

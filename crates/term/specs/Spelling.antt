@@ -1,17 +1,9 @@
 -- Names as the paper spells them out, each a list of bytes put together from its parts: the grammar of `Grammar.antt`
--- reads from the left, these say what the whole is, and the two agree (`Theorems.antt`). Assumes nothing.
-use Prim.Native.Nat.{ℕ}
-use mathlib.Core.Path.{_≡_}
-use mathlib.Core.List.{List, [], _∷_, _++_}
-use mathlib.Core.Bool.{Bool, true, false}
-use lib.Dec.{eqb}
-use Rattle.term.specs.Bytes.{iriByte, textByte, pairByte, firstByte, labelOrDot, letter, alnum}
-use Rattle.term.specs.Grammar.{Suffix}
-
--- every byte is of a class
-abbrev pub All : (ℕ → Bool) → List ℕ → Type 0
-All f [] = Unit
-All f (b ∷ s) = (f b ≡ true) × All f s
+-- reads from the left, these say what the whole is, and the two agree. The proofs are in `proofs/Spellings.antt` and `Literals.antt`.
+-- Assumes nothing.
+use Rattle.term.specs.Prelude.{ℕ, _≡_, List, [], _∷_, _++_, Bool, true, false, _↔_, eqb}
+use Rattle.term.specs.Bytes.{pick, iriByte, textByte, pairByte, firstByte, labelByte, letter, alnum, All}
+use Rattle.term.specs.Grammar.{Iri, Blank, Suffix, Literal}
 
 -- the last byte of b ∷ s
 abbrev pub lastOf : ℕ → List ℕ → ℕ
@@ -24,6 +16,10 @@ pub record SpelledIri (l : List ℕ) : Type 0 where
   pub later : List ℕ
   pub fine : All iriByte (first ∷ later)
   pub spells : l ≡ 60 ∷ (first ∷ (later ++ (62 ∷ [])))
+
+-- a label's, the dot too
+unfoldable pub labelOrDot : ℕ → Bool
+labelOrDot b = pick (eqb b 46) true (labelByte b)
 
 -- a blank node: `_:`, a letter, digit or `_`, then letters, digits, `_`, `-`, `.`, not ending in `.`
 pub record SpelledBlank (l : List ℕ) : Type 0 where
@@ -81,3 +77,25 @@ pub record SpelledLiteral (l : List ℕ) : Type 0 where
   pub fine : AllAllowed text
   pub ends : Suffix suffix
   pub spells : l ≡ 34 ∷ (spelling text ++ (34 ∷ suffix))
+
+-- IRIs, blank nodes, language tags and literals are what the paper spells out.
+abbrev pub IriIsSpelled : Type 0
+IriIsSpelled = (l : List ℕ) → Iri l ↔ SpelledIri l
+
+abbrev pub BlankIsSpelled : Type 0
+BlankIsSpelled = (l : List ℕ) → Blank l ↔ SpelledBlank l
+
+abbrev pub TagIsSpelled : Type 0
+TagIsSpelled = (l : List ℕ) → Suffix (64 ∷ l) ↔ SpelledTag l
+
+abbrev pub LiteralIsSpelled : Type 0
+LiteralIsSpelled = (l : List ℕ) → Literal l ↔ SpelledLiteral l
+
+-- A literal's pairs and its closing quote are read the only way possible, whatever follows.
+abbrev pub TextReadOneWay : Type 0
+TextReadOneWay =
+    (p q : List Piece) (s t : List ℕ) → AllAllowed p → AllAllowed q
+    → spelling p ++ (34 ∷ s) ≡ spelling q ++ (34 ∷ t) → (p ≡ q) × (s ≡ t)
+
+abbrev pub LiteralReadOneWay : Type 0
+LiteralReadOneWay = (l : List ℕ) (x y : SpelledLiteral l) → (x .text ≡ y .text) × (x .suffix ≡ y .suffix)

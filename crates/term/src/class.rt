@@ -1,10 +1,11 @@
-// The classes of bytes in a name (scope paper, "Names"), each a match on byte ranges. No class has the byte 0, which
+// The classes of bytes in a name (paper 01, "Names"), each a match on byte ranges. No class has the byte 0, which
 // `byte_at` gives past the end, so that a run of one class ends at the end of the bytes too.
 ghost use Prim.Native.Nat.{_<_};
 ghost use mathlib.Core.Path.{_≡_};
 ghost use mathlib.Core.Logic.{_⊎_};
 ghost use lib.ListN.{getD};
-ghost use Rattle.term.specs.Bytes.{iriByte, textByte, pairByte, firstByte, labelByte, labelOrDot, letter, alnum};
+ghost use Rattle.term.specs.Bytes.{iriByte, textByte, pairByte, firstByte, labelByte, letter, alnum};
+ghost use Rattle.term.specs.Spelling.{labelOrDot};
 
 // The byte at `i`, or 0 past the end.
 pub fn byte_at(bytes: &[u8], i: usize) -> u8

@@ -1,4 +1,4 @@
-// The productions of a name (scope paper, "Names"), a function each. Each takes up the scan at the offset `at`, where
+// The productions of a name (paper 01, "Names"), a function each. Each takes up the scan at the offset `at`, where
 // the bytes before have brought it to a place, and says where it halts: every contract is "the definition from here".
 ghost use mathlib.Core.Path.{_≡_};
 ghost use lib.ListN.{drop};

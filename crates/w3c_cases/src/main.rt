@@ -1,4 +1,4 @@
-// The W3C's tests of RDF 1.1 N-Triples, read line by line (scope paper, "Names", "Read a line" and the checklist's
+// The W3C's tests of RDF 1.1 N-Triples, read line by line (paper 01, "Names", "Read a line" and the checklist's
 // third item).
 //
 // Reads each file that an argument names, and prints a line for each line of it: the file's name, the line's number, then
@@ -6,7 +6,7 @@
 // A file that cannot be opened or read, or that is longer than the buffer, is told on standard error.
 //
 // The files are the W3C's, unchanged, with their licence, in `data`. The expected output is that of `expected.py`, which
-// follows the scope paper and knows nothing of this library. `docs/W3C.md` compares it with the W3C's verdicts.
+// follows paper 01 and knows nothing of this library. `docs/W3C.md` compares it with the W3C's verdicts.
 use libc::STDERR_FILENO;
 use libc::STDOUT_FILENO;
 use store::Refusal;

@@ -1,4 +1,4 @@
--- `line_reader::read_line` meets its contract: a walk of its MIR, by hand (scope paper, "The right form for each place"). The borrow
+-- `line_reader::read_line` meets its contract: a walk of its MIR, by hand (paper 01, "The right form for each place"). The borrow
 -- of the reader is opened, `ntriples::read_line` is called on the reader's text, which is Copy, and its position, the position that
 -- came back is stored, and the borrow is closed. All that the proof knows of `ntriples::read_line` is that it meets its contract.
 -- Assumes nothing.
@@ -46,7 +46,7 @@ use denote.Triple.Spec.{Meets, tripleOf}
 use denote.Triple.Table.{entered, cited}
 use denote.Triple.Walked.{says, Stays, stay-ref, walkOf, goes-ref, Walks, ends-at, walked, walk-meets}
 use denote.Triple.Clauses.{ensured, lasts}
-use Rattle.ntriples.specs.Text.{readOf}
+use Rattle.ntriples.specs.Reader.{readOf}
 use Rattle.line_reader.specs.declared.LineReader.{LineReader}
 use Rattle.ntriples.specs.declared.LineRead.{LineRead}
 use Rattle.line_reader.proofs.LineReader as T

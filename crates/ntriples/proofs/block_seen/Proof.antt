@@ -4,7 +4,7 @@ use mathlib.Core.Bool.{true, false}
 use lib.ListN.{length, getD}
 use lib.Seq.{slice}
 use native.Mathlib.Omega.{arith}
-use Rattle.ntriples.specs.Text.{Unbroken}
+use Rattle.ntriples.specs.Grammar.{Unbroken}
 use Rattle.ntriples.proofs.Sequence.{block-begin, block-turn}
 use borrow.Author.Needs.{needs}
 use Rattle.ntriples.proofs.block_seen.Statement.{statement}

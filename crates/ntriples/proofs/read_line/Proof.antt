@@ -3,7 +3,7 @@ use Prim.Native.Nat.{_+_, _≤_}
 use mathlib.Core.Path.{sym, _∙_, ap}
 use native.Mathlib.Omega.{arith}
 use lib.ListN.{length}
-use Rattle.ntriples.specs.Text.{bytesOf}
+use Rattle.ntriples.specs.Grammar.{bytesOf}
 use Rattle.ntriples.proofs.Claims.{object-inside, part-spelled, part-short, read-plain, read-cut, end-short, nothing-short}
 use Rattle.ntriples.proofs.Claims.{refused-short}
 use borrow.Author.Needs.{needs}

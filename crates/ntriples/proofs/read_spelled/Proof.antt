@@ -2,7 +2,7 @@
 use mathlib.Core.Path.{_≡_, sym, _∙_}
 use native.Mathlib.Omega.{arith}
 use borrow.Author.Tests.{le-leb}
-use Rattle.ntriples.specs.Text.{readSpelled}
+use Rattle.ntriples.specs.Reader.{readSpelled}
 use mathlib.Core.Logic.{⊎-elim, inl, inr}
 use Rattle.ntriples.proofs.Sequence.{stops-inline, read-stops}
 use borrow.Author.Needs.{needs}

@@ -2,7 +2,7 @@ use Prim.Native.Nat.{_+_, _-_, _≤_, _<_}
 use lib.ListN.{length, getD}
 use lib.Seq.{slice}
 use native.Mathlib.Omega.{arith}
-use Rattle.ntriples.specs.Text.{Unbroken}
+use Rattle.ntriples.specs.Grammar.{Unbroken}
 use Rattle.ntriples.proofs.Sequence.{eol-begin, eol-join}
 use borrow.Author.Needs.{needs}
 use Rattle.ntriples.proofs.skip_blocks.Statement.{statement}

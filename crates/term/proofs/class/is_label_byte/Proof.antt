@@ -3,7 +3,8 @@
 use mathlib.Core.Path.{sym}
 use mathlib.Core.List.{[], _∷_}
 use native.Mathlib.Omega.{arith}
-use Rattle.term.specs.Bytes.{labelOrDot, labelByte, firstByte, alnum, letter}
+use Rattle.term.specs.Bytes.{labelByte, firstByte, alnum, letter}
+use Rattle.term.specs.Spelling.{labelOrDot}
 use Rattle.term.proofs.Table.{at-keys, at-range, eqBool, same-bool}
 use Rattle.term.proofs.class.is_label_byte.Statement.{statement}
 use Rattle.term.proofs.class.is_label_byte.Tie as tie

@@ -4,7 +4,8 @@ use mathlib.Core.Path.{_≡_, refl, sym, _∙_}
 use lib.ListN.{length, drop, getD}
 use native.Mathlib.Omega.{arith}
 use borrow.Author.Tests.{not-true, not-false}
-use Rattle.term.specs.Bytes.{firstByte, labelByte, labelOrDot, letter, alnum}
+use Rattle.term.specs.Bytes.{firstByte, labelByte, letter, alnum}
+use Rattle.term.specs.Spelling.{labelOrDot}
 use Rattle.term.specs.Scanner.{stepOf, isBad, haltOf}
 use Rattle.term.specs.declared.Scan.the-variants.{Under, Colon}
 use Rattle.term.proofs.Turn.{seen, unlike, inside, inside-byte, halt-stop}
