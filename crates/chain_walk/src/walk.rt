@@ -108,7 +108,14 @@ pub fn visitable(statements: &[u32], r: u32, chain: Chain, x: Triple, n: Stateme
 }
 
 // One visit of record n.
-pub fn visit(statements: &[u32], r: u32, chain: Chain, x: Triple, sought: Sought, n: StatementId) -> Visited
+pub fn visit(
+    statements: &[u32],
+    r: u32,
+    chain: Chain,
+    x: Triple,
+    sought: Sought,
+    n: StatementId,
+) -> Visited
     requires { ⌜ StatementHeld (now statements) (n .0) ⌝ }
     ensures { λ v. ⌜ v ≡ visitOf sought r (now (statements .entry)) chain x (n .0 - 1) ⌝ }
 {
