@@ -129,8 +129,21 @@ fn names(
         return;
     }
     let n = ResourceId(script::number(line, 2));
-    let a = table::name_span(c, resources, statements, index, text, n);
-    reply::named(a, table::name(c, resources, statements, index, text, n));
+    reply::spanned(table::name_span(c, resources, statements, index, text, n));
+    named(c, resources, statements, index, text, n);
+}
+
+// A name's reply, printed. Proved by a walk of its code, since it holds the reply.
+fn named(
+    c: Counters,
+    resources: &[u32],
+    statements: &[u32],
+    index: &[u32],
+    text: &[u8],
+    n: ResourceId,
+) {
+    let a = name_part::name(c, resources, statements, index, text, n);
+    reply::named(a.refusal, a.part);
 }
 
 fn listings(

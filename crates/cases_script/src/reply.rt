@@ -52,18 +52,22 @@ pub fn looked_up(a: Lookup) {
     }
 }
 
-// Both forms of the name: the span, and the part.
-pub fn named(a: NameRead, part: &[u8]) {
+// Where a name's bytes start and how many they are; nothing beside a refusal.
+pub fn spanned(a: NameRead) {
     match a {
         NameRead::Span(start, size) => {
             print::number(start);
             print::number(size);
-            print::part(part);
         }
-        NameRead::Refused(e) => {
-            print::part(part);
-            print::refused(e);
-        }
+        NameRead::Refused(_) => {}
+    }
+}
+
+// A name's bytes, and the refusal's number where it is not 0.
+pub fn named(refusal: u32, part: &[u8]) {
+    print::part(part);
+    if refusal != 0 {
+        print::labelled(print::REFUSED, refusal);
     }
 }
 

@@ -3,6 +3,8 @@
 //
 // A line that is refused stands before others, so the output shows that a reader moves past it. The expected output is
 // worked out by hand from the scope paper.
+ghost use mathlib.Core.Path.{_≡_};
+ghost use Rattle.line_reader_cases.specs.End.{isEnd};
 use store::Refusal;
 use store::refusal_number;
 
@@ -39,32 +41,34 @@ fn print_answer(line: ntriples::Line) {
     }
 }
 
-// Reads the line at `at`, number `n` of the text, and prints what it gives; the position after it.
-fn report_line(n: usize, text: &[u8], at: usize) -> usize {
-    let read = line_reader::line_at(text, at);
-    let line = read.line;
-    io::print_decimal(1, n as u64);
+// Prints what line n of the text gave, and where the reader stands after it. Answers whether the text has ended.
+fn report_line(n: u64, line: ntriples::Line, next: usize) -> bool
+    ensures { λ over. ⌜ over ≡ isEnd line ⌝ }
+{
+    io::print_decimal(1, n);
     print_answer(line);
     io::write_all(1, b" next ");
-    io::print_decimal(1, read.next as u64);
+    io::print_decimal(1, next as u64);
     io::write_all(1, b"\n");
-    read.next
+    match line {
+        ntriples::Line::End => true,
+        ntriples::Line::Nothing => false,
+        ntriples::Line::Triple(_, _, _) => false,
+        ntriples::Line::Refused(_) => false,
+    }
 }
 
-// Reads every line of a text, and once more at its end. Before the text's end a line takes a byte or more, so the test in the
-// loop is never true.
+// Reads every line of a text, and once more at its end, by one reader. Proved by a walk of its code, since it holds the reader.
 fn report_lines(text: &[u8]) {
-    let mut at = 0;
-    let mut n = 1;
-    while at < text.len() {
-        let next = report_line(n, text, at);
-        if next <= at {
-            return;
-        }
-        at = next;
+    let mut r = line_reader::reader(text);
+    let mut n: u64 = 0;
+    loop {
+        let line = line_reader::read_line(&mut r);
         n += 1;
+        if report_line(n, line, r.at) {
+            break;
+        }
     }
-    report_line(n, text, at);
 }
 
 fn main() {

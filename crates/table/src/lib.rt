@@ -19,7 +19,6 @@ ghost use mathlib.Core.Path.{_≡_};
 ghost use Rattle.store.specs.Shared.{known};
 ghost use Rattle.store.specs.Tables.{tables, fits};
 ghost use Rattle.store.specs.Reading.{inRange, statementOf, nameSpanOf};
-ghost use Rattle.table.specs.Part.{partOf};
 
 pub mod inner;
 
@@ -146,26 +145,4 @@ pub fn name_span(
     }
     let from = inner::offset_at(resources, n);
     inner::span_at(text, c.text, from)
-}
-
-// Name of a number, as the part of the lent text that `name_span` tells; empty where it refuses. The part lives as long as the text is
-// lent: while it is in use nothing can be written to the text, so an intern may follow only once the part is no longer needed.
-pub fn name<'t>(
-    c: Counters,
-    resources: &[u32],
-    statements: &[u32],
-    index: &[u32],
-    text: &'t [u8],
-    n: ResourceId,
-) -> &'t [u8]
-    ensures { λ r. ⌜ now r ≡ partOf (now (text .entry)) (nameSpanOf c (tables (now (resources .entry)) (now (statements .entry)) (now (index .entry)) (now (text .entry))) n) ⌝ }
-{
-    match name_span(c, resources, statements, index, text, n) {
-        NameRead::Refused(_) => &text[..0],
-        NameRead::Span(start, size) => {
-            let from = start as usize;
-            let end = from + size as usize;
-            &text[from..end]
-        }
-    }
 }
