@@ -112,7 +112,8 @@ pub fn meet(x: QueryPattern, t: Triple, bound: Solution) -> Matched
         let v = (w - FIRST_VARIABLE) as usize;
         let y = b.values[v];
         if y.0 == 0 {
-            b.values[v] = n;
+            let taken = n;
+            b.values[v] = taken;
             continue;
         }
         if y.0 != n.0 {

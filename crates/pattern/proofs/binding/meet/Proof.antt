@@ -73,11 +73,11 @@ mul-y c = search needs
 element-copy-out-y : tie.Need-element-copy-out-y Inv-loop μ-loop
 element-copy-out-y c = search needs
 
-mul-n : tie.Need-mul-n Inv-loop μ-loop
-mul-n c = search needs
+mul-taken : tie.Need-mul-taken Inv-loop μ-loop
+mul-taken c = search needs
 
-element-set-from-n : tie.Need-element-set-from-n Inv-loop μ-loop
-element-set-from-n c = search needs
+element-set-from-taken : tie.Need-element-set-from-taken Inv-loop μ-loop
+element-set-from-taken c = search needs
 
 loop-less-2 : tie.Need-loop-less-2 Inv-loop μ-loop
 loop-less-2 c = search needs
@@ -155,8 +155,8 @@ meet-spec =
     cast-v
     mul-y
     element-copy-out-y
-    mul-n
-    element-set-from-n
+    mul-taken
+    element-set-from-taken
     loop-less-2
     loop-again-2
     unmet-requires-2
