@@ -19,7 +19,8 @@
  *
  * A retracted statement keeps its room, so that asserting it again gives it its old number, until lt_reclaim gives the room of all of
  * them back. Cursors carry the number of reclaims of the store that they were opened on. With any other number, also at the start and at
- * the end, they are LT_STALE_CURSOR and to be opened again.
+ * the end, they are LT_STALE_CURSOR and to be opened again. A cursor does not carry its store, nor a query's its words: with another store
+ * or with other words the next call is LT_BAD_CURSOR where the cursor does not fit them, and otherwise goes on there.
  *
  * How many live statements have a resource at a position a screen reads straight from the table, without a walk, while no call writes it:
  * for a number from 1 to R and an `lt_position` it is word `LT_RESOURCE_WORDS * (number - 1) + LT_RESOURCE_LIVE + position` of `resources`.
@@ -142,8 +143,10 @@ uint32_t lt_name_kind(const uint8_t *name, size_t name_len, uint32_t *reply, siz
 
 /* Reads the line at a position of a text. reply LT_LINE_WORDS: an `lt_line`, position after, start and length in the text of subject,
  * predicate, object, which are 0 if there is no triple; the object's length is without the string ending. At the text's end, or past it,
- * the position stays. With LT_BAD_LINE: 0, position after, the offset in the line, as it is spelled, of the first byte that fits no line
- * (the line's length if it stops short), zeros. */
+ * the position stays. With LT_BAD_LINE: 0 (no `lt_line` then: the line may well be followed by others), position after, the offset in the
+ * line, as it is spelled, of the first byte that fits no line (the line's length if it stops short), zeros.
+ * The lines read are those N-Triples whose terms are names: bytes 32 to 126 (and tabs between terms and in comments) alone, so no UTF-8; of
+ * the escapes \" \\ \n \r and no other, so neither \u nor \t; labels of blank nodes without a colon. Other lines are LT_BAD_LINE. */
 uint32_t lt_read_line(const uint8_t *text, size_t text_len, size_t at, uint64_t *reply, size_t reply_len);
 
 /* Whether the store is sound: every word of it is as entering, asserting, retracting and reclaiming leave it. reply 1: 1 or 0. It refuses
@@ -192,17 +195,17 @@ uint32_t lt_reclaim(uint32_t *counters, size_t counters_len, uint32_t *resources
  * LT_CURSOR_WORDS. */
 uint32_t lt_scan_open(LT_STORE, uint32_t subject, uint32_t predicate, uint32_t object, uint32_t *cursor, size_t cursor_len);
 
-/* Next of a scan, visiting at most `budget` records, the newest statement (that of the highest number) first. LT_CAPACITY,
- * LT_STALE_CURSOR, LT_BAD_CURSOR, LT_NO_BUDGET, LT_DAMAGED. reply LT_SCAN_REPLY_WORDS: an `lt_step`, the statement or 0, visits made.
- * Writes the cursor. */
+/* Next of a scan, visiting at most `budget` records, the statement of the highest number first (a revived one keeps its old number).
+ * LT_CAPACITY, LT_STALE_CURSOR, LT_BAD_CURSOR, LT_NO_BUDGET, LT_DAMAGED. reply LT_SCAN_REPLY_WORDS: an `lt_step`, the statement or 0, visits
+ * made. Writes the cursor. */
 uint32_t lt_scan_next(LT_STORE, uint32_t *cursor, size_t cursor_len, uint32_t budget, uint32_t *reply, size_t reply_len);
 
 /* Opens a query of up to LT_MAX_PATTERNS patterns. LT_CAPACITY, LT_BAD_QUERY. Writes the cursor, LT_QUERY_CURSOR_WORDS: the start. It
  * does not hold the words: every next call is given them again. */
 uint32_t lt_query_open(LT_STORE, const uint32_t *words, size_t words_len, uint32_t *cursor, size_t cursor_len);
 
-/* Next of a query: the resources for which every pattern is a live statement, visiting at most `budget` records; the newest statement
- * of the first pattern comes first. LT_CAPACITY, LT_BAD_QUERY, LT_STALE_CURSOR, LT_BAD_CURSOR, LT_NO_BUDGET, LT_DAMAGED. reply
+/* Next of a query: the resources for which every pattern is a live statement, visiting at most `budget` records; the first pattern's
+ * statement of the highest number comes first. LT_CAPACITY, LT_BAD_QUERY, LT_STALE_CURSOR, LT_BAD_CURSOR, LT_NO_BUDGET, LT_DAMAGED. reply
  * LT_QUERY_REPLY_WORDS: an `lt_step`, visits made, the resource of each variable. Writes the cursor. */
 uint32_t lt_query_next(LT_STORE, const uint32_t *words, size_t words_len, uint32_t *cursor, size_t cursor_len, uint32_t budget,
                        uint32_t *reply, size_t reply_len);

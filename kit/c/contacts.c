@@ -99,7 +99,7 @@ static void tell_live(const char *relay)
     printf("live statements of %s: %u\n", relay, (unsigned)record[LT_RESOURCE_LIVE + LT_SUBJECT]);
 }
 
-/* Lists the objects of a relay's statements, the newest first. The cursor is plain words: it may be kept while the store changes, up to the
+/* Lists the objects of a relay's statements, the highest number first. The cursor is plain words: it may be kept while the store changes, up to the
  * next reclaim. */
 static void list_contacts(const char *relay, const char *trips)
 {

@@ -7,9 +7,10 @@ use lib.ListN.{replicate}
 use Rattle.term.specs.Bytes.{among, iriByte, textByte, pairByte, firstByte, labelByte, letter, alnum, eqBytes}
 use Rattle.term.specs.Scanner.{stepOf, runOf, wholeOf, isBad, firstKindOf, kindOf}
 use Rattle.term.specs.Canonical.{stringEnding, writesString, canonical}
-use Rattle.store.specs.Shared.{below, wellFormed}
+use Rattle.store.specs.Shared.{below, wellFormed, lookupName}
 use Rattle.store.specs.Tables.{Tables, tables, resourceWords, fits, offsetAt}
-use Rattle.store.specs.Dictionary.{compare, nameAt, rank, placeAt, indexPlaceOf, findOf, roomFor, bring, insertAt, internAs, internOf}
+use Rattle.store.specs.Dictionary.{compare, nameAt, namesUpTo, rank, placeAt, indexPlaceOf, findOf, roomFor, bring, insertAt, internAs}
+use Rattle.store.specs.Dictionary.{internOf}
 use Rattle.ntriples.specs.Grammar.{white, commentByte}
 use Rattle.ntriples.specs.Reader.{permitted, isDot, opens, dotted, afterOf, enterOf, gapOf, goesOnOf, leaveOf, advanceOf, placeOf}
 use Rattle.ntriples.specs.Reader.{endOf, lineOf}
@@ -53,7 +54,7 @@ kinds-either = refl
 
 finds-either : finds plainA ∷ finds longA ∷ [] ≡ done 0 (1 ∷ 66 ∷ []) ∷ done 0 (1 ∷ 66 ∷ []) ∷ []
 unfolding among iriByte textByte pairByte firstByte labelByte letter alnum eqBytes stepOf runOf wholeOf firstKindOf kindOf writesString
-    canonical below fits offsetAt wellFormed compare nameAt rank placeAt indexPlaceOf findOf lent findAs
+    canonical below fits offsetAt wellFormed nameAt namesUpTo lookupName findOf lent findAs
 finds-either = refl
 
 -- the first time and again, in each order of the spellings

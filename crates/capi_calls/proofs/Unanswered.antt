@@ -41,6 +41,7 @@ use Rattle.graph.specs.Values.{queryOpenedValues}
 use borrow.Author.Tests.{ne-eqb, ltb-true, ltb-false}
 use Rattle.store.proofs.Cases.{assert-refused, retract-refused}
 use Rattle.store.proofs.Limits.{reclaim-refuses}
+use Rattle.graph.proofs.Refusals.{refusal-positive}
 use Rattle.capi_calls.proofs.Runs as runs
 use Rattle.capi_calls.specs.Words.{tooShort, counterWords, cursorWords, countersOf, lent, roomy, done, wrote, one, two, four, lookupAnswer, nameAnswer, statementAnswer, retractAs, openedAs, scannedAs, assertAs, enteredAs, reclaimedAs, nextFrom}
 use Rattle.capi_calls.specs.Calls.{findAs, nameCall, statementCall, retractCall, openCall, nextCall, assertCall, enterAs, reclaimAs}
@@ -52,18 +53,7 @@ use Rattle.term.proofs.Names.{never}
 
 -- no refusal has the number 0
 pub refuses : (e : Refusal) → eqb (refusalNumber e) 0 ≡ false
-refuses Capacity = refl
-refuses Malformed = refl
-refuses Full = refl
-refuses UnknownNumber = refl
-refuses KindNotPermitted = refl
-refuses BadCursor = refl
-refuses NoBudget = refl
-refuses BadQuery = refl
-refuses Damaged = refl
-refuses BadLine = refl
-refuses StaleCursor = refl
-refuses ReclaimLimit = refl
+refuses e = ne-eqb (refusalNumber e) 0 (refusal-positive e)
 
 -- nor the number of a slice too short
 not-short : (e : Refusal) → eqb (refusalNumber e) tooShort ≡ false

@@ -131,9 +131,9 @@ pub fn opened(s: State, a: ScanOpened) -> State {
 
 pub fn scanned(s: State, a: Scanned) -> State {
     match a {
-        Scanned::Found(n, v, p) => moved(s, print::FOUND, n.0, v, p),
-        Scanned::Ended(v, p) => moved(s, print::ENDED, 0, v, p),
-        Scanned::Spent(v, p) => moved(s, print::SPENT, 0, v, p),
+        Scanned::Found(n, v, p) => moved(s, print::FOUND, n, v, p),
+        Scanned::Ended(v, p) => moved(s, print::ENDED, StatementId(0), v, p),
+        Scanned::Spent(v, p) => moved(s, print::SPENT, StatementId(0), v, p),
         Scanned::Refused(e) => {
             print::refused(e);
             s
@@ -141,9 +141,9 @@ pub fn scanned(s: State, a: Scanned) -> State {
     }
 }
 
-fn moved(s: State, status: u32, n: u32, visits: u32, p: ScanCursor) -> State {
+fn moved(s: State, status: u32, n: StatementId, visits: u32, p: ScanCursor) -> State {
     print::token(status);
-    print::number(n);
+    print::number(n.0);
     print::labelled(print::VISITS, visits);
     listed(s, p)
 }

@@ -1,4 +1,5 @@
 // Words set to 0: the links and counts of every resource before the sweep, the records given up after it.
+use store::ResourceId;
 ghost use mathlib.Core.Path.{_≡_};
 ghost use Prim.Native.Nat.{_+_, _-_, _*_, _≤_};
 ghost use lib.ListN.{length, replicate};
@@ -14,6 +15,7 @@ pub fn zero(words: &mut [u32], start: usize, n: usize)
     ensures { λ _. ⌜ now (words .exit) ≡ sets (now (words .entry)) start (replicate n 0) ⌝ }
 {
     let mut i = 0;
+    // The first i of them are 0.
     while i < n {
         words[start + i] = 0;
         i += 1;
@@ -21,11 +23,11 @@ pub fn zero(words: &mut [u32], start: usize, n: usize)
 }
 
 // Firsts, counts and live counts of resource y; its offset and kind stand between them.
-pub fn unlink_one(resources: &mut [u32], y: u32)
-    requires { ⌜ ResourceHeld (now resources) y ⌝ }
-    ensures { λ _. ⌜ now (resources .exit) ≡ unlinkedOne (y - 1) (now (resources .entry)) ⌝ }
+pub fn unlink_one(resources: &mut [u32], y: ResourceId)
+    requires { ⌜ ResourceHeld (now resources) (y .0) ⌝ }
+    ensures { λ _. ⌜ now (resources .exit) ≡ unlinkedOne (y .0 - 1) (now (resources .entry)) ⌝ }
 {
-    let start = table::RESOURCE_WORDS * (y as usize - 1);
+    let start = table::RESOURCE_WORDS * (y.0 as usize - 1);
     zero(resources, start, table::OFFSET);
     zero(
         resources,
@@ -39,10 +41,11 @@ pub fn unlink_all(resources: &mut [u32], r: u32)
     requires { ⌜ resourceWords * r ≤ length (now resources) ⌝ }
     ensures { λ _. ⌜ now (resources .exit) ≡ unlinked r (now (resources .entry)) ⌝ }
 {
-    let mut y: u32 = 0;
-    while y < r {
-        y += 1;
-        unlink_one(resources, y);
+    let mut done: u32 = 0;
+    // Those of the first `done` resources are 0.
+    while done < r {
+        done += 1;
+        unlink_one(resources, ResourceId(done));
     }
 }
 

@@ -1,6 +1,7 @@
 // The pass over the records, in place: record n is read before record t + 1, which is not after it, is written.
 use statement_record::record::link_record;
 use statement_record::record::write_record;
+use store::StatementId;
 use table::inner::flag_at;
 use table::inner::triple_at;
 ghost use mathlib.Core.Path.{_≡_};
@@ -8,12 +9,12 @@ ghost use Prim.Native.Nat.{_-_};
 ghost use Rattle.store.specs.Reclaim.{swept, sweepOne, sweep};
 ghost use Rattle.compaction.specs.Steps.{Sweepable, AllSweepable};
 
-// Record n, with t live ones before it: passed over if struck out, else moved down to record t + 1 and linked there. How
-// many live ones there are then.
-pub fn sweep_one(resources: &mut [u32], statements: &mut [u32], n: u32, t: u32) -> u32
-    requires { ⌜ Sweepable n (swept t (now resources) (now statements)) ⌝ }
+// Record n, with t live ones before it: passed over if struck out, else moved down to record t + 1 and linked there.
+// How many live ones there are then.
+pub fn sweep_one(resources: &mut [u32], statements: &mut [u32], n: StatementId, t: u32) -> u32
+    requires { ⌜ Sweepable (n .0) (swept t (now resources) (now statements)) ⌝ }
     ensures { λ k. ⌜ swept k (now (resources .exit)) (now (statements .exit))
-        ≡ sweepOne (n - 1) (swept t (now (resources .entry)) (now (statements .entry))) ⌝ }
+        ≡ sweepOne (n .0 - 1) (swept t (now (resources .entry)) (now (statements .entry))) ⌝ }
 {
     if flag_at(statements, n) == 1 {
         return t;
@@ -31,11 +32,11 @@ pub fn sweep(resources: &mut [u32], statements: &mut [u32], n: u32) -> u32
         ≡ sweep n (swept 0 (now (resources .entry)) (now (statements .entry))) ⌝ }
 {
     let mut t: u32 = 0;
-    let mut i: u32 = 0;
-    // The first i records are swept, and t of them were live.
-    while i < n {
-        i += 1;
-        t = sweep_one(resources, statements, i, t);
+    let mut done: u32 = 0;
+    // The first `done` records are swept, and t of them were live.
+    while done < n {
+        done += 1;
+        t = sweep_one(resources, statements, StatementId(done), t);
     }
     t
 }

@@ -1,7 +1,7 @@
 -- The contracts of find and intern, put together from the search: exact where the dictionary is sound, within the bound on any tables,
 -- one law for each way out of the code. Assumes nothing.
 use mathlib.Core.Path.{_≡_, refl, sym, ap, _∙_, subst}
-use mathlib.Core.Logic.{_≢_}
+use mathlib.Core.Logic.{_≢_, _⊎_, inl, inr}
 use mathlib.Core.Bool.{Bool, true, false, cond, _&&_, false≢true, true≢false, and-true}
 use mathlib.Core.List.{List, [], _∷_, _++_}
 use Prim.Native.Nat.{ℕ, suc, zero, _+_, _-_, _*_, _/_, _<_, _≤_}
@@ -22,15 +22,18 @@ use Rattle.store.specs.declared.Lookup.the-variants.{Number, Absent, Refused as
 use Rattle.store.specs.declared.Interned.{Interned}
 use Rattle.store.specs.declared.Interned.the-variants.{Number as Id, Refused as NotInterned}
 use Rattle.store.specs.Tables.{Tables, tables, after, fits, word, resourceCapacity, statementCapacity, textCapacity, resourceWords}
-use Rattle.store.specs.Shared.{maxResources, maxReclaims, wellFormed}
+use Rattle.store.specs.Shared.{maxResources, maxReclaims, wellFormed, lookupName}
 use Rattle.store.specs.Reading.{inRange}
-use Rattle.store.specs.Dictionary.{Named, PlaceWithin, indexPlaceOf, foundAs, findOf, FindAnswer, roomFor, oneNameMore, freshRecord, withName, internAs, internOf, InternWrites, InternAnswer}
+use Rattle.store.specs.Dictionary.{Named, PlaceWithin, indexPlaceOf, namesUpTo, foundAt, findOf, FindAnswer, roomFor, oneNameMore}
+use Rattle.store.specs.Dictionary.{freshRecord, withName, internAs, internOf, InternWrites, InternAnswer}
 use Rattle.store.proofs.Tests.{decide, and-l, and-r}
 use Rattle.store.proofs.Form.{form-clean, form-short, canonical-formed, canonical-kind}
 use Rattle.store.proofs.Interning.{writes-nothing, intern-as-writes, intern-as-refused}
+use Rattle.store.proofs.NamesAgree.{place-listed, place-unlisted}
+use Rattle.store.proofs.Held.{named-names}
 use Rattle.table.proofs.Capacity.{fits-room}
 use Rattle.table.proofs.Held.{from-one, up-to}
-use Rattle.dictionary.specs.Search.{Readable, compareOf, probeOf, middle, searchOf, searched}
+use Rattle.dictionary.specs.Search.{Readable, compareOf, probeOf, middle, searchOf, searched, foundAs}
 use Rattle.dictionary.specs.Extend.{Roomy, Extended}
 use Rattle.dictionary.specs.declared.Compared.{Compared}
 use Rattle.dictionary.specs.declared.Compared.the-variants.{Less, Same, More, Cut}
@@ -111,6 +114,28 @@ module _ (c : Counters) (m : Tables) where
 
 -- ---- find
 
+-- on a sound dictionary the place in the index is the position among the names
+found-is : (ns : List (List ℕ)) (c : Counters) (m : Tables) → Named ns c m → (w : List ℕ)
+    → foundAs (indexPlaceOf c m w) ≡ foundAt (lookupName w (namesUpTo m (c .resources)))
+found-is ns c m N w = rw (named-names ns c m N) (go (lookupName w ns) refl)
+  where
+    go : (n : ℕ) → lookupName w ns ≡ n → foundAs (indexPlaceOf c m w) ≡ foundAt (lookupName w ns)
+    go zero e = rw (place-unlisted ns c m N w e, e)
+    go (suc i) e = rw (place-listed ns c m N w i e, e)
+
+-- on any tables a number found is in 1..R
+abbrev WithinNumbers : ℕ → Lookup → Type 0
+WithinNumbers r a = (a ≡ NotFound Damaged) ⊎ ((n : ℕ) × (a ≡ foundAt n) × (n ≤ r))
+
+number-at : (n : ℕ) → 0 < n → Number (record { 0 = n }) ≡ foundAt n
+number-at zero h = absurd (omega arith)
+number-at (suc n) h = refl
+
+found-within : (r : ℕ) (x : IndexPlace) → PlaceWithin r x → WithinNumbers r (foundAs x)
+found-within r (At n k) h = inr (n .0, number-at (n .0) (h .0), h .1)
+found-within r (Before k) h = inr (0, refl, omega arith)
+found-within r Torn h = inl refl
+
 module _ (c : Counters) (m : Tables) (w : List ℕ) (a : Lookup) where
   pub find-capacity : fits c m ≡ false → a ≡ NotFound Capacity → FindAnswer c m w a
   unfolding findOf
@@ -137,12 +162,10 @@ module _ (c : Counters) (m : Tables) (w : List ℕ) (a : Lookup) where
     capacity = λ g. absurd (true≢false (sym f ∙ g));
     malformed = λ g h. absurd (true≢false (sym b ∙ h));
     exact = λ ns N. e ∙ rw (f, b) (ap foundAs (searched-is ns c m N (canonical w)
-        (form-clean (canonical w) (canonical-formed w b)) (fits-room c m f .few-resources)));
-    bounded = λ g h. (
-      searched c (m .resources) (m .index) (m .text) (canonical w),
-      e,
-      searched-within c (m .resources) (m .index) (m .text) (canonical w),
-    );
+        (form-clean (canonical w) (canonical-formed w b)) (fits-room c m f .few-resources)) ∙ found-is ns c m N (canonical w));
+    bounded = λ g h. subst (WithinNumbers (c .resources)) (sym e)
+        (found-within (c .resources) (searched c (m .resources) (m .index) (m .text) (canonical w))
+        (searched-within c (m .resources) (m .index) (m .text) (canonical w)));
   }
 
   -- n is the name without the string ending

@@ -22,8 +22,9 @@ use Rattle.store.proofs.Tests.{decide, three, and-of}
 use Rattle.store.proofs.Order.{flip, compare-less as order-less, compare-more as order-more, compare-tail, compare-refl, compare-flip}
 use Rattle.store.proofs.Order.{compare-equal, compare-trans, eqBytes-compare, less-not-equal}
 use Rattle.store.proofs.Form.{clean, form-clean, storable-formed}
-use Rattle.store.proofs.Text.{text-at, name-read, bytes-take}
+use Rattle.store.proofs.Text.{text-at, bytes-take}
 use Rattle.store.proofs.Index.{rank-is}
+use Rattle.store.proofs.NamesAgree.{name-indexed}
 use Rattle.dictionary.specs.Search.{compareOf, probeOf, middle, searchOf, searched}
 use Rattle.dictionary.specs.declared.Compared.{Compared}
 use Rattle.dictionary.specs.declared.Compared.the-variants.{Less, Same, More, Cut}
@@ -94,16 +95,8 @@ module _ (ns : List (List ℕ)) (c : Counters) (m : Tables) (N : Named ns c m) (
   abbrev nm : ℕ → List ℕ
   nm i = nameAt m (word (m .index) i)
 
-  in-names : (i : ℕ) → i < R → word (m .index) i - 1 < length ns
-  in-names i h = omega (arith, N .size, N .index .low i h, N .index .high i h)
-
   listed : (i : ℕ) → i < R → nm i ≡ nameOf ns (word (m .index) i)
-  unfolding nameAt nameOf
-  listed i h =
-      let y = word (m .index) i in
-      let q = in-names i h in
-      rw (N .offsets y (N .index .low i h) (N .index .high i h))
-      (name-read ns (m .text) (c .text) (y - 1) (N .spelled) q (form-clean _ (storable-formed _ (N .well (y - 1) q))))
+  listed = name-indexed ns c m N
 
   rises : (i j : ℕ) → i < j → j < R → compare (nm i) (nm j) ≡ less
   rises i j h g = rw (listed i (omega arith), listed j g) (N .index .rise i j h g)
@@ -114,7 +107,7 @@ module _ (ns : List (List ℕ)) (c : Counters) (m : Tables) (N : Named ns c m) (
       let y = word (m .index) k in
       let low = N .index .low k h in
       let high = N .index .high k h in
-      let q = in-names k h in
+      let q : y - 1 < length ns = omega (arith, N .size, low, high) in
       let clear = form-clean _ (storable-formed _ (N .well (y - 1) q)) in
       rw (lt-ltb 0 y low, le-leb y R high, listed k h, N .offsets y low high)
       (compare-is (m .text) (c .text) (getD ns (y - 1) []) w (bytesOf (take (y - 1) ns)) _ clear cw

@@ -1,5 +1,6 @@
 -- The binary search of the index as the code runs it, exact on any tables (paper 01, "Find a name"): a comparison in the text, a probe
--- of one entry, the halving. Nothing here assumes that the index rises or that the text holds names. Assumes nothing.
+-- of one entry, the halving, and what find answers by it. Nothing here assumes that the index rises or that the text holds names.
+-- Assumes nothing.
 use mathlib.Core.Bool.{Bool, true, false, cond}
 use mathlib.Core.List.{List, [], _∷_}
 use Prim.Native.Nat.{ℕ, zero, suc, _+_, _-_, _*_, _/_, _≤_, _<_}
@@ -8,6 +9,9 @@ use lib.Dec.{eqb, ltb}
 use Rattle.store.specs.declared.Counters.{Counters}
 use Rattle.store.specs.declared.IndexPlace.{IndexPlace}
 use Rattle.store.specs.declared.IndexPlace.the-variants.{At, Before, Torn}
+use Rattle.store.specs.declared.Refusal.the-variants.{Damaged}
+use Rattle.store.specs.declared.Lookup.{Lookup}
+use Rattle.store.specs.declared.Lookup.the-variants.{Number, Absent, Refused as NotFound}
 use Rattle.store.specs.Tables.{word, offsetAt, resourceWords}
 use Rattle.store.specs.Shared.{maxResources}
 use Rattle.store.specs.Reading.{inRange}
@@ -57,3 +61,9 @@ searchOf c res idx text w (suc fuel) lo hi =
 -- the whole index: sixteen comparisons are enough for 65,535 names
 abbrev pub searched : Counters → List ℕ → List ℕ → List ℕ → List ℕ → IndexPlace
 searched c res idx text w = searchOf c res idx text w 16 0 (c .resources)
+
+-- what find answers by where the search ends: the number there, or absent; 9 where it met a damaged word
+abbrev pub foundAs : IndexPlace → Lookup
+foundAs (At n k) = Number n
+foundAs (Before k) = Absent
+foundAs Torn = NotFound Damaged

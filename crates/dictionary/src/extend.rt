@@ -1,5 +1,6 @@
 // One name more: its record, its bytes, its place in the index.
 use store::Counters;
+use store::ResourceId;
 ghost use mathlib.Core.Path.{_≡_};
 ghost use mathlib.Core.List.{[], _∷_, _++_};
 ghost use Prim.Native.Nat.{ℕ, suc, _+_, _-_, _*_, _≤_, _<_};
@@ -67,13 +68,13 @@ pub fn push_front(words: &mut [u32], v: u32)
 }
 
 // A number put into the first r entries at a position, those from there on moved up by one.
-pub fn insert(index: &mut [u32], r: u32, at: u32, v: u32)
+pub fn insert(index: &mut [u32], r: u32, at: u32, y: ResourceId)
     requires { ⌜ (at ≤ r) × (r < length (now index)) ⌝ }
-    ensures { λ _. ⌜ now (index .exit) ≡ insertAt at (r - at) v (now (index .entry)) ⌝ }
+    ensures { λ _. ⌜ now (index .exit) ≡ insertAt at (r - at) (y .0) (now (index .entry)) ⌝ }
 {
     let from = at as usize;
     let end = r as usize + 1;
-    push_front(&mut index[from..end], v);
+    push_front(&mut index[from..end], y.0);
 }
 
 // All three writes of a new name.
@@ -87,9 +88,10 @@ pub fn append(
     kind: u32,
 )
     requires { ⌜ Roomy c (now resources) (now index) (now text) (now name) at ⌝ }
-    ensures { λ _. ⌜ Extended c (now (resources .entry)) (now (resources .exit)) (now (index .entry)) (now (index .exit)) (now (text .entry)) (now (text .exit)) (now (name .entry)) at kind ⌝ }
+    ensures { λ _. ⌜ Extended c (now (resources .entry)) (now (resources .exit)) (now (index .entry)) (now (index .exit))
+        (now (text .entry)) (now (text .exit)) (now (name .entry)) at kind ⌝ }
 {
     write_record(resources, c.resources, c.text, kind);
     write_name(text, c.text, name);
-    insert(index, c.resources, at, c.resources + 1);
+    insert(index, c.resources, at, ResourceId(c.resources + 1));
 }

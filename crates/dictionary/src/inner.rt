@@ -55,8 +55,8 @@ pub fn probe(
     requires { ⌜ Readable c (now resources) (now index) (now text) × (at < c .resources) ⌝ }
     ensures { λ r. ⌜ r ≡ probeOf c (now (resources .entry)) (now (index .entry)) (now (text .entry)) (now (name .entry)) at ⌝ }
 {
-    let y = index[at as usize];
-    if !table::in_range(c.resources, y) {
+    let y = ResourceId(index[at as usize]);
+    if !table::in_range(c.resources, y.0) {
         return Compared::Cut;
     }
     let from = table::inner::offset_at(resources, y);

@@ -37,7 +37,8 @@ pub fn find(
     text: &[u8],
     name: &[u8],
 ) -> Lookup
-    ensures { λ a. ⌜ FindAnswer c (tables (now (resources .entry)) (now (statements .entry)) (now (index .entry)) (now (text .entry))) (now (name .entry)) a ⌝ }
+    ensures { λ a. ⌜ FindAnswer c (tables (now (resources .entry)) (now (statements .entry)) (now (index .entry)) (now (text .entry)))
+        (now (name .entry)) a ⌝ }
 {
     if !fits(c, resources, statements, index, text) {
         return Lookup::Refused(Refusal::Capacity);
@@ -62,7 +63,8 @@ pub fn intern(
     text: &mut [u8],
     name: &[u8],
 ) -> Interned
-    ensures { λ a. ⌜ InternAnswer c (tables (now (resources .entry)) (now (statements .entry)) (now (index .entry)) (now (text .entry))) (tables (now (resources .exit)) (now (statements .entry)) (now (index .exit)) (now (text .exit))) (now (name .entry)) a ⌝ }
+    ensures { λ a. ⌜ InternAnswer c (tables (now (resources .entry)) (now (statements .entry)) (now (index .entry)) (now (text .entry)))
+        (tables (now (resources .exit)) (now (statements .entry)) (now (index .exit)) (now (text .exit))) (now (name .entry)) a ⌝ }
 {
     if !fits(c, resources, statements, index, text) {
         return Interned::Refused(Refusal::Capacity);

@@ -1,5 +1,5 @@
--- What a record that meets a pattern binds (`bind`, `match`): exactly its resources at the pattern's open variables,
--- and only where every other word is the record's. Assumes nothing.
+-- What a record that meets a pattern binds (`bind`, `match`): exactly its resources at the pattern's open variables, and only where every
+-- other word is the record's. Assumes nothing.
 use mathlib.Core.Path.{_≡_, refl, sym, ap, _∙_}
 use mathlib.Core.Logic.{_≢_}
 use mathlib.Core.Bool.{Bool, true, false, _||_, true≢false}

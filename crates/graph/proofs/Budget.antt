@@ -1,6 +1,5 @@
 -- A call visits no more records than its budget, on any tables, words and cursor: the walk counts one visit a turn. Assumes nothing.
-use mathlib.Core.Path.{_≡_, refl, ap}
-use mathlib.Core.Bool.{Bool, true, false, cond}
+use mathlib.Core.Path.{_≡_, refl}
 use mathlib.Core.List.{List, [], _∷_}
 use Prim.Native.Nat.{ℕ, zero, suc, _+_, _-_, _≤_}
 use native.Mathlib.Omega.{arith}
@@ -12,7 +11,7 @@ use Rattle.graph.specs.declared.QueryPattern.{QueryPattern}
 use Rattle.graph.specs.declared.Level.{Level}
 use Rattle.graph.specs.Query.{placeOk, intact, pruned, settle, remains}
 use Rattle.graph.specs.Place.{Place, start, inside, finish, placeOf}
-use Rattle.graph.specs.Words.{wordsOk, patternsOf, Bindings}
+use Rattle.graph.specs.Words.{wordsOk, patternsOf}
 use Rattle.graph.specs.Query.{Turn, bad, go, whole, Answer, enter, visit, walk, begun, resume, answerOf, packed, stale, nextQueryOf}
 use Rattle.graph.specs.Claims.{BudgetClaim}
 use Rattle.graph.proofs.Laws.{walk-over, turn-ended, turn-bad, turn-go, turn-whole}
@@ -69,7 +68,8 @@ within-budget c m ws q b = decide (stale c m ws q) (λ d. rw d (omega arith))
     (λ f. rw f (decide (placeOk (m .statements) (patternsOf ws) (c .resources) (c .statements) (placeOf q))
     (λ g. rw g (decide (eqb b 0)
     (λ h. rw h (omega arith))
-    (λ h. rw h (resume-within (c .generation) (c .resources) (c .statements) (m .resources) (m .statements) (patternsOf ws) (placeOf q) b))))
+    (λ h. rw h
+    (resume-within (c .generation) (c .resources) (c .statements) (m .resources) (m .statements) (patternsOf ws) (placeOf q) b))))
     (λ g. rw g (omega arith))))
     (λ f. rw f (omega arith))))
     (λ e. rw e (omega arith))))

@@ -1,10 +1,9 @@
--- A query's words in order, and calls one after another with no change between: on a sound store what they find is a
--- first part of the enumeration (`solve`), all of it once they have ended, and they end (`ReadingClaim`). Assumes
--- nothing.
-use mathlib.Core.Path.{_≡_, refl, sym, ap, _∙_}
+-- A query's words in order, and calls one after another with no change between: on a sound store what they find is a first part of the
+-- enumeration (`solve`), all of it once they have ended, and they end (`ReadingClaim`). Assumes nothing.
+use mathlib.Core.Path.{_≡_, refl, ap, _∙_}
 use mathlib.Core.Logic.{_≢_, _⊎_, inl, inr}
-use mathlib.Core.Bool.{Bool, true, false, _&&_, true≢false, false≢true}
-use mathlib.Core.List.{List, [], _∷_, _++_, map, List·Memᴰ, Memᴰ·append-left, append-nil}
+use mathlib.Core.Bool.{true, false, _&&_}
+use mathlib.Core.List.{List, [], _∷_}
 use Prim.Native.Nat.{ℕ, suc, _+_, _*_, _-_, _≤_, _<_}
 use native.Mathlib.Omega.{arith}
 use lib.ListN.{length}
@@ -13,8 +12,8 @@ use borrow.Author.Tests.{leb-true, leb-false, ltb-true, ne-eqb}
 use Rattle.store.specs.declared.Position.{Position}
 use Rattle.store.specs.declared.Position.the-variants.{Subject, Predicate, Object}
 use Rattle.store.specs.declared.Counters.{Counters}
-use Rattle.store.specs.Tables.{Tables, fits, resourceCapacity}
-use Rattle.store.specs.Walk.{entryAt, pickChain}
+use Rattle.store.specs.Tables.{Tables, fits}
+use Rattle.store.specs.Walk.{entryAt}
 use Rattle.store.specs.Soundness.{Sound}
 use Rattle.store.proofs.Tests.{and-l, and-r, fits-parts}
 use Rattle.graph.specs.declared.QueryPattern.{QueryPattern}
@@ -24,22 +23,22 @@ use Rattle.graph.specs.declared.QueryAnswer.{QueryAnswer}
 use Rattle.graph.specs.Words.{maxPatterns, variables, firstVariable, isVariable, wordOk, allOk, wordsOk}
 use Rattle.graph.specs.Place.{Place, start, inside, finish, startCursor, cursorAt}
 use Rattle.graph.specs.Words.{patternsOf, pattern, Bindings, unbound, under}
-use Rattle.graph.specs.Query.{Answer, refused, found, ended, spent, placeOk, resume, answerOf}
-use Rattle.graph.specs.Query.{openQueryOf, packed, nextQueryOf, readOn}
+use Rattle.graph.specs.Query.{Answer, refused, found, ended, spent, answerOf}
+use Rattle.graph.specs.Query.{openQueryOf, packed, nextQueryOf}
+use Rattle.graph.specs.Values.{queryValues}
 use Rattle.graph.specs.Order.{Descending, recordOf, statementsOf}
-use Rattle.graph.specs.Meaning.{Mapping, Solves}
-use Rattle.graph.specs.Graph.{graphOf, queryOf, mappingOf}
-use Rattle.graph.specs.Claims.{AllPositive, solutionsIn, NoneRefused, hasEnded, visitsIn, lastSpent, reading}
-use Rattle.graph.specs.Claims.{statementsIn, Read, Ends, ReadingClaim}
+use Rattle.graph.specs.Claims.{Reply, queryReply, AllPositive, statementsIn, AllInOrder, nextReply, reading, ReadingClaim}
 use Rattle.graph.proofs.Accepted.{or-cases}
 use Rattle.graph.proofs.Laws.{Shallow, place-cursor}
 use Rattle.graph.proofs.Generations.{cursor-number, own-number, read-on}
 use Rattle.graph.proofs.Bind.{wordAt, Fit}
 use Rattle.graph.proofs.Solve.{solve, AllFit, solve-descending, statements, numberOf, descending-nodup}
 use Rattle.graph.proofs.Levels.{AllLow}
-use Rattle.graph.specs.Work.{work}
+use Rattle.graph.specs.Work.{workOf}
 use Rattle.graph.proofs.Reading.{leftAt, toilAt, visitsAt, Reached, Outcome, go-outcome, reached-ok}
-use Rattle.graph.proofs.Solutions.{mem-map, map-mem, positive, single, exactly, once-as-mappings}
+use Rattle.graph.proofs.Solutions.{positive, single, exactly, once-as-mappings}
+use Rattle.graph.proofs.ReadThrough as read
+use Rattle.graph.proofs.ReadThrough.{Told, told-ends, Leaves, told}
 
 -- ---- words in order
 
@@ -107,10 +106,6 @@ words-few r ws e =
     (and-r (eqb (3 * length (patternsOf ws)) (length ws)) _ e))
 
 -- ---- parts of a list in order
-
-descending-part : {A : Type 0} (k : A → List ℕ) (xs ys : List A) → Descending k (xs ++ ys) → Descending k xs
-descending-part k [] ys h = tt
-descending-part k (x ∷ xs) ys h = ((λ y q. h .0 y (Memᴰ·append-left ys q)), descending-part k xs ys (h .1))
 
 pub descending-cong : {A : Type 0} (k k′ : A → List ℕ) (xs : List A) → ((x : A) → k x ≡ k′ x) → Descending k xs
     → Descending k′ xs
@@ -184,140 +179,45 @@ module _ (c : Counters) (m : Tables) (S : Sound c m) (ws : List ℕ) (words : wo
       read-on c m ws (cursorHere q) b (own-number c m ws (cursorHere q) (cursor-number (c .generation) q))
       ∙ ap (λ (z : Place). pack (answerOf c m ws z b)) (place-cursor (c .generation) q h)
 
-  finish-ended : (b : ℕ) → 0 < b → answerOf c m ws finish b ≡ ended 0
-  unfolding answerOf placeOk resume
-  finish-ended b h = let n : b ≢ 0 = omega arith in rw (S .capacity, words, ne-eqb b 0 n)
-
   -- ---- the calls that follow
 
-  on-found : (q : QueryCursor) (b : ℕ) (bs : List ℕ) (s : Bindings) (v : ℕ) (q′ : Place)
-      → nextQueryOf c m ws q b ≡ pack (found s v q′)
-      → readOn c m ws q (b ∷ bs) ≡ pack (found s v q′) ∷ readOn c m ws (cursorHere q′) bs
-  unfolding readOn packed
-  on-found q b bs s v q′ e = rw e
+  abbrev LeavesAt : Place → Reply Bindings QueryCursor → Type 0
+  LeavesAt q r = Leaves (nextReply c m ws) cursorHere leftFrom visitsFrom toilFrom At q r
 
-  on-ended : (q : QueryCursor) (b : ℕ) (bs : List ℕ) (v : ℕ) → nextQueryOf c m ws q b ≡ pack (ended v)
-      → readOn c m ws q (b ∷ bs) ≡ pack (ended v) ∷ readOn c m ws (cursorHere finish) bs
-  unfolding readOn packed
-  on-ended q b bs v e = rw e
+  none-left : (leftFrom finish ≡ []) × (visitsFrom finish ≡ 0)
+  unfolding leftAt visitsAt
+  none-left = (refl, refl)
 
-  on-spent : (q : QueryCursor) (b : ℕ) (bs : List ℕ) (v : ℕ) (q′ : Place)
-      → nextQueryOf c m ws q b ≡ pack (spent v q′)
-      → readOn c m ws q (b ∷ bs) ≡ pack (spent v q′) ∷ readOn c m ws (cursorHere q′) bs
-  unfolding readOn packed
-  on-spent q b bs v q′ e = rw e
-
-  -- what all the calls from a place say
-  pub record Told (ss : List Bindings) (w k : ℕ) (bs : List ℕ) (rs : List QueryAnswer) : Type 0 where
-    pub fine : NoneRefused rs
-    pub part : (r : List Bindings) × (solutionsIn rs ++ r ≡ ss)
-    pub all : hasEnded rs ≡ true → solutionsIn rs ≡ ss
-    pub visits : hasEnded rs ≡ true → visitsIn rs ≡ w
-    pub ends : k < length bs → hasEnded rs ≡ true
-    pub early : (y : Bool) → (y ≡ true → 0 < w) → lastSpent y rs ≡ true → visitsIn rs < w
-
-  told-found : (ss ss′ : List Bindings) (w w′ k k′ b : ℕ) (bs : List ℕ) (rs : List QueryAnswer) (s : Bindings)
-      (v : ℕ) (q : Place)
-      → ss ≡ s ∷ ss′ → v + w′ ≡ w → k′ < k → Told ss′ w′ k′ bs rs → Told ss w k (b ∷ bs) (pack (found s v q) ∷ rs)
-  unfolding packed solutionsIn hasEnded visitsIn lastSpent
-  told-found ss ss′ w w′ k k′ b bs rs s v q e d h T = record {
-    fine = (tt, T .fine);
-    part = (T .part .0, ap (λ (z : List Bindings). s ∷ z) (T .part .1) ∙ sym e);
-    all = λ n. ap (λ (z : List Bindings). s ∷ z) (T .all n) ∙ sym e;
-    visits = λ n. omega (arith, T .visits n, d);
-    ends = λ n. T .ends (omega arith);
-    early = λ y g n. omega (arith, T .early false (λ z. absurd (false≢true z)) n, d);
+  leaves : (q : Place) (b : ℕ) (a : Answer) → Comes q b a → 0 < b → LeavesAt q (queryReply (queryValues (pack a)))
+  unfolding packed
+  leaves q b (refused n) o h = absurd o
+  leaves q b (found s v q′) o h = record {
+    now = q′;
+    ok = o .1;
+    unrefused = refl;
+    reached = refl;
+    paid = omega (arith, o .3);
+    comes = read.found refl (o .0) (o .2);
+  }
+  leaves q b (ended v) o h = record {
+    now = finish;
+    ok = tt;
+    unrefused = refl;
+    reached = refl;
+    paid = omega (arith, o .1, none-left .1);
+    comes = read.ended refl (o .0) (none-left .0) (none-left .1);
+  }
+  leaves q b (spent v q′) o h = record {
+    now = q′;
+    ok = o .1;
+    unrefused = refl;
+    reached = refl;
+    paid = omega (arith, o .3);
+    comes = read.spent refl (o .0) (omega (arith, o .2)) (o .5);
   }
 
-  told-spent : (ss ss′ : List Bindings) (w w′ k k′ b : ℕ) (bs : List ℕ) (rs : List QueryAnswer) (v : ℕ) (q : Place)
-      → ss ≡ ss′ → v + w′ ≡ w → k′ < k → 0 < w′ → Told ss′ w′ k′ bs rs
-      → Told ss w k (b ∷ bs) (pack (spent v q) ∷ rs)
-  unfolding packed solutionsIn hasEnded visitsIn lastSpent
-  told-spent ss ss′ w w′ k k′ b bs rs v q e d h o T = record {
-    fine = (tt, T .fine);
-    part = (T .part .0, T .part .1 ∙ sym e);
-    all = λ n. T .all n ∙ sym e;
-    visits = λ n. omega (arith, T .visits n, d);
-    ends = λ n. T .ends (omega arith);
-    early = λ y g n. omega (arith, T .early true (λ z. o) n, d);
-  }
-
-  -- nothing is left: each call ends again
-  pub record Over (rs : List QueryAnswer) : Type 0 where
-    pub fine : NoneRefused rs
-    pub none-found : solutionsIn rs ≡ []
-    pub no-visits : visitsIn rs ≡ 0
-    pub not-spent : lastSpent false rs ≡ false
-
-  told-ended : (ss : List Bindings) (w k b : ℕ) (bs : List ℕ) (rs : List QueryAnswer) (v : ℕ) → ss ≡ [] → v ≡ w
-      → Over rs
-      → Told ss w k (b ∷ bs) (pack (ended v) ∷ rs)
-  unfolding packed solutionsIn hasEnded visitsIn lastSpent
-  told-ended ss w k b bs rs v e d O = record {
-    fine = (tt, O .fine);
-    part = ([], append-nil (solutionsIn rs) ∙ O .none-found ∙ sym e);
-    all = λ n. O .none-found ∙ sym e;
-    visits = λ n. omega (arith, O .no-visits, d);
-    ends = λ n. refl;
-    early = λ y g n. absurd (true≢false (sym n ∙ O .not-spent));
-  }
-
-  over-ended : (rs : List QueryAnswer) → Over rs → Over (pack (ended 0) ∷ rs)
-  unfolding packed solutionsIn visitsIn lastSpent
-  over-ended rs O = record {
-    fine = (tt, O .fine);
-    none-found = O .none-found;
-    no-visits =
-        omega (arith, O .no-visits);
-    not-spent = O .not-spent;
-  }
-
-  over : (bs : List ℕ) → AllPositive bs → Over (readOn c m ws (cursorHere finish) bs)
-  over [] h = unfold readOn solutionsIn visitsIn lastSpent in
-      record { fine = tt; none-found = refl; no-visits = refl; not-spent = refl }
-  over (b ∷ bs) h =
-      rw (on-ended (cursorHere finish) b bs 0 (next-is finish b tt ∙ ap pack (finish-ended b (h .0))))
-      (over-ended (readOn c m ws (cursorHere finish) bs) (over bs (h .1)))
-
-  told-none : (ss : List Bindings) (w k : ℕ) → Told ss w k [] []
-  unfolding solutionsIn hasEnded visitsIn lastSpent
-  told-none ss w k =
-      record {
-        fine = tt;
-        part = (ss, refl);
-        all = λ e. absurd (false≢true e);
-        visits =
-            λ e. absurd (false≢true e);
-        ends = λ n. absurd (omega arith);
-        early = λ y g n. g n;
-      }
-
-  read-none : (q : QueryCursor) → readOn c m ws q [] ≡ []
-  unfolding readOn
-  read-none q = refl
-
-  pub told : (bs : List ℕ) (q : Place) → At q → AllPositive bs
-      → Told (leftFrom q) (visitsFrom q) (toilFrom q) bs (readOn c m ws (cursorHere q) bs)
-  told [] q R h = rw (read-none (cursorHere q)) (told-none (leftFrom q) (visitsFrom q) (toilFrom q))
-  told (b ∷ bs) q R h = one (answerOf c m ws q b) refl (next-comes q b R (h .0)) (λ q′ R′. told bs q′ R′ (h .1))
-    where
-      one : (a : Answer) → answerOf c m ws q b ≡ a → Comes q b a
-          → ((q′ : Place) → At q′ → Told (leftFrom q′) (visitsFrom q′) (toilFrom q′) bs
-          (readOn c m ws (cursorHere q′) bs))
-          → Told (leftFrom q) (visitsFrom q) (toilFrom q) (b ∷ bs) (readOn c m ws (cursorHere q) (b ∷ bs))
-      one (refused n) e o ih = absurd o
-      one (found s v q′) e o ih =
-          rw (on-found (cursorHere q) b bs s v q′ (next-is q b (reached-shallow q R) ∙ ap pack e))
-          (told-found (leftFrom q) (leftFrom q′) (visitsFrom q) (visitsFrom q′) (toilFrom q)
-          (toilFrom q′) b bs _ s v q′ (o .0) (omega (arith, o .3)) (o .2) (ih q′ (o .1)))
-      one (ended v) e o ih =
-          rw (on-ended (cursorHere q) b bs v (next-is q b (reached-shallow q R) ∙ ap pack e))
-          (told-ended (leftFrom q) (visitsFrom q) (toilFrom q) b bs _ v (o .0) (omega (arith, o .1)) (over bs (h .1)))
-      one (spent v q′) e o ih =
-          rw (on-spent (cursorHere q) b bs v q′ (next-is q b (reached-shallow q R) ∙ ap pack e))
-          (told-spent (leftFrom q) (leftFrom q′) (visitsFrom q) (visitsFrom q′) (toilFrom q)
-          (toilFrom q′) b bs _ v q′ (o .0) (omega (arith, o .3)) (omega (arith, o .2, h .0)) (o .5)
-          (ih q′ (o .1)))
+  next-leaves : (q : Place) (b : ℕ) → At q → 0 < b → LeavesAt q (nextReply c m ws (cursorHere q) b)
+  next-leaves q b R h = rw (next-is q b (reached-shallow q R)) (leaves q b (answerOf c m ws q b) (next-comes q b R h) h)
 
   -- ---- from the start
 
@@ -325,22 +225,11 @@ module _ (c : Counters) (m : Tables) (S : Sound c m) (ws : List ℕ) (words : wo
   unfolding openQueryOf
   opens = rw (S .capacity, words)
 
-  start-left : leftFrom start ≡ everything
-  unfolding leftAt
-  start-left = refl
-
-  start-cursor : cursorHere start ≡ startCursor (c .generation)
-  unfolding cursorAt
-  start-cursor = refl
-
-  abbrev cost : ℕ
-  cost = work (entryAt (m .statements)) (c .statements) (pickChain (m .resources)) (patternsOf ws) unbound
-
-  start-told : (bs : List ℕ) → AllPositive bs → Told everything cost (suc (suc cost)) bs (reading c m ws bs)
+  start-told : (bs : List ℕ) → AllPositive bs → Told everything (workOf c m ws) (suc (workOf c m ws)) bs (reading c m ws bs)
   unfolding leftAt visitsAt toilAt cursorAt
-  start-told bs h = told bs start tt h
+  start-told bs h = rw opens (told (nextReply c m ws) cursorHere leftFrom visitsFrom toilFrom At next-leaves bs start tt h)
 
-  pub everything-order : Descending (statementsIn c m ws) everything
+  everything-order : Descending (statementsIn c m ws) everything
   everything-order =
       descending-cong (statements (entryAt (m .statements)) (c .statements) (patternsOf ws))
       (statementsIn c m ws) everything
@@ -348,40 +237,19 @@ module _ (c : Counters) (m : Tables) (S : Sound c m) (ws : List ℕ) (words : wo
       (solve-descending (entryAt (m .statements)) (c .statements) (positive c m S) (single c m S)
       (patternsOf ws) unbound fit)
 
-  read : (bs : List ℕ) → AllPositive bs → Read c m ws bs
-  read bs h =
-      let T = start-told bs h in
-      let f = solutionsIn (reading c m ws bs) in
-      let e : f ++ T .part .0 ≡ everything = T .part .1 in
-      let into : (s : Bindings) → List·Memᴰ s f → List·Memᴰ s everything =
-      λ s k. rw e at (Memᴰ·append-left (T .part .0) k) in
-      let d : Descending (statementsIn c m ws) f =
-      descending-part (statementsIn c m ws) f (T .part .0) (rw e everything-order) in
-      record {
-        unrefused = T .fine;
-        right = λ μ k. right-of μ f into k;
-        once = once-as-mappings c m S (patternsOf ws) fit low f into (descending-nodup (statementsIn c m ws) f d);
-        order = d;
-        all = λ n μ W. rw (T .all n) (exactly c m S (patternsOf ws) fit low μ .0 W);
-      }
-    where
-      right-of : (μ : Mapping) (f : List Bindings) → ((s : Bindings) → List·Memᴰ s f → List·Memᴰ s everything)
-          → List·Memᴰ μ (map (mappingOf m) f) → Solves (graphOf c m) (queryOf m ws) μ
-      right-of μ f into k =
-          let r = map-mem (mappingOf m) f μ k in
-          exactly c m S (patternsOf ws) fit low μ .1
-          (rw (r .2) (mem-map (mappingOf m) everything (r .0) (into (r .0) (r .1))))
-
-  ends-after : Ends c m ws cost
-  ends-after = record {
-    ends = λ bs h n. start-told bs h .ends (omega arith);
-    visits =
-        λ bs h n. start-told bs h .visits n;
-    early =
-        λ bs h n. start-told bs h .early false (λ z. absurd (false≢true z)) n;
+  pub in-order : AllInOrder c m ws everything
+  in-order = record {
+    exact = exactly c m S (patternsOf ws) fit low;
+    once = once-as-mappings c m S (patternsOf ws) fit low everything (λ s k. k)
+        (descending-nodup (statementsIn c m ws) everything everything-order);
+    order = everything-order;
   }
 
 -- demand 2, queries: exactly the solutions, each once, in order
 pub query-reads : ReadingClaim
-query-reads c m S ws words =
-    (opens c m S ws words, read c m S ws words, ends-after c m S ws words)
+query-reads c m S ws words = (
+  rw (opens c m S ws words),
+  (everything c m S ws words, in-order c m S ws words, λ bs h. start-told c m S ws words bs h .read),
+  told-ends (reading c m ws) (everything c m S ws words) (workOf c m ws) (suc (workOf c m ws)) (omega arith)
+      (start-told c m S ws words),
+)

@@ -12,14 +12,13 @@ use Rattle.store.specs.declared.Refusal.the-variants.{StaleCursor}
 use Rattle.store.specs.Tables.{Tables, fits}
 use Rattle.store.proofs.Tests.{decide, and-l, and-r}
 use Rattle.graph.specs.declared.QueryCursor.{QueryCursor}
-use Rattle.graph.specs.declared.QueryStep.the-variants.{Refused}
 use Rattle.graph.specs.declared.QueryAnswer.{QueryAnswer}
 use Rattle.graph.specs.Query.{Answer, refused, found, ended, spent, answerOf, packed, stale, nextQueryOf}
 use Rattle.graph.specs.Place.{Place, start, inside, finish, placeOf, cursorAt}
 use Rattle.graph.specs.Words.{wordsOk}
-use Rattle.graph.specs.Values.{stepRefusal, queryValues}
-use Rattle.graph.specs.Claims.{Unrefused, StaleClaim}
-use Rattle.graph.proofs.Refusals.{answer-not, number-not}
+use Rattle.graph.specs.Values.{queryValues}
+use Rattle.graph.specs.Claims.{StaleClaim}
+use Rattle.graph.proofs.Refusals.{answer-not, refusal-positive, number-not}
 
 pub cursor-number : (g : ℕ) (q : Place) → (cursorAt g q) .generation ≡ g
 unfolding cursorAt
@@ -35,19 +34,12 @@ NotRefused (found s v q) = Unit {0}
 NotRefused (ended v) = Unit {0}
 NotRefused (spent v q) = Unit {0}
 
-pub unrefused-answer : (g : ℕ) (a : Answer) → Unrefused ((packed g a) .step) → NotRefused a
+pub unrefused-answer : (g : ℕ) (a : Answer) → (queryValues (packed g a)) .refusal ≡ 0 → NotRefused a
 unfolding packed
-unrefused-answer g (refused e) n = n
+unrefused-answer g (refused e) n = refusal-positive e n
 unrefused-answer g (found s v q) n = tt
 unrefused-answer g (ended v) n = tt
 unrefused-answer g (spent v q) n = tt
-
-pub packed-number : (g : ℕ) (a : Answer) → NotRefused a → ((packed g a) .cursor) .generation ≡ g
-unfolding packed
-packed-number g (refused e) n = absurd n
-packed-number g (found s v q) n = cursor-number g q
-packed-number g (ended v) n = cursor-number g finish
-packed-number g (spent v q) n = cursor-number g q
 
 -- ---- one call, by the cursor's number
 
@@ -65,7 +57,7 @@ module _ (c : Counters) (m : Tables) (ws : List ℕ) (q : QueryCursor) where
   unfolding nextQueryOf
   read-on b e = rw e
 
-  pub unrefused-read : (b : ℕ) → Unrefused ((nextQueryOf c m ws q b) .step)
+  pub unrefused-read : (b : ℕ) → (queryValues (nextQueryOf c m ws q b)) .refusal ≡ 0
       → (stale c m ws q ≡ false) × NotRefused (answerOf c m ws (placeOf q) b)
   unfolding nextQueryOf
   unrefused-read b =
@@ -75,10 +67,10 @@ module _ (c : Counters) (m : Tables) (ws : List ℕ) (q : QueryCursor) where
 
 -- ---- refusal 13
 
-pub stale-step : (c : Counters) (m : Tables) (ws : List ℕ) (q : QueryCursor) (b : ℕ) → fits c m ≡ true
-    → wordsOk (c .resources) ws ≡ true → q .generation ≢ c .generation → (nextQueryOf c m ws q b) .step ≡ Refused StaleCursor
+pub stale-number : (c : Counters) (m : Tables) (ws : List ℕ) (q : QueryCursor) (b : ℕ) → fits c m ≡ true
+    → wordsOk (c .resources) ws ≡ true → q .generation ≢ c .generation → (queryValues (nextQueryOf c m ws q b)) .refusal ≡ 13
 unfolding nextQueryOf stale packed
-stale-step c m ws q b f w n = rw (f, w, ne-eqb (q .generation) (c .generation) n)
+stale-number c m ws q b f w n = rw (f, w, ne-eqb (q .generation) (c .generation) n)
 
 stale-when : (c : Counters) (m : Tables) (ws : List ℕ) (q : QueryCursor) (b : ℕ)
     → (queryValues (nextQueryOf c m ws q b)) .refusal ≡ 13 → stale c m ws q ≡ true
@@ -86,7 +78,7 @@ stale-when c m ws q b h =
     decide (stale c m ws q) (λ e. e)
     (λ e. absurd (number-not 13 (c .generation) (answerOf c m ws (placeOf q) b) (omega arith)
     (answer-not 13 (omega arith) (omega arith) (omega arith) (omega arith) c m ws (placeOf q) b (inr (omega arith)))
-    (sym (ap (λ (a : QueryAnswer). stepRefusal (a .step)) (read-on c m ws q b e)) ∙ h)))
+    (sym (ap (λ (a : QueryAnswer). (queryValues a) .refusal) (read-on c m ws q b e)) ∙ h)))
 
 stale-means : (c : Counters) (m : Tables) (ws : List ℕ) (q : QueryCursor) → stale c m ws q ≡ true
     → (fits c m ≡ true) × (wordsOk (c .resources) ws ≡ true) × (q .generation ≢ c .generation)
@@ -100,5 +92,5 @@ stale-means c m ws q e = (
 pub stale-refused : StaleClaim
 stale-refused c m ws q b = (
   λ h. stale-means c m ws q (stale-when c m ws q b h),
-  λ h. ap stepRefusal (stale-step c m ws q b (h .0) (h .1) (h .2)),
+  λ h. stale-number c m ws q b (h .0) (h .1) (h .2),
 )

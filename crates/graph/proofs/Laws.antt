@@ -1,5 +1,5 @@
--- One law for each way out of the walk and of its inner loops, on any tables, in the terms of code; the words of a
--- pattern; the levels in a cursor's array. Assumes nothing.
+-- One law for each way out of the walk and of its inner loops, on any tables, in the terms of code; the words of a pattern; the levels in a
+-- cursor's array. Assumes nothing.
 use mathlib.Core.Path.{_≡_, refl, sym, ap, _∙_}
 use mathlib.Core.Logic.{_≢_}
 use mathlib.Core.Bool.{true, false, cond}

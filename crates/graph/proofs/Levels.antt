@@ -1,5 +1,5 @@
--- On linked tables one visit, one level left, one level entered goes through the list of solutions (`solve`) and is
--- never refused; the visits left are counted beside. Assumes nothing.
+-- On linked tables one visit, one level left, one level entered goes through the list of solutions (`solve`) and is never refused; the
+-- visits left are counted beside. Assumes nothing.
 use mathlib.Core.Path.{_≡_, refl, sym, ap, _∙_}
 use mathlib.Core.Logic.{_≢_}
 use mathlib.Core.Bool.{Bool, true, false, cond, true≢false}
@@ -16,7 +16,7 @@ use Rattle.store.specs.declared.Position.the-variants.{Subject, Predicate, Obje
 use Rattle.store.specs.declared.Chain.{Chain}
 use Rattle.store.specs.declared.Chain.the-variants.{All, By}
 use Rattle.store.specs.declared.Triple.{Triple}
-use Rattle.store.specs.Shared.{at, below, head0, prev, Entry}
+use Rattle.store.specs.Shared.{at, below, head0, prev}
 use Rattle.store.specs.Tables.{tripleAt}
 use Rattle.store.specs.Model.{onChain}
 use Rattle.store.specs.Walk.{entryAt, startOf, pickChain}
@@ -123,10 +123,6 @@ match-on stm (By p) x b b′ i f k o e =
     let M = match-matched x (tripleAt stm i) b b′ f k e in
     let q : 0 < valueOf b (wordAt p x) = rw (under-at b x p) at (ok-bound (By p) (under b x) o) in
     eq-eqb _ _ (sym (M .reads p) ∙ under-at b′ x p ∙ value-more b b′ (wordAt p x) (M .more) q ∙ sym (under-at b x p))
-
-pub entry-spo : (stm : List ℕ) (i : ℕ) → (entryAt stm i) .spo ≡ tripleAt stm i
-unfolding entryAt
-entry-spo stm i = refl
 
 hit-match : (stm : List ℕ) (x : QueryPattern) (b b′ : Bindings) (i : ℕ) → hitAt (entryAt stm) x b i ≡ some b′
     → match x (tripleAt stm i) b ≡ some b′

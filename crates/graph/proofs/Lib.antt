@@ -4,6 +4,7 @@ pub mod Generations
 pub mod Bind
 pub mod Solve
 pub mod Levels
+pub mod ReadThrough
 pub mod Reading
 pub mod Place
 pub mod Later
@@ -17,5 +18,6 @@ pub mod Scans
 pub mod Unseen
 pub mod Listed
 pub mod Writes
+pub mod Loads
 pub mod Theorems
 pub mod Runs

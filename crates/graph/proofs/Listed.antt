@@ -1,8 +1,7 @@
--- The graph of the plain lists (crate `store`, `Model`), and what entering, asserting, retracting and reclaiming do to it.
--- Assumes nothing.
+-- The graph of the plain lists (crate `store`, `Model`), and what entering, asserting, retracting and reclaiming do to it. Assumes nothing.
 use mathlib.Core.Path.{_≡_, refl, sym, ap, _∙_}
 use mathlib.Core.Logic.{_≢_, _⊎_, inl, inr, _↔_}
-use mathlib.Core.Bool.{Bool, true, false, _&&_, true≢false}
+use mathlib.Core.Bool.{true, false, _&&_, true≢false}
 use mathlib.Core.List.{List, [], _∷_, _++_}
 use Prim.Native.Nat.{ℕ, zero, suc, _+_, _-_, _≤_, _<_}
 use native.Mathlib.Omega.{arith}
@@ -17,10 +16,10 @@ use Rattle.term.proofs.Booleans.{eqBytes-is}
 use Rattle.store.specs.declared.Position.{Position}
 use Rattle.store.specs.declared.Position.the-variants.{Subject, Predicate, Object}
 use Rattle.store.specs.declared.Triple.{Triple}
-use Rattle.store.specs.Shared.{at, known, same, permitted, maxReclaims, Entry, wellFormed, nameOf, bytesOf}
+use Rattle.store.specs.Shared.{at, known, same, permitted, maxReclaims, Entry, wellFormed, nameOf, bytesOf, lookupName}
 use Rattle.store.specs.Values.{Values}
-use Rattle.store.specs.Model.{Model, Capacities, lookupName, internName}
-use Rattle.store.specs.Model.{internModel, entry, lookup, mark, put, assertModel, strike, retractModel, unstruck, reclaimModel}
+use Rattle.store.specs.Model.{Model, Capacities, intern, internName, internModel, entry, lookup, mark, put, assertModel}
+use Rattle.store.specs.Model.{strike, retractModel, unstruck, reclaimModel, callModel}
 use Rattle.store.proofs.Tests.{decide, three, known-low, known-high, same-self, same-is}
 use Rattle.store.proofs.Falling.{head-le, head-passes, head-pos}
 use Rattle.store.proofs.Text.{name-old, name-new, length-snoc}
@@ -141,8 +140,8 @@ module _ (k : Capacities) (s : Model) (D : Tidy s) where
     answered = λ z. let h = name-listed w (s .names) i e in (omega arith, omega (arith, h .0), h .1);
   }
 
-  pub model-enters : (w : Term) → ModelEntered s ((internModel k s w) .0) (canonical w) ((internModel k s w) .1)
-  unfolding internModel
+  pub model-enters : (w : Term) → ModelEntered s ((callModel k s (intern w)) .0) (canonical w) ((callModel k s (intern w)) .1)
+  unfolding callModel internModel
   model-enters w =
       decide (wellFormed w) (λ e. rw e (entered-as (canonical w) (lookupName (canonical w) (s .names)) refl))
       (λ e. rw e (unchanged (canonical w) _ (λ z. omega arith)))
@@ -199,9 +198,6 @@ module _ (ns : List Term) (l : List Entry) where
             ap (λ (e : Entry). e .retracted) o,
             ap (λ (e : Entry). nameTriple ns (e .spo)) o ∙ sym e,
           )
-
-  marked-other : (i j : ℕ) (b : Bool) → j ≢ i → entry (mark l i b) j ≡ entry l j
-  marked-other i j b h = mark-other l i j b h
 
   -- a triple marked live
   revived : (i : ℕ) → i < length l → (z : RdfTriple) → listGraph ns (mark l i false) z

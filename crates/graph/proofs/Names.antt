@@ -1,5 +1,4 @@
--- On a sound store numbers and names are in bijection, and the live statements are an RDF graph (`GraphClaim`).
--- Assumes nothing.
+-- On a sound store numbers and names are in bijection, and the live statements are an RDF graph (`GraphClaim`). Assumes nothing.
 use mathlib.Core.Path.{_≡_, refl, sym, ap, _∙_}
 use mathlib.Core.Logic.{_≢_, _⊎_, inl, inr}
 use mathlib.Core.Bool.{true, false, not, _&&_, false≢true}
@@ -18,9 +17,8 @@ use Rattle.store.specs.declared.Position.{Position}
 use Rattle.store.specs.declared.Position.the-variants.{Subject, Predicate, Object}
 use Rattle.store.specs.declared.Counters.{Counters}
 use Rattle.store.specs.declared.Triple.{Triple}
-use Rattle.store.specs.Shared.{at, permitted, wellFormed, nameOf}
+use Rattle.store.specs.Shared.{at, permitted, wellFormed, nameOf, lookupName}
 use Rattle.store.specs.Tables.{Tables, tripleAt, kindAt}
-use Rattle.store.specs.Model.{lookupName}
 use Rattle.store.specs.Dictionary.{nameAt}
 use Rattle.store.specs.Soundness.{Sound}
 use Rattle.store.proofs.Tests.{and-l, and-r, three}

@@ -1,9 +1,9 @@
--- One next call from any cursor that refusals 13 and 6 accept answers from the solutions holding at the call, at or after
--- the cursor's place (`NextClaim`); a cursor answered is never refused 6 later (`KeptClaim`), and is refused 13 once a reclaim was answered
--- since (`ReclaimedClaim`); with no change between, budgets add up (`SplitClaim`). Assumes nothing.
+-- One next call from any cursor that refusals 13 and 6 accept answers from the solutions holding at the call, at or after the cursor's
+-- place (`NextClaim`); a cursor answered is never refused 6 later (`KeptClaim`), and is refused 13 once a reclaim was answered since
+-- (`ReclaimedClaim`); with no change between, budgets add up (`SplitClaim`). Assumes nothing.
 use mathlib.Core.Path.{_≡_, refl, sym, ap, _∙_, fun-ext}
-use mathlib.Core.Logic.{_≢_, inl}
-use mathlib.Core.Bool.{Bool, true, false, cond, true≢false, false≢true}
+use mathlib.Core.Logic.{_≢_, inl, inr}
+use mathlib.Core.Bool.{Bool, true, false, cond, true≢false}
 use mathlib.Core.List.{List, [], _∷_}
 use Prim.Native.Nat.{ℕ, zero, suc, _+_, _-_, _<_}
 use native.Mathlib.Omega.{arith}
@@ -12,8 +12,7 @@ use lib.Dec.{eqb, ltb}
 use borrow.Author.Tests.{eqb-true, eqb-false, eq-eqb, ltb-true, ne-eqb}
 use Rattle.store.specs.declared.Counters.{Counters}
 use Rattle.store.specs.declared.ScanCursor.{ScanCursor}
-use Rattle.store.specs.declared.Refusal.{Refusal}
-use Rattle.store.specs.declared.Refusal.the-variants.{Capacity, BadCursor, BadQuery, Damaged, StaleCursor}
+use Rattle.store.specs.declared.Refusal.the-variants.{Damaged, StaleCursor}
 use Rattle.store.specs.Tables.{Tables, fits}
 use Rattle.store.specs.Model.{Call}
 use Rattle.store.specs.History.{Store, store, storeReplies, storeAfter}
@@ -23,28 +22,25 @@ use Rattle.store.proofs.Tests.{decide, and-l, and-r, and-of, cond-all}
 use Rattle.graph.specs.declared.QueryPattern.{QueryPattern}
 use Rattle.graph.specs.declared.Level.{Level}
 use Rattle.graph.specs.declared.QueryCursor.{QueryCursor}
-use Rattle.graph.specs.declared.Opening.the-variants.{Opened, Refused as NotOpened}
-use Rattle.graph.specs.declared.QueryStep.{QueryStep}
-use Rattle.graph.specs.declared.QueryStep.the-variants.{Found, Ended, Spent, Refused}
 use Rattle.graph.specs.declared.QueryAnswer.{QueryAnswer}
 use Rattle.graph.specs.Query.{Turn, bad, go, whole, Answer, refused, found, ended, spent, settle, remains, intact, pruned}
-use Rattle.graph.specs.Place.{Place, start, inside, finish, placeOf, cursorAt}
+use Rattle.graph.specs.Place.{Place, start, inside, finish, placeAs, placeOf, cursorAt}
 use Rattle.graph.specs.Words.{wordsOk, patternsOf, Bindings, unbound}
 use Rattle.graph.specs.Query.{placeOk, enter, visit, walk, begun, resume, answerOf, packed, stale, openQueryOf, nextQueryOf}
-use Rattle.graph.specs.Values.{stepRefusal, queryValues}
+use Rattle.graph.specs.Values.{QueryValues, queryOpenedValues, queryValues}
 use Rattle.graph.specs.Order.{numbersOn, atOrAfter, keep, onwardsOf}
-use Rattle.graph.specs.Claims.{Unrefused, statementsIn, AllInOrder, accepted, onwardsFrom, Answers, NextClaim}
+use Rattle.graph.specs.Claims.{statementsIn, accepted, onwardsFrom, Answers, NextClaim}
 use Rattle.graph.specs.Claims.{KeptClaim, ReclaimedClaim, moreVisits, SplitClaim}
 use Rattle.graph.proofs.Laws.{Shallow, place-cursor, walk-ended, walk-bad, walk-go, walk-whole}
-use Rattle.graph.proofs.Refusals.{says, answer-not, step-not}
-use Rattle.graph.proofs.Generations.{cursor-number, NotRefused, packed-number, own-number, read-on, unrefused-read, stale-step}
-use Rattle.graph.proofs.Solve.{statements, descending-nodup}
+use Rattle.graph.proofs.Refusals.{says, answer-not, number-not}
+use Rattle.graph.proofs.Generations.{cursor-number, NotRefused, own-number, read-on, unrefused-read, stale-number}
+use Rattle.graph.proofs.Solve.{statements}
 use Rattle.graph.proofs.Reading.{Reached, Outcome, walk-outcome, intact-ok, pruned-same}
 use Rattle.graph.proofs.Place.{fromPlace, Gives, any-place, place-keeps}
 use Rattle.graph.proofs.Later.{place-kept, calls-keep, calls-onward, calls-sound}
 use Rattle.graph.proofs.Accepted.{words-more}
-use Rattle.graph.proofs.Solutions.{single, exactly, once-as-mappings}
-use Rattle.graph.proofs.Calls.{words-few, statements-are, fit, low, everything, next-is, everything-order}
+use Rattle.graph.proofs.Solutions.{single}
+use Rattle.graph.proofs.Calls.{words-few, statements-are, fit, low, everything, in-order, next-is}
 
 -- ---- an accepted place fits its cursor
 
@@ -118,38 +114,48 @@ module _ (c : Counters) (m : Tables) (S : Sound c m) (ws : List ℕ) (words : wo
   cursor-after : (q : Place) → Ok q → onwardsFrom c m ws all (cursorHere q) ≡ after q
   cursor-after q o = ap after (place-cursor (c .generation) q (accepted-shallow c m ws words q o))
 
+  ended-after : onwardsFrom c m ws all (cursorHere finish) ≡ []
+  unfolding onwardsOf placeAs cursorAt
+  ended-after = refl
+
   answers-of : (q : QueryCursor) (b : ℕ) (a : Answer) → Ok (placeOf q)
       → Gives (c .resources) (c .statements) (m .resources) (m .statements) (patternsOf ws) (placeOf q) b a
-      → Answers c m ws all q b (pack a) ((pack a) .step)
+      → Answers c m ws all q b (queryValues (pack a))
   unfolding packed
-  answers-of q b (refused e) o g = g
-  answers-of q b (found s v q′) o g = (
-    sym (from-after (placeOf q) o) ∙ g .0
-        ∙ ap (λ (z : List Bindings). s ∷ z) (from-after q′ (g .1) ∙ sym (cursor-after q′ (g .1))),
-    cursor-ok q′ (g .1),
-  )
-  answers-of q b (ended v) o g = sym (from-after (placeOf q) o) ∙ g
-  answers-of q b (spent v q′) o g = (
-    sym (from-after (placeOf q) o) ∙ g .0 ∙ from-after q′ (g .1) ∙ sym (cursor-after q′ (g .1)),
-    cursor-ok q′ (g .1),
-    omega (arith, g .2),
-  )
+  answers-of q b (refused e) o g = absurd g
+  answers-of q b (found s v q′) o g = record {
+    unrefused = refl;
+    status = inl refl;
+    found = λ e. sym (from-after (placeOf q) o) ∙ g .0
+        ∙ ap (λ (z : List Bindings). s ∷ z) (from-after q′ (g .1) ∙ sym (cursor-after q′ (g .1)));
+    ended = λ e. absurd (omega arith);
+    spent = λ e. absurd (omega arith);
+    kept = cursor-ok q′ (g .1);
+  }
+  answers-of q b (ended v) o g = record {
+    unrefused = refl;
+    status = inr (inl refl);
+    found = λ e. absurd (omega arith);
+    ended = λ e. (sym (from-after (placeOf q) o) ∙ g, ended-after);
+    spent = λ e. absurd (omega arith);
+    kept = cursor-ok finish (unfold placeOk in refl);
+  }
+  answers-of q b (spent v q′) o g = record {
+    unrefused = refl;
+    status = inr (inr refl);
+    found = λ e. absurd (omega arith);
+    ended = λ e. absurd (omega arith);
+    spent = λ e. (sym (from-after (placeOf q) o) ∙ g .0 ∙ from-after q′ (g .1) ∙ sym (cursor-after q′ (g .1)), omega (arith, g .2));
+    kept = cursor-ok q′ (g .1);
+  }
 
   next-answers : (q : QueryCursor) (b : ℕ) → accepted c m ws q ≡ true → 0 < b
-      → Answers c m ws all q b (nextQueryOf c m ws q b) ((nextQueryOf c m ws q b) .step)
+      → Answers c m ws all q b (queryValues (nextQueryOf c m ws q b))
   next-answers q b o h =
       let g = eqb-true (q .generation) (c .generation) (and-l _ _ o) in
       let p : Ok (placeOf q) = and-r (eqb (q .generation) (c .generation)) _ o in
       rw (read-on c m ws q b (own-number c m ws q g))
       (answers-of q b (answerOf c m ws (placeOf q) b) p (answer-gives (placeOf q) b p h))
-
-  in-order : AllInOrder c m ws all
-  in-order = record {
-    exact = exactly c m S (patternsOf ws) (fit c m S ws words) (low c m S ws words);
-    once = once-as-mappings c m S (patternsOf ws) (fit c m S ws words) (low c m S ws words) all (λ s k. k)
-        (descending-nodup (statementsIn c m ws) all (everything-order c m S ws words));
-    order = everything-order c m S ws words;
-  }
 
 pub next-onwards : NextClaim
 next-onwards c m S ws words = (everything c m S ws words, in-order c m S ws words, next-answers c m S ws words)
@@ -179,17 +185,6 @@ passed c m ws q b =
 
 -- ---- refusal 6 is given by its test alone
 
--- the place that an answer stands for is accepted
-place-after : (c : Counters) (m : Tables) (ws : List ℕ) (q : Place) (b : ℕ) (a : Answer)
-    → Gives (c .resources) (c .statements) (m .resources) (m .statements) (patternsOf ws) q b a
-    → (q′ : Place) × ((packed (c .generation) a) .cursor ≡ cursorAt (c .generation) q′)
-    × (placeOk (m .statements) (patternsOf ws) (c .resources) (c .statements) q′ ≡ true)
-unfolding packed
-place-after c m ws q b (refused e) g = absurd g
-place-after c m ws q b (found s v q′) g = (q′, refl, g .1)
-place-after c m ws q b (ended v) g = (finish, refl, (unfold placeOk in refl))
-place-after c m ws q b (spent v q′) g = (q′, refl, g .1)
-
 module _ (c : Counters) (m : Tables) (ws : List ℕ) (q : QueryCursor) (b : ℕ) where
   -- what the cursor comes to, with the store's own number or another
   abbrev outcome : Answer
@@ -197,9 +192,9 @@ module _ (c : Counters) (m : Tables) (ws : List ℕ) (q : QueryCursor) (b : ℕ)
 
   -- its place is accepted: not 6, whatever its number
   never-six : placeOk (m .statements) (patternsOf ws) (c .resources) (c .statements) (placeOf q) ≡ true
-      → (nextQueryOf c m ws q b) .step ≢ Refused BadCursor
+      → (queryValues (nextQueryOf c m ws q b)) .refusal ≢ 6
   unfolding nextQueryOf
-  never-six o = step-not (c .generation) outcome BadCursor (omega arith)
+  never-six o = number-not 6 (c .generation) outcome (omega arith)
       (cond-all (λ (a : Answer). says 6 a ≡ false) (stale c m ws q) _ _ refl
       (answer-not 6 (omega arith) (omega arith) (omega arith) (omega arith) c m ws (placeOf q) b (inl o)))
 
@@ -213,14 +208,14 @@ module _ (c : Counters) (m : Tables) (ws : List ℕ) (q : QueryCursor) (b : ℕ)
       (λ w. rw (f, w)))
       (λ f. rw f)
 
-  other-never-six : q .generation ≢ c .generation → (nextQueryOf c m ws q b) .step ≢ Refused BadCursor
+  other-never-six : q .generation ≢ c .generation → (queryValues (nextQueryOf c m ws q b)) .refusal ≢ 6
   unfolding nextQueryOf
-  other-never-six n = step-not (c .generation) outcome BadCursor (omega arith) (other-not-six n)
+  other-never-six n = number-not 6 (c .generation) outcome (omega arith) (other-not-six n)
 
 -- ---- a cursor answered, after any calls
 
 module _ (c : Counters) (m : Tables) (S : Sound c m) (ws : List ℕ) (q : QueryCursor) (b : ℕ)
-    (u : Unrefused ((nextQueryOf c m ws q b) .step)) where
+    (u : (queryValues (nextQueryOf c m ws q b)) .refusal ≡ 0) where
   -- the call's answer as a place, and the cursor from now on
   abbrev first : Answer
   first = answerOf c m ws (placeOf q) b
@@ -234,19 +229,17 @@ module _ (c : Counters) (m : Tables) (S : Sound c m) (ws : List ℕ) (q : QueryC
   first-is : nextQueryOf c m ws q b ≡ packed (c .generation) first
   first-is = read-on c m ws q b (unrefused-read c m ws q b u .0)
 
+  now-ok : accepted c m ws now ≡ true
+  now-ok =
+      ap (λ (a : QueryAnswer). accepted c m ws (a .cursor)) first-is
+      ∙ answers-of c m S ws (tests .words) q b first (tests .place)
+      (answer-gives c m S ws (tests .words) (placeOf q) b (tests .place) (tests .budget)) .kept
+
   now-number : now .generation ≡ c .generation
-  now-number =
-      ap (λ (a : QueryAnswer). a .cursor .generation) first-is
-      ∙ packed-number (c .generation) first (unrefused-read c m ws q b u .1)
+  now-number = eqb-true (now .generation) (c .generation) (and-l _ _ now-ok)
 
   now-place : placeOk (m .statements) (patternsOf ws) (c .resources) (c .statements) (placeOf now) ≡ true
-  now-place =
-      let g = place-after c m ws (placeOf q) b first
-      (answer-gives c m S ws (tests .words) (placeOf q) b (tests .place) (tests .budget)) in
-      let d : placeOf now ≡ g .0 =
-      ap (λ (a : QueryAnswer). placeOf (a .cursor)) first-is ∙ ap placeOf (g .1)
-      ∙ place-cursor (c .generation) (g .0) (accepted-shallow c m ws (tests .words) (g .0) (g .2)) in
-      rw d (g .2)
+  now-place = and-r (eqb (now .generation) (c .generation)) _ now-ok
 
   module _ (qs : List ScanCursor) (calls : List Call) (b′ : ℕ) where
     -- the store after the calls, and how many reclaims of them were answered
@@ -260,7 +253,7 @@ module _ (c : Counters) (m : Tables) (S : Sound c m) (ws : List ℕ) (q : QueryC
     not-reclaimed e = omega (arith, calls-onward (store c m qs) calls .0)
 
     -- no reclaim: the place is still accepted; else the numbers differ
-    kept : (nextQueryOf (then .counters) (then .tables) ws now b′) .step ≢ Refused BadCursor
+    kept : (queryValues (nextQueryOf (then .counters) (then .tables) ws now b′)) .refusal ≢ 6
     kept =
         decide (eqb (c .generation) (then .counters .generation))
         (λ e. let K = calls-keep (store c m qs) calls (not-reclaimed (eqb-true _ _ e)) in
@@ -283,22 +276,19 @@ module _ (c : Counters) (m : Tables) (S : Sound c m) (ws : List ℕ) (qs : List 
       → (queryValues (nextQueryOf (later .counters) (later .tables) ws now b′)) .refusal ≡ 13
   gone now w e =
       let o = calls-onward (store c m qs) calls in
-      ap stepRefusal (stale-step (later .counters) (later .tables) ws now b′ (calls-sound (store c m qs) S calls .capacity)
+      stale-number (later .counters) (later .tables) ws now b′ (calls-sound (store c m qs) S calls .capacity)
       (words-more (c .resources) (later .counters .resources) ws (o .1) w)
-      (λ d. omega (arith, o .0, e, d, h)))
+      (λ d. omega (arith, o .0, e, d, h))
 
-opened-words : (c : Counters) (m : Tables) (ws : List ℕ) → (openQueryOf c m ws) .opening ≡ Opened
+opened-words : (c : Counters) (m : Tables) (ws : List ℕ) → (queryOpenedValues (openQueryOf c m ws)) .refusal ≡ 0
     → (wordsOk (c .resources) ws ≡ true) × (((openQueryOf c m ws) .cursor) .generation ≡ c .generation)
 unfolding openQueryOf
 opened-words c m ws =
     decide (fits c m)
     (λ f. rw f (decide (wordsOk (c .resources) ws)
     (λ w. rw w (λ d. (refl, refl)))
-    (λ w. rw w (λ d. absurd (not-opened BadQuery d)))))
-    (λ f. rw f (λ d. absurd (not-opened Capacity d)))
-  where
-    not-opened : (e : Refusal) → NotOpened e ≡ Opened → ⊥
-    not-opened e d = let x : _≡_ {A = ℕ} 0 1 = cc in omega arith
+    (λ w. rw w (λ d. absurd (omega arith)))))
+    (λ f. rw f (λ d. absurd (omega arith)))
 
 pub reclaimed-refused : ReclaimedClaim
 reclaimed-refused c m S ws qs calls h b′ = (
@@ -314,7 +304,7 @@ plus w (found s v q) = found s (w + v) q
 plus w (ended v) = ended (w + v)
 plus w (spent v q) = spent (w + v) q
 
-packed-plus : (g w : ℕ) (a : Answer) → NotRefused a → packed g (plus w a) ≡ moreVisits w (packed g a)
+packed-plus : (g w : ℕ) (a : Answer) → NotRefused a → queryValues (packed g (plus w a)) ≡ moreVisits w (queryValues (packed g a))
 unfolding packed
 packed-plus g w (refused e) n = absurd n
 packed-plus g w (found s v q) n = refl
@@ -451,17 +441,11 @@ unfolding answerOf
 resumes c m ws q b P = let n : b ≢ 0 = let h = P .budget in omega arith in
     rw (P .capacity, P .words, P .place, ne-eqb b 0 n)
 
-isSpentStep : QueryStep → Bool
-isSpentStep Found = false
-isSpentStep Ended = false
-isSpentStep Spent = true
-isSpentStep (Refused e) = false
-
-spent-answer : (g : ℕ) (a : Answer) → (packed g a) .step ≡ Spent → (v : ℕ) × (q : Place) × (a ≡ spent v q)
-unfolding packed isSpentStep
-spent-answer g (refused e) d = absurd (false≢true (ap isSpentStep d))
-spent-answer g (found s v q) d = absurd (false≢true (ap isSpentStep d))
-spent-answer g (ended v) d = absurd (false≢true (ap isSpentStep d))
+spent-answer : (g : ℕ) (a : Answer) → (queryValues (packed g a)) .status ≡ 3 → (v : ℕ) × (q : Place) × (a ≡ spent v q)
+unfolding packed
+spent-answer g (refused e) d = absurd (omega arith)
+spent-answer g (found s v q) d = absurd (omega arith)
+spent-answer g (ended v) d = absurd (omega arith)
 spent-answer g (spent v q) d = (v, q, refl)
 
 outcome-fine : (r t : ℕ) (res stm : List ℕ) (ps : List QueryPattern) (v₀ b : ℕ) (ss : List Bindings) (w k : ℕ)
@@ -505,13 +489,16 @@ module _ (c : Counters) (m : Tables) (S : Sound c m) (ws : List ℕ) (words : wo
   abbrev cursorNow : Place → QueryCursor
   cursorNow q = cursorAt (c .generation) q
 
-  abbrev packNow : Answer → QueryAnswer
-  packNow a = packed (c .generation) a
+  abbrev packNow : Answer → QueryValues
+  packNow a = queryValues (packed (c .generation) a)
+
+  abbrev nextNow : Place → ℕ → QueryValues
+  nextNow q b = queryValues (nextQueryOf c m ws (cursorNow q) b)
 
   -- the second call, from the place the first has left
   second : (l : Level) (up : List Level) (b v : ℕ) → Here (inside l up)
       → placeOk (m .statements) (patternsOf ws) (c .resources) (c .statements) (inside l up) ≡ true → 0 < b
-      → packNow (step-on b l up v) ≡ moreVisits v (nextQueryOf c m ws (cursorNow (inside l up)) b)
+      → packNow (step-on b l up v) ≡ moreVisits v (nextNow (inside l up) b)
   second l up b v R o h =
       let P : Passed c m ws (inside l up) b =
       record { capacity = S .capacity; words = words; place = o; budget = h } in
@@ -520,10 +507,11 @@ module _ (c : Counters) (m : Tables) (S : Sound c m) (ws : List ℕ) (words : wo
       ∙ ap packNow (walk-plus (c .resources) (c .statements) (m .resources) (m .statements) (patternsOf ws) b l up v 0)
       ∙ packed-plus (c .generation) v (step-on b l up 0) (step-fine l up b R)
       ∙ ap (λ (a : Answer). moreVisits v (packNow a)) (sym (goes-on l up b R) ∙ sym (resumes c m ws (inside l up) b P))
-      ∙ ap (moreVisits v) (sym (next-is c m S ws words (inside l up) b (accepted-shallow c m ws words (inside l up) o)))
+      ∙ ap (λ (a : QueryAnswer). moreVisits v (queryValues a))
+      (sym (next-is c m S ws words (inside l up) b (accepted-shallow c m ws words (inside l up) o)))
 
   both : (q : Place) (b b′ v : ℕ) (q′ : Place) → Passed c m ws q b → 0 < b′ → answerOf c m ws q b ≡ spent v q′
-      → packNow (answerOf c m ws q (b + b′)) ≡ moreVisits v (nextQueryOf c m ws (cursorNow q′) b′)
+      → packNow (answerOf c m ws q (b + b′)) ≡ moreVisits v (nextNow q′ b′)
   both q b b′ v q′ P h e =
       let g : Gives (c .resources) (c .statements) (m .resources) (m .statements) (patternsOf ws) q b (spent v q′) =
       rw e at (answer-gives c m S ws words q b (P .place) (P .budget)) in
@@ -533,17 +521,17 @@ module _ (c : Counters) (m : Tables) (S : Sound c m) (ws : List ℕ) (words : wo
       (sym (resumes c m ws q b P) ∙ e) in
       ap packNow (resumes c m ws q (b + b′) P′ ∙ w .3)
       ∙ second (w .0) (w .1) b′ v (rw (w .2) at (g .3)) (rw (w .2) at (g .1)) h
-      ∙ ap (λ (p : Place). moreVisits v (nextQueryOf c m ws (cursorNow p) b′)) (sym (w .2))
+      ∙ ap (λ (p : Place). moreVisits v (nextNow p b′)) (sym (w .2))
 
 pub budgets-add : SplitClaim
 unfolding packed
 budgets-add c m S ws q b b′ h e =
-    let a = answerOf c m ws (placeOf q) b in
-    let f = unrefused-read c m ws q b (rw e tt) .0 in
+    let k₀ = spent-answer (c .generation) (outcome c m ws q b) (unfold nextQueryOf in e) in
+    let f = unrefused-read c m ws q b (unfold nextQueryOf in (rw (k₀ .2))) .0 in
     let n = read-on c m ws q b f in
-    let k = spent-answer (c .generation) a (ap (λ (z : QueryAnswer). z .step) (sym n) ∙ e) in
+    let k = spent-answer (c .generation) (answerOf c m ws (placeOf q) b) (ap (λ (z : QueryAnswer). (queryValues z) .status) (sym n) ∙ e) in
     let P = passed c m ws (placeOf q) b (rw (k .2) tt) in
-    read-on c m ws q (b + b′) f
+    ap queryValues (read-on c m ws q (b + b′) f)
     ∙ both c m S ws (P .words) (placeOf q) b b′ (k .0) (k .1) P h (k .2)
-    ∙ ap (λ (z : QueryAnswer). moreVisits (z .visits) (nextQueryOf c m ws (z .cursor) b′))
+    ∙ ap (λ (z : QueryAnswer). moreVisits (z .visits) (queryValues (nextQueryOf c m ws (z .cursor) b′)))
     (sym (n ∙ ap (λ (z : Answer). packed (c .generation) z) (k .2)))

@@ -1,6 +1,5 @@
--- Any place that refusal 6 accepts, after whatever was asserted or retracted since it was given: a call answers from
--- the solutions that hold now, at or after the place; levels below a record struck out since do not count. Assumes
--- nothing.
+-- Any place that refusal 6 accepts, after whatever was asserted or retracted since it was given: a call answers from the solutions that
+-- hold now, at or after the place; levels below a record struck out since do not count. Assumes nothing.
 use mathlib.Core.Path.{_≡_, refl, sym, ap, _∙_, fun-ext}
 use mathlib.Core.Logic.{_≢_}
 use mathlib.Core.Bool.{Bool, true, false, _&&_, _||_, true≢false, false≢true}
@@ -491,7 +490,7 @@ module _ (r t : ℕ) (res stm : List ℕ) (ps : List QueryPattern) where
             let P = pruned-is up l (K .0) (K .1) (λ z. D) in
             gives (inside l up) b (left r t res stm ps ((pruned stm l up) .0) ((pruned stm l up) .1))
             (toilLeft r t res stm ps ((pruned stm l up) .0) ((pruned stm l up) .1))
-            (suc (toilLeft r t res stm ps ((pruned stm l up) .0) ((pruned stm l up) .1)))
+            (toilLeft r t res stm ps ((pruned stm l up) .0) ((pruned stm l up) .1))
             (resume r t res stm ps (inside l up) b)
             (unfold fromPlace in (sym (P .2)))
             (unfold resume in (rw (intact-any up (K .1))

@@ -1,5 +1,5 @@
--- A query's next call on linked tables, from any place that calls leave: it takes the first solution left, or says
--- that none is left, or spends its budget on the visits; it is never refused. Assumes nothing.
+-- A query's next call on linked tables, from any place that calls leave: it takes the first solution left, or says that none is left, or
+-- spends its budget on the visits; it is never refused. Assumes nothing.
 use mathlib.Core.Path.{_≡_, refl, sym, ap, _∙_}
 use mathlib.Core.Logic.{_≢_}
 use mathlib.Core.Bool.{true, false}
@@ -50,9 +50,10 @@ module _ (r t : ℕ) (res stm : List ℕ) (ps : List QueryPattern) where
   leftAt (inside l up) = left r t res stm ps l up
   leftAt finish = []
 
+  -- how many calls from here do not end, at most
   unfoldable pub toilAt : Place → ℕ
-  toilAt start = suc (suc (work (entryAt stm) t (pickChain res) ps unbound))
-  toilAt (inside l up) = suc (toilLeft r t res stm ps l up)
+  toilAt start = suc (work (entryAt stm) t (pickChain res) ps unbound)
+  toilAt (inside l up) = toilLeft r t res stm ps l up
   toilAt finish = 0
 
   abbrev pub Reached : Place → Type 0
@@ -89,7 +90,7 @@ module _ (r t : ℕ) (res stm : List ℕ) (ps : List QueryPattern) where
 
     pub walk-outcome : (b : ℕ) (l : Level) (up : List Level) (v : ℕ) → Deep r t res stm ps l up
         → Entered r t res stm ps up
-        → Outcome v b (left r t res stm ps l up) (toilLeft r t res stm ps l up) (suc (toilLeft r t res stm ps l up))
+        → Outcome v b (left r t res stm ps l up) (toilLeft r t res stm ps l up) (toilLeft r t res stm ps l up)
         (walk r t res stm ps b l up v)
     walk-outcome zero l up v D N = decide (remains stm l up)
         (λ e. unfold walk leftAt toilAt visitsAt in
@@ -104,14 +105,14 @@ module _ (r t : ℕ) (res stm : List ℕ) (ps : List QueryPattern) where
             → (g : Turn) → visit r t res stm ps m top ≡ g → Turned r t res stm ps m top g
             → ((l : Level) (up : List Level) (v : ℕ) → Deep r t res stm ps l up → Entered r t res stm ps up
             → Outcome v b (left r t res stm ps l up) (toilLeft r t res stm ps l up)
-            (suc (toilLeft r t res stm ps l up)) (walk r t res stm ps b l up v))
+            (toilLeft r t res stm ps l up) (walk r t res stm ps b l up v))
             → Outcome v (suc b) (left r t res stm ps l up) (toilLeft r t res stm ps l up)
-            (suc (toilLeft r t res stm ps l up)) (walk r t res stm ps (suc b) l up v)
+            (toilLeft r t res stm ps l up) (walk r t res stm ps (suc b) l up v)
         two m top e S bad d T ih = absurd T
         two m top e S (go m′ top′) d T ih = rw (walk-go r t res stm ps l up v b m top m′ top′ e d)
             (outcome-more (v + 1) v b (suc b) (left r t res stm ps m′ top′) (left r t res stm ps l up)
             (toilLeft r t res stm ps m′ top′) (toilLeft r t res stm ps l up)
-            (suc (toilLeft r t res stm ps m′ top′)) (suc (toilLeft r t res stm ps l up))
+            (toilLeft r t res stm ps m′ top′) (toilLeft r t res stm ps l up)
             (walk r t res stm ps b m′ top′ (v + 1))
             (T .2 ∙ S .3) (omega (arith, T .3, S .4)) (omega arith) (omega (arith, T .3, S .4)) (omega arith)
             (ih m′ top′ (v + 1) (T .0) (T .1)))
@@ -122,9 +123,9 @@ module _ (r t : ℕ) (res stm : List ℕ) (ps : List QueryPattern) where
         one : (k : List Level) → settle stm l up ≡ k → Settled r t res stm ps l up k
             → ((l : Level) (up : List Level) (v : ℕ) → Deep r t res stm ps l up → Entered r t res stm ps up
             → Outcome v b (left r t res stm ps l up) (toilLeft r t res stm ps l up)
-            (suc (toilLeft r t res stm ps l up)) (walk r t res stm ps b l up v))
+            (toilLeft r t res stm ps l up) (walk r t res stm ps b l up v))
             → Outcome v (suc b) (left r t res stm ps l up) (toilLeft r t res stm ps l up)
-            (suc (toilLeft r t res stm ps l up)) (walk r t res stm ps (suc b) l up v)
+            (toilLeft r t res stm ps l up) (walk r t res stm ps (suc b) l up v)
         one [] e S ih = rw (walk-ended r t res stm ps l up v b e) (S .0, omega (arith, S .1))
         one (m ∷ top) e S ih =
             two m top e S (visit r t res stm ps m top) refl
@@ -218,8 +219,7 @@ module _ (r t : ℕ) (res stm : List ℕ) (ps : List QueryPattern) where
         rw (e, enter-is r t res stm ps L fit low [] tt g)
         (outcome-more 0 0 b b (left r t res stm ps (firstOf r t res stm ps []) []) (solve (entryAt stm) t ps unbound)
         (toilLeft r t res stm ps (firstOf r t res stm ps []) []) (work (entryAt stm) t (pickChain res) ps unbound)
-        (suc (toilLeft r t res stm ps (firstOf r t res stm ps []) []))
-        (suc (suc (work (entryAt stm) t (pickChain res) ps unbound)))
+        (toilLeft r t res stm ps (firstOf r t res stm ps []) []) (suc (work (entryAt stm) t (pickChain res) ps unbound))
         (walk r t res stm ps b (firstOf r t res stm ps []) [] 0)
         (left-first r t res stm ps L fit low tt g ∙ ap (solve (entryAt stm) t ps) binds-none)
         (omega (

@@ -1,29 +1,30 @@
--- What a query's next is refused for: the walk refuses 9 alone, and before it each refusal is given by its own test; beside a refusal
--- stand zeros. On any tables. Assumes nothing.
-use mathlib.Core.Path.{_≡_, refl, sym, ap, _∙_}
+-- What a query's next is refused for: the walk refuses 9 alone, and before it each refusal is given by its own test; beside a refusal stand
+-- zeros. On any tables. Assumes nothing.
+use mathlib.Core.Path.{_≡_, refl, sym, _∙_}
 use mathlib.Core.Logic.{_≢_, _⊎_, inl, inr}
-use mathlib.Core.Bool.{Bool, true, false, true≢false, false≢true}
+use mathlib.Core.Bool.{Bool, true, false, true≢false}
 use mathlib.Core.List.{List, [], _∷_}
 use Prim.Native.Nat.{ℕ, zero, suc, _+_}
+use native.Mathlib.Omega.{arith}
 use lib.ListN.{length}
 use lib.Dec.{eqb}
 use borrow.Author.Tests.{eq-eqb, ne-eqb}
 use Rattle.store.specs.declared.Counters.{Counters}
 use Rattle.store.specs.declared.Refusal.{Refusal}
+use Rattle.store.specs.declared.Refusal.the-variants.{Capacity, Malformed, Full, UnknownNumber, KindNotPermitted}
+use Rattle.store.specs.declared.Refusal.the-variants.{BadCursor, NoBudget, BadQuery, Damaged, BadLine, StaleCursor, ReclaimLimit}
 use Rattle.store.specs.Tables.{Tables, fits}
 use Rattle.store.specs.Values.{refusalNumber}
 use Rattle.store.proofs.Tests.{decide}
 use Rattle.graph.specs.declared.QueryPattern.{QueryPattern}
 use Rattle.graph.specs.declared.Level.{Level}
-use Rattle.graph.specs.declared.QueryStep.{QueryStep}
-use Rattle.graph.specs.declared.QueryStep.the-variants.{Found, Ended, Spent, Refused}
 use Rattle.graph.specs.Query.{Turn, bad, go, whole, Answer, refused}
-use Rattle.graph.specs.Place.{Place, start, inside, finish, startCursor}
-use Rattle.graph.specs.Words.{wordsOk, patternsOf, unbound}
+use Rattle.graph.specs.Place.{Place, start, inside, finish}
+use Rattle.graph.specs.Words.{wordsOk, patternsOf}
 use Rattle.graph.specs.Query.{found, ended, spent, settle, remains, intact, pruned, placeOk, enter, visit, walk, begun, resume}
-use Rattle.graph.specs.Query.{answerOf, answered, packed, openQueryOf, nextQueryOf}
-use Rattle.graph.specs.Values.{stepRefusal}
-use Rattle.graph.specs.Claims.{RefusalsBare}
+use Rattle.graph.specs.Query.{answerOf, packed, openQueryOf, nextQueryOf}
+use Rattle.graph.specs.Values.{queryValues}
+use Rattle.graph.specs.Claims.{refusedQuery, RefusalsBare}
 use Rattle.graph.proofs.Laws.{walk-ended, walk-bad, walk-go, walk-whole}
 
 -- the answer is the refusal of this number
@@ -91,41 +92,40 @@ module _ (k : ℕ) (nine : 9 ≢ k) where
         refused-place o (inl a) = absurd (true≢false (sym a ∙ o))
         refused-place o (inr n) = n
 
--- ---- the step, and zeros beside it
+-- ---- the number, and zeros beside it
 
-isRefused : QueryStep → Bool
-isRefused Found = false
-isRefused Ended = false
-isRefused Spent = false
-isRefused (Refused e) = true
+pub refusal-positive : (e : Refusal) → refusalNumber e ≢ 0
+refusal-positive Capacity d = omega arith
+refusal-positive Malformed d = omega arith
+refusal-positive Full d = omega arith
+refusal-positive UnknownNumber d = omega arith
+refusal-positive KindNotPermitted d = omega arith
+refusal-positive BadCursor d = omega arith
+refusal-positive NoBudget d = omega arith
+refusal-positive BadQuery d = omega arith
+refusal-positive Damaged d = omega arith
+refusal-positive BadLine d = omega arith
+refusal-positive StaleCursor d = omega arith
+refusal-positive ReclaimLimit d = omega arith
 
-refusal-is : (e r : Refusal) → Refused e ≡ Refused r → e ≡ r
-refusal-is e r d = cc
-
--- by the paper's number
-pub number-not : (k g : ℕ) (a : Answer) → 0 ≢ k → says k a ≡ false → stepRefusal ((packed g a) .step) ≢ k
+pub number-not : (k g : ℕ) (a : Answer) → 0 ≢ k → says k a ≡ false → (queryValues (packed g a)) .refusal ≢ k
 unfolding packed
 number-not k g (refused e) z n d = true≢false (sym (eq-eqb (refusalNumber e) k d) ∙ n)
 number-not k g (found s v q) z n d = z d
 number-not k g (ended v) z n d = z d
 number-not k g (spent v q) z n d = z d
 
-pub step-not : (g : ℕ) (a : Answer) (r : Refusal) → 0 ≢ refusalNumber r → says (refusalNumber r) a ≡ false
-    → (packed g a) .step ≢ Refused r
-step-not g a r z n d = number-not (refusalNumber r) g a z n (ap stepRefusal d)
-
-bare-answer : (g : ℕ) (a : Answer) (e : Refusal) → (packed g a) .step ≡ Refused e
-    → packed g a ≡ answered (Refused e) 0 unbound (startCursor 0)
-unfolding packed isRefused
-bare-answer g (refused r) e d = rw (refusal-is r e d)
-bare-answer g (found s v q) e d = absurd (false≢true (ap isRefused d))
-bare-answer g (ended v) e d = absurd (false≢true (ap isRefused d))
-bare-answer g (spent v q) e d = absurd (false≢true (ap isRefused d))
+bare-answer : (g : ℕ) (a : Answer) → let v = queryValues (packed g a) in v .refusal ≢ 0 → v ≡ refusedQuery (v .refusal)
+unfolding packed
+bare-answer g (refused e) n = refl
+bare-answer g (found s v q) n = absurd (n refl)
+bare-answer g (ended v) n = absurd (n refl)
+bare-answer g (spent v q) n = absurd (n refl)
 
 pub refusals-bare : RefusalsBare
 unfolding nextQueryOf openQueryOf
 refusals-bare c m ws = (
-  λ q b e d. bare-answer (c .generation) _ e d,
+  λ q b n. bare-answer (c .generation) _ n,
   decide (fits c m)
       (λ f. rw f (decide (wordsOk (c .resources) ws) (λ w. rw w (λ n. absurd (n refl))) (λ w. rw w (λ n. refl))))
       (λ f. rw f (λ n. refl)),

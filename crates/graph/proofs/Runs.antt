@@ -1,16 +1,18 @@
 -- Closed runs of a query over the tables: the paper's example, the edges of its rules and the number of reclaims (paper 02, note 6), whole
--- answers and cursors compared. Assumes nothing.
+-- answers and cursors compared; and the words of the claims for a reading, of queries and of scans. Assumes nothing.
 use mathlib.Core.Path.{_≡_, refl}
+use mathlib.Core.Bool.{Bool, true, false}
 use mathlib.Core.List.{List, [], _∷_, _++_, map}
 use Prim.Native.Nat.{ℕ, zero, suc, _+_}
 use lib.ListN.{replicate}
 use Rattle.store.specs.declared.Counters.{Counters}
 use Rattle.store.specs.declared.Chain.the-variants.{All, By}
 use Rattle.store.specs.declared.Position.the-variants.{Subject, Predicate, Object}
-use Rattle.store.specs.Shared.{known, better, pick}
+use Rattle.store.specs.declared.Triple.{Triple}
+use Rattle.store.specs.Shared.{triple, known, within, agrees, matches, better, pick}
 use Rattle.store.specs.Tables.{Tables, tables, fits, termAt, nextAt, flagAt, tripleAt, firstAt, countAt, liveAt}
-use Rattle.store.specs.Walk.{pickChain, pickable, startOf, linkOf, sits, visitable}
-use Rattle.store.specs.Scan.{chainOk, recordOk}
+use Rattle.store.specs.Walk.{entryAt, pickChain, pickable, startOf, linkOf, sits, visitable, walk as along}
+use Rattle.store.specs.Scan.{openOf, chainOk, recordOk, cursorOk, walkFrom, nextOf}
 use Rattle.store.specs.Statement.{appendRecord, linkFirst, linkRecord}
 use Rattle.store.specs.Reclaim.{unlinked, sweepOne, sweep, blanked, sweptOf, reclaimOf}
 use Rattle.store.specs.History.{afterReclaim}
@@ -20,10 +22,11 @@ use Rattle.graph.specs.declared.Progress.the-variants.{Start, Within, En
 use Rattle.graph.specs.declared.QueryCursor.{QueryCursor}
 use Rattle.graph.specs.Query.{bind, match, recordAt, past, struck, intact, anyStruck, pruned, settle}
 use Rattle.graph.specs.Words.{patternsOf, wordOk, allOk, wordsOk, Bindings, resource, valueOf, under}
-use Rattle.graph.specs.Place.{level, noLevel, levelsOf, insideOf, placeAs, written, startCursor, cursorAt}
+use Rattle.graph.specs.Place.{level, noLevel, levelsOf, insideOf, placeAs, written, cursorAt}
 use Rattle.graph.specs.Query.{remains, nextPattern, binds, asked, enteredOk, placeOk, enter, hit, tried, visit}
-use Rattle.graph.specs.Query.{walk, begun, resume, answerOf, openQueryOf, packed, stale, nextQueryOf, readOn}
-use Rattle.graph.specs.Values.{QueryValues, queryOpenedValues, queryValues}
+use Rattle.graph.specs.Query.{walk, begun, resume, answerOf, openQueryOf, packed, stale, nextQueryOf}
+use Rattle.graph.specs.Values.{queryOpenedValues}
+use Rattle.graph.specs.Claims.{Reply, queryReply, readOn, foundIn, hasEnded, lastSpent, visitsIn, nextReply, reading, scanning}
 
 -- ---- stores, cursors and answers as numbers
 
@@ -54,6 +57,11 @@ sr a b c d e f g rest = a ∷ b ∷ c ∷ d ∷ e ∷ f ∷ g ∷ rest
 two : Lent
 two = store 4 2 (rr 2 0 0 2 0 0 (rr 0 2 0 0 2 0 (rr 0 0 1 0 0 1 (rr 0 0 2 0 0 1 []))))
     (sr 1 2 3 0 0 0 0 (sr 1 2 4 1 1 0 0 []))
+
+-- the same with 2 struck out
+latest-struck : Lent
+latest-struck = store 4 2 (rr 2 0 0 2 0 0 (rr 0 2 0 0 2 0 (rr 0 0 1 0 0 1 (rr 0 0 2 0 0 1 []))))
+    (sr 1 2 3 0 0 0 0 (sr 1 2 4 1 1 0 1 []))
 
 -- 1 = (1,2,3), 2 = (1,2,4), 3 = (3,2,4); the flag of 1 and the subject's next of 3 as given
 three : ℕ → ℕ → Lent
@@ -143,28 +151,38 @@ P n = level (By Predicate) n
 abbrev O : ℕ → Level
 O n = level (By Object) n
 
-abbrev refusedWith : ℕ → QueryValues
-refusedWith n = record { refusal = n; status = 0; visits = 0; solution = record { values = sol 0 0 }; cursor = none }
+abbrev Replied : Type 0
+Replied = Reply Bindings QueryCursor
 
-abbrev startAfter : ℕ → QueryValues
-startAfter g = record { refusal = 0; status = 0; visits = 0; solution = record { values = sol 0 0 }; cursor = after g none }
+-- refusal, status, visits, solution, cursor
+abbrev reply : ℕ → ℕ → ℕ → Bindings → QueryCursor → Replied
+reply e s n b q = record { refusal = e; status = s; visits = n; value = b; cursor = q }
 
-abbrev atStart : QueryValues
+abbrev refusedWith : ℕ → Replied
+refusedWith n = reply n 0 0 (sol 0 0) none
+
+abbrev startAfter : ℕ → Replied
+startAfter g = reply 0 0 0 (sol 0 0) (after g none)
+
+abbrev atStart : Replied
 atStart = startAfter 0
 
-abbrev found : ℕ → Bindings → QueryCursor → QueryValues
-found n b q = record { refusal = 0; status = 1; visits = n; solution = record { values = b }; cursor = q }
+abbrev found : ℕ → Bindings → QueryCursor → Replied
+found n b q = reply 0 1 n b q
 
-abbrev endedAfter : ℕ → ℕ → QueryValues
-endedAfter g n = record { refusal = 0; status = 2; visits = n; solution = record { values = sol 0 0 }; cursor = after g end }
+abbrev endedAfter : ℕ → ℕ → Replied
+endedAfter g n = reply 0 2 n (sol 0 0) (after g end)
 
-abbrev ended : ℕ → QueryValues
+abbrev ended : ℕ → Replied
 ended n = endedAfter 0 n
 
-abbrev spent : ℕ → QueryCursor → QueryValues
-spent n q = record { refusal = 0; status = 3; visits = n; solution = record { values = sol 0 0 }; cursor = q }
+abbrev spent : ℕ → QueryCursor → Replied
+spent n q = reply 0 3 n (sol 0 0) q
 
--- (?0,2,?1),(?1,2,?2); the pattern (1,2,3) n times
+-- (?0,2,3),(?0,2,?1); (?0,2,?1),(?1,2,?2); the pattern (1,2,3) n times
+abbrev paper-words : List ℕ
+paper-words = v 0 ∷ 2 ∷ 3 ∷ v 0 ∷ 2 ∷ v 1 ∷ []
+
 abbrev hops : List ℕ
 hops = v 0 ∷ 2 ∷ v 1 ∷ v 1 ∷ 2 ∷ v 2 ∷ []
 
@@ -177,26 +195,26 @@ abbrev filled : Progress → ℕ → QueryCursor
 filled g n = record { progress = g; depth = n; generation = 0; levels = replicate 8 (P 77) }
 
 -- open, one next call, calls one after another from the start
-abbrev open′ : Lent → List ℕ → QueryValues
-open′ s ws = queryOpenedValues (openQueryOf (s .counters) (s .lent) ws)
+abbrev open′ : Lent → List ℕ → Replied
+open′ s ws = queryReply (queryOpenedValues (openQueryOf (s .counters) (s .lent) ws))
 
-abbrev next : Lent → List ℕ → QueryCursor → ℕ → QueryValues
-next s ws q b = queryValues (nextQueryOf (s .counters) (s .lent) ws q b)
+abbrev next : Lent → List ℕ → QueryCursor → ℕ → Replied
+next s ws q b = nextReply (s .counters) (s .lent) ws q b
 
-abbrev read : Lent → List ℕ → List ℕ → List QueryValues
-read s ws bs = map queryValues (readOn (s .counters) (s .lent) ws (startCursor (s .counters .generation)) bs)
+abbrev read : Lent → List ℕ → List ℕ → List Replied
+read s ws bs = reading (s .counters) (s .lent) ws bs
 
 -- ---- the table
 
 -- what the definitions answer, and what is due
 pub record Case : Type 0 where
-  pub given : List QueryValues
-  pub due : List QueryValues
+  pub given : List Replied
+  pub due : List Replied
 
 -- the paper's question: 2 visits, then 1
 paper : Case
 paper = record {
-  given = read two (v 0 ∷ 2 ∷ 3 ∷ v 0 ∷ 2 ∷ v 1 ∷ []) (9 ∷ 9 ∷ 9 ∷ 9 ∷ []);
+  given = read two paper-words (9 ∷ 9 ∷ 9 ∷ 9 ∷ []);
   due = found 2 (sol 1 4) (in2 (O 1) (S 1)) ∷ found 1 (sol 1 3) (in2 (O 1) (S 0)) ∷ ended 0 ∷ ended 0 ∷ [];
 }
 
@@ -221,8 +239,7 @@ opened = record {
       ∷ refusedWith 8 ∷ [];
 }
 
--- no patterns: one empty solution, with the end as place; a budget of 0 is refused at the end too; a level is one too
--- many
+-- no patterns: one empty solution, with the end as place; a budget of 0 is refused at the end too; a level is one too many
 no-patterns : Case
 no-patterns = record {
   given = read two [] (1 ∷ 1 ∷ 0 ∷ []) ++ next two [] (in1 (level All 1)) 1 ∷ [];
@@ -374,7 +391,7 @@ carried = record {
       ∷ endedAfter 3 0 ∷ [];
 }
 
--- statement 1 is struck out, a query stands before 2: once reclaimed, its cursor is refused 13, and a query anew finds the two that are left
+-- statement 1 is struck out, a query stands before 2: once reclaimed, its cursor is refused 13, and a query anew finds the two left
 reclaimed-between : Case
 reclaimed-between = record {
   given = next (three 1 0) (v 0 ∷ 2 ∷ 4 ∷ []) (in1 (P 2)) 9
@@ -392,13 +409,65 @@ cases = paper ∷ opened ∷ no-patterns ∷ eight-patterns ∷ slots-ignored �
     run-out-stays ∷ nothing-remains ∷ found-run-out ∷ damaged-below ∷ large-budget ∷ stale-places ∷ refusals-in-order ∷ carried ∷
     reclaimed-between ∷ []
 
-all-as-due : map (λ (x : Case). x .given) cases ≡ map (λ (x : Case). x .due) cases
+-- ---- the words for a reading
+
+-- of a list of replies: what was found, the visits, whether some call has ended, whether the last was spent
+pub record Heard (A : Type 0) : Type 0 where
+  pub all : List A
+  pub visits : ℕ
+  pub has-ended : Bool
+  pub last-spent : Bool
+
+abbrev heard : {A Q : Type 0} → List (Reply A Q) → Heard A
+heard rs = record { all = foundIn rs; visits = visitsIn rs; has-ended = hasEnded rs; last-spent = lastSpent false rs }
+
+abbrev due : {A : Type 0} → List A → ℕ → Bool → Bool → Heard A
+due xs n e l = record { all = xs; visits = n; has-ended = e; last-spent = l }
+
+-- the paper's question: no call; spent; both found and no end yet; ended, and ended again, a refusal between; then spent twice
+queries-heard : List (Heard Bindings)
+queries-heard = heard (read two paper-words [])
+    ∷ heard (read two paper-words (1 ∷ []))
+    ∷ heard (read two paper-words (1 ∷ 1 ∷ 9 ∷ []))
+    ∷ heard (read two paper-words (9 ∷ 0 ∷ 9 ∷ 9 ∷ 9 ∷ []))
+    ∷ heard (read (three 0 0) hops (1 ∷ 1 ∷ [])) ∷ []
+
+queries-due : List (Heard Bindings)
+queries-due = due [] 0 false false
+    ∷ due [] 1 false true
+    ∷ due (sol 1 4 ∷ sol 1 3 ∷ []) 3 false false
+    ∷ due (sol 1 4 ∷ sol 1 3 ∷ []) 3 true false
+    ∷ due [] 2 false true ∷ []
+
+-- scans, the latest struck out: spent on it; found, a refusal between; ended, and ended again; of three, the first struck out or not
+abbrev scan : Lent → Triple → List ℕ → Heard ℕ
+scan s x bs = heard (scanning (s .counters) (s .lent) x bs)
+
+scans-heard : List (Heard ℕ)
+scans-heard = scan latest-struck (triple 1 2 0) (1 ∷ [])
+    ∷ scan latest-struck (triple 1 2 0) (1 ∷ 0 ∷ 1 ∷ [])
+    ∷ scan latest-struck (triple 1 2 0) (9 ∷ 9 ∷ 9 ∷ [])
+    ∷ scan (three 0 0) (triple 0 2 0) (9 ∷ 9 ∷ 9 ∷ [])
+    ∷ scan (three 1 0) (triple 0 2 0) (9 ∷ 9 ∷ 9 ∷ []) ∷ []
+
+scans-due : List (Heard ℕ)
+scans-due = due [] 1 false true
+    ∷ due (1 ∷ []) 2 false false
+    ∷ due (1 ∷ []) 2 true false
+    ∷ due (3 ∷ 2 ∷ 1 ∷ []) 3 false false
+    ∷ due (3 ∷ 2 ∷ []) 3 true false ∷ []
+
+-- ---- all as due
+
+all-as-due : (map (λ (x : Case). x .given) cases ≡ map (λ (x : Case). x .due) cases)
+    × (queries-heard ≡ queries-due) × (scans-heard ≡ scans-due)
 unfolding cases paper opened no-patterns eight-patterns slots-ignored variable-thrice chains-accepted struck-since
     enter-refused run-out-stays nothing-remains found-run-out damaged-below large-budget stale-places refusals-in-order
-    carried reclaimed-between two three lone much copies
+    carried reclaimed-between queries-heard queries-due scans-heard scans-due two three latest-struck lone much copies
     wordOk allOk wordsOk patternsOf valueOf under bind match recordAt past struck intact anyStruck pruned settle
     remains nextPattern binds asked enteredOk placeOk enter hit tried visit walk begun resume answerOf levelsOf
-    insideOf placeAs written cursorAt openQueryOf packed stale nextQueryOf readOn known better pick termAt nextAt flagAt
-    tripleAt firstAt countAt liveAt linkOf startOf sits visitable pickChain pickable chainOk recordOk fits appendRecord
+    insideOf placeAs written cursorAt openQueryOf packed stale nextQueryOf readOn foundIn hasEnded lastSpent visitsIn
+    known within agrees matches better pick termAt nextAt flagAt tripleAt firstAt countAt liveAt entryAt linkOf startOf sits
+    visitable pickChain pickable chainOk recordOk cursorOk along walkFrom openOf nextOf fits appendRecord
     linkFirst linkRecord unlinked sweepOne sweep blanked sweptOf reclaimOf
-all-as-due = refl
+all-as-due = (refl, refl, refl)

@@ -1,9 +1,9 @@
--- A pattern scan read through on a sound store gives exactly the live triples that match, each once, and ends
--- (`ScanClaim`); of one resource at one position it finds as many as the live count says (`LiveCountClaim`). Assumes nothing.
+-- A pattern scan read through on a sound store gives exactly the live triples that match, each once, and ends (`ScanClaim`); of one
+-- resource at one position it finds as many as the live count says (`LiveCountClaim`). Assumes nothing.
 use mathlib.Core.Path.{_≡_, refl, sym, ap, _∙_}
 use mathlib.Core.Logic.{_≢_, _⊎_, inl, inr}
 use mathlib.Core.Bool.{Bool, true, false, not, _&&_, _||_, true≢false, false≢true}
-use mathlib.Core.List.{List, [], _∷_, _++_, map, List·Memᴰ, Memᴰ·append-left}
+use mathlib.Core.List.{List, [], _∷_, List·Memᴰ}
 use mathlib.Core.Option.{some}
 use Prim.Native.Nat.{ℕ, zero, suc, _+_, _-_, _≤_, _<_}
 use native.Mathlib.Omega.{arith}
@@ -18,10 +18,9 @@ use Rattle.store.specs.declared.Counters.{Counters}
 use Rattle.store.specs.declared.Triple.{Triple}
 use Rattle.store.specs.declared.ScanCursor.{ScanCursor}
 use Rattle.store.specs.declared.ScanOpened.the-variants.{Cursor}
-use Rattle.store.specs.declared.Scanned.{Scanned}
-use Rattle.store.specs.declared.Scanned.the-variants.{Found as ScanFound, Ended as ScanEnded, Spent as ScanSpent}
 use Rattle.store.specs.Shared.{at, within, agrees, below, head0, prev, matches}
 use Rattle.store.specs.Tables.{Tables, tripleAt, flagAt}
+use Rattle.store.specs.Values.{scannedValues}
 use Rattle.store.specs.Model.{onChain, Taken, found as took, ended as emptied, spent as stopped, oneMore, take-off}
 use Rattle.store.specs.Walk.{entryAt, pickChain}
 use Rattle.store.specs.Dictionary.{nameAt}
@@ -34,51 +33,55 @@ use Rattle.store.proofs.Walks.{asStep, take-hit, take-miss}
 use Rattle.store.proofs.Picking.{pick-ok}
 use Rattle.store.proofs.LiveCounts.{counted-is}
 use Rattle.store.proofs.Chains.{onWords, pickChain-bound, chain-sits, chain-start, pickable-linked, walk-linked}
-use Rattle.graph.specs.Order.{NoDuplicates}
+use Rattle.graph.specs.Work.{scanWorkOf}
+use Rattle.graph.specs.Order.{Descending}
 use Rattle.graph.specs.Meaning.{RdfTriple, termAt}
 use Rattle.graph.specs.Graph.{named, graphOf}
-use Rattle.graph.specs.Claims.{AllPositive, scanAfter, scanOn, scannedIn, NoScanRefused, scanEnded, namedAt}
-use Rattle.graph.specs.Claims.{Matches, ScanRead, ScanClaim, only, LiveCountClaim}
+use Rattle.graph.specs.Claims.{Reply, scanReply, readOn, AllPositive, namedAt, Matches, AllMatches, scanNext, scanning, ScanClaim}
+use Rattle.graph.specs.Claims.{only, LiveCountClaim}
+use Rattle.graph.proofs.Solve.{descending-nodup}
 use Rattle.graph.proofs.Names.{named-at, names-apart, live-graph}
 use Rattle.graph.proofs.Solutions.{mem-map, map-mem, map-once}
+use Rattle.graph.proofs.ReadThrough as read
+use Rattle.graph.proofs.ReadThrough.{read-all, Told, told-ends, Leaves, told}
 
 -- ---- positions
 
-below-once : (f : ℕ → Bool) (n : ℕ) → NoDuplicates (below f n)
-below-once f zero = rw (below-nil f) tt
-below-once f (suc n) =
+below-falling : (f : ℕ → Bool) (n : ℕ) → Descending (λ i. i ∷ []) (below f n)
+below-falling f zero = rw (below-nil f) tt
+below-falling f (suc n) =
     decide (f n)
     (λ e. rw (below-yes f n e)
-    ((λ k. let r = below-out f n (suc n) k in absurd (omega (arith, r .1, r .2))), below-once f n))
-    (λ e. rw (below-no f n e) (below-once f n))
-
-once-part : {A : Type 0} (xs ys : List A) → NoDuplicates (xs ++ ys) → NoDuplicates xs
-once-part [] ys d = tt
-once-part (x ∷ xs) ys d = ((λ k. d .0 (Memᴰ·append-left ys k)), once-part xs ys (d .1))
-
-nothing-part : {A : Type 0} (xs ys : List A) → xs ++ ys ≡ [] → xs ≡ []
-nothing-part [] ys e = refl
-nothing-part (x ∷ xs) ys e = absurd (omega (arith, ap (λ (z : List _). length z) e))
+    ((λ i k. let r = below-out f n i k in inl (omega (arith, r .1, r .2))), below-falling f n))
+    (λ e. rw (below-no f n e) (below-falling f n))
 
 -- ---- taking positions off a chain, against the positions that pass
 
 module _ (f hit : ℕ → Bool) (on : (i : ℕ) → hit i ≡ true → f i ≡ true) where
+  abbrev many : ℕ → ℕ
+  many k = length (below f k)
+
   -- what is taken off the positions below k that are on the chain, with budget b
   abbrev Takes : ℕ → ℕ → Taken → Type 0
-  Takes b k (took n v r) = (j : ℕ) × (j < k) × (r ≡ below f j) × (below hit k ≡ n ∷ below hit j)
-  Takes b k (emptied v) = below hit k ≡ []
-  Takes b k (stopped v r) = (j : ℕ) × (j + b ≤ k) × (r ≡ below f j) × (below hit k ≡ below hit j)
+  Takes b k (took n v r) = (j : ℕ) × (j ≤ k) × (r ≡ below f j) × (below hit k ≡ n ∷ below hit j) × (v + many j ≡ many k) × (0 < v)
+  Takes b k (emptied v) = (below hit k ≡ []) × (v ≡ many k)
+  Takes b k (stopped v r) =
+      (j : ℕ) × (j ≤ k) × (r ≡ below f j) × (below hit k ≡ below hit j) × (v + many j ≡ many k) × (v ≡ b) × (0 < many j)
 
-  takes-more : (b b′ k k′ : ℕ) (z : Taken) → below hit k′ ≡ below hit k → k ≤ k′ → b′ + k ≤ b + k′ → Takes b k z
-      → Takes b′ k′ z
-  takes-more b b′ k k′ (took n v r) e h g t = (t .0, omega (arith, t .1), t .2, e ∙ t .3)
-  takes-more b b′ k k′ (emptied v) e h g t = e ∙ t
-  takes-more b b′ k k′ (stopped v r) e h g t = (t .0, omega (arith, t .1), t .2, e ∙ t .3)
+  -- a position more, on another chain
+  takes-skip : (b k : ℕ) (z : Taken) → below hit (suc k) ≡ below hit k → below f (suc k) ≡ below f k → Takes b k z
+      → Takes b (suc k) z
+  takes-skip b k (took n v r) e d t = (t .0, omega (arith, t .1), t .2, e ∙ t .3, rw d (t .4), t .5)
+  takes-skip b k (emptied v) e d t = (e ∙ t .0, rw d (t .1))
+  takes-skip b k (stopped v r) e d t = (t .0, omega (arith, t .1), t .2, e ∙ t .3, rw d (t .4), t .5, t .6)
 
-  takes-visit : (b k : ℕ) (z : Taken) → Takes b k z → Takes b k (oneMore z)
-  takes-visit b k (took n v r) t = t
-  takes-visit b k (emptied v) t = t
-  takes-visit b k (stopped v r) t = t
+  -- a position more, visited and passed by
+  takes-miss : (b k : ℕ) (z : Taken) → below hit (suc k) ≡ below hit k → below f (suc k) ≡ suc k ∷ below f k → Takes b k z
+      → Takes (suc b) (suc k) (oneMore z)
+  takes-miss b k (took n v r) e d t = (t .0, omega (arith, t .1), t .2, e ∙ t .3, rw d (omega (arith, t .4)), omega arith)
+  takes-miss b k (emptied v) e d t = (e ∙ t .0, rw d (omega (arith, t .1)))
+  takes-miss b k (stopped v r) e d t =
+      (t .0, omega (arith, t .1), t .2, e ∙ t .3, rw d (omega (arith, t .4)), omega (arith, t .5), t .6)
 
   off : (i : ℕ) → f i ≡ false → hit i ≡ false
   off i e = decide (hit i) (λ d. absurd (true≢false (sym (on i d) ∙ e))) (λ d. d)
@@ -87,75 +90,25 @@ module _ (f hit : ℕ → Bool) (on : (i : ℕ) → hit i ≡ true → f i ≡ t
   takes b zero = rw (below-nil f) (none-left b)
     where
       none-left : (b : ℕ) → Takes b 0 (take-off hit b [])
-      none-left zero = unfold take-off in (below-nil hit)
-      none-left (suc b) = unfold take-off in (below-nil hit)
+      none-left zero = unfold take-off in (below-nil hit, rw (below-nil f))
+      none-left (suc b) = unfold take-off in (below-nil hit, rw (below-nil f))
   takes b (suc n) =
       decide (f n)
       (λ e. rw (below-yes f n e) (top b e (λ b. takes b n)))
       (λ e. rw (below-no f n e)
-      (takes-more b b n (suc n) (take-off hit b (below f n)) (below-no hit n (off n e)) (omega arith)
-      (omega arith) (takes b n)))
+      (takes-skip b n (take-off hit b (below f n)) (below-no hit n (off n e)) (below-no f n e) (takes b n)))
     where
       top : (b : ℕ) → f n ≡ true → ((b : ℕ) → Takes b n (take-off hit b (below f n)))
           → Takes b (suc n) (take-off hit b (suc n ∷ below f n))
-      top zero e ih = unfold take-off in (suc n, omega arith, sym (below-yes f n e), refl)
+      top zero e ih =
+          unfold take-off in
+          (suc n, omega arith, sym (below-yes f n e), refl, omega arith, refl, rw (below-yes f n e) (omega arith))
       top (suc b) e ih =
           decide (hit n)
-          (λ d. rw (take-hit hit b (suc n) (below f n) d) (n, omega arith, refl, below-yes hit n d))
+          (λ d. rw (take-hit hit b (suc n) (below f n) d)
+          (n, omega arith, refl, below-yes hit n d, rw (below-yes f n e) (omega arith), omega arith))
           (λ d. rw (take-miss hit b (suc n) (below f n) d)
-          (takes-visit (suc b) (suc n) (take-off hit b (below f n))
-          (takes-more b (suc b) n (suc n) (take-off hit b (below f n)) (below-no hit n d) (omega arith) (omega arith)
-          (ih b))))
-
--- ---- calls one after another
-
-pub record Told (ss : List ℕ) (k : ℕ) (bs : List ℕ) (rs : List Scanned) : Type 0 where
-  pub fine : NoScanRefused rs
-  pub part : (r : List ℕ) × (scannedIn rs ++ r ≡ ss)
-  pub all : scanEnded rs ≡ true → scannedIn rs ≡ ss
-  pub ends : k < length bs → scanEnded rs ≡ true
-
-told-none : (ss : List ℕ) (k : ℕ) → Told ss k [] []
-unfolding scannedIn scanEnded
-told-none ss k = record {
-  fine = tt;
-  part = (ss, refl);
-  all = λ e. absurd (false≢true e);
-  ends =
-      λ h. absurd (omega arith);
-}
-
-told-found : (ss ss′ : List ℕ) (k j b : ℕ) (bs : List ℕ) (rs : List Scanned) (n v : ℕ) (q : ScanCursor)
-    → ss ≡ n ∷ ss′ → j < k → Told ss′ j bs rs
-    → Told ss k (b ∷ bs) (ScanFound (record { 0 = n }) v q ∷ rs)
-unfolding scannedIn scanEnded
-told-found ss ss′ k j b bs rs n v q e h T = record {
-  fine = T .fine;
-  part = (T .part .0, ap (λ (z : List ℕ). n ∷ z) (T .part .1) ∙ sym e);
-  all = λ d. ap (λ (z : List ℕ). n ∷ z) (T .all d) ∙ sym e;
-  ends = λ d. T .ends (omega arith);
-}
-
-told-spent : (ss ss′ : List ℕ) (k j b : ℕ) (bs : List ℕ) (rs : List Scanned) (v : ℕ) (q : ScanCursor) → ss ≡ ss′
-    → j < k → Told ss′ j bs rs
-    → Told ss k (b ∷ bs) (ScanSpent v q ∷ rs)
-unfolding scannedIn scanEnded
-told-spent ss ss′ k j b bs rs v q e h T =
-    record {
-      fine = T .fine;
-      part = (T .part .0, T .part .1 ∙ sym e);
-      all = λ d. T .all d ∙ sym e;
-      ends =
-          λ d. T .ends (omega arith);
-    }
-
-told-ended : (ss : List ℕ) (k b : ℕ) (bs : List ℕ) (rs : List Scanned) (v : ℕ) (q : ScanCursor) → ss ≡ []
-    → Told [] 0 bs rs
-    → Told ss k (b ∷ bs) (ScanEnded v q ∷ rs)
-unfolding scannedIn scanEnded
-told-ended ss k b bs rs v q e T =
-    let n = nothing-part (scannedIn rs) (T .part .0) (T .part .1) in
-    record { fine = T .fine; part = (T .part .0, T .part .1 ∙ sym e); all = λ d. n ∙ sym e; ends = λ d. refl }
+          (takes-miss b n (take-off hit b (below f n)) (below-no hit n d) (below-yes f n e) (ih b)))
 
 module _ (c : Counters) (m : Tables) (S : Sound c m) (x : Triple) (known : within (c .resources) x ≡ true) where
   abbrev hit : ℕ → Bool
@@ -239,38 +192,49 @@ module _ (c : Counters) (m : Tables) (S : Sound c m) (x : Triple) (known : withi
         (ap (scannedAs (here k))
         (walk-linked (c .resources) (c .statements) (m .resources) (m .statements) (S .linked) ch x hit k b h))
 
-    read-none : (q : ScanCursor) → scanOn c m q [] ≡ []
-    unfolding scanOn
-    read-none q = refl
+    -- the visits left at the positions below k; no more calls do not end
+    abbrev visitsAt : ℕ → ℕ
+    visitsAt k = length (below F k)
 
-    read-cons : (q : ScanCursor) (b : ℕ) (bs : List ℕ) (a : Scanned) → nextOf c m q b ≡ a
-        → scanOn c m q (b ∷ bs) ≡ a ∷ scanOn c m (scanAfter q a) bs
-    unfolding scanOn
-    read-cons q b bs a e = rw e
+    abbrev Ok : ℕ → Type 0
+    Ok k = k ≤ c .statements
 
-    told : (bs : List ℕ) (k : ℕ) → k ≤ c .statements → AllPositive bs
-        → Told (below hit k) k bs (scanOn c m (here k) bs)
-    told [] k h g = rw (read-none (here k)) (told-none (below hit k) k)
-    told (b ∷ bs) k h g =
-        one (take-off hit b (below F k)) (next-is k b h (g .0)) (takes F hit hit-on b k) (λ j q. told bs j q (g .1))
-      where
-        one : (z : Taken) → nextOf c m (here k) b ≡ scannedAs (here k) (some (asStep z)) → Takes F hit hit-on b k z
-            → ((j : ℕ) → j ≤ c .statements → Told (below hit j) j bs (scanOn c m (here j) bs))
-            → Told (below hit k) k (b ∷ bs) (scanOn c m (here k) (b ∷ bs))
-        one (took n v r) e t ih =
-            rw (read-cons (here k) b bs _ e, t .2)
-            (told-found (below hit k) (below hit (t .0)) k (t .0) b bs _ n v _ (t .3) (t .1)
-            (ih (t .0) (omega (arith, t .1))))
-        one (emptied v) e t ih =
-            rw (read-cons (here k) b bs _ e)
-            (told-ended (below hit k) k b bs _ v _ t (rw (← below-nil hit, ← nil-here) (ih 0 (omega arith))))
-          where
-            nil-here : here 0 ≡ cursorIn (c .generation) x ch 0
-            nil-here = rw (below-nil F)
-        one (stopped v r) e t ih =
-            rw (read-cons (here k) b bs _ e, t .2)
-            (told-spent (below hit k) (below hit (t .0)) k (t .0) b bs _ v _ (t .3) (omega (arith, t .1, g .0))
-            (ih (t .0) (omega (arith, t .1))))
+    abbrev LeavesAt : ℕ → Reply ℕ ScanCursor → Type 0
+    LeavesAt k r = Leaves (scanNext c m) here (below hit) visitsAt visitsAt Ok k r
+
+    leaves : (k b : ℕ) (z : Taken) → k ≤ c .statements → 0 < b → Takes F hit hit-on b k z
+        → LeavesAt k (scanReply (scannedValues (scannedAs (here k) (some (asStep z)))))
+    leaves k b (took n v r) h g t = record {
+      now = t .0;
+      ok = omega (arith, t .1);
+      unrefused = refl;
+      reached = rw (t .2);
+      paid = t .4;
+      comes = read.found refl (t .3) (omega (arith, t .4, t .5));
+    }
+    leaves k b (emptied v) h g t = record {
+      now = 0;
+      ok = omega arith;
+      unrefused = refl;
+      reached = rw (below-nil F);
+      paid = rw (below-nil F) (omega (arith, t .1));
+      comes = read.ended refl (t .0) (below-nil hit) (rw (below-nil F));
+    }
+    leaves k b (stopped v r) h g t = record {
+      now = t .0;
+      ok = omega (arith, t .1);
+      unrefused = refl;
+      reached = rw (t .2);
+      paid = t .4;
+      comes = read.spent refl (t .3) (omega (arith, t .4, t .5)) (t .6);
+    }
+
+    next-leaves : (k b : ℕ) → k ≤ c .statements → 0 < b → LeavesAt k (scanNext c m (here k) b)
+    next-leaves k b h g = rw (next-is k b h g) (leaves k b (take-off hit b (below F k)) h g (takes F hit hit-on b k))
+
+    told-from : (bs : List ℕ) (k : ℕ) → k ≤ c .statements → AllPositive bs
+        → Told (below hit k) (visitsAt k) (visitsAt k) bs (readOn (scanNext c m) (here k) bs)
+    told-from bs k h g = told (scanNext c m) here (below hit) visitsAt visitsAt Ok next-leaves bs k h g
 
   -- ---- from the opening on
 
@@ -293,8 +257,12 @@ module _ (c : Counters) (m : Tables) (S : Sound c m) (x : Triple) (known : withi
             (pickChain-bound (m .resources) x) (within-high (c .resources) x known),
       )
 
+  -- every live statement that matches, falling
+  abbrev every : List ℕ
+  every = below hit (c .statements)
+
   -- a position that passes: a live statement that matches
-  right-at : (n : ℕ) → List·Memᴰ n (below hit (c .statements)) → graphOf c m (namedAt m n) × Matches m x (namedAt m n)
+  right-at : (n : ℕ) → List·Memᴰ n every → graphOf c m (namedAt m n) × Matches m x (namedAt m n)
   right-at n k =
       let r = below-out hit (c .statements) n k in
       let i = r .0 in
@@ -310,8 +278,7 @@ module _ (c : Counters) (m : Tables) (S : Sound c m) (x : Triple) (known : withi
       one i p (inl d) = inl d
       one i p (inr d) = inr (ap (nameAt m) (sym d) ∙ sym (named-at m (tripleAt (m .statements) i) p))
 
-  all-at : (y : RdfTriple) → graphOf c m y → Matches m x y → (n : ℕ) × List·Memᴰ n (below hit (c .statements))
-      × (namedAt m n ≡ y)
+  all-at : (y : RdfTriple) → graphOf c m y → Matches m x y → (n : ℕ) × List·Memᴰ n every × (namedAt m n ≡ y)
   all-at y g M =
       let i = g .0 in
       let t = tripleAt (m .statements) i in
@@ -332,8 +299,7 @@ module _ (c : Counters) (m : Tables) (S : Sound c m) (x : Triple) (known : withi
           (d ∙ ap (termAt p) (sym (g .2)) ∙ named-at m (tripleAt (m .statements) (g .0)) p))))
 
   -- two positions that pass, of one triple, are one
-  apart : (n k : ℕ) → List·Memᴰ n (below hit (c .statements)) → List·Memᴰ k (below hit (c .statements))
-      → namedAt m n ≡ namedAt m k → n ≡ k
+  apart : (n k : ℕ) → List·Memᴰ n every → List·Memᴰ k every → namedAt m n ≡ namedAt m k → n ≡ k
   apart n k a b e =
       let r = below-out hit (c .statements) n a in
       let s = below-out hit (c .statements) k b in
@@ -347,35 +313,27 @@ module _ (c : Counters) (m : Tables) (S : Sound c m) (x : Triple) (known : withi
       ∙ ap (λ (z : ℕ). named m (tripleAt (m .statements) z)) j) in
       r .1 ∙ ap suc d ∙ sym (s .1)
 
-  reads : (bs : List ℕ) → AllPositive bs → ScanRead c m x (here picked picked-ok (c .statements)) bs
-  reads bs h =
-      let T = told picked picked-ok bs (c .statements) (omega arith) h in
-      let f = scannedIn (scanOn c m (here picked picked-ok (c .statements)) bs) in
-      let e : f ++ T .part .0 ≡ below hit (c .statements) = T .part .1 in
-      let into : (n : ℕ) → List·Memᴰ n f → List·Memᴰ n (below hit (c .statements)) =
-      λ n k. rw e at (Memᴰ·append-left (T .part .0) k) in
-      record {
-        unrefused = T .fine;
-        right = λ y k. right-of y f into k;
-        once = map-once (namedAt m) f (λ n k a b d. apart n k (into n a) (into k b) d)
-            (once-part f (T .part .0) (rw e (below-once hit (c .statements))));
-        all = λ n y g M. let r = all-at y g M in
-            rw (T .all n, ← r .2) (mem-map (namedAt m) (below hit (c .statements)) (r .0) (r .1));
-        ends = λ n. T .ends n;
-      }
-    where
-      right-of : (y : RdfTriple) (f : List ℕ) → ((n : ℕ) → List·Memᴰ n f → List·Memᴰ n (below hit (c .statements)))
-          → List·Memᴰ y (map (namedAt m) f) → graphOf c m y × Matches m x y
-      right-of y f into k =
-          let r = map-mem (namedAt m) f y k in
-          rw (r .2) (right-at (r .0) (into (r .0) (r .1)))
+  all-match : AllMatches c m x every
+  all-match = record {
+    exact = λ y. (
+      λ g. let r = all-at y (g .0) (g .1) in rw (← r .2) (mem-map (namedAt m) every (r .0) (r .1)),
+      λ k. let r = map-mem (namedAt m) every y k in rw (r .2) (right-at (r .0) (r .1)),
+    );
+    once = map-once (namedAt m) every apart (descending-nodup (λ n. n ∷ []) every (below-falling hit (c .statements)));
+    order = below-falling hit (c .statements);
+  }
+
+  start-told : (bs : List ℕ) → AllPositive bs → Told every (scanWorkOf c m x) (scanWorkOf c m x) bs (scanning c m x bs)
+  start-told bs h = rw opens (told-from picked picked-ok bs (c .statements) (omega arith) h)
 
 pub scan-reads : ScanClaim
-scan-reads c m S x known = (
-  here c m S x known (picked c m S x known) (picked-ok c m S x known) (c .statements),
-  opens c m S x known,
-  reads c m S x known,
-)
+scan-reads c m S x known = record {
+  opened = rw (opens c m S x known);
+  all = every c m S x known;
+  exactly = all-match c m S x known;
+  read = λ bs h. start-told c m S x known bs h .read;
+  ends = told-ends (scanning c m x) (every c m S x known) (scanWorkOf c m x) (scanWorkOf c m x) (omega arith) (start-told c m S x known);
+}
 
 -- ---- live counts
 
@@ -406,17 +364,12 @@ only-within p y r h = within-of r (only p y) (λ q. low p q)
 
 pub live-counts : LiveCountClaim
 unfolding matches
-live-counts c m S p y a b =
+live-counts c m S p y a b bs g e =
     let x = only p y in
     let k = only-within p y (c .resources) b in
     let L = S .linked in
     let same : below (hit c m S x k) (c .statements) ≡ below (living (m .statements) p y) (c .statements) =
     below-cong _ _ (c .statements) (λ i h.
     ap (λ (z : Bool). not (entryAt (m .statements) i .retracted) && z) (agrees-only p y (entryAt (m .statements) i .spo) a)
-    ∙ counted-is (m .statements) p y i (L .flag i h)) in (
-      here c m S x k (picked c m S x k) (picked-ok c m S x k) (c .statements),
-      opens c m S x k,
-      λ bs g e.
-          let T = told c m S x k (picked c m S x k) (picked-ok c m S x k) bs (c .statements) (omega arith) g in
-          ap (λ (z : List ℕ). length z) (T .all e ∙ same) ∙ sym (L .live p y a b),
-    )
+    ∙ counted-is (m .statements) p y i (L .flag i h)) in
+    ap (λ (z : List ℕ). length z) (read-all (start-told c m S x k bs g .read) e ∙ same) ∙ sym (L .live p y a b)

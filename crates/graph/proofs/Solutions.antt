@@ -1,5 +1,5 @@
--- Bindings to numbers against solution mappings to names: on a sound store the enumerated solutions (`solve`), as
--- mappings, are exactly those that solve the basic graph pattern over the graph, each once. Assumes nothing.
+-- Bindings to numbers against solution mappings to names: on a sound store the enumerated solutions (`solve`), as mappings, are exactly
+-- those that solve the basic graph pattern over the graph, each once. Assumes nothing.
 use mathlib.Core.Path.{_≡_, refl, sym, ap, _∙_, fun-ext}
 use mathlib.Core.Logic.{_≢_, _⊎_, inl, inr, _↔_}
 use mathlib.Core.Bool.{Bool, true, false, _||_, true≢false, false≢true}

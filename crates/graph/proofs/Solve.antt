@@ -1,9 +1,8 @@
--- All solutions of a list of patterns over entries, in the paper's order (`solve`): nested, with no word of chains or
--- places. It gives exactly the bindings under which every pattern's triple is a live entry's, each once. Assumes
--- nothing.
+-- All solutions of a list of patterns over entries, in the paper's order (`solve`): nested, with no word of chains or places. It gives
+-- exactly the bindings under which every pattern's triple is a live entry's, each once. Assumes nothing.
 use mathlib.Core.Path.{_≡_, refl, sym, ap, _∙_}
 use mathlib.Core.Logic.{_≢_, _⊎_, inl, inr}
-use mathlib.Core.Bool.{Bool, true, false, cond, _||_}
+use mathlib.Core.Bool.{Bool, true, false, _||_}
 use mathlib.Core.List.{List, [], _∷_, _++_, List·Memᴰ, List·Memᴰ·head, List·Memᴰ·tail, List·Memᴰ·not-nil}
 use mathlib.Core.List.{List·Memᴰ·cases-cons, Memᴰ·append-left, Memᴰ·append-right, List·Memᴰ·append-cases}
 use mathlib.Core.Option.{Option, none, some}

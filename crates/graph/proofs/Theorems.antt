@@ -13,6 +13,7 @@ use Rattle.graph.proofs.Budget as budget
 use Rattle.graph.proofs.Scans as scans
 use Rattle.graph.proofs.Unseen as unseen
 use Rattle.graph.proofs.Writes as writes
+use Rattle.graph.proofs.Loads as loads
 
 pub live-graph : GraphClaim
 live-graph = names.live-graph
@@ -57,4 +58,4 @@ pub graph-writes : WriteClaim
 graph-writes = writes.writes
 
 pub line-loads : LoadClaim
-line-loads = writes.loads
+line-loads = loads.loads

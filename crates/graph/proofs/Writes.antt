@@ -1,6 +1,5 @@
--- On a sound store entering a name and reclaiming leave the graph, asserting adds exactly its triple, retracting takes exactly it
--- away, and a refusal leaves it (`WriteClaim`); a line's three names entered and asserted add exactly the line's
--- triple (`LoadClaim`). Assumes nothing.
+-- On a sound store entering a name and reclaiming leave the graph, asserting adds exactly its triple, retracting takes exactly it away, and
+-- a refusal leaves it (`WriteClaim`). Assumes nothing.
 use mathlib.Core.Path.{_≡_, sym, ap, _∙_}
 use mathlib.Core.Logic.{_≢_, _⊎_, inl, inr}
 use mathlib.Core.Bool.{true, false}
@@ -9,12 +8,11 @@ use Prim.Native.Nat.{ℕ, _≤_, _<_}
 use native.Mathlib.Omega.{arith}
 use lib.ListN.{length}
 use lib.Dec.{eqb}
-use borrow.Author.Tests.{eqb-true, eqb-false, ne-eqb}
-use Rattle.term.specs.Canonical.{canonical}
+use borrow.Author.Tests.{eqb-false, ne-eqb}
 use Rattle.store.specs.declared.Position.the-variants.{Subject, Predicate, Object}
 use Rattle.store.specs.declared.Counters.{Counters}
 use Rattle.store.specs.declared.Triple.{Triple}
-use Rattle.store.specs.Shared.{triple, known, Entry, nameOf}
+use Rattle.store.specs.Shared.{known, Entry, nameOf}
 use Rattle.store.specs.Tables.{Tables, tripleAt, flagAt}
 use Rattle.store.specs.Values.{Values}
 use Rattle.store.specs.Model.{Model, Capacities, Form, byValue, lent, Call, intern, assert, retract, reclaim}
@@ -34,9 +32,8 @@ use Rattle.store.proofs.Kept.{Tidy, tidy-history}
 use Rattle.store.proofs.Held.{entries-length, entries-at, named-names, agreeing-holds, sound-agrees, sound-tidy}
 use Rattle.graph.specs.Meaning.{Term, RdfTriple}
 use Rattle.graph.specs.Graph.{named, graphOf}
-use Rattle.graph.specs.Claims.{SoundStore, graphIn, SameGraph, Entered, Added, Removed, Rebuilt, WriteClaim, loadOf, canonicalTriple}
-use Rattle.graph.specs.Claims.{Loaded, LoadClaim}
-use Rattle.graph.proofs.Listed.{nameTriple, modelGraph, graph-trans, ModelEntered, model-enters, ModelAdded}
+use Rattle.graph.specs.Claims.{graphIn, SameGraph, Entered, Added, Removed, Rebuilt, WriteClaim}
+use Rattle.graph.proofs.Listed.{nameTriple, modelGraph, graph-trans, model-enters, ModelAdded}
 use Rattle.graph.proofs.Listed.{model-asserts, ModelRemoved, model-retracts, ModelRebuilt, model-reclaims}
 
 -- ---- a store that holds plain lists
@@ -144,14 +141,9 @@ module _ (c : Counters) (m : Tables) (S : Sound c m) where
 
   -- ---- enter
 
-  model-entered : (w : Term) → ModelEntered lists ((callModel k lists (intern w)) .0) (canonical w)
-      ((callModel k lists (intern w)) .1)
-  unfolding callModel
-  model-entered w = model-enters k lists (sound-tidy c m S) w
-
   enters : (w : Term) → Entered here ((callStore here (intern w)) .0) w ((callStore here (intern w)) .1)
   enters w =
-      let E = model-entered w in
+      let E = model-enters k lists (sound-tidy c m S) w in
       let A = after (intern w) in
       let n = held-size here lists before in
       let n′ = held-size _ _ A in
@@ -312,88 +304,3 @@ writes s S = record {
         record { sound = E .sound; refused = E .refused; removed = E .removed; absent = E .absent }
     one-retract lent x = let E = retracts (s .counters) (s .tables) S lent x in
         record { sound = E .sound; refused = E .refused; removed = E .removed; absent = E .absent }
-
--- ---- a line's triple
-
-triple-named : (m : Tables) (a b d : ℕ) (y : RdfTriple) → nameAt m a ≡ y .subject → nameAt m b ≡ y .predicate
-    → nameAt m d ≡ y .object
-    → named m (triple a b d) ≡ y
-unfolding named
-triple-named m a b d y e f g = rw (e, f, g)
-
-module _ (s : Store) (S : SoundStore s) (y : RdfTriple) where
-  abbrev a : Store × Values
-  a = callStore s (intern (y .subject))
-
-  abbrev b : Store × Values
-  b = callStore (a .0) (intern (y .predicate))
-
-  abbrev d : Store × Values
-  d = callStore (b .0) (intern (y .object))
-
-  abbrev numbers : Triple
-  numbers = triple (a .1 .number) (b .1 .number) (d .1 .number)
-
-  abbrev e : Store × Values
-  e = callStore (d .0) (assert byValue numbers)
-
-  first : Entered s (a .0) (y .subject) (a .1)
-  first = writes s S .enters (y .subject)
-
-  second : Entered (a .0) (b .0) (y .predicate) (b .1)
-  second = writes (a .0) (first .sound) .enters (y .predicate)
-
-  third : Entered (b .0) (d .0) (y .object) (d .1)
-  third = writes (b .0) (second .sound) .enters (y .object)
-
-  fourth : Added (d .0) (e .0) (named (d .0 .tables) numbers) (e .1)
-  fourth = writes (d .0) (third .sound) .asserts byValue numbers
-
-  names-are : a .1 .refusal ≡ 0 → b .1 .refusal ≡ 0 → d .1 .refusal ≡ 0 → named (d .0 .tables) numbers ≡ canonicalTriple y
-  names-are p q r =
-      let x = first .answered p in
-      let y₂ = second .kept (a .1 .number) (x .0) (x .1) in
-      let y₃ = third .kept (a .1 .number) (x .0) (y₂ .0) in
-      let z = second .answered q in
-      let z₃ = third .kept (b .1 .number) (z .0) (z .1) in
-      let w = third .answered r in
-      triple-named (d .0 .tables) (a .1 .number) (b .1 .number) (d .1 .number) (canonicalTriple y) (y₃ .1 ∙ y₂ .1 ∙ x .2)
-      (z₃ .1 ∙ z .2) (w .2)
-
-  two-graph : SameGraph (graphIn (b .0)) (graphIn s)
-  two-graph = graph-trans (graphIn (b .0)) (graphIn (a .0)) (graphIn s) (second .graph) (first .graph)
-
-  three-graph : SameGraph (graphIn (d .0)) (graphIn s)
-  three-graph = graph-trans (graphIn (d .0)) (graphIn (b .0)) (graphIn s) (third .graph) two-graph
-
-  stopped : (s′ : Store) (n : ℕ) → SoundStore s′ → SameGraph (graphIn s′) (graphIn s) → n ≢ 0 → Loaded s s′ (canonicalTriple y) n
-  stopped s′ n T g h = record { sound = T; refused = λ q. g; loaded = λ q. absurd (h q) }
-
-  whole : a .1 .refusal ≡ 0 → b .1 .refusal ≡ 0 → d .1 .refusal ≡ 0 → Loaded s (e .0) (canonicalTriple y) (e .1 .refusal)
-  whole p q r = record {
-    sound = fourth .sound;
-    refused = λ n. graph-trans (graphIn (e .0)) (graphIn (d .0)) (graphIn s) (fourth .refused n) three-graph;
-    loaded = λ n z. (
-      (λ g. there z (fourth .added n z .0 g)),
-      (λ g. fourth .added n z .1 (back z g)),
-    );
-  }
-    where
-      there : (z : RdfTriple) → graphIn (d .0) z ⊎ (z ≡ named (d .0 .tables) numbers) → graphIn s z ⊎ (z ≡ canonicalTriple y)
-      there z (inl g) = inl (three-graph z .0 g)
-      there z (inr h) = inr (h ∙ names-are p q r)
-
-      back : (z : RdfTriple) → graphIn s z ⊎ (z ≡ canonicalTriple y) → graphIn (d .0) z ⊎ (z ≡ named (d .0 .tables) numbers)
-      back z (inl g) = inl (three-graph z .1 g)
-      back z (inr h) = inr (h ∙ sym (names-are p q r))
-
-pub loads : LoadClaim
-unfolding loadOf
-loads s S y =
-    decide (eqb (a s S y .1 .refusal) 0)
-    (λ p. rw p (decide (eqb (b s S y .1 .refusal) 0)
-    (λ q. rw q (decide (eqb (d s S y .1 .refusal) 0)
-    (λ r. rw r (whole s S y (eqb-true _ 0 p) (eqb-true _ 0 q) (eqb-true _ 0 r)))
-    (λ r. rw r (stopped s S y (d s S y .0) _ (third s S y .sound) (three-graph s S y) (eqb-false _ 0 r)))))
-    (λ q. rw q (stopped s S y (b s S y .0) _ (second s S y .sound) (two-graph s S y) (eqb-false _ 0 q)))))
-    (λ p. rw p (stopped s S y (a s S y .0) _ (first s S y .sound) (first s S y .graph) (eqb-false _ 0 p)))

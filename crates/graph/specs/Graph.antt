@@ -1,5 +1,5 @@
--- What the tables, a query's words and a solution stand for (paper 01, demand 2): the graph of the live statements, a
--- basic graph pattern over names, a solution mapping to names. Assumes nothing.
+-- What the tables, a query's words and a solution stand for (paper 01, demand 2): the graph of the live statements, a basic graph pattern
+-- over names, a solution mapping to names. Assumes nothing.
 use mathlib.Core.Path.{_≡_}
 use mathlib.Core.Bool.{cond}
 use mathlib.Core.List.{List, map}

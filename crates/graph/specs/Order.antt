@@ -1,6 +1,5 @@
--- The order of solutions (paper 01, "A solution is ordered by its statements", "at or after the place"): one
--- statement
--- number a pattern, the first difference decides, higher numbers first. Assumes nothing.
+-- The order of solutions (paper 01, "A solution is ordered by its statements", "at or after the place"): one statement number a pattern,
+-- the first difference decides, higher numbers first. Assumes nothing.
 use mathlib.Core.Path.{_≡_}
 use mathlib.Core.Logic.{_⊎_}
 use mathlib.Core.Bool.{Bool, true, cond, _&&_, _||_}

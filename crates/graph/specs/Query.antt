@@ -1,9 +1,9 @@
--- Open and next of a query, the paper's question (paper 01, "Open a question", "Next of a question"; 02, note 6), on
--- tables, words and cursors that hold anything. Assumes nothing.
+-- Open and next of a query, the paper's question (paper 01, "Open a question", "Next of a question"; 02, note 6), on tables, words and
+-- cursors that hold anything. Assumes nothing.
 use mathlib.Core.Bool.{Bool, true, false, cond, not, _&&_, _||_}
 use mathlib.Core.List.{List, [], _∷_}
 use mathlib.Core.Option.{Option, none, some}
-use Prim.Native.Nat.{ℕ, zero, suc, _+_, _*_, _-_}
+use Prim.Native.Nat.{ℕ, zero, suc, _+_, _-_}
 use lib.ListN.{length, getD, set}
 use lib.Dec.{eqb, leb, ltb}
 use Rattle.store.specs.declared.Counters.{Counters}
@@ -23,7 +23,7 @@ use Rattle.graph.specs.declared.QueryOpened.{QueryOpened}
 use Rattle.graph.specs.declared.QueryStep.{QueryStep}
 use Rattle.graph.specs.declared.QueryStep.the-variants.{Found, Ended, Spent, Refused as NotAnswered}
 use Rattle.graph.specs.declared.QueryAnswer.{QueryAnswer}
-use Rattle.graph.specs.Words.{variables, firstVariable, pattern, patternsOf, wordsOk, Bindings, resource, unbound, valueOf, under}
+use Rattle.graph.specs.Words.{firstVariable, pattern, patternsOf, wordsOk, Bindings, resource, unbound, valueOf, under}
 use Rattle.graph.specs.Place.{level, Place, start, inside, finish, placeOf, startCursor, cursorAt}
 
 -- ---- a record against a pattern
@@ -108,8 +108,7 @@ module _ (stm : List ℕ) (ps : List QueryPattern) where
 
   -- ---- refusal 6
 
-  -- each entered record: a record of the table, a chain that a scan would take, resources in 1..R, a match under the
-  -- earlier ones
+  -- each entered record: a record of the table, a chain that a scan would take, resources in 1..R, a match under the earlier ones
   unfoldable pub enteredOk : (r t : ℕ) → List Level → Bool
   enteredOk r t [] = true
   enteredOk r t (e ∷ up) =
@@ -154,8 +153,7 @@ module _ (r t : ℕ) (res stm : List ℕ) (ps : List QueryPattern) where
   unfoldable pub hit : Level → List Level → Option Bindings
   hit l up = cond (struck stm l) none (match (nextPattern ps up) (recordAt stm (l .statement .0)) (binds stm ps up))
 
-  -- no match: on along the chain; a match of the last pattern: a whole solution; of an earlier one: the next is
-  -- entered at once
+  -- no match: on along the chain; a match of the last pattern: a whole solution; of an earlier one: the next is entered at once
   unfoldable pub tried : Level → List Level → Option Bindings → Turn
   tried l up none = go (past stm l) up
   tried l up (some b) = cond (eqb (suc (length up)) (length ps)) (whole b (past stm l) up) (enter (l ∷ up))
@@ -230,19 +228,3 @@ stale c m ws q = fits c m && (wordsOk (c .resources) ws && not (eqb (q .generati
 unfoldable pub nextQueryOf : Counters → Tables → List ℕ → QueryCursor → ℕ → QueryAnswer
 nextQueryOf c m ws q budget =
     packed (c .generation) (cond (stale c m ws q) (refused StaleCursor) (answerOf c m ws (placeOf q) budget))
-
--- ---- calls one after another with no change between, each from the cursor last answered
-
--- the cursor from now on; a refusal leaves it
-abbrev pub onwards : QueryStep → QueryCursor → QueryCursor → QueryCursor
-onwards Found q q′ = q′
-onwards Ended q q′ = q′
-onwards Spent q q′ = q′
-onwards (NotAnswered e) q q′ = q
-
-abbrev pub cursorAfter : QueryCursor → QueryAnswer → QueryCursor
-cursorAfter q a = onwards (a .step) q (a .cursor)
-
-unfoldable pub readOn : Counters → Tables → List ℕ → QueryCursor → List ℕ → List QueryAnswer
-readOn c m ws q [] = []
-readOn c m ws q (b ∷ bs) = let a = nextQueryOf c m ws q b in a ∷ readOn c m ws (cursorAfter q a) bs

@@ -1,5 +1,5 @@
--- The paper's number and values for each case of a query's two replies (paper 01, "Operations and refusals"): what a
--- promise compares. Assumes nothing.
+-- The paper's number and values for each case of a query's two replies (paper 01, "Operations and refusals"): what a promise compares.
+-- Assumes nothing.
 use Prim.Native.Nat.{ℕ}
 use Rattle.store.specs.Values.{refusalNumber}
 use Rattle.graph.specs.declared.Solution.{Solution}

@@ -1,8 +1,8 @@
--- The words of a query, the paper's question (paper 01, "Open a question"): its limits, its patterns, refusal 8, what is bound to its variables,
--- and a pattern under what is bound. Assumes nothing.
-use mathlib.Core.Bool.{Bool, true, false, cond, _&&_, _||_}
+-- The words of a query, the paper's question (paper 01, "Open a question"): its limits, its patterns, refusal 8, what is bound to its
+-- variables, and a pattern under what is bound. Assumes nothing.
+use mathlib.Core.Bool.{Bool, true, cond, _&&_, _||_}
 use mathlib.Core.List.{List, [], _∷_}
-use Prim.Native.Nat.{ℕ, zero, suc, _+_, _*_, _-_}
+use Prim.Native.Nat.{ℕ, _+_, _*_, _-_}
 use lib.ListN.{length, getD, replicate}
 use lib.Dec.{eqb, leb, ltb}
 use Rattle.store.specs.declared.ResourceId.{ResourceId}

@@ -1,14 +1,15 @@
--- How many records a query read through visits, by the statements alone: no link, cursor or budget. Assumes nothing.
+-- How many records a query or a scan read through visits, by the statements alone: no link, cursor or budget. Assumes nothing.
 use mathlib.Core.Bool.{cond}
 use mathlib.Core.List.{List, [], _∷_}
 use mathlib.Core.Option.{Option, none, some}
 use Prim.Native.Nat.{ℕ, zero, suc, _+_}
+use lib.ListN.{length}
 use Rattle.store.specs.declared.Counters.{Counters}
 use Rattle.store.specs.declared.Chain.{Chain}
 use Rattle.store.specs.declared.Triple.{Triple}
-use Rattle.store.specs.Tables.{Tables}
+use Rattle.store.specs.Tables.{Tables, tripleAt}
 use Rattle.store.specs.Model.{onChain}
-use Rattle.store.specs.Shared.{Entry}
+use Rattle.store.specs.Shared.{Entry, below}
 use Rattle.store.specs.Walk.{entryAt, pickChain}
 use Rattle.graph.specs.declared.QueryPattern.{QueryPattern}
 use Rattle.graph.specs.Query.{match}
@@ -37,3 +38,7 @@ work E n pk (x ∷ ps) b =
 -- of a query's words, over the statements of the tables, each chain picked by least count under the bindings so far
 abbrev pub workOf : Counters → Tables → List ℕ → ℕ
 workOf c m ws = work (entryAt (m .statements)) (c .statements) (pickChain (m .resources)) (patternsOf ws) unbound
+
+-- of a scan: every record on the chain picked, live or not
+abbrev pub scanWorkOf : Counters → Tables → Triple → ℕ
+scanWorkOf c m x = length (below (λ i. onChain (pickChain (m .resources) x) x (tripleAt (m .statements) i)) (c .statements))

@@ -1,5 +1,4 @@
--- What the passes over the text and the index meet byte by byte: the ways out of their loops, and a turn. Assumes
--- nothing.
+-- What the passes over the text and the index meet byte by byte: the ways out of their loops, and a turn. Assumes nothing.
 use mathlib.Core.Path.{_≡_, refl, ap, _∙_}
 use mathlib.Core.Bool.{Bool, true, false}
 use mathlib.Core.List.{List, [], _∷_}
@@ -127,22 +126,22 @@ module _ (res used : List ℕ) (y o : ℕ) where
         t,
       )
 
-module _ (res used : List ℕ) (r y o : ℕ) where
-  pub names-end : r < y → namesOk res used (r + 1 - y) y o ≡ eqb o (length used)
+module _ (res used : List ℕ) (r done o : ℕ) where
+  pub names-end : r ≤ done → namesOk res used (r - done) (done + 1) o ≡ eqb o (length used)
   unfolding namesOk
-  names-end h = let e : r + 1 - y ≡ 0 = omega arith in rw e
+  names-end h = let e : r - done ≡ 0 = omega arith in rw e
 
-  pub names-fail : y ≤ r → nameOk res used y o ≡ false → namesOk res used (r + 1 - y) y o ≡ false
+  pub names-fail : done < r → nameOk res used (done + 1) o ≡ false → namesOk res used (r - done) (done + 1) o ≡ false
   unfolding namesOk
-  names-fail h f = let e : r + 1 - y ≡ suc (r - y) = omega arith in rw (e, f)
+  names-fail h f = let e : r - done ≡ suc (r - (done + 1)) = omega arith in rw (e, f)
 
-  pub names-turn : y ≤ r → nameOk res used y o ≡ true
-      → namesOk res used (r + 1 - y) y o ≡ namesOk res used (r + 1 - (y + 1)) (y + 1) (o + length (nameFrom used o) + 1)
+  pub names-turn : done < r → nameOk res used (done + 1) o ≡ true
+      → namesOk res used (r - done) (done + 1) o
+      ≡ namesOk res used (r - (done + 1)) (done + 1 + 1) (o + length (nameFrom used o) + 1)
   unfolding namesOk
   names-turn h f =
-      let e : r + 1 - y ≡ suc (r - y) = omega arith in
-      let d : r + 1 - (y + 1) ≡ r - y = omega arith in
-      rw (e, f, d, add-one y)
+      let e : r - done ≡ suc (r - (done + 1)) = omega arith in
+      rw (e, f, add-one (done + 1))
 
 -- ---- two names, byte by byte
 

@@ -1,5 +1,5 @@
--- Tests and sums over a range of numbers, and the walk along a chain that counts its records and the live ones among
--- them. Assumes nothing.
+-- Tests and sums over a range of numbers, and the walk along a chain that counts its records and the live ones among them.
+-- Assumes nothing.
 use mathlib.Core.Bool.{Bool, true, false, cond, _&&_}
 use mathlib.Core.Option.{Option, none, some}
 use Prim.Native.Nat.{ℕ, zero, suc, _+_}
@@ -19,9 +19,9 @@ abbrev pub oneMore : Option ℕ → Option ℕ
 oneMore none = none
 oneMore (some n) = some (suc n)
 
--- How many records the walk from record n by `next` meets: `next i` follows entry i, which is record i + 1. none: a
--- record of the walk fails f, or its next is not below its own number. The fuel is the highest number that the walk may
--- start from.
+-- How many records the walk from record n by `next` meets: `next i` follows entry i, which is record i + 1.
+-- none: a record of the walk fails f, or its next is not below its own number.
+-- The fuel is the highest number that the walk may start from.
 unfoldable pub chainLength : (ℕ → ℕ) → (ℕ → Bool) → ℕ → ℕ → Option ℕ
 chainLength next f zero zero = some 0
 chainLength next f zero (suc i) = none

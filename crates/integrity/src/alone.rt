@@ -1,5 +1,6 @@
 // No triple twice: below each record, down the shortest of its three chains, no record has its triple, live or not.
 use store::Position;
+use store::StatementId;
 use store::Triple;
 ghost use mathlib.Core.Path.{_≡_};
 ghost use mathlib.Core.Bool.{true};
@@ -16,9 +17,9 @@ fn shortest(resources: &[u32], r: u32, x: Triple) -> Position
     requires { ⌜ known r x ≡ true ⌝ }
     ensures { λ p. ⌜ p ≡ shortest (now (resources .entry)) x ⌝ }
 {
-    let s = table::inner::count_at(resources, x.subject.0, Position::Subject);
-    let p = table::inner::count_at(resources, x.predicate.0, Position::Predicate);
-    let o = table::inner::count_at(resources, x.object.0, Position::Object);
+    let s = table::inner::count_at(resources, x.subject, Position::Subject);
+    let p = table::inner::count_at(resources, x.predicate, Position::Predicate);
+    let o = table::inner::count_at(resources, x.object, Position::Object);
     if p < s {
         if o < p {
             return Position::Object;
@@ -45,19 +46,20 @@ fn same(x: Triple, t: Triple) -> bool
 }
 
 // Whether no record below record n on its chain at p has its triple.
-fn alone_on(statements: &[u32], n: u32, p: Position) -> bool
-    requires { ⌜ StatementsHeld (now statements) n ⌝ }
-    requires { ⌜ 1 ≤ n ⌝ }
-    ensures { λ b. ⌜ b ≡ aloneOn (now (statements .entry)) p (n - 1) ⌝ }
+fn alone_on(statements: &[u32], n: StatementId, p: Position) -> bool
+    requires { ⌜ StatementsHeld (now statements) (n .0) ⌝ }
+    requires { ⌜ 1 ≤ n .0 ⌝ }
+    ensures { λ b. ⌜ b ≡ aloneOn (now (statements .entry)) p (n .0 - 1) ⌝ }
 {
     let x = table::inner::triple_at(statements, n);
     let mut above = n;
+    // On its chain at p no record below n, down to `above`, has its triple.
     loop {
         let m = table::inner::next_at(statements, above, p);
-        if m >= above {
+        if m.0 >= above.0 {
             return false;
         }
-        if m == 0 {
+        if m.0 == 0 {
             return true;
         }
         if same(x, table::inner::triple_at(statements, m)) {
@@ -68,12 +70,12 @@ fn alone_on(statements: &[u32], n: u32, p: Position) -> bool
 }
 
 // Whether no record below record n has its triple, by its shortest chain.
-fn alone(resources: &[u32], statements: &[u32], r: u32, n: u32) -> bool
-    requires { ⌜ known r (tripleAt (now statements) (n - 1)) ≡ true ⌝ }
+fn alone(resources: &[u32], statements: &[u32], r: u32, n: StatementId) -> bool
+    requires { ⌜ known r (tripleAt (now statements) (n .0 - 1)) ≡ true ⌝ }
     requires { ⌜ ResourcesHeld (now resources) r ⌝ }
-    requires { ⌜ StatementsHeld (now statements) n ⌝ }
-    requires { ⌜ 1 ≤ n ⌝ }
-    ensures { λ b. ⌜ b ≡ alone (now (resources .entry)) (now (statements .entry)) (n - 1) ⌝ }
+    requires { ⌜ StatementsHeld (now statements) (n .0) ⌝ }
+    requires { ⌜ 1 ≤ n .0 ⌝ }
+    ensures { λ b. ⌜ b ≡ alone (now (resources .entry)) (now (statements .entry)) (n .0 - 1) ⌝ }
 {
     let x = table::inner::triple_at(statements, n);
     let p = shortest(resources, r, x);
@@ -87,12 +89,13 @@ pub fn all_alone(resources: &[u32], statements: &[u32], r: u32, t: u32) -> bool
     requires { ⌜ StatementsHeld (now statements) t ⌝ }
     ensures { λ b. ⌜ b ≡ allBelow (alone (now (resources .entry)) (now (statements .entry))) t ⌝ }
 {
-    let mut n: u32 = 0;
-    while n < t {
-        if !alone(resources, statements, r, n + 1) {
+    let mut done: u32 = 0;
+    // For each of the first `done` records: none below it on its shortest chain has its triple.
+    while done < t {
+        if !alone(resources, statements, r, StatementId(done + 1)) {
             return false;
         }
-        n += 1;
+        done += 1;
     }
     true
 }

@@ -1,8 +1,9 @@
-// The pass over the chains at one position: from each resource's first, by next, falling, with the resource in every
-// record, as many as its count says and as many live ones as its live count says; and the counts add up to the number
-// of records. So every record is on its chain and nothing else is, and the live ones met are all that the resource has
-// there.
+// The pass over the chains at one position: from each resource's first, by next, falling, with the resource in every record, as many as
+// its count says and as many live ones as its live count says; and the counts add up to the number of records. So every record is on its
+// chain and nothing else is, and the live ones met are all that the resource has there.
 use store::Position;
+use store::ResourceId;
+use store::StatementId;
 ghost use mathlib.Core.Path.{_≡_};
 ghost use Prim.Native.Nat.{_≤_};
 ghost use Rattle.store.specs.Shared.{all3};
@@ -14,24 +15,25 @@ fn chain_counts(
     statements: &[u32],
     t: u32,
     p: Position,
-    y: u32,
-    first: u32,
+    y: ResourceId,
+    first: StatementId,
     count: u32,
     live: u32,
 ) -> bool
     requires { ⌜ StatementsHeld (now statements) t ⌝ }
-    requires { ⌜ first ≤ t ⌝ }
-    ensures { λ b. ⌜ b ≡ chainCounts t (now (statements .entry)) p y first count live ⌝ }
+    requires { ⌜ first .0 ≤ t ⌝ }
+    ensures { λ b. ⌜ b ≡ chainCounts t (now (statements .entry)) p (y .0) (first .0) count live ⌝ }
 {
     let mut n = first;
     let mut met: u32 = 0;
     let mut alive: u32 = 0;
-    while n != 0 {
-        if table::inner::term_at(statements, n, p) != y {
+    // The chain from `first` down to n, n not included, falls and holds y; it has `met` records, `alive` of them live.
+    while n.0 != 0 {
+        if table::inner::term_at(statements, n, p).0 != y.0 {
             return false;
         }
         let m = table::inner::next_at(statements, n, p);
-        if m >= n {
+        if m.0 >= n.0 {
             return false;
         }
         met += 1;
@@ -42,14 +44,21 @@ fn chain_counts(
 }
 
 // Whether the chain of resource y is right.
-fn chain_ok(resources: &[u32], statements: &[u32], r: u32, t: u32, p: Position, y: u32) -> bool
+fn chain_ok(
+    resources: &[u32],
+    statements: &[u32],
+    r: u32,
+    t: u32,
+    p: Position,
+    y: ResourceId,
+) -> bool
     requires { ⌜ ResourcesHeld (now resources) r ⌝ }
     requires { ⌜ StatementsHeld (now statements) t ⌝ }
-    requires { ⌜ (1 ≤ y) × (y ≤ r) ⌝ }
-    ensures { λ b. ⌜ b ≡ chainOk t (now (resources .entry)) (now (statements .entry)) p y ⌝ }
+    requires { ⌜ (1 ≤ y .0) × (y .0 ≤ r) ⌝ }
+    ensures { λ b. ⌜ b ≡ chainOk t (now (resources .entry)) (now (statements .entry)) p (y .0) ⌝ }
 {
     let first = table::inner::first_at(resources, y, p);
-    if first > t {
+    if first.0 > t {
         return false;
     }
     let count = table::inner::count_at(resources, y, p);
@@ -63,14 +72,16 @@ fn chains_ok(resources: &[u32], statements: &[u32], r: u32, t: u32, p: Position)
     requires { ⌜ StatementsHeld (now statements) t ⌝ }
     ensures { λ b. ⌜ b ≡ chainsOk r t (now (resources .entry)) (now (statements .entry)) p ⌝ }
 {
-    let mut y: u32 = 0;
+    let mut done: u32 = 0;
     let mut total: usize = 0;
-    while y < r {
-        if !chain_ok(resources, statements, r, t, p, y + 1) {
+    // The chains of the first `done` resources are right, and their counts add up to `total`.
+    while done < r {
+        let y = ResourceId(done + 1);
+        if !chain_ok(resources, statements, r, t, p, y) {
             return false;
         }
-        total += crate::wide(table::inner::count_at(resources, y + 1, p));
-        y += 1;
+        total += crate::wide(table::inner::count_at(resources, y, p));
+        done += 1;
     }
     total == crate::wide(t)
 }

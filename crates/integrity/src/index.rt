@@ -1,5 +1,5 @@
-// The pass over the index: entries in 1..R, and names of neighbours that rise. Names are compared where they stand in
-// the text.
+// The pass over the index: entries in 1..R, and names of neighbours that rise. Names are compared where they stand in the text.
+use store::ResourceId;
 ghost use mathlib.Core.Path.{_≡_};
 ghost use Prim.Native.Nat.{_+_, _-_, _≤_, _<_};
 ghost use lib.ListN.{length, getD};
@@ -17,13 +17,13 @@ fn byte_at(used: &[u8], i: usize) -> u8
     0
 }
 
-// Whether the name from a on is less than the name from b on. A zero byte is less than any byte of a name, so a prefix
-// comes first.
+// Whether the name from a on is less than the name from b on. A zero byte is less than any byte of a name, so a prefix comes first.
 fn name_less(used: &[u8], a: usize, b: usize) -> bool
     ensures { λ r. ⌜ r ≡ nameLess (now (used .entry)) a b ⌝ }
 {
     let mut i = a;
     let mut j = b;
+    // The names agree from a up to i and from b up to j.
     loop {
         let x = byte_at(used, i);
         let y = byte_at(used, j);
@@ -48,8 +48,8 @@ fn neighbours_rise(resources: &[u32], index: &[u32], used: &[u8], r: u32, i: usi
     requires { ⌜ i + 1 < r ⌝ }
     ensures { λ b. ⌜ b ≡ neighboursRise (now (resources .entry)) (now (index .entry)) (now (used .entry)) i ⌝ }
 {
-    let x = index[i];
-    let y = index[i + 1];
+    let x = ResourceId(index[i]);
+    let y = ResourceId(index[i + 1]);
     let a = crate::wide(table::inner::offset_at(resources, x));
     let b = crate::wide(table::inner::offset_at(resources, y));
     name_less(used, a, b)
@@ -62,6 +62,7 @@ fn entries_ok(index: &[u32], r: u32) -> bool
 {
     let n = crate::wide(r);
     let mut i: usize = 0;
+    // The first i entries are in 1..r.
     while i < n {
         if !table::in_range(r, index[i]) {
             return false;
@@ -79,6 +80,7 @@ fn entries_rise(resources: &[u32], index: &[u32], used: &[u8], r: u32) -> bool
 {
     let n = crate::wide(r);
     let mut i: usize = 0;
+    // Each of the first i entries rises to the entry after it.
     while i + 1 < n {
         if !neighbours_rise(resources, index, used, r, i) {
             return false;

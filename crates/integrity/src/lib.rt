@@ -1,13 +1,16 @@
 // The soundness check: whether the counters and the four tables are sound, on tables that hold anything.
 //
-// Tested in this order, each part only where those before it hold: the counters are within capacity and the reclaims at
-// most 65,535; the text is R names without the string ending, with right offsets and kinds; the index holds 1..R in
-// rising order of name; each record has resources in 1..R, permitted kinds and a flag 0 or 1; the chains fall, hold their
-// resource and have as many records as the counts say, which add up to T, and as many live ones as the live counts say;
-// no triple stands twice.
-// One pass over each table and over the chains at each position, so linear in R + T + B, but for the last test: for
-// each record it walks the shortest of its three chains below it. Nothing is written, and no working memory is asked
-// for.
+// Tested in this order, each part only where those before it hold:
+// - the counters are within capacity and the reclaims at most 65,535;
+// - the text is R names without the string ending, with right offsets and kinds;
+// - the index holds 1..R in rising order of name;
+// - each record has resources in 1..R, permitted kinds and a flag 0 or 1;
+// - the chains fall, hold their resource and have as many records as the counts say, which add up to T, and as many live ones as the live
+//   counts say;
+// - no triple stands twice.
+//
+// One pass over each table and over the chains at each position, so linear in R + T + B, but for the last test: for each record it walks
+// the shortest of its three chains below it. Nothing is written, and no working memory is asked for.
 use store::Counters;
 ghost use mathlib.Core.Path.{_≡_};
 ghost use mathlib.Core.Bool.{true};

@@ -1,5 +1,5 @@
-// The pass over the used text: each name from where the one before was closed to the next zero byte, with its
-// resource's record.
+// The pass over the used text: each name from where the one before was closed to the next zero byte, with its resource's record.
+use store::ResourceId;
 ghost use mathlib.Core.Path.{_≡_};
 ghost use Prim.Native.Nat.{_+_, _≤_};
 ghost use lib.ListN.{length};
@@ -13,6 +13,7 @@ fn name_end(used: &[u8], from: usize) -> usize
     ensures { λ e. ⌜ (e ≡ from + length (nameFrom (now (used .entry)) from)) × (e ≤ length (now (used .entry))) ⌝ }
 {
     let mut i = from;
+    // No byte from `from` up to i is zero.
     while i < used.len() {
         if used[i] == 0 {
             return i;
@@ -23,10 +24,10 @@ fn name_end(used: &[u8], from: usize) -> usize
 }
 
 // Whether the name from `from` to `end` is closed, well formed and without the string ending, and resource y has its offset and kind.
-fn name_ok(resources: &[u32], used: &[u8], y: u32, from: usize, end: usize) -> bool
-    requires { ⌜ ResourceHeld (now resources) y ⌝ }
+fn name_ok(resources: &[u32], used: &[u8], y: ResourceId, from: usize, end: usize) -> bool
+    requires { ⌜ ResourceHeld (now resources) (y .0) ⌝ }
     requires { ⌜ (end ≡ from + length (nameFrom (now used) from)) × (end ≤ length (now used)) ⌝ }
-    ensures { λ b. ⌜ b ≡ nameOk (now (resources .entry)) (now (used .entry)) y from ⌝ }
+    ensures { λ b. ⌜ b ≡ nameOk (now (resources .entry)) (now (used .entry)) (y .0) from ⌝ }
 {
     if end == used.len() {
         return false;
@@ -49,15 +50,16 @@ pub fn names_ok(resources: &[u32], used: &[u8], r: u32) -> bool
     requires { ⌜ ResourcesHeld (now resources) r ⌝ }
     ensures { λ b. ⌜ b ≡ namesOk (now (resources .entry)) (now (used .entry)) r 1 0 ⌝ }
 {
-    let mut y: u32 = 1;
+    let mut done: u32 = 0;
     let mut from: usize = 0;
-    while y <= r {
+    // The text up to `from` is the names of the first `done` resources, with right offsets and kinds.
+    while done < r {
         let end = name_end(used, from);
-        if !name_ok(resources, used, y, from, end) {
+        if !name_ok(resources, used, ResourceId(done + 1), from, end) {
             return false;
         }
         from = end + 1;
-        y += 1;
+        done += 1;
     }
     from == used.len()
 }

@@ -1,4 +1,5 @@
 // The pass over the statement records, one by one: resources in 1..R, permitted kinds, flag 0 or 1.
+use store::StatementId;
 use store::Triple;
 ghost use mathlib.Core.Path.{_≡_};
 ghost use mathlib.Core.Bool.{true};
@@ -15,18 +16,18 @@ fn permitted(resources: &[u32], r: u32, x: Triple) -> bool
     requires { ⌜ known r x ≡ true ⌝ }
     ensures { λ b. ⌜ b ≡ permitted (kindAt (now (resources .entry))) x ⌝ }
 {
-    if table::inner::kind_at(resources, x.subject.0) == 3 {
+    if table::inner::kind_at(resources, x.subject) == 3 {
         return false;
     }
-    table::inner::kind_at(resources, x.predicate.0) == 1
+    table::inner::kind_at(resources, x.predicate) == 1
 }
 
 // Whether record n is right by itself.
-fn record_ok(resources: &[u32], statements: &[u32], r: u32, n: u32) -> bool
+fn record_ok(resources: &[u32], statements: &[u32], r: u32, n: StatementId) -> bool
     requires { ⌜ ResourcesHeld (now resources) r ⌝ }
-    requires { ⌜ StatementsHeld (now statements) n ⌝ }
-    requires { ⌜ 1 ≤ n ⌝ }
-    ensures { λ b. ⌜ b ≡ recordOk r (now (resources .entry)) (now (statements .entry)) (n - 1) ⌝ }
+    requires { ⌜ StatementsHeld (now statements) (n .0) ⌝ }
+    requires { ⌜ 1 ≤ n .0 ⌝ }
+    ensures { λ b. ⌜ b ≡ recordOk r (now (resources .entry)) (now (statements .entry)) (n .0 - 1) ⌝ }
 {
     let x = table::inner::triple_at(statements, n);
     if !table::known(r, x) {
@@ -44,12 +45,13 @@ pub fn each_ok(resources: &[u32], statements: &[u32], r: u32, t: u32) -> bool
     requires { ⌜ StatementsHeld (now statements) t ⌝ }
     ensures { λ b. ⌜ b ≡ allBelow (recordOk r (now (resources .entry)) (now (statements .entry))) t ⌝ }
 {
-    let mut n: u32 = 0;
-    while n < t {
-        if !record_ok(resources, statements, r, n + 1) {
+    let mut done: u32 = 0;
+    // The first `done` records are right by themselves.
+    while done < t {
+        if !record_ok(resources, statements, r, StatementId(done + 1)) {
             return false;
         }
-        n += 1;
+        done += 1;
     }
     true
 }

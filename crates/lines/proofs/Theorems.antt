@@ -61,7 +61,7 @@ lines-load text at l n h f s p o e before S =
       meant = a .meant s p o e;
       enterable = b;
       short = parts-short text s p o b;
-      loaded = line-loads before S (namesIn text s p o);
+      loaded = line-loads before S (namesIn text s p o) .0;
     }
 
 -- ---- a number, a term

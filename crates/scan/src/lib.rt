@@ -53,7 +53,7 @@ pub fn scan_open(
     ScanOpened::Cursor(ScanCursor {
         pattern: x,
         chain: chain,
-        next: StatementId(first),
+        next: first,
         generation: c.generation,
     })
 }
@@ -74,7 +74,7 @@ fn cursor_ok(c: Counters, statements: &[u32], q: ScanCursor) -> bool
     if q.next.0 > c.statements {
         return false;
     }
-    record_ok(statements, chain, x, q.next.0)
+    record_ok(statements, chain, x, q.next)
 }
 
 // The cursor with another next record, of the same generation.

@@ -8,6 +8,7 @@ use store::Counters;
 use store::Position;
 use store::Refusal;
 use store::Retracted;
+use store::ResourceId;
 use store::StatementId;
 use store::Triple;
 use table::COUNT;
@@ -34,32 +35,32 @@ ghost use Rattle.statement_record.specs.Records.{flagged, moved, Movable
 ghost use Rattle.statement_record.specs.Records.{Linkable, AllLinkable, Appendable, Appended, Revived, Struck};
 
 // The flag of record n.
-pub fn set_flag(statements: &mut [u32], n: u32, flag: u32)
-    requires { ⌜ StatementHeld (now statements) n ⌝ }
-    ensures { λ _. ⌜ now (statements .exit) ≡ flagged (now (statements .entry)) (n - 1) flag ⌝ }
+pub fn set_flag(statements: &mut [u32], n: StatementId, flag: u32)
+    requires { ⌜ StatementHeld (now statements) (n .0) ⌝ }
+    ensures { λ _. ⌜ now (statements .exit) ≡ flagged (now (statements .entry)) (n .0 - 1) flag ⌝ }
 {
-    let i = STATEMENT_WORDS * (n as usize - 1) + FLAG;
+    let i = STATEMENT_WORDS * (n.0 as usize - 1) + FLAG;
     statements[i] = flag;
 }
 
 // A live count with one more, or with one less.
-pub fn moved(n: u32, up: bool) -> u32
-    requires { ⌜ Movable up n ⌝ }
-    ensures { λ r. ⌜ r ≡ moved up n ⌝ }
+pub fn moved(count: u32, up: bool) -> u32
+    requires { ⌜ Movable up count ⌝ }
+    ensures { λ r. ⌜ r ≡ moved up count ⌝ }
 {
     if up {
-        return n + 1;
+        return count + 1;
     }
-    n - 1
+    count - 1
 }
 
 // The live count of resource y at a position, one up or one down.
-pub fn tally_at(resources: &mut [u32], p: Position, y: u32, up: bool)
-    requires { ⌜ Tallyable up (now resources) p y ⌝ }
-    ensures { λ _. ⌜ now (resources .exit) ≡ tallyAt (moved up) p y (now (resources .entry)) ⌝ }
+pub fn tally_at(resources: &mut [u32], p: Position, y: ResourceId, up: bool)
+    requires { ⌜ Tallyable up (now resources) p (y .0) ⌝ }
+    ensures { λ _. ⌜ now (resources .exit) ≡ tallyAt (moved up) p (y .0) (now (resources .entry)) ⌝ }
 {
     let live = live_at(resources, y, p);
-    let i = RESOURCE_WORDS * (y as usize - 1) + (LIVE + offset(p));
+    let i = RESOURCE_WORDS * (y.0 as usize - 1) + (LIVE + offset(p));
     resources[i] = moved(live, up);
 }
 
@@ -68,9 +69,9 @@ pub fn tally(resources: &mut [u32], x: Triple, up: bool)
     requires { ⌜ AllTallyable up (now resources) x ⌝ }
     ensures { λ _. ⌜ now (resources .exit) ≡ tally (moved up) x (now (resources .entry)) ⌝ }
 {
-    tally_at(resources, Position::Subject, x.subject.0, up);
-    tally_at(resources, Position::Predicate, x.predicate.0, up);
-    tally_at(resources, Position::Object, x.object.0, up);
+    tally_at(resources, Position::Subject, x.subject, up);
+    tally_at(resources, Position::Predicate, x.predicate, up);
+    tally_at(resources, Position::Object, x.object, up);
 }
 
 // Whether none of a triple's three live counts is 0, as must be where its record is live.
@@ -78,15 +79,15 @@ pub fn counting(resources: &[u32], x: Triple) -> bool
     requires { ⌜ TripleHeld (now resources) x ⌝ }
     ensures { λ b. ⌜ b ≡ counting (now (resources .entry)) x ⌝ }
 {
-    let s = live_at(resources, x.subject.0, Position::Subject);
+    let s = live_at(resources, x.subject, Position::Subject);
     if s == 0 {
         return false;
     }
-    let p = live_at(resources, x.predicate.0, Position::Predicate);
+    let p = live_at(resources, x.predicate, Position::Predicate);
     if p == 0 {
         return false;
     }
-    let o = live_at(resources, x.object.0, Position::Object);
+    let o = live_at(resources, x.object, Position::Object);
     0 < o
 }
 
@@ -95,27 +96,27 @@ pub fn write_record(resources: &[u32], statements: &mut [u32], t: u32, x: Triple
     requires { ⌜ TripleHeld (now resources) x × (statementWords * suc t ≤ length (now statements)) ⌝ }
     ensures { λ _. ⌜ now (statements .exit) ≡ appendRecord t x (now (resources .entry)) (now (statements .entry)) ⌝ }
 {
-    let subject = first_at(resources, x.subject.0, Position::Subject);
-    let predicate = first_at(resources, x.predicate.0, Position::Predicate);
-    let object = first_at(resources, x.object.0, Position::Object);
+    let subject = first_at(resources, x.subject, Position::Subject);
+    let predicate = first_at(resources, x.predicate, Position::Predicate);
+    let object = first_at(resources, x.object, Position::Object);
     let i = STATEMENT_WORDS * (t as usize);
     statements[i] = x.subject.0;
     statements[i + 1] = x.predicate.0;
     statements[i + 2] = x.object.0;
-    statements[i + NEXT] = subject;
-    statements[i + NEXT + 1] = predicate;
-    statements[i + NEXT + 2] = object;
+    statements[i + NEXT] = subject.0;
+    statements[i + NEXT + 1] = predicate.0;
+    statements[i + NEXT + 2] = object.0;
     statements[i + FLAG] = 0;
 }
 
 // Record t + 1 as the first with resource y at a position, which one more holds, live.
-pub fn link_first(resources: &mut [u32], p: Position, t: u32, y: u32)
-    requires { ⌜ Linkable (now resources) p y × (t ≤ maxStatements) ⌝ }
-    ensures { λ _. ⌜ now (resources .exit) ≡ linkFirst p t y (now (resources .entry)) ⌝ }
+pub fn link_first(resources: &mut [u32], p: Position, t: u32, y: ResourceId)
+    requires { ⌜ Linkable (now resources) p (y .0) × (t ≤ maxStatements) ⌝ }
+    ensures { λ _. ⌜ now (resources .exit) ≡ linkFirst p t (y .0) (now (resources .entry)) ⌝ }
 {
     let count = count_at(resources, y, p);
     let live = live_at(resources, y, p);
-    let i = RESOURCE_WORDS * (y as usize - 1) + offset(p);
+    let i = RESOURCE_WORDS * (y.0 as usize - 1) + offset(p);
     resources[i] = t + 1;
     resources[i + COUNT] = count + 1;
     resources[i + LIVE] = live + 1;
@@ -126,9 +127,9 @@ pub fn link_record(resources: &mut [u32], t: u32, x: Triple)
     requires { ⌜ AllLinkable t (now resources) x ⌝ }
     ensures { λ _. ⌜ now (resources .exit) ≡ linkRecord t x (now (resources .entry)) ⌝ }
 {
-    link_first(resources, Position::Subject, t, x.subject.0);
-    link_first(resources, Position::Predicate, t, x.predicate.0);
-    link_first(resources, Position::Object, t, x.object.0);
+    link_first(resources, Position::Subject, t, x.subject);
+    link_first(resources, Position::Predicate, t, x.predicate);
+    link_first(resources, Position::Object, t, x.object);
 }
 
 // Whether one record more than t is within capacity.
@@ -170,8 +171,8 @@ pub fn revive(
     ensures { λ r. ⌜ Revived c x (n .0) (now (resources .entry)) (now (resources .exit))
         (now (statements .entry)) (now (statements .exit)) r ⌝ }
 {
-    if flag_at(statements, n.0) == 1 {
-        set_flag(statements, n.0, 0);
+    if flag_at(statements, n) == 1 {
+        set_flag(statements, n, 0);
         tally(resources, x, true);
         return Asserted::Revived(n, c);
     }
@@ -188,13 +189,13 @@ pub fn strike(resources: &mut [u32], statements: &mut [u32], n: StatementId, x: 
     if n.0 == 0 {
         return Retracted::Absent;
     }
-    if flag_at(statements, n.0) == 1 {
+    if flag_at(statements, n) == 1 {
         return Retracted::Absent;
     }
     if !counting(resources, x) {
         return Retracted::Refused(Refusal::Damaged);
     }
-    set_flag(statements, n.0, 1);
+    set_flag(statements, n, 1);
     tally(resources, x, false);
     Retracted::Number(n)
 }

@@ -9,6 +9,7 @@ use chain_walk::walk::walk;
 use store::Counters;
 use store::Position;
 use store::Refusal;
+use store::ResourceId;
 use store::StatementId;
 use store::Triple;
 use table::fits;
@@ -42,9 +43,9 @@ pub enum Located {
 }
 
 // Whether the live count of resource y at a position is at most its count.
-pub fn countable_at(resources: &[u32], y: u32, p: Position) -> bool
-    requires { ⌜ ResourceHeld (now resources) y ⌝ }
-    ensures { λ b. ⌜ b ≡ leb (liveAt (now (resources .entry)) p y) (countAt (now (resources .entry)) p y) ⌝ }
+pub fn countable_at(resources: &[u32], y: ResourceId, p: Position) -> bool
+    requires { ⌜ ResourceHeld (now resources) (y .0) ⌝ }
+    ensures { λ b. ⌜ b ≡ leb (liveAt (now (resources .entry)) p (y .0)) (countAt (now (resources .entry)) p (y .0)) ⌝ }
 {
     let live = live_at(resources, y, p);
     let count = count_at(resources, y, p);
@@ -56,13 +57,13 @@ pub fn countable(resources: &[u32], x: Triple) -> bool
     requires { ⌜ TripleHeld (now resources) x ⌝ }
     ensures { λ b. ⌜ b ≡ countable (now (resources .entry)) x ⌝ }
 {
-    if !countable_at(resources, x.subject.0, Position::Subject) {
+    if !countable_at(resources, x.subject, Position::Subject) {
         return false;
     }
-    if !countable_at(resources, x.predicate.0, Position::Predicate) {
+    if !countable_at(resources, x.predicate, Position::Predicate) {
         return false;
     }
-    countable_at(resources, x.object.0, Position::Object)
+    countable_at(resources, x.object, Position::Object)
 }
 
 // Whether the walk may begin: firsts and counts are within T, live counts within the counts. Where not, assert and
@@ -93,7 +94,7 @@ pub fn locate(c: Counters, resources: &[u32], statements: &[u32], x: Triple) -> 
         chain,
         x,
         Sought::Same,
-        StatementId(first),
+        first,
         c.statements,
     ) {
         Walked::Found(n, _, _) => Located::At(n),
@@ -108,15 +109,15 @@ pub fn kinded(resources: &[u32], x: Triple) -> bool
     requires { ⌜ TripleHeld (now resources) x ⌝ }
     ensures { λ b. ⌜ b ≡ kinded (now (resources .entry)) x ⌝ }
 {
-    let s = kind_at(resources, x.subject.0);
+    let s = kind_at(resources, x.subject);
     if !in_range(LITERAL, s) {
         return false;
     }
-    let p = kind_at(resources, x.predicate.0);
+    let p = kind_at(resources, x.predicate);
     if !in_range(LITERAL, p) {
         return false;
     }
-    let o = kind_at(resources, x.object.0);
+    let o = kind_at(resources, x.object);
     in_range(LITERAL, o)
 }
 
@@ -125,11 +126,11 @@ pub fn permitted(resources: &[u32], x: Triple) -> bool
     requires { ⌜ TripleHeld (now resources) x ⌝ }
     ensures { λ b. ⌜ b ≡ permitted (kindAt (now (resources .entry))) x ⌝ }
 {
-    let s = kind_at(resources, x.subject.0);
+    let s = kind_at(resources, x.subject);
     if s == LITERAL {
         return false;
     }
-    let p = kind_at(resources, x.predicate.0);
+    let p = kind_at(resources, x.predicate);
     p == IRI
 }
 

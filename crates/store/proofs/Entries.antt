@@ -9,9 +9,9 @@ use lib.Dec.{eqb, leb, ltb}
 use Rattle.term.specs.Scanner.{firstKindOf}
 use Rattle.term.specs.Canonical.{canonical}
 use Rattle.store.specs.declared.Triple.{Triple}
-use Rattle.store.specs.Shared.{known, within, permitted, Entry, wellFormed, nameOf, bytesOf, maxReclaims}
+use Rattle.store.specs.Shared.{known, within, permitted, Entry, wellFormed, nameOf, bytesOf, maxReclaims, lookupName}
 use Rattle.store.specs.Model.{Model, Capacities, Call, intern, assert, retract, open′, next, reclaim}
-use Rattle.store.specs.Model.{lookupName, internName, internModel, entry, lookup, mark, put}
+use Rattle.store.specs.Model.{internName, internModel, entry, lookup, mark, put}
 use Rattle.store.specs.Model.{assertModel, strike, retractModel, openModel, turn, nextModel, callModel}
 use Rattle.store.specs.Model.{noListing, reclaimModel, modelReplies, modelAfter}
 use Rattle.store.specs.Claims.{reclaims, reclaimsIn}

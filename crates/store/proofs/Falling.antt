@@ -11,6 +11,7 @@ use Prim.Native.Nat.{ℕ, zero, suc, _+_, _≤_, _<_}
 use native.Mathlib.Omega.{arith}
 use lib.ListN.{length}
 use Rattle.store.specs.Shared.{below, head0}
+use Rattle.store.specs.Claims.{BelowFalls}
 use Rattle.store.proofs.Tests.{decide}
 
 pub below-yes : (f : ℕ → Bool) (n : ℕ) → f n ≡ true → below f (suc n) ≡ suc n ∷ below f n
@@ -169,16 +170,6 @@ rank-unique f (suc n) k h a b =
 
 -- ---- what is in it: exactly the positions that pass, falling
 
-abbrev pub Falling : List ℕ → Type 0
-Falling [] = Unit {0}
-Falling (x ∷ xs) = (head0 xs < x) × Falling xs
-
-pub below-falling : (f : ℕ → Bool) (n : ℕ) → Falling (below f n)
-unfolding below
-below-falling f zero = tt
-below-falling f (suc n) =
-    decide (f n) (λ e. rw e (omega (arith, head-le f n), below-falling f n)) (λ e. rw e (below-falling f n))
-
 pub below-in : (f : ℕ → Bool) (n i : ℕ) → i < n → f i ≡ true → List·Memᴰ (suc i) (below f n)
 unfolding below
 below-in f zero i h e = absurd (omega arith)
@@ -207,3 +198,11 @@ below-out f (suc n) x m =
         → Passing f (suc n) x
     go d (inl e) ih = (n, e, omega arith, d)
     go d (inr r) ih = wider (ih r)
+
+pub below-falling : BelowFalls
+unfolding below
+below-falling f zero = tt
+below-falling f (suc n) =
+    decide (f n)
+    (λ e. rw e (λ y m. let r = below-out f n y m in omega (arith, r .1, r .2), below-falling f n))
+    (λ e. rw e (below-falling f n))

@@ -13,10 +13,10 @@ use Rattle.store.specs.Tables.{Tables, resourceCapacity, statementCapaci
 use Rattle.store.specs.Values.{noTriple}
 use Rattle.store.specs.Model.{Model, Capacities, entry}
 use Rattle.store.specs.Walk.{entryAt}
-use Rattle.store.specs.Dictionary.{Named, nameAt}
+use Rattle.store.specs.Dictionary.{Named, nameAt, namesUpTo}
 use Rattle.store.specs.Soundness.{Sound}
 use Rattle.store.specs.History.{Store, store, capacitiesOf}
-use Rattle.store.specs.Claims.{entriesUpTo, namesUpTo, statementsIn, namesIn, listsOf, Holds}
+use Rattle.store.specs.Claims.{entriesUpTo, statementsIn, namesIn, listsOf, Holds}
 use Rattle.store.proofs.Tests.{upto, fits-parts}
 use Rattle.store.proofs.Chains.{entry-known}
 use Rattle.store.proofs.Represented.{Agreeing, totals-agree, standing-none}

@@ -18,7 +18,8 @@ use Rattle.store.specs.declared.Triple.{Triple}
 use Rattle.store.specs.Shared.{at, known, within, same, permitted, below, head0, maxReclaims, Entry, wellFormed, nameOf, bytesOf}
 use Rattle.store.specs.Tables.{Tables, fits, resourceCapacity, statementCapacity, textCapacity, tripleAt, kindAt}
 use Rattle.store.specs.Model.{Listing, Model, Capacities, Call, intern, assert, retract, open′, next, reclaim}
-use Rattle.store.specs.Model.{lookupName, internName, internModel, entry, lookup}
+use Rattle.store.specs.Model.{internName, internModel, entry, lookup}
+use Rattle.store.specs.Shared.{lookupName}
 use Rattle.store.specs.Model.{mark, put, assertModel, strike, retractModel, openModel, turn, nextModel}
 use Rattle.store.specs.Model.{freshModel, callModel, modelAfter, withNames, withEntries, withListings, noListing, unstruck, reclaimed}
 use Rattle.store.specs.Model.{reclaimModel}

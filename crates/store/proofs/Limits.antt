@@ -1,33 +1,38 @@
--- Limits and what is refused for them: refusal 1 and that it comes first, 13 of a listing, the refusals of a reclaim, the number of
+-- Limits and what is refused for them: refusal 1 and that it comes first, 13 and 6 of a listing, the refusals of a reclaim, the number of
 -- reclaims; and that a reclaim keeps the order. Assumes nothing.
 use mathlib.Core.Path.{_≡_, refl, sym, ap, _∙_}
-use mathlib.Core.Logic.{_≢_}
-use mathlib.Core.Bool.{true, false}
+use mathlib.Core.Logic.{_≢_, _↔_}
+use mathlib.Core.Bool.{true, false, true≢false}
 use mathlib.Core.List.{List, [], _∷_, _++_}
 use mathlib.Core.Option.{Option, none, some}
-use Prim.Native.Nat.{ℕ, suc, _<_}
+use Prim.Native.Nat.{ℕ, zero, suc, _<_}
 use native.Mathlib.Omega.{arith}
-use lib.Dec.{eqb, ltb}
-use borrow.Author.Tests.{eq-eqb, ne-eqb, lt-ltb, ltb-true, ltb-false}
+use lib.Dec.{eqb, leb, ltb}
+use borrow.Author.Tests.{eqb-true, eq-eqb, ne-eqb, lt-ltb, ltb-true, ltb-false, leb-true, le-leb}
 use Rattle.store.specs.declared.Counters.{Counters}
+use Rattle.store.specs.declared.Position.{Position}
+use Rattle.store.specs.declared.Chain.{Chain}
+use Rattle.store.specs.declared.Chain.the-variants.{All, By}
+use Rattle.store.specs.declared.Triple.{Triple}
 use Rattle.store.specs.declared.ScanCursor.{ScanCursor}
 use Rattle.store.specs.declared.Refusal.{Refusal}
 use Rattle.store.specs.declared.Refusal.the-variants.{Capacity, Damaged, ReclaimLimit}
 use Rattle.store.specs.declared.Reclaimed.{Reclaimed}
 use Rattle.store.specs.declared.Reclaimed.the-variants.{Refused as NotReclaimed}
-use Rattle.store.specs.Tables.{Tables, after, fits}
-use Rattle.store.specs.Shared.{maxReclaims, Entry}
+use Rattle.store.specs.Tables.{Tables, after, fits, termAt}
+use Rattle.store.specs.Shared.{maxReclaims, Entry, at, within}
 use Rattle.store.specs.Values.{Values, refusalNumber, scannedValues, reclaimedValues}
 use Rattle.store.specs.Model.{intern, assert, retract, open′, next, reclaim, byValue, lent, freshModel, unstruck}
 use Rattle.store.specs.Dictionary.{internOf}
-use Rattle.store.specs.Walk.{Step, found, ended, spent}
+use Rattle.store.specs.Walk.{Step, found, ended, spent, sits}
 use Rattle.store.specs.Statement.{assertOf, retractOf, assertLentOf, retractLentOf}
-use Rattle.store.specs.Scan.{openOf, cursorOk, walkFrom, scannedAs, nextOf}
+use Rattle.store.specs.Scan.{openOf, chainOk, recordOk, cursorOk, walkFrom, scannedAs, nextOf}
 use Rattle.store.specs.Reclaim.{reclaimOf}
 use Rattle.store.specs.Soundness.{Sound}
 use Rattle.store.specs.History.{freshStore, capacitiesOf, callStore}
-use Rattle.store.specs.Claims.{FitsMeans, CapacityFirst, StaleRefused, NumberCounts, UnstruckMeans, ReclaimRefuses}
-use Rattle.store.proofs.Tests.{decide, fits-parts, fits-of}
+use Rattle.store.specs.Claims.{FitsMeans, CapacityFirst, StaleRefused, Stands, BadRefused, NumberCounts, UnstruckMeans}
+use Rattle.store.specs.Claims.{ReclaimRefuses}
+use Rattle.store.proofs.Tests.{decide, and-l, and-r, and-of, all3-at, all3-of, within-high, within-of, fits-parts, fits-of}
 use Rattle.store.proofs.Histories.{history-agrees, fresh-agrees}
 use Rattle.store.proofs.Visits.{generation-after}
 
@@ -65,13 +70,14 @@ pub unstruck-means : UnstruckMeans
 unfolding unstruck
 unstruck-means = (λ e. refl, append-kept)
 
--- ---- refusal 13 of a listing
+-- ---- refusals 13 and 6 of a listing
 
-step-not : (q : ScanCursor) (z : Option Step) → (scannedValues (scannedAs q z)) .refusal ≢ 13
-step-not q none h = absurd (omega (arith, h))
-step-not q (some (found n v r)) h = absurd (omega (arith, h))
-step-not q (some (ended v)) h = absurd (omega (arith, h))
-step-not q (some (spent v r)) h = absurd (omega (arith, h))
+-- the walk refuses nothing but 9
+step-not : (i : ℕ) → i ≢ 0 → i ≢ 9 → (q : ScanCursor) (z : Option Step) → (scannedValues (scannedAs q z)) .refusal ≢ i
+step-not i a b q none h = b (sym h)
+step-not i a b q (some (found n v r)) h = a (sym h)
+step-not i a b q (some (ended v)) h = a (sym h)
+step-not i a b q (some (spent v r)) h = a (sym h)
 
 -- from a cursor of the store's own number
 own-not : (c : Counters) (m : Tables) (q : ScanCursor) (b : ℕ) → eqb (q .generation) (c .generation) ≡ true
@@ -80,7 +86,9 @@ unfolding nextOf
 own-not c m q b d =
     decide (fits c m)
     (λ a. rw (a, d) (decide (cursorOk c m q)
-    (λ o. rw o (decide (eqb b 0) (λ z. rw z (λ h. absurd (omega (arith, h)))) (λ z. rw z (step-not q (walkFrom c m q b)))))
+    (λ o. rw o (decide (eqb b 0)
+    (λ z. rw z (λ h. absurd (omega (arith, h))))
+    (λ z. rw z (step-not 13 (λ e. omega (arith, e)) (λ e. omega (arith, e)) q (walkFrom c m q b)))))
     (λ o. rw o (λ h. absurd (omega (arith, h))))))
     (λ a. rw a (λ h. absurd (omega (arith, h))))
 
@@ -101,6 +109,78 @@ unfolding nextOf
 stale-refused c m q b = (
   λ h. stale-when c m q b (ap (λ (v : Values). v .refusal) h),
   λ h. rw (h .0, ne-eqb (q .generation) (c .generation) (h .1)),
+)
+
+-- what 6 tests, clause by clause
+chain-bound : (ch : Chain) (x : Triple) → chainOk ch x ≡ true → (p : Position) → ch ≡ By p → 0 < at p x
+unfolding chainOk
+chain-bound ch x e p d = ltb-true 0 (at p x) (rw d at e)
+
+chain-unbound : (ch : Chain) (x : Triple) → chainOk ch x ≡ true → ch ≡ All → (p : Position) → at p x ≡ 0
+unfolding chainOk
+chain-unbound ch x e d p = eqb-true (at p x) 0 (all3-at (λ p. eqb (at p x) 0) (rw d at e) p)
+
+chain-of : (ch : Chain) (x : Triple) → ((p : Position) → ch ≡ By p → 0 < at p x) → (ch ≡ All → (p : Position) → at p x ≡ 0)
+    → chainOk ch x ≡ true
+unfolding chainOk
+chain-of All x b u = all3-of (λ p. eqb (at p x) 0) (λ p. eq-eqb (at p x) 0 (u refl p))
+chain-of (By p) x b u = lt-ltb 0 (at p x) (b p refl)
+
+record-holds : (stm : List ℕ) (ch : Chain) (x : Triple) (n : ℕ) → recordOk stm ch x n ≡ true → (p : Position) (i : ℕ)
+    → ch ≡ By p → n ≡ suc i → termAt stm p i ≡ at p x
+unfolding recordOk sits
+record-holds stm ch x n e p i d z = eqb-true (termAt stm p i) (at p x) (rw (d, z) at e)
+
+record-of : (stm : List ℕ) (ch : Chain) (x : Triple) (n : ℕ)
+    → ((p : Position) (i : ℕ) → ch ≡ By p → n ≡ suc i → termAt stm p i ≡ at p x) → recordOk stm ch x n ≡ true
+unfolding recordOk sits
+record-of stm ch x zero h = refl
+record-of stm All x (suc i) h = refl
+record-of stm (By p) x (suc i) h = eq-eqb (termAt stm p i) (at p x) (h p i refl refl)
+
+pub stands-means : (c : Counters) (m : Tables) (q : ScanCursor) → cursorOk c m q ≡ true ↔ Stands c m q
+unfolding cursorOk
+stands-means c m q = (
+  λ e.
+      let f = and-r (within (c .resources) (q .pattern)) _ e in
+      let g = and-r (chainOk (q .chain) (q .pattern)) _ f in
+      let k = and-l (chainOk (q .chain) (q .pattern)) _ f in
+      record {
+        numbers = within-high (c .resources) (q .pattern) (and-l _ _ e);
+        bound = chain-bound (q .chain) (q .pattern) k;
+        unbound = chain-unbound (q .chain) (q .pattern) k;
+        next = leb-true (q .next .0) (c .statements) (and-l _ _ g);
+        holds = record-holds (m .statements) (q .chain) (q .pattern) (q .next .0) (and-r (leb (q .next .0) (c .statements)) _ g);
+      },
+  λ S. and-of _ _ (within-of (c .resources) (q .pattern) (S .numbers))
+      (and-of _ _ (chain-of (q .chain) (q .pattern) (S .bound) (S .unbound))
+      (and-of _ _ (le-leb (q .next .0) (c .statements) (S .next))
+      (record-of (m .statements) (q .chain) (q .pattern) (q .next .0) (S .holds)))),
+)
+
+pub bad-when : (c : Counters) (m : Tables) (q : ScanCursor) (b : ℕ) → (scannedValues (nextOf c m q b)) .refusal ≡ 6
+    → (fits c m ≡ true) × (q .generation ≡ c .generation) × (cursorOk c m q ≡ false)
+unfolding nextOf
+bad-when c m q b =
+    decide (fits c m)
+    (λ a. rw a (decide (eqb (q .generation) (c .generation))
+    (λ d. rw d (decide (cursorOk c m q)
+    (λ o. rw o (decide (eqb b 0)
+    (λ z. rw z (λ h. absurd (omega (arith, h))))
+    (λ z. rw z (λ h. absurd (step-not 6 (λ e. omega (arith, e)) (λ e. omega (arith, e)) q (walkFrom c m q b) h)))))
+    (λ o. rw o (λ h. (refl, eqb-true (q .generation) (c .generation) d, refl)))))
+    (λ d. rw d (λ h. absurd (omega (arith, h))))))
+    (λ a. rw a (λ h. absurd (omega (arith, h))))
+
+pub bad-refused : BadRefused
+unfolding nextOf
+bad-refused c m q b = (
+  λ h.
+      let w = bad-when c m q b (ap (λ (v : Values). v .refusal) h) in
+      (w .0, w .1, λ S. true≢false (sym (stands-means c m q .1 S) ∙ w .2)),
+  λ h. decide (cursorOk c m q)
+      (λ o. absurd (h .2 (stands-means c m q .0 o)))
+      (λ o. rw (h .0, eq-eqb (q .generation) (c .generation) (h .1), o)),
 )
 
 -- ---- what a reclaim refuses

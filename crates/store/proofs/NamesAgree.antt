@@ -18,16 +18,17 @@ use Rattle.store.specs.declared.Counters.{Counters}
 use Rattle.store.specs.declared.Interned.{Interned}
 use Rattle.store.specs.declared.IndexPlace.{IndexPlace}
 use Rattle.store.specs.declared.IndexPlace.the-variants.{At, Before, Torn}
-use Rattle.store.specs.Shared.{below, head0, wellFormed, nameOf, bytesOf}
+use Rattle.store.specs.Shared.{wellFormed, nameOf, bytesOf, lookupName}
 use Rattle.store.specs.Tables.{Tables, word, resourceWords, resourceCapacity, textCapacity, offsetAt, kindAt}
 use Rattle.store.specs.Values.{Values, counted, internedValues}
-use Rattle.store.specs.Model.{Model, Capacities, lookupName, totals, withNames, internName, internModel}
+use Rattle.store.specs.Model.{Model, Capacities, totals, withNames, internName, internModel}
 use Rattle.store.specs.Dictionary.{storable, PlaceWithin}
 use Rattle.store.specs.Dictionary.{compare, equal, isLess, Indexed, Named, nameAt, rank, placeAt, indexPlaceOf}
 use Rattle.store.specs.Dictionary.{roomFor, oneNameMore, freshRecord, insertAt, withName, internAs, internOf}
 use Rattle.store.specs.History.{Store, store, internedCounters}
 use Rattle.store.proofs.Tests.{decide, upto-one, and-l, and-r, and-of}
-use Rattle.store.proofs.Falling.{below-cong, head-le, head-passes, head-pos}
+use Rattle.store.proofs.Falling.{below-cong}
+use Rattle.store.proofs.Pins.{listed, not-missed}
 use Rattle.store.proofs.Order.{compare-equal}
 use Rattle.store.proofs.Words.{grow-length, grow-old, grow-new}
 use Rattle.store.proofs.Links.{grow-linked}
@@ -59,32 +60,20 @@ module _ (ns : List (List ℕ)) (c : Counters) (m : Tables) (N : Named ns c m) w
     abbrev kk : ℕ
     kk = rank (nameOf ns) (m .index) (c .resources) w
 
-    pub listed : (i : ℕ) → lookupName w ns ≡ suc i → (i < length ns) × (getD ns i [] ≡ w)
-    unfolding lookupName
-    listed i e = (
-      omega (arith, head-le (λ i. eqBytes (getD ns i []) w) (length ns), e),
-      eqBytes-is (getD ns i []) w (head-passes (λ i. eqBytes (getD ns i []) w) (length ns) i e),
-    )
-
     name-is : (i : ℕ) → lookupName w ns ≡ suc i → nameOf ns (suc i) ≡ w
     unfolding nameOf
-    name-is i e = let q : suc i - 1 ≡ i = omega arith in rw q (listed i e .1)
+    name-is i e = let q : suc i - 1 ≡ i = omega arith in rw q (listed w ns i e .1)
 
     -- a listed name stands at its rank
     pub listed-at : (i : ℕ) → lookupName w ns ≡ suc i → (kk < c .resources) × (word (m .index) kk ≡ suc i)
     listed-at i e =
         at-rank-is (nameOf ns) (m .index) (c .resources) (N .index) w (suc i) (omega arith)
-        (omega (arith, N .size, listed i e .0)) (name-is i e)
+        (omega (arith, N .size, listed w ns i e .0)) (name-is i e)
 
     -- a name that is not listed is no number's
     pub unlisted : lookupName w ns ≡ 0 → (y : ℕ) → 0 < y → y ≤ c .resources → nameOf ns y ≡ w → ⊥
-    unfolding lookupName nameOf
-    unlisted e y h q d =
-        omega (
-          arith,
-          head-pos (λ i. eqBytes (getD ns i []) w) (length ns) (y - 1) (omega (arith, N .size)) (rw d (eqBytes-refl w)),
-          e,
-        )
+    unfolding nameOf
+    unlisted e y h q d = omega (arith, not-missed w ns (y - 1) (omega (arith, N .size)) d, e)
 
     pub missed : lookupName w ns ≡ 0 → kk < c .resources → compare (nameOf ns (word (m .index) kk)) w ≢ equal
     missed e h d = unlisted e (word (m .index) kk) (N .index .low kk h) (N .index .high kk h) (compare-equal _ w d)
@@ -93,7 +82,7 @@ module _ (ns : List (List ℕ)) (c : Counters) (m : Tables) (N : Named ns c m) w
         ≡ true
     hit-test i e =
         and-of _ _ (lt-ltb kk (c .resources) (listed-at i e .0))
-        (rw (listed-at i e .1, name-at (suc i) (omega arith) (omega (arith, N .size, listed i e .0)), name-is i e)
+        (rw (listed-at i e .1, name-at (suc i) (omega arith) (omega (arith, N .size, listed w ns i e .0)), name-is i e)
         (eqBytes-refl w))
 
     miss-test : lookupName w ns ≡ 0 → ltb kk (c .resources) && eqBytes (nameAt m (word (m .index) kk)) w ≡ false
@@ -123,7 +112,7 @@ module _ (ns : List (List ℕ)) (c : Counters) (m : Tables) (N : Named ns c m) w
         go : (n : ℕ) → lookupName w ns ≡ n → PlaceWithin (c .resources) (indexPlaceOf c m w)
         go zero e = rw (place-unlisted e) (rank-le (nameOf ns) (m .index) (c .resources) w)
         go (suc i) e =
-            rw (place-listed i e) (omega arith, omega (arith, N .size, listed i e .0), listed-at i e .0)
+            rw (place-listed i e) (omega arith, omega (arith, N .size, listed w ns i e .0), listed-at i e .0)
 
 -- ---- one name more
 

@@ -23,11 +23,11 @@ use Rattle.store.specs.Model.{pickModel, listing, cursorOf, noListing, l
 use Rattle.store.specs.Model.{takeFrom, turn, openModel, nextModel, callModel, modelReplies, modelAfter}
 use Rattle.store.specs.History.{Store, freshStore, capacitiesOf, callStore, storeReplies, storeAfter}
 use Rattle.store.specs.Claims.{Opening, storeThen, opened, Accepted, openingNumber, chainThen, storeNow, visitsOf}
-use Rattle.store.specs.Claims.{visitsSoFar, restNow, reached, liveNow, nextNow, Latest, NoneOf, Exhausts}
+use Rattle.store.specs.Claims.{visitsSoFar, restNow, reached, liveNow, nextNow, Latest, NoneOf, Exhausts, Falling}
 use Rattle.store.specs.Claims.{Shortest, unbound, bound, statementsIn, Finds, EndsOrSpends, VisitsAddUp}
 use Rattle.store.specs.Claims.{takenSoFar, reclaimsIn, reclaimsSince, Unreclaimed, NoneIsMissed, ReadsOnWithBudget, StaleAfterReclaim}
 use Rattle.store.proofs.Tests.{decide, off-lt, and-r}
-use Rattle.store.proofs.Falling.{Falling, below-falling, below-in, all-pass}
+use Rattle.store.proofs.Falling.{below-falling, below-in, all-pass}
 use Rattle.store.proofs.Picking.{Picked, pick-picks, Bound, pick-bound}
 use Rattle.store.proofs.Represented.{Agreeing, Same}
 use Rattle.store.proofs.Histories.{call-agrees, history-agrees, fresh-agrees}

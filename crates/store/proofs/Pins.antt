@@ -1,25 +1,28 @@
 -- What stands on both sides of the claim about histories, said another way: tests of triples, matching, permitted
--- kinds, falling positions, the pick. Assumes nothing.
+-- kinds, falling positions, names and their positions, the pick. Assumes nothing.
 use mathlib.Core.Path.{_≡_, refl, sym, ap, _∙_}
-use mathlib.Core.Logic.{_≢_, _↔_}
+use mathlib.Core.Logic.{_≢_, _↔_, ⊎-elim}
 use mathlib.Core.Bool.{Bool, true, false, cond, not, _&&_, _||_, true≢false, false≢true}
-use mathlib.Core.List.{List, List·Memᴰ}
+use mathlib.Core.List.{List, [], _∷_, List·Memᴰ, List·Memᴰ·head, List·Memᴰ·tail, List·Memᴰ·not-nil, List·Memᴰ·cases-cons, Memᴰ·cast}
 use Prim.Native.Nat.{ℕ, zero, suc, _≤_, _<_}
 use native.Mathlib.Omega.{arith}
+use lib.ListN.{length, getD}
 use lib.Dec.{eqb, leb, ltb}
 use borrow.Author.Tests.{eqb-true, eqb-false, eq-eqb, ne-eqb}
+use Rattle.term.specs.Bytes.{eqBytes}
+use Rattle.term.proofs.Booleans.{eqBytes-is, eqBytes-refl}
 use Rattle.store.specs.declared.Position.{Position}
 use Rattle.store.specs.declared.Chain.{Chain}
 use Rattle.store.specs.declared.Chain.the-variants.{All, By}
 use Rattle.store.specs.declared.Triple.{Triple}
-use Rattle.store.specs.Shared.{at, all3, known, within, same, agrees, permitted, below, Entry, matches, pick}
+use Rattle.store.specs.Shared.{at, all3, known, within, same, agrees, permitted, below, Entry, matches, pick, lookupName}
 use Rattle.store.specs.Tables.{off}
 use Rattle.store.specs.Claims.{KnownMeans, WithinMeans, SameMeans, MatchesMeans, PermittedMeans, BelowMeans}
-use Rattle.store.specs.Claims.{FirstIsHighest}
+use Rattle.store.specs.Claims.{FirstIsHighest, BytesMean, LookupMeans}
 use Rattle.store.specs.Claims.{LeastBound, PicksLeast}
 use Rattle.store.proofs.Tests.{decide, off-lt, and-l, and-r, and-of, all3-at, all3-of, known-low, known-high}
 use Rattle.store.proofs.Tests.{known-of, within-high, within-of, same-is, same-self}
-use Rattle.store.proofs.Falling.{below-in, below-out, head-most}
+use Rattle.store.proofs.Falling.{below-in, below-out, head-le, head-passes, head-most, head-pos}
 use Rattle.store.proofs.Picking.{Picked, pick-picks}
 
 pub known-means : KnownMeans
@@ -82,6 +85,45 @@ below-means f n i = (
 pub first-is-highest : FirstIsHighest
 first-is-highest f n i m =
     let r = below-out f n i m in omega (arith, r .1, head-most f n (r .0) (r .2) (r .3))
+
+-- ---- names
+
+pub bytes-mean : BytesMean
+bytes-mean v w = (eqBytes-is v w, λ e. rw e (eqBytes-refl w))
+
+-- a member has a position, and what has one is a member
+mem-at : (ns : List (List ℕ)) (i : ℕ) → i < length ns → List·Memᴰ (getD ns i []) ns
+mem-at [] i h = absurd (omega arith)
+mem-at (n ∷ ns) zero h = List·Memᴰ·head refl
+mem-at (n ∷ ns) (suc i) h = List·Memᴰ·tail (mem-at ns i (omega arith))
+
+at-mem : (w : List ℕ) (ns : List (List ℕ)) → List·Memᴰ w ns → (i : ℕ) × (i < length ns) × (getD ns i [] ≡ w)
+at-mem w [] m = absurd (List·Memᴰ·not-nil m)
+at-mem w (n ∷ ns) m =
+    ⊎-elim (λ e. (0, omega arith, sym e)) (λ r. let p = at-mem w ns r in (suc (p .0), omega (arith, p .1), p .2))
+    (List·Memᴰ·cases-cons m)
+
+module _ (w : List ℕ) (ns : List (List ℕ)) where
+  pub listed : (i : ℕ) → lookupName w ns ≡ suc i → (i < length ns) × (getD ns i [] ≡ w)
+  unfolding lookupName
+  listed i e = (
+    omega (arith, head-le (λ i. eqBytes (getD ns i []) w) (length ns), e),
+    eqBytes-is (getD ns i []) w (head-passes (λ i. eqBytes (getD ns i []) w) (length ns) i e),
+  )
+
+  pub not-missed : (i : ℕ) → i < length ns → getD ns i [] ≡ w → 0 < lookupName w ns
+  unfolding lookupName
+  not-missed i h e = head-pos (λ i. eqBytes (getD ns i []) w) (length ns) i h (rw e (eqBytes-refl w))
+
+pub lookup-means : LookupMeans
+lookup-means w ns = (
+  listed w ns,
+  (λ e m. let p = at-mem w ns m in omega (arith, not-missed w ns (p .0) (p .1) (p .2), e), λ h. none h (lookupName w ns) refl),
+)
+  where
+    none : (List·Memᴰ w ns → ⊥) → (n : ℕ) → lookupName w ns ≡ n → lookupName w ns ≡ 0
+    none h zero e = e
+    none h (suc i) e = let z = listed w ns i e in absurd (h (Memᴰ·cast (sym (z .1)) (mem-at ns i (z .0))))
 
 -- ---- the pick
 

@@ -19,7 +19,8 @@ use Rattle.store.specs.Shared.{at, known, within, same, permitted, head0
 use Rattle.store.specs.Tables.{Tables, flagAt}
 use Rattle.store.specs.Values.{Values}
 use Rattle.store.specs.Model.{Model, Capacities, Form, Call, intern, assert, retract, open′, next, reclaim}
-use Rattle.store.specs.Model.{freshModel, lookupName, internName, internModel, entry}
+use Rattle.store.specs.Model.{freshModel, internName, internModel, entry}
+use Rattle.store.specs.Shared.{lookupName}
 use Rattle.store.specs.Model.{lookup, put, assertModel, strike, retractModel, openModel, turn, noListing, nextModel}
 use Rattle.store.specs.Model.{unstruck, reclaimed, reclaimModel, callModel, modelAfter}
 use Rattle.store.specs.Walk.{entryAt}

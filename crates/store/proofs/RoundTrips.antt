@@ -23,9 +23,9 @@ use Rattle.store.specs.declared.NameRead.{NameRead}
 use Rattle.store.specs.declared.NameRead.the-variants.{Span, Refused as NotNamed}
 use Rattle.store.specs.declared.Lookup.{Lookup}
 use Rattle.store.specs.declared.Lookup.the-variants.{Number, Absent, Refused as NotFound}
-use Rattle.store.specs.Shared.{below, head0, wellFormed, nameOf}
+use Rattle.store.specs.Shared.{below, head0, wellFormed, nameOf, lookupName}
 use Rattle.store.specs.Tables.{Tables, fits, word, offsetAt}
-use Rattle.store.specs.Model.{lookupName, internModel}
+use Rattle.store.specs.Model.{internModel}
 use Rattle.store.specs.Reading.{inRange, zeroFrom, spanTo, nameSpanOf}
 use Rattle.store.specs.Dictionary.{storable, Named, joined, findOf, internOf}
 use Rattle.store.specs.Soundness.{Sound}
@@ -35,7 +35,9 @@ use Rattle.store.proofs.Falling.{head-unique}
 use Rattle.store.proofs.Form.{clean, form-clean, form-short, storable-formed, storable-plain, storable-kept}
 use Rattle.store.proofs.Text.{text-at, bytes-take}
 use Rattle.store.proofs.Index.{names-distinct}
-use Rattle.store.proofs.NamesAgree.{place-listed, place-unlisted, listed}
+use Rattle.store.proofs.Pins.{listed}
+use Rattle.store.proofs.NamesAgree.{name-at}
+use Rattle.store.proofs.Held.{named-names}
 
 -- ---- the zero byte that closes a name
 
@@ -146,11 +148,11 @@ module _ (c : Counters) (m : Tables) (S : Sound c m) where
   find-listed : (w : List ℕ) (i : ℕ) → wellFormed w ≡ true → lookupName (canonical w) ns ≡ suc i
       → findOf c m w ≡ Number (record { 0 = suc i })
   unfolding findOf
-  find-listed w i f e = rw (S .capacity, f, place-listed ns c m N (canonical w) i e)
+  find-listed w i f e = rw (S .capacity, f, named-names ns c m N, e)
 
   find-unlisted : (w : List ℕ) → wellFormed w ≡ true → lookupName (canonical w) ns ≡ 0 → findOf c m w ≡ Absent
   unfolding findOf
-  find-unlisted w f e = rw (S .capacity, f, place-unlisted ns c m N (canonical w) e)
+  find-unlisted w f e = rw (S .capacity, f, named-names ns c m N, e)
 
   find-malformed : (w : List ℕ) → wellFormed w ≡ false → findOf c m w ≡ NotFound Malformed
   unfolding findOf
@@ -187,7 +189,7 @@ module _ (c : Counters) (m : Tables) (S : Sound c m) where
       go f zero q = let d = find-unlisted w f q in absurd (let z : _≡_ {A = ℕ} 0 1 = cc in omega arith)
       go f (suc i) q =
           let d : y ≡ record { 0 = suc i } = number-is y (record { 0 = suc i }) (sym e ∙ find-listed w i f q) in
-          let l = listed ns c m N (canonical w) i q in
+          let l = listed (canonical w) ns i q in
           rw d (omega arith, omega (arith, l .0, N .size), name-of i ∙ l .1)
 
   -- a number with a name is in range
@@ -217,7 +219,7 @@ module _ (c : Counters) (m : Tables) (S : Sound c m) where
 
 pub round-trips : RoundTrips
 round-trips c m S = record {
-  there = λ y a b. (nameOf (S .names) (y .0), named-as c m S y a b, find-name c m S y a b);
+  there = λ y a b. rw (name-at (S .names) c m (S .named) (y .0) a b) (named-as c m S y a b, find-name c m S y a b);
   back = λ w y. (
     λ e.
         let f = found-number c m S w y e in

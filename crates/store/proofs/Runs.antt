@@ -20,9 +20,9 @@ use Rattle.store.specs.Tables.{Tables, tables, fits, termAt, nextAt, fla
 use Rattle.store.specs.Tables.{kindAt, liveAt, resourceWords}
 use Rattle.store.specs.Values.{Values, refusedWith, numbered, counted, placed, stepped}
 use Rattle.store.specs.Model.{Call, intern, assert, retract, open′, next, reclaim, byValue, lent, Capacities, freshModel}
-use Rattle.store.specs.Model.{lookupName, internName, internModel}
+use Rattle.store.specs.Model.{internName, internModel}
+use Rattle.store.specs.Shared.{lookupName, pick}
 use Rattle.store.specs.Model.{lookup, mark, put, assertModel, strike, retractModel, onChain, holders, Model, unstruck, reclaimModel}
-use Rattle.store.specs.Shared.{pick}
 use Rattle.store.specs.Reclaim.{unlinked, sweepOne, sweep, blanked, sweptOf, reclaimOf}
 use Rattle.store.specs.Model.{pickModel, listing, openModel, take-off, takeFrom, turn, nextModel, callModel, modelReplies}
 use Rattle.store.specs.Walk.{entryAt, pickChain, pickable, startOf, linkOf, sits, visitable, walk}
@@ -30,7 +30,7 @@ use Rattle.store.specs.Statement.{seek, countable, locate, tallyAt, tall
 use Rattle.store.specs.Statement.{assertOf, counting, retracting, retractOf, assertLentOf, retractLentOf}
 use Rattle.store.specs.Scan.{cursorIn, openOf, chainOk, recordOk, cursorOk, walkFrom, nextOf}
 use Rattle.store.specs.Dictionary.{compare, nameAt, rank, placeAt, indexPlaceOf, roomFor, bring, insertAt}
-use Rattle.store.specs.Dictionary.{findOf, internAs, internOf}
+use Rattle.store.specs.Dictionary.{namesUpTo, findOf, internAs, internOf}
 use Rattle.store.specs.History.{Store, store, freshStore, capacitiesOf, callStore, storeReplies, storeAfter}
 
 -- ---- histories: each call beside its answer
@@ -305,8 +305,8 @@ unfolding r21 trips b4 b7 litA longA ia ib ic ip empty paper tight short label n
     among letter alnum iriByte textByte pairByte firstByte labelByte known within same agrees permitted below wellFormed
     eqBytes matches better pick fits termAt nextAt flagAt tripleAt firstAt countAt offsetAt kindAt liveAt entryAt pickChain
     pickable startOf linkOf sits visitable walk seek countable locate tallyAt tally counting appendRecord linkFirst linkRecord
-    kinded asserting assertOf retracting retractOf assertLentOf retractLentOf openOf chainOk recordOk cursorOk walkFrom nextOf compare nameAt rank
-    placeAt indexPlaceOf roomFor bring insertAt internAs internOf callStore storeReplies storeAfter
+    kinded asserting assertOf retracting retractOf assertLentOf retractLentOf openOf chainOk recordOk cursorOk walkFrom nextOf compare
+    nameAt rank placeAt indexPlaceOf roomFor bring insertAt internAs internOf callStore storeReplies storeAfter
 stores-run = (refl, refl, refl, refl, refl, refl)
 
 -- Find in the store that holds "A" alone: in either spelling, a name that is not there, and the string ending by itself.
@@ -316,8 +316,8 @@ held = storeAfter (freshStore scant) (callsIn label)
 finds-run : map (findOf (held .counters) (held .tables)) (litA ∷ longA ∷ empty ∷ stringEnding ∷ [])
     ≡ Found (record { 0 = 1 }) ∷ Found (record { 0 = 1 }) ∷ Absent ∷ NotFound Malformed ∷ []
 unfolding litA longA empty label writesString canonical kindOf firstKindOf runOf stepOf wholeOf among letter alnum iriByte
-    textByte pairByte firstByte labelByte below wellFormed eqBytes fits offsetAt compare nameAt rank placeAt indexPlaceOf
-    findOf roomFor bring insertAt internAs internOf callStore storeAfter
+    textByte pairByte firstByte labelByte below wellFormed eqBytes fits offsetAt compare nameAt namesUpTo lookupName rank placeAt
+    indexPlaceOf findOf roomFor bring insertAt internAs internOf callStore storeAfter
 finds-run = refl
 
 -- the words after the reclaim: two records, one of zeros, the table's end as it was; links, counts and live counts anew,
@@ -364,9 +364,9 @@ unfolding ia ib ic ip until-reclaim since-reclaim writesString canonical kindOf 
     unlinked sweepOne sweep blanked sweptOf reclaimOf callStore storeReplies storeAfter
 reclaim-stores-run = (refl, refl, refl, refl)
 
--- Live counts: after the paper's lines, once statement 1 is retracted, and once it is revived. A live count above its count, here the predicate's, is
--- refused 9 by assert and retract, also where the triple is already there, and not by a listing; a live count of 0, here the
--- object's, is refused 9 by retract alone.
+-- Live counts: after the paper's lines, once statement 1 is retracted, and once it is revived. A live count above its count, here the
+-- predicate's, is refused 9 by assert and retract, also where the triple is already there, and not by a listing; a live count of 0, here
+-- the object's, is refused 9 by retract alone.
 live-run : (recordsAfter []
     ≡ rr 2 0 0 2 0 0 0 2 0 0 (rr 0 2 0 0 2 0 7 0 2 0 (rr 0 0 1 0 0 1 17 0 0 1 (rr 0 0 2 0 0 1 23 0 0 1 []))))
     × (recordsAfter (retract lent (triple 1 2 3) ∷ [])
@@ -384,3 +384,22 @@ unfolding r21 trips b4 b7 loading ia ip single writesString canonical kindOf fir
     recordOk cursorOk walkFrom nextOf compare nameAt rank placeAt indexPlaceOf roomFor bring insertAt internAs internOf
     callStore storeReplies storeAfter
 live-run = (refl, refl, refl, refl, refl)
+
+-- Refusal 6 after the one statement, a cursor for each clause: a number above R, a chain that is not bound, none where one is bound, a next
+-- above T, a record without the resource, this one without a budget too. One that stands is read on; 13 comes before 6.
+abbrev reading : List ScanCursor → Store
+reading qs = let s = storeAfter (freshStore wide) (callsIn single) in store (s .counters) (s .tables) qs
+
+bad-run : storeReplies (reading (cursorAt (triple 3 0 0) (By Subject) 0 ∷ cursorAt (triple 0 2 0) (By Subject) 1
+    ∷ cursorAt (triple 0 2 0) All 1 ∷ cursorAt (triple 0 2 0) (By Predicate) 2 ∷ cursorAt (triple 2 0 0) (By Subject) 1
+    ∷ cursorAt (triple 0 2 0) (By Predicate) 1 ∷ cursorIn 1 (triple 2 0 0) (By Subject) 1 ∷ []))
+    (next 0 1 ∷ next 1 1 ∷ next 2 1 ∷ next 3 1 ∷ next 4 1 ∷ next 4 0 ∷ next 5 1 ∷ next 6 1 ∷ [])
+    ≡ refusedWith 6 ∷ refusedWith 6 ∷ refusedWith 6 ∷ refusedWith 6 ∷ refusedWith 6 ∷ refusedWith 6
+    ∷ stepped 1 1 1 (cursorAt (triple 0 2 0) (By Predicate) 0) ∷ refusedWith 13 ∷ []
+unfolding ia ip single writesString canonical kindOf firstKindOf runOf stepOf wholeOf
+    among letter alnum iriByte textByte pairByte firstByte labelByte known within same agrees permitted below wellFormed
+    eqBytes matches better pick fits termAt nextAt flagAt tripleAt firstAt countAt offsetAt kindAt liveAt entryAt
+    pickChain pickable startOf linkOf sits visitable walk seek countable locate tallyAt tally appendRecord
+    linkFirst linkRecord kinded asserting assertOf chainOk recordOk cursorOk walkFrom nextOf compare nameAt rank placeAt
+    indexPlaceOf roomFor bring insertAt internAs internOf callStore storeReplies storeAfter
+bad-run = refl

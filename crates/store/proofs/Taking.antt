@@ -8,11 +8,10 @@ use mathlib.Core.Logic.{_⊎_, ⊎-elim, inl, inr}
 use Prim.Native.Nat.{ℕ, zero, suc, _+_, _≤_, _<_}
 use native.Mathlib.Omega.{arith}
 use lib.ListN.{length, take, drop}
-use Rattle.store.specs.Shared.{head0, prev}
+use Rattle.store.specs.Shared.{prev}
 use Rattle.store.specs.Model.{Taken, found as took, ended as emptied, spent as stopped, oneMore, take-off, restOf}
-use Rattle.store.specs.Claims.{Latest, NoneOf}
+use Rattle.store.specs.Claims.{Latest, NoneOf, Falling}
 use Rattle.store.proofs.Tests.{decide}
-use Rattle.store.proofs.Falling.{Falling}
 use Rattle.store.proofs.Walks.{visitsIn, rest-more, visits-more, take-hit, take-miss}
 
 pub rest-drop : (live : ℕ → Bool) (b : ℕ) (l : List ℕ)
@@ -43,12 +42,6 @@ mem-split (suc v) (x ∷ xs) i m =
     (λ r. ⊎-elim (λ q. inl (List·Memᴰ·tail q)) (λ q. inr q) (mem-split v xs i r))
     (List·Memᴰ·cases-cons m)
 
-pub falling-below : (x : ℕ) (xs : List ℕ) → Falling (x ∷ xs) → (i : ℕ) → List·Memᴰ i xs → i < x
-falling-below x [] f i m = absurd (List·Memᴰ·not-nil m)
-falling-below x (y ∷ ys) f i m =
-    ⊎-elim (λ e. omega (arith, e, f .0)) (λ r. omega (arith, falling-below y ys (f .1) i r, f .0))
-    (List·Memᴰ·cases-cons m)
-
 pub falling-drop : (v : ℕ) (l : List ℕ) → Falling l → Falling (drop v l)
 falling-drop zero l f = f
 falling-drop (suc v) [] f = f
@@ -70,7 +63,7 @@ module _ (live : ℕ → Bool) (b x : ℕ) (xs : List ℕ) (f : Falling (x ∷ x
     among = List·Memᴰ·head refl;
     passes = e;
     latest = λ i m t.
-        ⊎-elim (λ q. omega (arith, q)) (λ r. omega (arith, falling-below x xs f i (mem-take b xs i r)))
+        ⊎-elim (λ q. omega (arith, q)) (λ r. omega (arith, f .0 i (mem-take b xs i r)))
         (List·Memᴰ·cases-cons m);
   }
 

@@ -1,4 +1,4 @@
--- Every claim of `specs/Claims.antt` with its proof: a declaration of each type. Assumes nothing.
+-- Every claim of `specs/Claims.antt` and `specs/Contracts.antt` with its proof: a declaration of each type. Assumes nothing.
 use mathlib.Core.List.{List, []}
 use Rattle.store.specs.Model.{freshModel}
 use Rattle.store.specs.History.{store, freshStore, capacitiesOf, storeAfter}
@@ -6,12 +6,16 @@ use Rattle.store.specs.Claims.{listsOf, HistoriesAgree, HistoriesStaySou
 use Rattle.store.specs.Claims.{RefusalsChangeNothing, Finds, EndsOrSpends, VisitsAddUp, RoundTrips, SpellingsAgree, KnownMeans}
 use Rattle.store.specs.Claims.{WithinMeans, SameMeans, MatchesMeans, PermittedMeans, BelowMeans, PicksLeast}
 use Rattle.store.specs.Claims.{RefusalsAreBare, NoneIsMissed, FirstIsHighest, ReadsOnWithBudget, StaleAfterReclaim, StaleRefused}
+use Rattle.store.specs.Claims.{BadRefused, BelowFalls, BytesMean, LookupMeans}
 use Rattle.store.specs.Claims.{LiveCountsShown, LiveCountsAgree, LiveAboveCount, LiveCountOfZero, ScansDoNotLook}
 use Rattle.store.specs.Claims.{ReclaimKeeps, ReclaimWords, ForgetsRetracted, RoomAgain, FitsMeans, CapacityFirst, NumberCounts}
 use Rattle.store.specs.Claims.{UnstruckMeans, ReclaimRefuses}
+use Rattle.store.specs.Contracts.{CodeAgrees}
 use Rattle.store.proofs.Histories.{history-agrees, fresh-agrees}
 use Rattle.store.proofs.Kept.{tidy-history, tidy-fresh, agreeing-sound}
 use Rattle.store.proofs.Held.{agreeing-holds, sound-agrees, sound-tidy}
+use Rattle.store.proofs.CodeAgrees as code
+use Rattle.store.proofs.Falling as falling
 use Rattle.store.proofs.Openings as openings
 use Rattle.store.proofs.Reclaims as reclaims
 use Rattle.store.proofs.Limits as limits
@@ -36,6 +40,9 @@ sound-stores-agree c m S calls =
     let H = history-agrees (capacitiesOf m) (store c m []) l (sound-agrees c m S) calls in
     (H .0, agreeing-holds (capacitiesOf m) _ _ (H .1) (tidy-history (capacitiesOf m) l (sound-tidy c m S) calls))
 
+pub code-agrees : CodeAgrees
+code-agrees = code.code-agrees
+
 pub fresh-is-sound : FreshIsSound
 fresh-is-sound m = agreeing-sound (capacitiesOf m) (freshStore m) freshModel (fresh-agrees m) tidy-fresh
 
@@ -58,6 +65,9 @@ stale-after-reclaim = openings.stale-after-reclaim
 
 pub stale-refused : StaleRefused
 stale-refused = limits.stale-refused
+
+pub bad-refused : BadRefused
+bad-refused = limits.bad-refused
 
 pub finds : Finds
 finds = openings.finds
@@ -142,8 +152,17 @@ permitted-means = pins.permitted-means
 pub below-means : BelowMeans
 below-means = pins.below-means
 
+pub below-falls : BelowFalls
+below-falls = falling.below-falling
+
 pub first-is-highest : FirstIsHighest
 first-is-highest = pins.first-is-highest
+
+pub bytes-mean : BytesMean
+bytes-mean = pins.bytes-mean
+
+pub lookup-means : LookupMeans
+lookup-means = pins.lookup-means
 
 pub picks-least : PicksLeast
 picks-least = pins.picks-least

@@ -13,11 +13,11 @@ use borrow.Author.Tests.{eqb-true, eqb-false}
 use Rattle.term.specs.Scanner.{firstKindOf}
 use Rattle.term.specs.Canonical.{canonical}
 use Rattle.store.specs.declared.Triple.{Triple}
-use Rattle.store.specs.Shared.{known, within, permitted, wellFormed, nameOf, bytesOf, maxReclaims}
+use Rattle.store.specs.Shared.{known, within, permitted, wellFormed, nameOf, bytesOf, maxReclaims, lookupName}
 use Rattle.store.specs.Values.{Values, refusedWith}
 use Rattle.store.specs.Model.{Model, Listing, Capacities, Taken, found as took, ended as emptied}
 use Rattle.store.specs.Model.{spent as stopped, Call, intern, assert, retract, open′, next, reclaim, noListing, leaving}
-use Rattle.store.specs.Model.{restOf, takenValues, lookupName, internName}
+use Rattle.store.specs.Model.{restOf, takenValues, internName}
 use Rattle.store.specs.Model.{internModel, entry, lookup, put, assertModel, strike, retractModel, listing}
 use Rattle.store.specs.Model.{openModel, takeFrom, turn, nextModel, reclaimModel, callModel, modelReplies, modelAfter}
 use Rattle.store.specs.Claims.{readsOn, visitsOf, reclaims, reclaimsIn}

@@ -6,8 +6,9 @@ use mathlib.Core.Bool.{Bool, true, false, cond, not, _&&_}
 use mathlib.Core.List.{List, [], _∷_, _++_, map, List·Memᴰ}
 use mathlib.Core.Option.{some}
 use Prim.Native.Nat.{ℕ, zero, suc, _+_, _-_, _*_, _≤_, _<_}
-use lib.ListN.{length, take, drop}
+use lib.ListN.{length, take, drop, getD}
 use lib.Dec.{eqb}
+use Rattle.term.specs.Bytes.{eqBytes}
 use Rattle.term.specs.Canonical.{writesString, canonical}
 use Rattle.store.specs.declared.Counters.{Counters}
 use Rattle.store.specs.declared.Position.{Position}
@@ -23,18 +24,18 @@ use Rattle.store.specs.declared.NameRead.the-variants.{Span}
 use Rattle.store.specs.declared.Lookup.the-variants.{Number}
 use Rattle.store.specs.Shared.{at, known, within, same, agrees, permitted, below, head0, prev, freshCounters, maxReclaims, Entry}
 use Rattle.store.specs.Tables.{Tables, after, word, off, statementWords, resourceWords, fits}
-use Rattle.store.specs.Tables.{flagAt, countAt, offsetAt, kindAt, liveAt, resourceCapacity, statementCapacity, textCapacity}
+use Rattle.store.specs.Tables.{flagAt, countAt, offsetAt, kindAt, liveAt, resourceCapacity, statementCapacity, textCapacity, termAt}
 use Rattle.store.specs.Values.{Values, refusedWith, scannedValues, reclaimedValues}
 use Rattle.store.specs.Model.{Model, Form, Call, intern, assert, retract, open′, next, reclaim, freshModel, totals, entry}
 use Rattle.store.specs.Model.{Capacities, internModel, holders, cursorOf, unstruck, modelReplies, modelAfter}
-use Rattle.store.specs.Shared.{wellFormed, matches, pick}
+use Rattle.store.specs.Shared.{wellFormed, matches, pick, lookupName}
 use Rattle.store.specs.Walk.{entryAt}
 use Rattle.store.specs.Statement.{locate, kinded, assertOf, retractOf}
 use Rattle.store.specs.Scan.{openOf, nextOf}
 use Rattle.store.specs.declared.Reclaimed.{Reclaimed}
 use Rattle.store.specs.Reclaim.{ReclaimAnswer}
 use Rattle.store.specs.Reading.{nameSpanOf}
-use Rattle.store.specs.Dictionary.{nameAt, findOf, internOf}
+use Rattle.store.specs.Dictionary.{nameAt, findOf, internOf, namesUpTo}
 use Rattle.store.specs.Soundness.{Sound}
 use Rattle.store.specs.History.{Store, store, freshStore, capacitiesOf, callStore, storeReplies, storeAfter}
 
@@ -44,11 +45,6 @@ use Rattle.store.specs.History.{Store, store, freshStore, capacitiesOf, 
 unfoldable pub entriesUpTo : List ℕ → ℕ → List Entry
 entriesUpTo stm zero = []
 entriesUpTo stm (suc n) = entriesUpTo stm n ++ entryAt stm n ∷ []
-
--- the names of the resources 1 .. n
-unfoldable pub namesUpTo : Tables → ℕ → List (List ℕ)
-namesUpTo m zero = []
-namesUpTo m (suc n) = namesUpTo m n ++ nameAt m (suc n) ∷ []
 
 abbrev pub statementsIn : Store → List Entry
 statementsIn s = entriesUpTo (s .tables .statements) (s .counters .statements)
@@ -218,6 +214,20 @@ StaleAfterReclaim = (o : Opening) → Accepted o → 0 < reclaimsSince o → (b 
 abbrev pub StaleRefused : Type 0
 StaleRefused = (c : Counters) (m : Tables) (q : ScanCursor) (b : ℕ)
     → scannedValues (nextOf c m q b) ≡ refusedWith 13 ↔ (fits c m ≡ true) × (q .generation ≢ c .generation)
+
+-- A cursor that 6 accepts, clause by clause of the paper: no number above R; a chain that is a bound position, none only where nothing is
+-- bound; a next no more than T, whose record, if it is not 0, has the bound resource at the chain's position.
+pub record Stands (c : Counters) (m : Tables) (q : ScanCursor) : Type 0 where
+  pub numbers : (p : Position) → at p (q .pattern) ≤ c .resources
+  pub bound : (p : Position) → q .chain ≡ By p → 0 < at p (q .pattern)
+  pub unbound : q .chain ≡ All → (p : Position) → at p (q .pattern) ≡ 0
+  pub next : q .next .0 ≤ c .statements
+  pub holds : (p : Position) (i : ℕ) → q .chain ≡ By p → q .next .0 ≡ suc i → termAt (m .statements) p i ≡ at p (q .pattern)
+
+-- On any tables a next is refused 6 exactly where 1 and 13 are not refused and the cursor does not stand, whatever the budget.
+abbrev pub BadRefused : Type 0
+BadRefused = (c : Counters) (m : Tables) (q : ScanCursor) (b : ℕ)
+    → scannedValues (nextOf c m q b) ≡ refusedWith 6 ↔ (fits c m ≡ true) × (q .generation ≡ c .generation) × (Stands c m q → ⊥)
 
 -- A listing read on and not refused finds a record exactly when its budget reaches a live match, as of that call, among
 -- the records there at its opening and not yet passed, and gives the latest of these.
@@ -394,9 +404,9 @@ pub record NamedAs (c : Counters) (m : Tables) (y : ResourceId) (w : List ℕ) :
   pub bytes : take size (drop start (m .text)) ≡ w
 
 pub record BothWays (c : Counters) (m : Tables) : Type 0 where
-  -- number to name to number
+  -- number to name to number; the name is the one that stands in the text
   pub there : (y : ResourceId) → 0 < y .0 → y .0 ≤ c .resources
-      → (w : List ℕ) × NamedAs c m y w × (findOf c m w ≡ Number y)
+      → NamedAs c m y (nameAt m (y .0)) × (findOf c m (nameAt m (y .0)) ≡ Number y)
   -- name to number to name: a well-formed name is found where it stands, without the string ending
   pub back : (w : List ℕ) (y : ResourceId) → (findOf c m w ≡ Number y) ↔ ((wellFormed w ≡ true) × NamedAs c m y (canonical w))
   -- no name has the string ending
@@ -446,9 +456,27 @@ PermittedMeans = (kind : ℕ → ℕ) (x : Triple)
 abbrev pub BelowMeans : Type 0
 BelowMeans = (f : ℕ → Bool) (n i : ℕ) → List·Memᴰ (suc i) (below f n) ↔ (i < n) × (f i ≡ true)
 
+-- each is above all that follow it
+abbrev pub Falling : List ℕ → Type 0
+Falling [] = Unit {0}
+Falling (x ∷ xs) = ((y : ℕ) → List·Memᴰ y xs → y < x) × Falling xs
+
+-- they fall, so that each stands once,
+abbrev pub BelowFalls : Type 0
+BelowFalls = (f : ℕ → Bool) (n : ℕ) → Falling (below f n)
+
 -- and the first of them is the highest
 abbrev pub FirstIsHighest : Type 0
 FirstIsHighest = (f : ℕ → Bool) (n i : ℕ) → List·Memᴰ i (below f n) → i ≤ head0 (below f n)
+
+-- names are equal exactly if their bytes are
+abbrev pub BytesMean : Type 0
+BytesMean = (v w : List ℕ) → eqBytes v w ≡ true ↔ v ≡ w
+
+-- the position of a listed name is that of the name, and 0 says that it is not listed
+abbrev pub LookupMeans : Type 0
+LookupMeans = (w : List ℕ) (ns : List (List ℕ)) → ((i : ℕ) → lookupName w ns ≡ suc i → (i < length ns) × (getD ns i [] ≡ w))
+    × (lookupName w ns ≡ 0 ↔ (List·Memᴰ w ns → ⊥))
 
 -- the picked position is bound and of least cost, and every earlier bound one costs more; all records only if nothing
 -- is bound

@@ -1,6 +1,7 @@
 -- Names in the tables (paper 01, "Find a name", "Enter a name"; 02, notes 5 and 7): the text, the index in rising byte order, what find and intern
 -- answer and write on a sound dictionary, and the bound that holds of them on any tables after refusals 1 and 2. Assumes nothing.
 use mathlib.Core.Path.{_≡_}
+use mathlib.Core.Logic.{_⊎_}
 use mathlib.Core.Bool.{Bool, true, false, cond, not, _&&_}
 use mathlib.Core.List.{List, [], _∷_, _++_}
 use Prim.Native.Nat.{ℕ, zero, suc, _+_, _*_, _-_, _≤_, _<_}
@@ -19,7 +20,7 @@ use Rattle.store.specs.declared.Lookup.{Lookup}
 use Rattle.store.specs.declared.Lookup.the-variants.{Number, Absent, Refused as NotFound}
 use Rattle.store.specs.declared.Interned.{Interned}
 use Rattle.store.specs.declared.Interned.the-variants.{Number as Id, Refused as NotInterned}
-use Rattle.store.specs.Shared.{unless, below, wellFormed, nameOf, bytesOf}
+use Rattle.store.specs.Shared.{unless, below, wellFormed, nameOf, bytesOf, lookupName}
 use Rattle.store.specs.Tables.{Tables, after, fits, resourceCapacity, textCapacity, resourceWords, offsetAt, kindAt, word}
 
 -- ---- the byte order of names: by the first byte that differs, a prefix first
@@ -67,7 +68,7 @@ pub record Named (ns : List (List ℕ)) (c : Counters) (m : Tables) : Type 0 whe
   pub kinds : (y : ℕ) → 0 < y → y ≤ c .resources → kindAt (m .resources) y ≡ firstKindOf (nameOf ns y)
   pub index : Indexed (nameOf ns) (m .index) (c .resources)
 
--- ---- where a name stands
+-- ---- the names, read from the text
 
 abbrev pub upToZero : List ℕ → List ℕ
 upToZero [] = []
@@ -77,6 +78,35 @@ upToZero (suc b ∷ r) = suc b ∷ upToZero r
 -- the name of resource y, read from the text
 unfoldable pub nameAt : Tables → ℕ → List ℕ
 nameAt m y = upToZero (drop (offsetAt (m .resources) y) (m .text))
+
+-- the names of the resources 1 .. n
+unfoldable pub namesUpTo : Tables → ℕ → List (List ℕ)
+namesUpTo m zero = []
+namesUpTo m (suc n) = namesUpTo m n ++ nameAt m (suc n) ∷ []
+
+-- ---- find
+
+-- the number at a position of the list, or absent
+abbrev pub foundAt : ℕ → Lookup
+foundAt zero = Absent
+foundAt (suc n) = Number (record { 0 = suc n })
+
+-- Find on a sound dictionary: 1; 2, by the name as spelled; by the name without the string ending, its position among the names 1 .. R, or absent
+unfoldable pub findOf : Counters → Tables → List ℕ → Lookup
+findOf c m w =
+    unless (fits c m) (NotFound Capacity)
+    (unless (wellFormed w) (NotFound Malformed)
+    (foundAt (lookupName (canonical w) (namesUpTo m (c .resources)))))
+
+-- what holds of find's answer: exact on a sound dictionary; on any tables exact in 1 and 2, then within the bound
+pub record FindAnswer (c : Counters) (m : Tables) (w : List ℕ) (a : Lookup) : Type 0 where
+  pub capacity : fits c m ≡ false → a ≡ NotFound Capacity
+  pub malformed : fits c m ≡ true → wellFormed w ≡ false → a ≡ NotFound Malformed
+  pub exact : (ns : List (List ℕ)) → Named ns c m → a ≡ findOf c m w
+  pub bounded : fits c m ≡ true → wellFormed w ≡ true
+      → (a ≡ NotFound Damaged) ⊎ ((n : ℕ) × (a ≡ foundAt n) × (n ≤ c .resources))
+
+-- ---- enter: where a name stands in the index
 
 -- how many of the index's first R names are less than w
 unfoldable pub rank : (ℕ → List ℕ) → List ℕ → ℕ → List ℕ → ℕ
@@ -95,28 +125,6 @@ abbrev pub PlaceWithin : ℕ → IndexPlace → Type 0
 PlaceWithin r (At n k) = (0 < n .0) × (n .0 ≤ r) × (k < r)
 PlaceWithin r (Before k) = k ≤ r
 PlaceWithin r Torn = Unit {0}
-
--- ---- find
-
-abbrev pub foundAs : IndexPlace → Lookup
-foundAs (At n k) = Number n
-foundAs (Before k) = Absent
-foundAs Torn = NotFound Damaged
-
--- Find on a sound dictionary: 1; 2, by the name as spelled; by the name without the string ending, the number or absent. On any tables
--- `FindAnswer` says what holds.
-unfoldable pub findOf : Counters → Tables → List ℕ → Lookup
-findOf c m w =
-    unless (fits c m) (NotFound Capacity)
-    (unless (wellFormed w) (NotFound Malformed)
-    (foundAs (indexPlaceOf c m (canonical w))))
-
--- what holds of find's answer: exact on a sound dictionary; on any tables exact in 1 and 2, then within the bound
-pub record FindAnswer (c : Counters) (m : Tables) (w : List ℕ) (a : Lookup) : Type 0 where
-  pub capacity : fits c m ≡ false → a ≡ NotFound Capacity
-  pub malformed : fits c m ≡ true → wellFormed w ≡ false → a ≡ NotFound Malformed
-  pub exact : (ns : List (List ℕ)) → Named ns c m → a ≡ findOf c m w
-  pub bounded : fits c m ≡ true → wellFormed w ≡ true → (x : IndexPlace) × (a ≡ foundAs x) × PlaceWithin (c .resources) x
 
 -- ---- intern
 

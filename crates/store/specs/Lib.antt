@@ -11,3 +11,4 @@ pub mod Soundness
 pub mod Reclaim
 pub mod History
 pub mod Claims
+pub mod Contracts

@@ -6,9 +6,7 @@ use mathlib.Core.List.{List, [], _∷_, _++_}
 use Prim.Native.Nat.{ℕ, zero, suc, _+_, _-_}
 use lib.ListN.{length, getD, set}
 use lib.Dec.{eqb, leb, ltb}
-use Rattle.term.specs.Bytes.{eqBytes}
-use Rattle.term.specs.Grammar.{nameLimit}
-use Rattle.term.specs.Scanner.{kindOf, firstKindOf}
+use Rattle.term.specs.Scanner.{firstKindOf}
 use Rattle.term.specs.Canonical.{canonical}
 use Rattle.store.specs.declared.Position.{Position}
 use Rattle.store.specs.declared.Position.the-variants.{Subject, Predicate, Object}
@@ -17,7 +15,7 @@ use Rattle.store.specs.declared.Chain.the-variants.{All, By}
 use Rattle.store.specs.declared.Counters.{Counters}
 use Rattle.store.specs.declared.Triple.{Triple}
 use Rattle.store.specs.declared.ScanCursor.{ScanCursor}
-use Rattle.store.specs.Shared.{maxReclaims, unless, at, known, within, same, permitted, Entry, matches, pick, wellFormed, nameOf, bytesOf}
+use Rattle.store.specs.Shared.{maxReclaims, unless, at, known, within, same, permitted, Entry, matches, pick, wellFormed, nameOf, bytesOf, lookupName}
 use Rattle.store.specs.Shared.{below, head0, prev}
 use Rattle.store.specs.Values.{Values, noTriple, refusedWith, numbered, counted, placed, stepped}
 
@@ -57,10 +55,6 @@ pub data Call : Type 0 where
   reclaim : Call
 
 -- ---- names
-
--- the position of a listed name, or 0
-unfoldable pub lookupName : List ℕ → List (List ℕ) → ℕ
-lookupName w ns = head0 (below (λ i. eqBytes (getD ns i []) w) (length ns))
 
 -- R, T, B and the reclaims so far
 abbrev pub totals : Model → Counters

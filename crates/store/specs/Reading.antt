@@ -29,6 +29,10 @@ statementOf c m n =
     (unless (known (c .resources) (tripleAt (m .statements) (n .0 - 1)) && leb (flagAt (m .statements) (n .0 - 1)) 1) (NotRead Damaged)
     (Is (tripleAt (m .statements) (n .0 - 1)) (flagAt (m .statements) (n .0 - 1)))))
 
+-- a name of the most bytes, and its zero byte
+abbrev pub nameWindow : ℕ
+nameWindow = nameLimit + 1
+
 -- where the first zero byte stands from o on, before e, among `left` bytes
 unfoldable pub zeroFrom : List ℕ → ℕ → ℕ → ℕ → Option ℕ
 zeroFrom t e zero o = none
@@ -45,4 +49,4 @@ unfoldable pub nameSpanOf : Counters → Tables → ResourceId → NameRead
 nameSpanOf c m n =
     unless (fits c m) (NotNamed Capacity)
     (unless (inRange (c .resources) (n .0)) (NotNamed UnknownNumber)
-    (spanTo (offsetAt (m .resources) (n .0)) (zeroFrom (m .text) (c .text) (nameLimit + 1) (offsetAt (m .resources) (n .0)))))
+    (spanTo (offsetAt (m .resources) (n .0)) (zeroFrom (m .text) (c .text) nameWindow (offsetAt (m .resources) (n .0)))))

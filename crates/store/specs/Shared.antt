@@ -6,6 +6,7 @@ use mathlib.Core.List.{List, [], _∷_}
 use Prim.Native.Nat.{ℕ, zero, suc, _+_, _-_}
 use lib.ListN.{length, getD}
 use lib.Dec.{eqb, leb, ltb}
+use Rattle.term.specs.Bytes.{eqBytes}
 use Rattle.term.specs.Grammar.{nameLimit}
 use Rattle.term.specs.Scanner.{kindOf}
 use Rattle.store.specs.declared.Counters.{Counters}
@@ -91,21 +92,6 @@ better x cost q (By p) = cond (eqb (at q x) 0) (By p) (cond (ltb (cost q) (cost 
 unfoldable pub pick : Triple → (Position → ℕ) → Chain
 pick x cost = better x cost Object (better x cost Predicate (better x cost Subject All))
 
--- ---- names
-
--- well formed, and not over the limit of a name's bytes
-unfoldable pub wellFormed : List ℕ → Bool
-wellFormed w = ltb 0 (kindOf nameLimit w)
-
--- the name with a number
-unfoldable pub nameOf : List (List ℕ) → ℕ → List ℕ
-nameOf ns y = getD ns (y - 1) []
-
--- the names' bytes plus 1 each
-unfoldable pub bytesOf : List (List ℕ) → ℕ
-bytesOf [] = 0
-bytesOf (n ∷ ns) = length n + 1 + bytesOf ns
-
 -- ---- falling positions
 
 -- The positions, from 1, of the entries 0 .. n - 1 that pass f, falling. Entry i has position i + 1.
@@ -122,3 +108,22 @@ head0 (x ∷ xs) = x
 abbrev pub prev : ℕ → ℕ
 prev zero = zero
 prev (suc n) = n
+
+-- ---- names
+
+-- well formed, and not over the limit of a name's bytes
+unfoldable pub wellFormed : List ℕ → Bool
+wellFormed w = ltb 0 (kindOf nameLimit w)
+
+-- the name with a number
+unfoldable pub nameOf : List (List ℕ) → ℕ → List ℕ
+nameOf ns y = getD ns (y - 1) []
+
+-- the names' bytes plus 1 each
+unfoldable pub bytesOf : List (List ℕ) → ℕ
+bytesOf [] = 0
+bytesOf (n ∷ ns) = length n + 1 + bytesOf ns
+
+-- the position of a listed name, or 0
+unfoldable pub lookupName : List ℕ → List (List ℕ) → ℕ
+lookupName w ns = head0 (below (λ i. eqBytes (getD ns i []) w) (length ns))

@@ -27,7 +27,7 @@ impl Counters {
 
     pub const MAX_TEXT: u32 = 1048576;
 
-    pub const MAX_NAME: u32 = 255;
+    pub const MAX_NAME: u32 = term::NAME_LIMIT as u32;
 
     pub const MAX_RECLAIMS: u32 = 65535;
 

@@ -9,7 +9,7 @@ ghost use mathlib.Core.Path.{_≡_};
 ghost use Prim.Native.Nat.{ℕ, _-_, _<_, _≤_, min};
 ghost use lib.ListN.{length};
 ghost use Rattle.store.specs.Tables.{off, termAt, nextAt, flagAt, tripleAt, firstAt, countAt, offsetAt, kindAt, liveAt};
-ghost use Rattle.store.specs.Reading.{zeroFrom, spanTo};
+ghost use Rattle.store.specs.Reading.{nameWindow, zeroFrom, spanTo};
 ghost use Rattle.table.specs.Held.{StatementHeld, ResourceHeld};
 
 // A position's word within a group of three.
@@ -118,7 +118,7 @@ pub fn lesser(a: usize, b: usize) -> usize
 // The offset may be any word: nothing is read at or past `end`.
 pub fn span_at(text: &[u8], end: u32, from: u32) -> NameRead
     requires { ⌜ end ≤ length (now text) ⌝ }
-    ensures { λ r. ⌜ r ≡ spanTo from (zeroFrom (now (text .entry)) end 256 from) ⌝ }
+    ensures { λ r. ⌜ r ≡ spanTo from (zeroFrom (now (text .entry)) end nameWindow from) ⌝ }
 {
     let start = from as usize;
     let stop = lesser(start + crate::NAME_WINDOW, end as usize);

@@ -42,7 +42,7 @@ pub const NEXT: usize = 3;
 pub const FLAG: usize = 6;
 
 // A name of the longest kind and its zero byte.
-pub const NAME_WINDOW: usize = 256;
+pub const NAME_WINDOW: usize = Counters::MAX_NAME as usize + 1;
 
 // Whether no counter exceeds its capacity, nor the reclaims so far their maximum. Every operation of the store refuses 1 where this is false.
 pub fn fits(c: Counters, resources: &[u32], statements: &[u32], index: &[u32], text: &[u8]) -> bool

@@ -55,7 +55,7 @@ fn tell_live(store: &Store, relay: &str) -> Result<(), String> {
     Ok(())
 }
 
-/// Lists the objects of a relay's statements, the newest first, a few visits at a time. `store.scan` would give them all as an iterator.
+/// Lists the objects of a relay's statements, the highest number first, a few visits at a time. `store.scan` would give them all as an iterator.
 fn list_contacts(store: &Store, relay: &str, trips: &str) -> Result<(), String> {
     let pattern = [Some(number_of(store, relay)?), Some(number_of(store, trips)?), None];
     let mut cursor = store.scan_open(pattern).map_err(|error| error.to_string())?;

@@ -470,7 +470,7 @@ impl<'a> Store<'a> {
         Ok(cursor)
     }
 
-    /// Next of a scan, the newest statement first. The cursor may be any slice that holds one; a short one is [`Error::TooShort`].
+    /// Next of a scan, the statement of the highest number first. The cursor may be any slice that holds one; a short one is [`Error::TooShort`].
     pub fn scan_next(&self, cursor: &mut [u32], budget: u32) -> Result<Step<StatementId>, Error> {
         let mut reply = [0u32; 3];
         reading!(lt_scan_next, self, cursor.as_mut_ptr(), cursor.len(), budget, reply.as_mut_ptr(), reply.len())?;

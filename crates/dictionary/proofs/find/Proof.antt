@@ -1,5 +1,5 @@
 use Rattle.dictionary.proofs.Answers.{malformed, formed, readable, find-capacity, find-malformed, find-searched}
-use Rattle.store.specs.Dictionary.{foundAs}
+use Rattle.dictionary.specs.Search.{foundAs}
 use Rattle.store.specs.Tables.{tables}
 use borrow.Author.Tests.{not-true, not-false}
 use denote.Ref.{now}

@@ -5,6 +5,9 @@ use Rattle.compaction.proofs.clear.unlink_one.Reads as reads
 use Rattle.compaction.proofs.clear.unlink_one.Lts as lts
 use Rattle.compaction.proofs.clear.zero.Reads as zero-reads
 
+cast-start : tie.Need-cast-start
+cast-start c = search needs
+
 sub-start : tie.Need-sub-start
 sub-start c = search needs
 
@@ -33,6 +36,7 @@ pub unlink-one-spec : {M : Type 1} → statement M
 unlink-one-spec =
     tie.close
     (tie.spec
+    cast-start
     sub-start
     mul-start
     zero-requires

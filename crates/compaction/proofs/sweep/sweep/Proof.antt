@@ -14,24 +14,26 @@ use Rattle.compaction.proofs.sweep.sweep.Lts as lts
 use Rattle.compaction.proofs.sweep.sweep_one.Reads as sweep-one-reads
 
 abbrev Inv-loop : tie.InvT-loop
-Inv-loop resources₀ statements₀ n t₀ i₀ resources statements t i =
-    (i ≤ n) × (length resources ≡ length resources₀) × (length statements ≡ length statements₀)
-    × (swept t resources statements ≡ sweep i (swept 0 resources₀ statements₀))
+Inv-loop resources₀ statements₀ n t₀ done₀ resources statements t done =
+    (done ≤ n) × (length resources ≡ length resources₀) × (length statements ≡ length statements₀)
+    × (swept t resources statements ≡ sweep done (swept 0 resources₀ statements₀))
 
 abbrev μ-loop : tie.MeasureT-loop
-μ-loop resources₀ statements₀ n t₀ i₀ resources statements t i = n - i
+μ-loop resources₀ statements₀ n t₀ done₀ resources statements t done = n - done
 
 loop-holds : tie.Need-loop-holds Inv-loop μ-loop
-loop-holds c = let a = c .before .before .args in (omega arith, refl, refl, sym (sweep-none (swept 0 (now (a .resources)) (now (a .statements)))))
+loop-holds c =
+    let a = c .before .before .args in
+    (omega arith, refl, refl, sym (sweep-none (swept 0 (now (a .resources)) (now (a .statements)))))
 
-add-i : tie.Need-add-i Inv-loop μ-loop
-add-i c = search needs
+add-done : tie.Need-add-done Inv-loop μ-loop
+add-done c = search needs
 
 sweep-one-requires : tie.Need-sweep-one-requires Inv-loop μ-loop
 sweep-one-requires c κs =
     let loop = c .before .before .before .loop in
     let pre = c .before .before .before .before .before .before .pre in
-    turn-asks (loop .i) _ _ (loop .inv .3) _ pre (c .before .before .loop-test .taken)
+    turn-asks (loop .done) _ _ (loop .inv .3) _ pre (c .before .before .loop-test .taken)
 
 loop-less : tie.Need-loop-less Inv-loop μ-loop
 loop-less c = search needs
@@ -42,7 +44,7 @@ loop-again c =
       omega arith,
       omega arith,
       omega arith,
-      turn-makes (loop .i) _ _ (loop .inv .3) _ (c .before .before .before .before .sweep-one .ensures),
+      turn-makes (loop .done) _ _ (loop .inv .3) _ (c .before .before .before .before .sweep-one .ensures),
     )
 
 same-length : tie.Need-same-length Inv-loop μ-loop
@@ -54,7 +56,7 @@ same-length-2 c = search needs
 returns : tie.Need-returns Inv-loop μ-loop
 returns c =
     let loop = c .before .loop in
-    let e : loop .i ≡ c .before .before .before .before .args .n = omega arith in
+    let e : loop .done ≡ c .before .before .before .before .args .n = omega arith in
     rw e at (loop .inv .3)
 
 pub sweep-spec : {M : Type 1} → statement M
@@ -64,7 +66,7 @@ sweep-spec =
     Inv-loop
     μ-loop
     loop-holds
-    add-i
+    add-done
     sweep-one-requires
     loop-less
     loop-again

@@ -23,7 +23,7 @@ returns c =
     let a = c .before .before .before .before .before .args in
     let the-flag-at = c .before .flag-at in
     let if1 = c .if1 in
-    step-passed (a .n) (a .t) (now (a .resources)) (now (a .statements)) (sym (the-flag-at .ensures) ∙ if1 .taken)
+    step-passed (a .n .0) (a .t) (now (a .resources)) (now (a .statements)) (sym (the-flag-at .ensures) ∙ if1 .taken)
 
 triple-at-requires : tie.Need-triple-at-requires
 triple-at-requires c κs = search needs
@@ -55,7 +55,7 @@ returns-2 c =
     let the-write-record = c .before .before .before .before .before .before .write-record in
     let the-link-record = c .before .before .link-record in
     rw (the-link-record .ensures, the-write-record .ensures, the-triple-at .ensures)
-    (step-moved (a .n) (a .t) (now (a .resources)) (now (a .statements)) _ (omega arith)
+    (step-moved (a .n .0) (a .t) (now (a .resources)) (now (a .statements)) _ (omega arith)
     (λ e. if1 .left (the-flag-at .ensures ∙ e)))
 
 pub sweep-one-spec : {M : Type 1} → statement M

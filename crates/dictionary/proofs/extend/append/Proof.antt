@@ -14,8 +14,8 @@ write-record-requires c κs = search needs
 write-name-requires : tie.Need-write-name-requires
 write-name-requires c κs = search needs
 
-add-insert : tie.Need-add-insert
-add-insert c = search needs
+add-t15 : tie.Need-add-t15
+add-t15 c = search needs
 
 insert-requires : tie.Need-insert-requires
 insert-requires c κs = search needs
@@ -31,15 +31,15 @@ same-length-3 c = search needs
 
 returns : tie.Need-returns
 returns c =
-    let a = c .before .before .before .before .before .before .before .before .before .before .before .before .before .before .before .before .before .args in
-    let write-record = c .before .before .before .before .before .before .before .before .before .before .before .write-record in
-    let write-name = c .before .before .before .before .before .before .before .write-name in
+    let named = c .before .before .before .before .before .before .before in
+    let recorded = named .before .before .before .before in
+    let a = recorded .before .before .before .before .before .before .args in
     let insert = c .before .before .insert in
     record {
-      new-record = write-record .ensures;
+      new-record = recorded .write-record .ensures;
       new-entry = rw (← add-one (a .c .resources))
           (insert .ensures);
-      new-name = write-name .ensures;
+      new-name = named .write-name .ensures;
     }
 
 pub append-spec : {M : Type 1} → statement M
@@ -48,7 +48,7 @@ append-spec =
     (tie.spec
     write-record-requires
     write-name-requires
-    add-insert
+    add-t15
     insert-requires
     same-length
     same-length-2

@@ -33,7 +33,7 @@ returns : tie.Need-returns
 returns c =
     let a = c .before .before .before .before .before .args in
     let push-front = c .before .before .push-front in
-    insert-part (a .at) (a .r) (a .v) (now (a .index)) _ (omega arith) (omega arith) (push-front .ensures)
+    insert-part (a .at) (a .r) (a .y .0) (now (a .index)) _ (omega arith) (omega arith) (push-front .ensures)
 
 pub insert-spec : {M : Type 1} → statement M
 insert-spec =

@@ -14,11 +14,11 @@ use Rattle.dictionary.proofs.inner.compare.Reads as compare-reads
 use Rattle.table.proofs.in_range.Reads as in-range-reads
 use Rattle.table.proofs.inner.offset_at.Reads as offset-at-reads
 
-mul-y : tie.Need-mul-y
-mul-y c = search needs
+mul-t10 : tie.Need-mul-t10
+mul-t10 c = search needs
 
-shared-slice-read-y : tie.Need-shared-slice-read-y
-shared-slice-read-y c = search needs
+shared-slice-read-t12 : tie.Need-shared-slice-read-t12
+shared-slice-read-t12 c = search needs
 
 in-range-requires : tie.Need-in-range-requires
 in-range-requires c κs = search needs
@@ -55,8 +55,8 @@ pub probe-spec : {M : Type 1} → statement M
 probe-spec =
     tie.close
     (tie.spec
-    mul-y
-    shared-slice-read-y
+    mul-t10
+    shared-slice-read-t12
     in-range-requires
     returns
     offset-at-requires

@@ -16,10 +16,10 @@ use Rattle.integrity.proofs.alone.all_alone.Lts as lts
 use Rattle.integrity.proofs.alone.alone.Reads as alone-reads
 
 abbrev Inv-loop : tie.InvT-loop
-Inv-loop resources statements r t n₀ n = (n ≤ t) × (allBelow (alone resources statements) n ≡ true)
+Inv-loop resources statements r t done₀ done = (done ≤ t) × (allBelow (alone resources statements) done ≡ true)
 
 abbrev μ-loop : tie.MeasureT-loop
-μ-loop resources statements r t n₀ n = t - n
+μ-loop resources statements r t done₀ done = t - done
 
 loop-holds : tie.Need-loop-holds Inv-loop μ-loop
 loop-holds c =
@@ -28,8 +28,8 @@ loop-holds c =
     let res = now (a .resources) in
     (omega arith, all-none (alone res stm))
 
-add-alone : tie.Need-add-alone Inv-loop μ-loop
-add-alone c = search needs
+add-t7 : tie.Need-add-t7 Inv-loop μ-loop
+add-t7 c = search needs
 
 alone-requires : tie.Need-alone-requires Inv-loop μ-loop
 alone-requires c κs =
@@ -38,8 +38,8 @@ alone-requires c κs =
     let stm = now (a .statements) in
     let res = now (a .resources) in
     let pre = c .before .before .before .before .pre in
-    let e : l .n + 1 - 1 ≡ l .n = omega arith in
-    let h = record-known (a .r) (a .t) res stm (pre .0) (l .n) (omega arith) in
+    let e : l .done + 1 - 1 ≡ l .done = omega arith in
+    let h = record-known (a .r) (a .t) res stm (pre .0) (l .done) (omega arith) in
     let k = rw (← e) at h in
     search needs
 
@@ -51,13 +51,13 @@ returns c =
     let res = now (a .resources) in
     let the-alone = c .before .alone in
     let if1 = c .if1 in
-    let e : l .n + 1 - 1 ≡ l .n = omega arith in
+    let e : l .done + 1 - 1 ≡ l .done = omega arith in
     sym
-    (all-fails (alone res stm) (a .t) (l .n) (omega arith)
+    (all-fails (alone res stm) (a .t) (l .done) (omega arith)
     (rw e at (sym (the-alone .ensures) ∙ not-true (the-alone .result) (if1 .taken))))
 
-add-n : tie.Need-add-n Inv-loop μ-loop
-add-n c = search needs
+add-done : tie.Need-add-done Inv-loop μ-loop
+add-done c = search needs
 
 loop-less : tie.Need-loop-less Inv-loop μ-loop
 loop-less c = search needs
@@ -70,9 +70,9 @@ loop-again c =
     let res = now (a .resources) in
     let the-alone = c .before .alone in
     let if1 = c .if1 in
-    let e : l .n + 1 - 1 ≡ l .n = omega arith in (
+    let e : l .done + 1 - 1 ≡ l .done = omega arith in (
       omega arith,
-      all-more (alone res stm) (l .n) (l .inv .1)
+      all-more (alone res stm) (l .done) (l .inv .1)
           (rw e at (sym (the-alone .ensures) ∙ not-false (the-alone .result) (if1 .left))),
     )
 
@@ -80,7 +80,7 @@ returns-2 : tie.Need-returns-2 Inv-loop μ-loop
 returns-2 c =
     let l = c .before .loop in
     let a = c .before .before .before .before .args in
-    let e : l .n ≡ a .t = omega arith in
+    let e : l .done ≡ a .t = omega arith in
     sym (rw e at (l .inv .1))
 
 pub all-alone-spec : {M : Type 1} → statement M
@@ -90,10 +90,10 @@ all-alone-spec =
     Inv-loop
     μ-loop
     loop-holds
-    add-alone
+    add-t7
     alone-requires
     returns
-    add-n
+    add-done
     loop-less
     loop-again
     returns-2)

@@ -17,10 +17,10 @@ first-at-requires c κs = search needs
 
 returns : tie.Need-returns
 returns c =
-    let a = c .before .before .before .before .args in
+    let a = c .before .before .before .before .before .args in
     let stm = now (a .statements) in
     let res = now (a .resources) in
-    sym (chain-over (a .t) res stm (a .p) (a .y) (omega arith))
+    sym (chain-over (a .t) res stm (a .p) (a .y .0) (omega arith))
 
 count-at-requires : tie.Need-count-at-requires
 count-at-requires c κs = search needs
@@ -34,15 +34,15 @@ chain-counts-requires c κs = search needs
 returns-2 : tie.Need-returns-2
 returns-2 c =
     let the-chain-counts = c .chain-counts in
-    let the-first-at = c .before .before .before .before .first-at in
+    let the-first-at = c .before .before .before .before .before .first-at in
     let the-count-at = c .before .before .count-at in
     let the-live-at = c .before .live-at in
-    let a = c .before .before .before .before .before .before .before .args in
+    let a = c .before .before .before .before .before .before .before .before .args in
     let stm = now (a .statements) in
     let res = now (a .resources) in
     the-chain-counts .ensures
     ∙ rw (the-first-at .ensures, the-count-at .ensures, the-live-at .ensures)
-    (sym (chain-within (a .t) res stm (a .p) (a .y) (omega arith)))
+    (sym (chain-within (a .t) res stm (a .p) (a .y .0) (omega arith)))
 
 pub chain-ok-spec : {M : Type 1} → statement M
 chain-ok-spec =

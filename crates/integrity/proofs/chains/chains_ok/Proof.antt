@@ -14,11 +14,11 @@ use Rattle.integrity.proofs.wide.Reads as wide-reads
 use Rattle.table.proofs.inner.count_at.Reads as count-at-reads
 
 abbrev Inv-loop : tie.InvT-loop
-Inv-loop resources statements r t p y₀ total₀ y total =
-    (y ≤ r) × (total ≤ y * 4294967296) × Passed t resources statements p y total
+Inv-loop resources statements r t p done₀ total₀ done total =
+    (done ≤ r) × (total ≤ done * 4294967296) × Passed t resources statements p done total
 
 abbrev μ-loop : tie.MeasureT-loop
-μ-loop resources statements r t p y₀ total₀ y total = r - y
+μ-loop resources statements r t p done₀ total₀ done total = r - done
 
 loop-holds : tie.Need-loop-holds Inv-loop μ-loop
 loop-holds c =
@@ -27,8 +27,8 @@ loop-holds c =
     let res = now (a .resources) in
     (omega arith, omega arith, passed-none (a .r) (a .t) res stm (a .p))
 
-add-chain-ok : tie.Need-add-chain-ok Inv-loop μ-loop
-add-chain-ok c = search needs
+add-wide : tie.Need-add-wide Inv-loop μ-loop
+add-wide c = search needs
 
 chain-ok-requires : tie.Need-chain-ok-requires Inv-loop μ-loop
 chain-ok-requires c κs = search needs
@@ -42,11 +42,8 @@ returns c =
     let the-chain-ok = c .before .chain-ok in
     let if1 = c .if1 in
     sym
-    (passed-fails (a .r) (a .t) res stm (a .p) (l .y) (omega arith)
+    (passed-fails (a .r) (a .t) res stm (a .p) (l .done) (omega arith)
     (sym (the-chain-ok .ensures) ∙ not-true (the-chain-ok .result) (if1 .taken)))
-
-add-count-at : tie.Need-add-count-at Inv-loop μ-loop
-add-count-at c = search needs
 
 count-at-requires : tie.Need-count-at-requires Inv-loop μ-loop
 count-at-requires c κs = search needs
@@ -57,8 +54,8 @@ wide-requires c κs = search needs
 add-total : tie.Need-add-total Inv-loop μ-loop
 add-total c = search needs
 
-add-y : tie.Need-add-y Inv-loop μ-loop
-add-y c = search needs
+add-done : tie.Need-add-done Inv-loop μ-loop
+add-done c = search needs
 
 loop-less : tie.Need-loop-less Inv-loop μ-loop
 loop-less c = search needs
@@ -75,7 +72,7 @@ loop-again c =
     let the-count-at = c .before .count-at in (
       omega arith,
       omega (arith, the-wide .ensures .1),
-      passed-one (a .r) (a .t) res stm (a .p) (l .y) (l .total) (the-wide .result) (l .inv .2)
+      passed-one (a .r) (a .t) res stm (a .p) (l .done) (l .total) (the-wide .result) (l .inv .2)
           (sym (the-chain-ok .ensures) ∙ not-false (the-chain-ok .result) (if1 .left))
           (the-wide .ensures .0 ∙ the-count-at .ensures),
     )
@@ -91,7 +88,7 @@ returns-2 c =
     let res = now (a .resources) in
     let l = c .before .before .loop in
     rw (the-wide2 .ensures .0)
-    (sym (passed-all (a .r) (a .t) res stm (a .p) (l .y) (l .total) (l .inv .2) (omega arith)))
+    (sym (passed-all (a .r) (a .t) res stm (a .p) (l .done) (l .total) (l .inv .2) (omega arith)))
 
 pub chains-ok-spec : {M : Type 1} → statement M
 chains-ok-spec =
@@ -100,14 +97,13 @@ chains-ok-spec =
     Inv-loop
     μ-loop
     loop-holds
-    add-chain-ok
+    add-wide
     chain-ok-requires
     returns
-    add-count-at
     count-at-requires
     wide-requires
     add-total
-    add-y
+    add-done
     loop-less
     loop-again
     wide-requires-2

@@ -13,20 +13,20 @@ use Rattle.integrity.proofs.index.name_less.Reads as name-less-reads
 use Rattle.integrity.proofs.wide.Reads as wide-reads
 use Rattle.table.proofs.inner.offset_at.Reads as offset-at-reads
 
-mul-x : tie.Need-mul-x
-mul-x c = search needs
+mul-wide : tie.Need-mul-wide
+mul-wide c = search needs
 
-shared-slice-read-x : tie.Need-shared-slice-read-x
-shared-slice-read-x c = search needs
+shared-slice-read-wide : tie.Need-shared-slice-read-wide
+shared-slice-read-wide c = search needs
 
-add-y : tie.Need-add-y
-add-y c = search needs
+add-wide : tie.Need-add-wide
+add-wide c = search needs
 
-mul-y : tie.Need-mul-y
-mul-y c = search needs
+mul-wide-2 : tie.Need-mul-wide-2
+mul-wide-2 c = search needs
 
-shared-slice-read-y : tie.Need-shared-slice-read-y
-shared-slice-read-y c = search needs
+shared-slice-read-wide-2 : tie.Need-shared-slice-read-wide-2
+shared-slice-read-wide-2 c = search needs
 
 offset-at-requires : tie.Need-offset-at-requires
 offset-at-requires c κs =
@@ -82,11 +82,11 @@ pub neighbours-rise-spec : {M : Type 1} → statement M
 neighbours-rise-spec =
     tie.close
     (tie.spec
-    mul-x
-    shared-slice-read-x
-    add-y
-    mul-y
-    shared-slice-read-y
+    mul-wide
+    shared-slice-read-wide
+    add-wide
+    mul-wide-2
+    shared-slice-read-wide-2
     offset-at-requires
     wide-requires
     offset-at-requires-2

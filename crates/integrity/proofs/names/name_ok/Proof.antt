@@ -20,7 +20,7 @@ returns c =
     let a = c .before .before .before .args in
     let used = now (a .used) in
     let res = now (a .resources) in
-    sym (name-open res used (a .y) (a .from) (omega arith))
+    sym (name-open res used (a .y .0) (a .from) (omega arith))
 
 offset-at-requires : tie.Need-offset-at-requires
 offset-at-requires c κs = search needs
@@ -37,7 +37,7 @@ returns-2 c =
     let the-wide = c .before .wide in
     let the-offset-at = c .before .before .offset-at in
     sym
-    (name-moved res used (a .y) (a .from) (omega arith)
+    (name-moved res used (a .y .0) (a .from) (omega arith)
     (λ e. if2 .taken (the-wide .ensures .0 ∙ the-offset-at .ensures ∙ e)))
 
 sub-name-kind : tie.Need-sub-name-kind
@@ -60,7 +60,7 @@ returns-3 c =
     let the-name-kind = c .before .name-kind in
     let if3 = c .if3 in
     sym
-    (name-ill res used (a .y) (a .from) (omega arith) (omega arith)
+    (name-ill res used (a .y .0) (a .from) (omega arith) (omega arith)
     (ap (kindOf 255) (sym (name-slice used (a .from) (a .end) (omega arith)))
     ∙ sym (the-name-kind .ensures)
     ∙ if3 .taken))
@@ -88,7 +88,7 @@ returns-4 c =
     let if4 = c .if4 in
     let part = name-slice used (a .from) (a .end) (omega arith) in
     sym
-    (name-ending res used (a .y) (a .from) (omega arith) (omega arith)
+    (name-ending res used (a .y .0) (a .from) (omega arith) (omega arith)
     (λ e. if3 .left (the-name-kind .ensures ∙ ap (kindOf 255) part ∙ e))
     (ap writesString (sym part) ∙ sym (the-test .ensures) ∙ if4 .taken))
 
@@ -107,7 +107,7 @@ returns-5 c =
     let the-kind-at = c .kind-at in
     let part = name-slice used (a .from) (a .end) (omega arith) in
     sym
-    (name-kinds res used (a .y) (a .from) (omega arith) (omega arith)
+    (name-kinds res used (a .y .0) (a .from) (omega arith) (omega arith)
     (λ e. if3 .left (the-name-kind .ensures ∙ ap (kindOf 255) part ∙ e))
     (ap writesString (sym part) ∙ sym (the-test .ensures) ∙ if4 .left)
     ∙ rw (the-kind-at .ensures, the-name-kind .ensures, part))

@@ -15,21 +15,24 @@ use Rattle.integrity.proofs.names.name_end.Reads as name-end-reads
 use Rattle.integrity.proofs.names.name_ok.Reads as name-ok-reads
 
 abbrev Inv-loop : tie.InvT-loop
-Inv-loop resources used r y₀ from₀ y from =
-    (1 ≤ y) × (y ≤ r + 1) × (from ≤ length used) ×
-    (namesOk resources used r 1 0 ≡ namesOk resources used (r + 1 - y) y from)
+Inv-loop resources used r done₀ from₀ done from =
+    (done ≤ r) × (from ≤ length used) ×
+    (namesOk resources used r 1 0 ≡ namesOk resources used (r - done) (done + 1) from)
 
 abbrev μ-loop : tie.MeasureT-loop
-μ-loop resources used r y₀ from₀ y from = r + 1 - y
+μ-loop resources used r done₀ from₀ done from = r - done
 
 loop-holds : tie.Need-loop-holds Inv-loop μ-loop
 loop-holds c =
     let a = c .before .before .args in
-    let e : a .r + 1 - 1 ≡ a .r = omega arith in
-    (omega arith, omega arith, omega arith, rw e)
+    let e : a .r - 0 ≡ a .r = omega arith in
+    (omega arith, omega arith, rw e)
 
 name-end-requires : tie.Need-name-end-requires Inv-loop μ-loop
 name-end-requires c κs = search needs
+
+add-t8 : tie.Need-add-t8 Inv-loop μ-loop
+add-t8 c = search needs
 
 name-ok-requires : tie.Need-name-ok-requires Inv-loop μ-loop
 name-ok-requires c κs = search needs
@@ -43,15 +46,15 @@ returns c =
     let the-name-ok = c .before .name-ok in
     let if1 = c .if1 in
     sym
-    (l .inv .3
-    ∙ names-fail res used (a .r) (l .y) (l .from) (omega arith)
+    (l .inv .2
+    ∙ names-fail res used (a .r) (l .done) (l .from) (omega arith)
     (sym (the-name-ok .ensures) ∙ not-true (the-name-ok .result) (if1 .taken)))
 
 add-from : tie.Need-add-from Inv-loop μ-loop
 add-from c = search needs
 
-add-y : tie.Need-add-y Inv-loop μ-loop
-add-y c = search needs
+add-done : tie.Need-add-done Inv-loop μ-loop
+add-done c = search needs
 
 loop-less : tie.Need-loop-less Inv-loop μ-loop
 loop-less c = search needs
@@ -67,13 +70,12 @@ loop-again c =
     let l = c .before .before .before .before .loop in
     let e = the-name-end .ensures .0 in
     let t = sym (the-name-ok .ensures) ∙ not-false (the-name-ok .result) (if1 .left) in
-    let h = name-closed res used (l .y) (l .from) t in (
+    let h = name-closed res used (l .done + 1) (l .from) t in (
       omega arith,
       omega arith,
-      omega arith,
-      l .inv .3
+      l .inv .2
           ∙ rw (e)
-          (names-turn res used (a .r) (l .y) (l .from) (omega arith)
+          (names-turn res used (a .r) (l .done) (l .from) (omega arith)
           (sym (the-name-ok .ensures) ∙ not-false (the-name-ok .result) (if1 .left))),
     )
 
@@ -83,7 +85,7 @@ returns-2 c =
     let a = c .before .before .before .before .args in
     let used = now (a .used) in
     let res = now (a .resources) in
-    sym (l .inv .3 ∙ names-end res used (a .r) (l .y) (l .from) (omega arith))
+    sym (l .inv .2 ∙ names-end res used (a .r) (l .done) (l .from) (omega arith))
 
 pub names-ok-spec : {M : Type 1} → statement M
 names-ok-spec =
@@ -93,10 +95,11 @@ names-ok-spec =
     μ-loop
     loop-holds
     name-end-requires
+    add-t8
     name-ok-requires
     returns
     add-from
-    add-y
+    add-done
     loop-less
     loop-again
     returns-2)

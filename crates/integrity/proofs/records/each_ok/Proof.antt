@@ -15,10 +15,10 @@ use Rattle.integrity.proofs.records.each_ok.Lts as lts
 use Rattle.integrity.proofs.records.record_ok.Reads as record-ok-reads
 
 abbrev Inv-loop : tie.InvT-loop
-Inv-loop resources statements r t n₀ n = (n ≤ t) × (allBelow (recordOk r resources statements) n ≡ true)
+Inv-loop resources statements r t done₀ done = (done ≤ t) × (allBelow (recordOk r resources statements) done ≡ true)
 
 abbrev μ-loop : tie.MeasureT-loop
-μ-loop resources statements r t n₀ n = t - n
+μ-loop resources statements r t done₀ done = t - done
 
 loop-holds : tie.Need-loop-holds Inv-loop μ-loop
 loop-holds c =
@@ -27,8 +27,8 @@ loop-holds c =
     let res = now (a .resources) in
     (omega arith, all-none (recordOk (a .r) res stm))
 
-add-record-ok : tie.Need-add-record-ok Inv-loop μ-loop
-add-record-ok c = search needs
+add-t7 : tie.Need-add-t7 Inv-loop μ-loop
+add-t7 c = search needs
 
 record-ok-requires : tie.Need-record-ok-requires Inv-loop μ-loop
 record-ok-requires c κs = search needs
@@ -41,13 +41,13 @@ returns c =
     let res = now (a .resources) in
     let the-record-ok = c .before .record-ok in
     let if1 = c .if1 in
-    let e : l .n + 1 - 1 ≡ l .n = omega arith in
+    let e : l .done + 1 - 1 ≡ l .done = omega arith in
     sym
-    (all-fails (recordOk (a .r) res stm) (a .t) (l .n) (omega arith)
+    (all-fails (recordOk (a .r) res stm) (a .t) (l .done) (omega arith)
     (rw e at (sym (the-record-ok .ensures) ∙ not-true (the-record-ok .result) (if1 .taken))))
 
-add-n : tie.Need-add-n Inv-loop μ-loop
-add-n c = search needs
+add-done : tie.Need-add-done Inv-loop μ-loop
+add-done c = search needs
 
 loop-less : tie.Need-loop-less Inv-loop μ-loop
 loop-less c = search needs
@@ -60,9 +60,9 @@ loop-again c =
     let res = now (a .resources) in
     let the-record-ok = c .before .record-ok in
     let if1 = c .if1 in
-    let e : l .n + 1 - 1 ≡ l .n = omega arith in (
+    let e : l .done + 1 - 1 ≡ l .done = omega arith in (
       omega arith,
-      all-more (recordOk (a .r) res stm) (l .n) (l .inv .1)
+      all-more (recordOk (a .r) res stm) (l .done) (l .inv .1)
           (rw e at (sym (the-record-ok .ensures) ∙ not-false (the-record-ok .result) (if1 .left))),
     )
 
@@ -70,7 +70,7 @@ returns-2 : tie.Need-returns-2 Inv-loop μ-loop
 returns-2 c =
     let l = c .before .loop in
     let a = c .before .before .before .before .args in
-    let e : l .n ≡ a .t = omega arith in
+    let e : l .done ≡ a .t = omega arith in
     sym (rw e at (l .inv .1))
 
 pub each-ok-spec : {M : Type 1} → statement M
@@ -80,10 +80,10 @@ each-ok-spec =
     Inv-loop
     μ-loop
     loop-holds
-    add-record-ok
+    add-t7
     record-ok-requires
     returns
-    add-n
+    add-done
     loop-less
     loop-again
     returns-2)

@@ -70,11 +70,11 @@ same-length c = search needs
 returns : tie.Need-returns
 unfolding linkFirst
 returns c =
-    let a = c .before .before .before .before .before .before .args in
-    let i = resourceWords * (a .y - 1) in
+    let a = c .before .before .before .before .before .before .before .args in
+    let i = resourceWords * (a .y .0 - 1) in
     let o = c .offset .result in
-    let n = c .before .before .before .count-at .result in
-    let l = c .before .live-at .result in
+    let n = c .before .before .before .before .count-at .result in
+    let l = c .before .before .live-at .result in
     let e1 : a .t + 1 ≡ suc (a .t) = omega arith in
     let e2 : n + 1 ≡ suc n = omega arith in
     let e3 : l + 1 ≡ suc l = omega arith in
@@ -82,25 +82,10 @@ returns c =
     let e5 : i + o + 8 ≡ i + (8 + o) = omega arith in
     cc
 
+cast-i : tie.Need-cast-i
+cast-i c = search needs
+
 pub link-first-spec : {M : Type 1} → statement M
 link-first-spec =
     tie.close
-    (tie.spec count-at-requires
-    live-at-requires
-    sub-i
-    mul-i
-    offset-requires
-    add-i
-    add-resources
-    mul-resources
-    slice-write-resources
-    add-resources-2
-    add-resources-3
-    mul-resources-2
-    slice-write-resources-2
-    add-resources-4
-    add-resources-5
-    mul-resources-3
-    slice-write-resources-3
-    same-length
-    returns)
+    (tie.spec count-at-requires live-at-requires cast-i sub-i mul-i offset-requires add-i add-resources mul-resources slice-write-resources add-resources-2 add-resources-3 mul-resources-2 slice-write-resources-2 add-resources-4 add-resources-5 mul-resources-3 slice-write-resources-3 same-length returns)

@@ -27,7 +27,7 @@ add-i-2 : tie.Need-add-i-2
 add-i-2 c = search needs
 
 moved-requires : tie.Need-moved-requires
-moved-requires c κs = rw (c .before .live-at .ensures) (c .before .before .before .before .pre .movable)
+moved-requires c κs = rw (c .before .before .live-at .ensures) (c .before .before .before .before .before .pre .movable)
 
 mul-resources : tie.Need-mul-resources
 mul-resources c = search needs
@@ -42,17 +42,10 @@ returns : tie.Need-returns
 unfolding tallyAt
 returns c = cc
 
+cast-i : tie.Need-cast-i
+cast-i c = search needs
+
 pub tally-at-spec : {M : Type 1} → statement M
 tally-at-spec =
     tie.close
-    (tie.spec live-at-requires
-    sub-i
-    mul-i
-    offset-requires
-    add-i
-    add-i-2
-    moved-requires
-    mul-resources
-    slice-write-resources
-    same-length
-    returns)
+    (tie.spec live-at-requires cast-i sub-i mul-i offset-requires add-i add-i-2 moved-requires mul-resources slice-write-resources same-length returns)

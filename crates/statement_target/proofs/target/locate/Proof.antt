@@ -57,16 +57,16 @@ enum-told-3 : tie.Need-enum-told-3
 enum-told-3 c = search needs
 
 returns-2 : tie.Need-returns-2
-returns-2 c = let a = c .before .before .before .before .before .before .before .before .before .before .args in sym (ap (λ (o : Option ℕ). locatedAs o) (locate-walk (a .c) (tables (now (a .resources)) (now (a .statements)) [] []) (a .x) (c .before .before .before .walk .result) (c .before .before .before .before .before .pick-chain .result) (c .before .before .before .before .start-of .result) (passed (c .before .before .before .before .before .before .before .ready .ensures) (c .before .before .before .before .before .before .if1 .left)) (c .before .before .before .before .before .pick-chain .ensures) (c .before .before .before .before .start-of .ensures) (c .before .before .before .walk .ensures)) ∙ ap (λ (w : Walked). locatedAs (located (stepOf w))) (c .before .n .given .1))
+returns-2 c = let a = c .before .before .before .before .before .before .before .before .before .before .args in sym (ap (λ (o : Option ℕ). locatedAs o) (locate-walk (a .c) (tables (now (a .resources)) (now (a .statements)) [] []) (a .x) (c .before .before .before .walk .result) (c .before .before .before .before .before .pick-chain .result) (c .before .before .before .before .start-of .result .0) (passed (c .before .before .before .before .before .before .before .ready .ensures) (c .before .before .before .before .before .before .if1 .left)) (c .before .before .before .before .before .pick-chain .ensures) (c .before .before .before .before .start-of .ensures) (c .before .before .before .walk .ensures)) ∙ ap (λ (w : Walked). locatedAs (located (stepOf w))) (c .before .n .given .1))
 
 returns-3 : tie.Need-returns-3
-returns-3 c = let a = c .before .before .before .before .before .before .before .before .before .args in sym (ap (λ (o : Option ℕ). locatedAs o) (locate-walk (a .c) (tables (now (a .resources)) (now (a .statements)) [] []) (a .x) (c .before .before .walk .result) (c .before .before .before .before .pick-chain .result) (c .before .before .before .start-of .result) (passed (c .before .before .before .before .before .before .ready .ensures) (c .before .before .before .before .before .if1 .left)) (c .before .before .before .before .pick-chain .ensures) (c .before .before .before .start-of .ensures) (c .before .before .walk .ensures)) ∙ ap (λ (w : Walked). locatedAs (located (stepOf w))) (c .enum-told .given .1))
+returns-3 c = let a = c .before .before .before .before .before .before .before .before .before .args in sym (ap (λ (o : Option ℕ). locatedAs o) (locate-walk (a .c) (tables (now (a .resources)) (now (a .statements)) [] []) (a .x) (c .before .before .walk .result) (c .before .before .before .before .pick-chain .result) (c .before .before .before .start-of .result .0) (passed (c .before .before .before .before .before .before .ready .ensures) (c .before .before .before .before .before .if1 .left)) (c .before .before .before .before .pick-chain .ensures) (c .before .before .before .start-of .ensures) (c .before .before .walk .ensures)) ∙ ap (λ (w : Walked). locatedAs (located (stepOf w))) (c .enum-told .given .1))
 
 returns-4 : tie.Need-returns-4
-returns-4 c = let a = c .before .before .before .before .before .before .before .before .before .args in sym (ap (λ (o : Option ℕ). locatedAs o) (locate-walk (a .c) (tables (now (a .resources)) (now (a .statements)) [] []) (a .x) (c .before .before .walk .result) (c .before .before .before .before .pick-chain .result) (c .before .before .before .start-of .result) (passed (c .before .before .before .before .before .before .ready .ensures) (c .before .before .before .before .before .if1 .left)) (c .before .before .before .before .pick-chain .ensures) (c .before .before .before .start-of .ensures) (c .before .before .walk .ensures)) ∙ ap (λ (w : Walked). locatedAs (located (stepOf w))) (c .enum-told2 .given .1))
+returns-4 c = let a = c .before .before .before .before .before .before .before .before .before .args in sym (ap (λ (o : Option ℕ). locatedAs o) (locate-walk (a .c) (tables (now (a .resources)) (now (a .statements)) [] []) (a .x) (c .before .before .walk .result) (c .before .before .before .before .pick-chain .result) (c .before .before .before .start-of .result .0) (passed (c .before .before .before .before .before .before .ready .ensures) (c .before .before .before .before .before .if1 .left)) (c .before .before .before .before .pick-chain .ensures) (c .before .before .before .start-of .ensures) (c .before .before .walk .ensures)) ∙ ap (λ (w : Walked). locatedAs (located (stepOf w))) (c .enum-told2 .given .1))
 
 returns-5 : tie.Need-returns-5
-returns-5 c = let a = c .before .before .before .before .before .before .before .before .before .args in sym (ap (λ (o : Option ℕ). locatedAs o) (locate-walk (a .c) (tables (now (a .resources)) (now (a .statements)) [] []) (a .x) (c .before .before .walk .result) (c .before .before .before .before .pick-chain .result) (c .before .before .before .start-of .result) (passed (c .before .before .before .before .before .before .ready .ensures) (c .before .before .before .before .before .if1 .left)) (c .before .before .before .before .pick-chain .ensures) (c .before .before .before .start-of .ensures) (c .before .before .walk .ensures)) ∙ ap (λ (w : Walked). locatedAs (located (stepOf w))) (c .enum-told3 .given .1))
+returns-5 c = let a = c .before .before .before .before .before .before .before .before .before .args in sym (ap (λ (o : Option ℕ). locatedAs o) (locate-walk (a .c) (tables (now (a .resources)) (now (a .statements)) [] []) (a .x) (c .before .before .walk .result) (c .before .before .before .before .pick-chain .result) (c .before .before .before .start-of .result .0) (passed (c .before .before .before .before .before .before .ready .ensures) (c .before .before .before .before .before .if1 .left)) (c .before .before .before .before .pick-chain .ensures) (c .before .before .before .start-of .ensures) (c .before .before .walk .ensures)) ∙ ap (λ (w : Walked). locatedAs (located (stepOf w))) (c .enum-told3 .given .1))
 
 pub locate-spec : {M : Type 1} → statement M
 locate-spec =
