@@ -18,6 +18,7 @@ use graph::Solution;
 use graph::VARIABLES;
 use query_stack::stack::level;
 use store::Chain;
+use store::StatementId;
 use store::refusal_number;
 ghost use mathlib.Core.Path.{_≡_};
 ghost use Prim.Native.Nat.{_≤_};
@@ -57,12 +58,13 @@ fn levels_of(words: &[u32]) -> [Level; MAX_PATTERNS]
     requires { ⌜ queryCursorWords ≤ length (now words) ⌝ }
     ensures { λ r. ⌜ r ≡ levelsFrom (now (words .entry)) 3 maxPatterns ⌝ }
 {
-    let none = level(Chain::All, 0);
+    let none = level(Chain::All, StatementId(0));
     let mut out = [none; MAX_PATTERNS];
     let mut i: usize = 0;
     while i < MAX_PATTERNS {
         let chain = chain_of(words[3 + 2 * i]);
-        let l = level(chain, words[4 + 2 * i]);
+        let word = words[4 + 2 * i];
+        let l = level(chain, StatementId(word));
         out[i] = l;
         i += 1;
     }

@@ -30,16 +30,16 @@ pub fn none_bound() -> Solution
 }
 
 // The number that a word stands for, or 0 where it is an open variable.
-pub fn value_of(bound: Solution, w: u32) -> u32
+pub fn value_of(bound: Solution, w: u32) -> ResourceId
     requires { ⌜ WordFits w ⌝ }
-    ensures { λ n. ⌜ n ≡ valueOf (bound .values) w ⌝ }
+    ensures { λ y. ⌜ y .0 ≡ valueOf (bound .values) w ⌝ }
 {
     if w < FIRST_VARIABLE {
-        return w;
+        return ResourceId(w);
     }
     let v = (w - FIRST_VARIABLE) as usize;
     let y = bound.values[v];
-    y.0
+    y
 }
 
 // A pattern as a scan's: 0 where a variable is open.
@@ -48,9 +48,9 @@ pub fn under(bound: Solution, x: QueryPattern) -> Triple
     ensures { λ t. ⌜ t ≡ under (bound .values) x ⌝ }
 {
     Triple {
-        subject: ResourceId(value_of(bound, x.subject)),
-        predicate: ResourceId(value_of(bound, x.predicate)),
-        object: ResourceId(value_of(bound, x.object)),
+        subject: value_of(bound, x.subject),
+        predicate: value_of(bound, x.predicate),
+        object: value_of(bound, x.object),
     }
 }
 
@@ -69,16 +69,16 @@ pub fn word_at(x: QueryPattern, k: u32) -> u32
 }
 
 // A triple's resource at place k.
-pub fn number_at(t: Triple, k: u32) -> u32
-    ensures { λ n. ⌜ n ≡ numberAt t k ⌝ }
+pub fn number_at(t: Triple, k: u32) -> ResourceId
+    ensures { λ n. ⌜ n .0 ≡ numberAt t k ⌝ }
 {
     if k == 0 {
-        return t.subject.0;
+        return t.subject;
     }
     if k == 1 {
-        return t.predicate.0;
+        return t.predicate;
     }
-    t.object.0
+    t.object
 }
 
 // No match: what was bound before.
@@ -91,8 +91,8 @@ pub fn unmet(bound: Solution) -> Matched
     }
 }
 
-// A triple meets a pattern, subject, predicate, object in turn: an open variable takes the resource, anything else
-// must be it. One copy of what is bound is written in place.
+// A triple meets a pattern, subject, predicate, object in turn: an open variable takes the resource, anything else must be it.
+// One copy of what is bound is written in place.
 pub fn meet(x: QueryPattern, t: Triple, bound: Solution) -> Matched
     requires { ⌜ PatternOk x ⌝ }
     ensures { λ m. ⌜ m ≡ matchedAs bound (match x t (bound .values)) ⌝ }
@@ -104,7 +104,7 @@ pub fn meet(x: QueryPattern, t: Triple, bound: Solution) -> Matched
         let n = number_at(t, k);
         k += 1;
         if w < FIRST_VARIABLE {
-            if w != n {
+            if w != n.0 {
                 return unmet(bound);
             }
             continue;
@@ -112,11 +112,11 @@ pub fn meet(x: QueryPattern, t: Triple, bound: Solution) -> Matched
         let v = (w - FIRST_VARIABLE) as usize;
         let y = b.values[v];
         if y.0 == 0 {
-            let taken = ResourceId(n);
+            let taken = n;
             b.values[v] = taken;
             continue;
         }
-        if y.0 != n {
+        if y.0 != n.0 {
             return unmet(bound);
         }
     }

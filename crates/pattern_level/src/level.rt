@@ -1,8 +1,7 @@
-// The levels of a query's place: one for each pattern entered, its chain and a record on it (paper 01, "Next of a
-// question").
+// The levels of a query's place: one for each pattern entered, its chain and a record on it (paper 01, "Next of a question").
 //
-// Levels stand in an array, the first pattern first; a function is told how many of them count. What each entered
-// record must be for its words to be read is asked of the caller, who has tested it (refusal 6) or visited the record.
+// Levels stand in an array, the first pattern first; a function is told how many of them count.
+// What each entered record must be for its words to be read is asked of the caller, who has tested it (refusal 6) or visited the record.
 use chain_walk::walk::link_of;
 use graph::Level;
 use graph::MAX_PATTERNS;
@@ -31,10 +30,10 @@ pub fn past(statements: &[u32], l: Level) -> Level
     ensures { λ r. ⌜ r ≡ past (now (statements .entry)) l ⌝ }
 {
     let chain = l.chain;
-    let n = l.statement.0;
+    let n = l.statement;
     Level {
         chain: chain,
-        statement: StatementId(link_of(statements, chain, n)),
+        statement: link_of(statements, chain, n),
     }
 }
 
@@ -43,7 +42,7 @@ pub fn struck(statements: &[u32], l: Level) -> bool
     requires { ⌜ StatementHeld (now statements) (l .statement .0) ⌝ }
     ensures { λ b. ⌜ b ≡ struck (now (statements .entry)) l ⌝ }
 {
-    let n = l.statement.0;
+    let n = l.statement;
     flag_at(statements, n) == 1
 }
 
@@ -52,12 +51,12 @@ pub fn level_intact(statements: &[u32], l: Level) -> bool
     requires { ⌜ StatementHeld (now statements) (l .statement .0) ⌝ }
     ensures { λ b. ⌜ b ≡ levelIntact (now (statements .entry)) l ⌝ }
 {
-    let n = l.statement.0;
+    let n = l.statement;
     if flag_at(statements, n) > 1 {
         return false;
     }
     let after = past(statements, l);
-    after.statement.0 < n
+    after.statement.0 < n.0
 }
 
 // What the first d levels bind.
@@ -75,7 +74,7 @@ pub fn bindings(
     let mut i: u32 = 0;
     while i < d {
         let l = levels[i as usize];
-        let n = l.statement.0;
+        let n = l.statement;
         let m = meet(pattern_at(words, i), triple_at(statements, n), bound);
         let b = m.bound;
         bound = b;
@@ -84,8 +83,8 @@ pub fn bindings(
     bound
 }
 
-// Whether the records of the first d levels have flags of at most 1 and nexts below their own numbers; where not,
-// next refuses 9 before any visit.
+// Whether the records of the first d levels have flags of at most 1 and nexts below their own numbers;
+// where not, next refuses 9 before any visit.
 pub fn intact(statements: &[u32], levels: [Level; MAX_PATTERNS], d: u32) -> bool
     requires { ⌜ LevelsHeld (now statements) levels d ⌝ }
     ensures { λ b. ⌜ b ≡ intact (now (statements .entry)) (levelsOf levels d) ⌝ }

@@ -1,8 +1,6 @@
-// The place of a query's cursor, tested level by level: where it is none, next refuses 6 (paper 01, "Next of a
-// question").
+// The place of a query's cursor, tested level by level: where it is none, next refuses 6 (paper 01, "Next of a question").
 //
-// A test that holds hands on what the levels before the deepest bind, so that a reading that goes on does not bind
-// them again.
+// A test that holds hands on what the levels before the deepest bind, so that a reading that goes on does not bind them again.
 use chain::pick::chain_ok;
 use chain_walk::walk::record_ok;
 use graph::Level;
@@ -32,8 +30,8 @@ ghost use Rattle.pattern.specs.Matching.{PatternOk};
 ghost use Rattle.pattern_level.specs.Levels.{QueryOk};
 ghost use Rattle.pattern_place.specs.Tested.{LevelTested, LevelsTested, deepestOk, InsideTested, PlaceTested};
 
-// Whether an entered level is one: a record of the table, a chain that a scan would take, resources in 1..=R, a match
-// under the earlier levels. Where it is, what is bound from now on.
+// Whether an entered level is one: a record of the table, a chain that a scan would take, resources in 1..=R,
+// a match under the earlier levels. Where it is, what is bound from now on.
 pub fn level_ok(
     c: Counters,
     statements: &[u32],
@@ -48,11 +46,11 @@ pub fn level_ok(
         hit: false,
         bound: bound,
     };
-    let n = l.statement.0;
-    if n == 0 {
+    let n = l.statement;
+    if n.0 == 0 {
         return miss;
     }
-    if n > c.statements {
+    if n.0 > c.statements {
         return miss;
     }
     let chain = l.chain;
@@ -97,14 +95,14 @@ pub fn levels_ok(
     }
 }
 
-// Whether the deepest level is one, its pattern under the earlier levels being x: a number up to T, a chain and a
-// record that a scan would take.
+// Whether the deepest level is one, its pattern under the earlier levels being x:
+// a number up to T, a chain and a record that a scan would take.
 pub fn deepest_ok(c: Counters, statements: &[u32], x: Triple, l: Level) -> bool
     requires { ⌜ statementWords * c .statements ≤ length (now statements) ⌝ }
     ensures { λ b. ⌜ b ≡ deepestOk (c .statements) (now (statements .entry)) x l ⌝ }
 {
-    let n = l.statement.0;
-    if n > c.statements {
+    let n = l.statement;
+    if n.0 > c.statements {
         return false;
     }
     let chain = l.chain;

@@ -1,8 +1,8 @@
-// The stack of a query's walk: the place with what it binds kept beside it, so that a visit that misses changes one
-// number and copies nothing (paper 01, "Next of a question").
+// The stack of a query's walk: the place with what it binds kept beside it,
+// so that a visit that misses changes one number and copies nothing (paper 01, "Next of a question").
 //
-// A turn of the walk leaves the deepest level, visits its record, or enters the next pattern; each is a function here,
-// and so are the replies that a walk ends with. A reply's cursor has the number of reclaims that it is given.
+// A turn of the walk leaves the deepest level, visits its record, or enters the next pattern;
+// each is a function here, and so are the replies that a walk ends with. A reply's cursor has the number of reclaims that it is given.
 use chain::pick::pick_chain;
 use chain::pick::pickable;
 use chain::pick::start_of;
@@ -45,8 +45,8 @@ ghost use Rattle.pattern_level.specs.Levels.{QueryOk, LevelsHeld};
 ghost use Rattle.query_stack.specs.Stack.{deepest, entered, standAs, poppedAs, enteredAs, metAt, NextHeld};
 ghost use Rattle.query_stack.specs.Stack.{triedAs, overAs};
 
-// Where the walk stands: the deepest level, from 0; the levels; what those before the deepest bind; the deepest
-// level's pattern under them, 0 for an open variable.
+// Where the walk stands: the deepest level, from 0; the levels; what those before the deepest bind;
+// the deepest level's pattern under them, 0 for an open variable.
 pub struct Stack {
     pub top: u32,
     pub levels: [Level; MAX_PATTERNS],
@@ -61,8 +61,8 @@ pub enum Outcome {
     Whole,
 }
 
-// What a turn writes over the stack: what the levels before the deepest bind; the deepest level's pattern under them;
-// that level; its number, from 0. The array comes first: copies of it then start at a whole word.
+// What a turn writes over the stack: what the levels before the deepest bind; the deepest level's pattern under them; that level;
+// its number, from 0. The array comes first: copies of it then start at a whole word.
 pub struct Turned {
     pub bound: Solution,
     pub asked: Triple,
@@ -72,12 +72,12 @@ pub struct Turned {
 }
 
 // A level of a chain, at record n.
-pub fn level(chain: Chain, n: u32) -> Level
-    ensures { λ l. ⌜ l ≡ level chain n ⌝ }
+pub fn level(chain: Chain, n: StatementId) -> Level
+    ensures { λ l. ⌜ l ≡ level chain (n .0) ⌝ }
 {
     Level {
         chain: chain,
-        statement: StatementId(n),
+        statement: n,
     }
 }
 
@@ -85,7 +85,7 @@ pub fn level(chain: Chain, n: u32) -> Level
 pub fn no_levels(generation: u32, progress: Progress) -> QueryCursor
     ensures { λ q. ⌜ q ≡ cursorWith generation progress [] ⌝ }
 {
-    let none = level(Chain::All, 0);
+    let none = level(Chain::All, StatementId(0));
     let levels = [none; MAX_PATTERNS];
     cursor_of(generation, progress, levels, 0)
 }
@@ -182,7 +182,7 @@ pub fn enter(t: u32, resources: &[u32], words: &[u32], top: u32, bound: Solution
         return Turned {
             bound: bound,
             asked: x,
-            level: level(Chain::All, 0),
+            level: level(Chain::All, StatementId(0)),
             top: top,
             outcome: Outcome::Damaged,
         };
@@ -197,8 +197,8 @@ pub fn enter(t: u32, resources: &[u32], words: &[u32], top: u32, bound: Solution
     }
 }
 
-// A live record of level l that the chain's scan would give is put to the pattern: no match, on along the chain to
-// record `next`; a match of the last pattern, a whole solution; of an earlier one, the next pattern is entered at once.
+// A live record of level l that the chain's scan would give is put to the pattern: no match, on along the chain to record `next`;
+// a match of the last pattern, a whole solution; of an earlier one, the next pattern is entered at once.
 // Before it, b is bound, and the pattern is x.
 pub fn tried(
     t: u32,
@@ -209,17 +209,17 @@ pub fn tried(
     l: Level,
     x: Triple,
     b: Solution,
-    next: u32,
+    next: StatementId,
 ) -> Turned
     requires { ⌜ QueryOk (now words) × (top < length (patternsOf (now words)))
         × StatementHeld (now statements) (l .statement .0)
         × NextHeld (now resources) (now statements) (patternsOf (now words)) top l b ⌝ }
-    ensures { λ m. ⌜ m ≡ triedAs t (now (resources .entry)) (patternsOf (now (words .entry))) top l x b next
+    ensures { λ m. ⌜ m ≡ triedAs t (now (resources .entry)) (patternsOf (now (words .entry))) top l x b (next .0)
         (metAt (now (statements .entry)) (patternsOf (now (words .entry))) top l b) ⌝ }
 {
     let m = meet(
         pattern_at(words, top),
-        triple_at(statements, l.statement.0),
+        triple_at(statements, l.statement),
         b,
     );
     let bound = m.bound;
@@ -281,19 +281,19 @@ pub fn whole(generation: u32, s: Stack, visits: u32) -> QueryAnswer
 }
 
 // A level at another record of its chain.
-pub fn moved(l: Level, n: u32) -> Level
-    ensures { λ m. ⌜ m ≡ level (l .chain) n ⌝ }
+pub fn moved(l: Level, n: StatementId) -> Level
+    ensures { λ m. ⌜ m ≡ level (l .chain) (n .0) ⌝ }
 {
     let chain = l.chain;
     level(chain, n)
 }
 
-// A visit of a level's record, where x is the level's pattern under the earlier levels: damaged, a live record that x
-// lets through, or another; with the next record on the chain.
+// A visit of a level's record, where x is the level's pattern under the earlier levels:
+// damaged, a live record that x lets through, or another; with the next record on the chain.
 pub fn seen(statements: &[u32], r: u32, l: Level, x: Triple) -> Visited
     requires { ⌜ StatementHeld (now statements) (l .statement .0) ⌝ }
     ensures { λ v. ⌜ v ≡ visitOf LiveMatch r (now (statements .entry)) (l .chain) x (l .statement .0 - 1) ⌝ }
 {
     let chain = l.chain;
-    visit(statements, r, chain, x, Sought::LiveMatch, l.statement.0)
+    visit(statements, r, chain, x, Sought::LiveMatch, l.statement)
 }

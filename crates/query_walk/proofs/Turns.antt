@@ -1,20 +1,21 @@
--- Laws of a turn of the walk: chains that have run out, a visit, a match, the next pattern entered; and the walk at
--- each way out of a turn. Assumes nothing.
+-- Laws of a turn of the walk: chains that have run out, a visit, a match, the next pattern entered; what both loops
+-- keep, and the walk at each way out of a turn. Assumes nothing.
 use mathlib.Core.Path.{_≡_, refl, sym, ap, ap₂, _∙_}
 use mathlib.Core.Bool.{Bool, true, false, cond, not, _&&_, false≢true}
 use mathlib.Core.List.{List, [], _∷_}
 use mathlib.Core.Option.{Option, none, some}
-use Prim.Native.Nat.{ℕ, suc, _+_, _-_, _≤_, _<_}
+use Prim.Native.Nat.{ℕ, zero, suc, _+_, _-_, _*_, _≤_, _<_}
 use native.Mathlib.Omega.{arith}
 use lib.ListN.{length, getD, set}
 use lib.Dec.{eqb}
 use borrow.Author.Tests.{eqb-true, eqb-false, eq-eqb, ne-eqb}
+use Rattle.store.specs.declared.StatementId.{StatementId}
 use Rattle.store.specs.declared.Chain.{Chain}
 use Rattle.store.specs.declared.Chain.the-variants.{All}
 use Rattle.store.specs.declared.Triple.{Triple}
 use Rattle.store.specs.declared.Refusal.the-variants.{Damaged as Nine}
 use Rattle.store.specs.Shared.{known, agrees, matches}
-use Rattle.store.specs.Tables.{tripleAt}
+use Rattle.store.specs.Tables.{statementWords, tripleAt}
 use Rattle.store.specs.Walk.{entryAt, pickChain, pickable, startOf, linkOf, visitable}
 use Rattle.chain_walk.specs.declared.walk.Sought.the-variants.{LiveMatch}
 use Rattle.chain_walk.specs.declared.walk.Visited.{Visited}
@@ -27,7 +28,7 @@ use Rattle.graph.specs.Query.{match, recordAt, past, struck, settle, nextPatter
 use Rattle.graph.specs.Place.{level, noLevel, inside, levelsOf}
 use Rattle.graph.specs.Words.{patternsOf, pattern, maxPatterns, Bindings, under}
 use Rattle.graph.specs.Query.{Answer, refused, found, ended, enter, hit, tried, visit, walk}
-use Rattle.pattern_level.specs.Levels.{LevelsHeld}
+use Rattle.pattern_level.specs.Levels.{QueryOk, LevelsHeld}
 use Rattle.query_stack.specs.declared.stack.Stack.{Stack}
 use Rattle.query_stack.specs.declared.stack.Outcome.{Outcome}
 use Rattle.query_stack.specs.declared.stack.Outcome.the-variants.{Damaged, Onward, Whole}
@@ -218,32 +219,33 @@ module _ (r t : ℕ) (res stm ws : List ℕ) (k : Ready r t res stm ws) (q : Sta
   unfolding visit visitOf
   visit-torn e =
       let a = was-torn (visitable r stm chainOf (q .asked) (num - 1)) (hits LiveMatch stm (q .asked) (num - 1))
-      (linkOf stm chainOf (num - 1)) e in
+      (record { 0 = linkOf stm chainOf (num - 1) }) e in
       rw (prev-minus num, ← s .asked-is, a)
 
-  pub visit-missed : (m : ℕ) → visited ≡ Miss m → (num ≡ 0 → ⊥)
-      → (visit r t res stm (patternsOf ws) (deepest q) (entered q) ≡ go (level chainOf m) (entered q)) × (m < num)
+  pub visit-missed : (m : StatementId) → visited ≡ Miss m → (num ≡ 0 → ⊥)
+      → (visit r t res stm (patternsOf ws) (deepest q) (entered q) ≡ go (level chainOf (m .0)) (entered q)) × (m .0 < num)
   unfolding visit visitOf tried
   visit-missed m e z =
       let a = was-miss (visitable r stm chainOf (q .asked) (num - 1)) (hits LiveMatch stm (q .asked) (num - 1))
-      (linkOf stm chainOf (num - 1)) m e in
+      (record { 0 = linkOf stm chainOf (num - 1) }) m e in
       let f = falling r stm chainOf (q .asked) (num - 1) (a .0) in
-      (rw (prev-minus num, ← s .asked-is, a .0, hit-none (a .1), past-at stm (deepest q), a .2), omega (arith, a .2))
+      let y : linkOf stm chainOf (num - 1) ≡ m .0 = ap (λ (n : StatementId). n .0) (a .2) in
+      (rw (prev-minus num, ← s .asked-is, a .0, hit-none (a .1), past-at stm (deepest q), y), omega arith)
 
-  pub visit-hit : (m : ℕ) → visited ≡ Hit m → (num ≡ 0 → ⊥)
+  pub visit-hit : (m : StatementId) → visited ≡ Hit m → (num ≡ 0 → ⊥)
       → (visit r t res stm (patternsOf ws) (deepest q) (entered q)
       ≡ tried r t res stm (patternsOf ws) (deepest q) (entered q) meeting)
-      × Visitable r stm q × (m ≡ linkOf stm chainOf (num - 1))
+      × Visitable r stm q × (m .0 ≡ linkOf stm chainOf (num - 1))
   unfolding visit visitOf
   visit-hit m e z =
       let a = was-hit (visitable r stm chainOf (q .asked) (num - 1)) (hits LiveMatch stm (q .asked) (num - 1))
-      (linkOf stm chainOf (num - 1)) m e in (
+      (record { 0 = linkOf stm chainOf (num - 1) }) m e in (
         rw (prev-minus num, ← s .asked-is, a .0, hit-live (a .1)),
         record {
           some-record = omega arith;
           sound = a .0;
         },
-        sym (a .2),
+        sym (ap (λ (n : StatementId). n .0) (a .2)),
       )
 
   -- on along the chain: the same stack at a lower record
@@ -390,91 +392,212 @@ module _ (r t : ℕ) (res stm ws : List ℕ) (k : Ready r t res stm ws) (q : Sta
       → TurnIs r t stm ws turn (q .levels) m
   turned-is n m v e d = rw (d, met-is) (turned-by n v e meeting refl)
 
--- ---- the loop: v of `budget` visits are made, w is where the turn began, q where chains that have run out are left
+-- ---- the loops
 
-module _ (r t : ℕ) (res stm ws : List ℕ) (k : Ready r t res stm ws) (budget v : ℕ) (le : v ≤ budget)
-    (ne : v ≡ budget → ⊥) (w q : Stack) (s : Stands r t stm ws q)
-    (e : settle stm (deepest w) (entered w) ≡ settle stm (deepest q) (entered q)) where
-  abbrev from-here : Answer
-  from-here = walk r t res stm (patternsOf ws) (budget - v) (deepest w) (entered w) v
+-- once a further visit may be made, the walk goes by where chains that have run out are left
+walk-settles : (r t : ℕ) (res stm : List ℕ) (ps : List QueryPattern) (left v : ℕ) (l l′ : Level) (up up′ : List Level)
+    → (left ≡ 0 → ⊥) → settle stm l up ≡ settle stm l′ up′
+    → walk r t res stm ps left l up v ≡ walk r t res stm ps left l′ up′ v
+unfolding walk
+walk-settles r t res stm ps zero v l l′ up up′ h e = absurd (h refl)
+walk-settles r t res stm ps (suc b) v l l′ up up′ h e = rw (walk, e)
 
-  abbrev onward : Stack → Answer
-  onward p = walk r t res stm (patternsOf ws) (budget - (v + 1)) (deepest p) (entered p) (v + 1)
+-- from stack q₀ with v₀ visits made to q with v: the walk from the one is the walk from the other, which has no more to do
+pub record Walking (r t : ℕ) (res stm ws : List ℕ) (budget : ℕ) (q₀ : Stack) (v₀ : ℕ) (q : Stack) (v : ℕ) : Type 0 where
+  pub within : v ≤ budget
+  pub stands : Stands r t stm ws q
+  pub same : walk r t res stm (patternsOf ws) (budget - v₀) (deepest q₀) (entered q₀) v₀
+      ≡ walk r t res stm (patternsOf ws) (budget - v) (deepest q) (entered q) v
+  pub less : maxPatterns * (budget - v) + q .top ≤ maxPatterns * (budget - v₀) + q₀ .top
 
-  left-some : budget - v ≡ 0 → ⊥
-  left-some z = ne (omega arith)
+module _ (r t : ℕ) (res stm ws : List ℕ) (budget : ℕ) (q₀ : Stack) (v₀ : ℕ) where
+  pub walks-here : v₀ ≤ budget → Stands r t stm ws q₀ → Walking r t res stm ws budget q₀ v₀ q₀ v₀
+  walks-here h s = record { within = h; stands = s; same = refl; less = omega arith }
 
-  pub runs-out : q .top ≡ 0 → (deepest q) .statement .0 ≡ 0 → from-here ≡ ended v
-  runs-out z h = turn-ended r t res stm (patternsOf ws) (deepest w) (entered w) v (budget - v) left-some
-      (e ∙ settled-none stm q z h)
+  pub walks-on : (q₁ : Stack) (v₁ : ℕ) (q : Stack) (v : ℕ) → Walking r t res stm ws budget q₀ v₀ q₁ v₁
+      → Walking r t res stm ws budget q₁ v₁ q v → Walking r t res stm ws budget q₀ v₀ q v
+  walks-on q₁ v₁ q v w x =
+      let a = w .less in
+      let b = x .less in
+      record { within = x .within; stands = x .stands; same = w .same ∙ x .same; less = omega arith }
 
-  module _ (some-record : (deepest q) .statement .0 ≡ 0 → ⊥) where
-    here : settle stm (deepest w) (entered w) ≡ deepest q ∷ entered q
-    here = e ∙ settled stm q some-record
+-- a stack that stands, v of `budget` visits made and one more to be made
+pub record Here : Type 0 where
+  pub r : ℕ
+  pub t : ℕ
+  pub res : List ℕ
+  pub stm : List ℕ
+  pub ws : List ℕ
+  pub budget : ℕ
+  pub v : ℕ
+  pub q : Stack
+  pub ready : Ready r t res stm ws
+  pub left : v < budget
+  pub stands : Stands r t stm ws q
 
+module _ (h : Here) where
+  abbrev ps : List QueryPattern
+  ps = patternsOf (h .ws)
+
+  abbrev last : Level
+  last = deepest (h .q)
+
+  abbrev up : List Level
+  up = entered (h .q)
+
+  abbrev fromHere : Answer
+  fromHere = walk (h .r) (h .t) (h .res) (h .stm) ps (h .budget - h .v) last up (h .v)
+
+  abbrev Onward-to : Stack → ℕ → Type 0
+  Onward-to = Walking (h .r) (h .t) (h .res) (h .stm) (h .ws) (h .budget) (h .q) (h .v)
+
+  some-left : h .budget - h .v ≡ 0 → ⊥
+  some-left z = let n = h .left in omega arith
+
+  pub slot-here : h .q .top < maxPatterns
+  slot-here = top-small (h .r) (h .t) (h .res) (h .stm) (h .ws) (h .ready) (h .q) (h .stands)
+
+  pub runs-out : h .q .top ≡ 0 → last .statement .0 ≡ 0 → fromHere ≡ ended (h .v)
+  runs-out z e = turn-ended (h .r) (h .t) (h .res) (h .stm) ps last up (h .v) (h .budget - h .v) some-left
+      (settled-none (h .stm) (h .q) z e)
+
+  pub pop-needs : 1 ≤ h .q .top
+      → QueryOk (h .ws) × (h .q .top < length ps) × (1 ≤ h .q .top) × LevelsHeld (h .stm) (h .q .levels) (h .q .top)
+  pop-needs o = (
+    ready-query (h .r) (h .t) (h .res) (h .stm) (h .ws) (h .ready),
+    h .stands .few,
+    o,
+    stack-held (h .r) (h .t) (h .res) (h .stm) (h .ws) (h .ready) (h .q) (h .stands),
+  )
+
+  pub pops : (m : Turned) → m ≡ poppedAs (h .stm) ps (h .q) → 1 ≤ h .q .top → last .statement .0 ≡ 0
+      → Onward-to (onto (h .q .levels) m) (h .v)
+  pops m made o e =
+      let n = h .left in
+      let d = ap (λ (z : Turned). z .top) made in
+      record {
+        within = omega arith;
+        stands = popped-stands (h .r) (h .t) (h .stm) (h .ws) (h .q) (h .stands) o slot-here m made;
+        same =
+            walk-settles (h .r) (h .t) (h .res) (h .stm) ps (h .budget - h .v) (h .v) last (deepest (onto (h .q .levels) m))
+            up (entered (onto (h .q .levels) m)) some-left
+            (popped-settles (h .r) (h .t) (h .stm) (h .ws) (h .q) (h .stands) o slot-here m made e);
+        less = omega arith;
+      }
+
+  module _ (some-record : last .statement .0 ≡ 0 → ⊥) where
     abbrev seen : Visited
-    seen = visitOf LiveMatch r stm ((deepest q) .chain) (q .asked) ((deepest q) .statement .0 - 1)
+    seen = visitOf LiveMatch (h .r) (h .stm) (last .chain) (h .q .asked) (last .statement .0 - 1)
 
-    bad-here : visit r t res stm (patternsOf ws) (deepest q) (entered q) ≡ bad → from-here ≡ refused Nine
-    bad-here d = turn-bad r t res stm (patternsOf ws) (deepest w) (entered w) v (budget - v) (deepest q)
-        (entered q) left-some here d
+    abbrev turnHere : Turn
+    turnHere = visit (h .r) (h .t) (h .res) (h .stm) ps last up
 
-    go-here : (l : Level) (up : List Level) (p : Stack) → visit r t res stm (patternsOf ws) (deepest q) (entered q)
-        ≡ go l up → l ≡ deepest p → up ≡ entered p
-        → from-here ≡ onward p
-    go-here l up p d f g =
-        let a : budget - v - 1 ≡ budget - (v + 1) = omega arith in
-        turn-go r t res stm (patternsOf ws) (deepest w) (entered w) v (budget - v) (deepest q)
-        (entered q) l up left-some here d
-        ∙ rw (a, f, g)
+    settled-here : settle (h .stm) last up ≡ last ∷ up
+    settled-here = settled (h .stm) (h .q) some-record
 
-    pub sees-torn : seen ≡ Torn → from-here ≡ refused Nine
-    sees-torn d = bad-here (visit-torn r t res stm ws k q s d)
+    -- the record lies in the table
+    pub visit-needs : (1 ≤ last .statement .0) × (statementWords * last .statement .0 ≤ length (h .stm))
+    visit-needs =
+        let n = h .stands .next-within in
+        let i = h .ready .in-statements in
+        (omega arith, omega arith)
 
-    pub sees-miss : (n : ℕ) (l : Level) → seen ≡ Miss n → l ≡ level ((deepest q) .chain) n
-        → Stands r t stm ws
-        (record { top = q .top; levels = set (q .levels) (q .top) l; bound = q .bound; asked = q .asked })
-        × (from-here ≡ onward
-        (record { top = q .top; levels = set (q .levels) (q .top) l; bound = q .bound; asked = q .asked }))
+    bad-here : turnHere ≡ bad → fromHere ≡ refused Nine
+    bad-here d =
+        turn-bad (h .r) (h .t) (h .res) (h .stm) ps last up (h .v) (h .budget - h .v) last up some-left settled-here d
+
+    go-here : (l : Level) (ls : List Level) (p : Stack) → turnHere ≡ go l ls → l ≡ deepest p → ls ≡ entered p
+        → Stands (h .r) (h .t) (h .stm) (h .ws) p → p .top < maxPatterns + h .q .top → Onward-to p (h .v + 1)
+    go-here l ls p d f g s b =
+        let n = h .left in
+        let a : h .budget - h .v - 1 ≡ h .budget - (h .v + 1) = omega arith in
+        record {
+          within = omega arith;
+          stands = s;
+          same =
+              turn-go (h .r) (h .t) (h .res) (h .stm) ps last up (h .v) (h .budget - h .v) last up l ls some-left
+              settled-here d
+              ∙ rw (a, f, g);
+          less = omega arith;
+        }
+
+    pub sees-torn : seen ≡ Torn → fromHere ≡ refused Nine
+    sees-torn d =
+        bad-here (visit-torn (h .r) (h .t) (h .res) (h .stm) (h .ws) (h .ready) (h .q) (h .stands) d)
+
+    pub sees-miss : (n : StatementId) (l : Level) → seen ≡ Miss n → l ≡ level (last .chain) (n .0)
+        → Onward-to
+        (record { top = h .q .top; levels = set (h .q .levels) (h .q .top) l; bound = h .q .bound; asked = h .q .asked })
+        (h .v + 1)
     sees-miss n l d f =
-        let x = visit-missed r t res stm ws k q s n d some-record in
-        let y = s .next-within in
-        let p = moved-place r t res stm ws k q s l in (
-          rw f (moved-stands r t res stm ws k q s n (omega (arith, x .1))),
-          go-here (level ((deepest q) .chain) n) (entered q)
-              (record { top = q .top; levels = set (q .levels) (q .top) l; bound = q .bound; asked = q .asked }) (x .0)
-              (sym (p .0 ∙ f)) (sym (p .1)),
-        )
+        let x = visit-missed (h .r) (h .t) (h .res) (h .stm) (h .ws) (h .ready) (h .q) (h .stands) n d some-record in
+        let y = h .stands .next-within in
+        let p = moved-place (h .r) (h .t) (h .res) (h .stm) (h .ws) (h .ready) (h .q) (h .stands) l in
+        go-here (level (last .chain) (n .0)) up
+        (record { top = h .q .top; levels = set (h .q .levels) (h .q .top) l; bound = h .q .bound; asked = h .q .asked })
+        (x .0) (sym (p .0 ∙ f)) (sym (p .1))
+        (rw f (moved-stands (h .r) (h .t) (h .res) (h .stm) (h .ws) (h .ready) (h .q) (h .stands) (n .0)
+        (omega (arith, x .1))))
+        (omega arith)
 
-    module _ (m : Turned) (n : ℕ) (d : seen ≡ Hit n)
-        (made : m ≡ triedAs t res (patternsOf ws) (q .top) (deepest q) (q .asked) (q .bound) n
-        (metAt stm (patternsOf ws) (q .top) (deepest q) (q .bound))) where
-      abbrev after : Stack
-      after = onto (q .levels) m
+    module _ (n : StatementId) (d : seen ≡ Hit n) where
+      hit-here : (turnHere ≡ triedAt (h .r) (h .t) (h .res) (h .stm) ps (h .q)) × Visitable (h .r) (h .stm) (h .q)
+          × (n .0 ≡ linkOf (h .stm) (last .chain) (last .statement .0 - 1))
+      hit-here = visit-hit (h .r) (h .t) (h .res) (h .stm) (h .ws) (h .ready) (h .q) (h .stands) n d some-record
 
-      T : TurnIs r t stm ws (triedAt r t res stm (patternsOf ws) q) (q .levels) m
-      T =
-          let h = visit-hit r t res stm ws k q s n d some-record in
-          turned-is r t res stm ws k q s n m (h .1) (h .2) made
+      pub try-needs : QueryOk (h .ws) × (h .q .top < length ps) × NextHeld (h .res) (h .stm) ps (h .q .top) last (h .q .bound)
+      try-needs = (
+        ready-query (h .r) (h .t) (h .res) (h .stm) (h .ws) (h .ready),
+        h .stands .few,
+        next-held (h .r) (h .t) (h .res) (h .stm) (h .ws) (h .ready) (h .q) (h .stands) (hit-here .1),
+      )
 
-      turn-is : visit r t res stm (patternsOf ws) (deepest q) (entered q) ≡ turnAs (m .outcome) after
-      turn-is = (visit-hit r t res stm ws k q s n d some-record) .0 ∙ sym (T .told)
+-- that live record put to the pattern, and what is then written
+pub record Tried : Type 0 where
+  pub at : Here
+  pub some-record : (deepest (at .q)) .statement .0 ≡ 0 → ⊥
+  pub n : StatementId
+  pub hit : visitOf LiveMatch (at .r) (at .stm) ((deepest (at .q)) .chain) (at .q .asked)
+      ((deepest (at .q)) .statement .0 - 1) ≡ Hit n
+  pub m : Turned
+  pub made : m ≡ triedAs (at .t) (at .res) (patternsOf (at .ws)) (at .q .top) (deepest (at .q)) (at .q .asked)
+      (at .q .bound) (n .0) (metAt (at .stm) (patternsOf (at .ws)) (at .q .top) (deepest (at .q)) (at .q .bound))
 
-      outcome-is : (o : Outcome) → m .outcome ≡ o → visit r t res stm (patternsOf ws) (deepest q) (entered q)
-          ≡ turnAs o after
-      outcome-is o f = turn-is ∙ ap (λ (z : Outcome). turnAs z after) f
+module _ (x : Tried) where
+  abbrev h : Here
+  h = x .at
 
-      pub tried-top : m .top < maxPatterns
-      tried-top = T .slot
+  abbrev after : Stack
+  after = onto (h .q .levels) (x .m)
 
-      pub tried-damaged : m .outcome ≡ Damaged → from-here ≡ refused Nine
-      tried-damaged f = bad-here (outcome-is Damaged f)
+  abbrev met : Turn
+  met = triedAt (h .r) (h .t) (h .res) (h .stm) (ps h) (h .q)
 
-      pub tried-onward : m .outcome ≡ Onward → Stands r t stm ws after × (from-here ≡ onward after)
-      tried-onward f = (T .stands f, go-here (deepest after) (entered after) after (outcome-is Onward f) refl refl)
+  T : TurnIs (h .r) (h .t) (h .stm) (h .ws) met (h .q .levels) (x .m)
+  T =
+      let y = hit-here h (x .some-record) (x .n) (x .hit) in
+      turned-is (h .r) (h .t) (h .res) (h .stm) (h .ws) (h .ready) (h .q) (h .stands) (x .n .0) (x .m) (y .1) (y .2)
+      (x .made)
 
-      pub tried-whole : m .outcome ≡ Whole → from-here ≡ found (m .bound .values) (v + 1)
-          (inside (deepest after) (entered after))
-      tried-whole f =
-          turn-whole r t res stm (patternsOf ws) (deepest w) (entered w) v (budget - v) (deepest q) (entered q)
-          (m .bound .values) (deepest after) (entered after) left-some here (outcome-is Whole f)
+  outcome-is : (o : Outcome) → x .m .outcome ≡ o → turnHere h (x .some-record) ≡ turnAs o after
+  outcome-is o f =
+      (hit-here h (x .some-record) (x .n) (x .hit)) .0 ∙ sym (T .told) ∙ ap (λ (z : Outcome). turnAs z after) f
+
+  pub tried-top : x .m .top < maxPatterns
+  tried-top = T .slot
+
+  pub tried-damaged : x .m .outcome ≡ Damaged → fromHere h ≡ refused Nine
+  tried-damaged f = bad-here h (x .some-record) (outcome-is Damaged f)
+
+  pub tried-onward : x .m .outcome ≡ Onward → Onward-to h after (h .v + 1)
+  tried-onward f =
+      let n = tried-top in
+      go-here h (x .some-record) (deepest after) (entered after) after (outcome-is Onward f) refl refl (T .stands f)
+      (omega arith)
+
+  pub tried-whole : x .m .outcome ≡ Whole → fromHere h ≡ found (x .m .bound .values) (h .v + 1)
+      (inside (deepest after) (entered after))
+  tried-whole f =
+      turn-whole (h .r) (h .t) (h .res) (h .stm) (ps h) (last h) (up h) (h .v) (h .budget - h .v) (last h) (up h)
+      (x .m .bound .values) (deepest after) (entered after) (some-left h) (settled-here h (x .some-record))
+      (outcome-is Whole f)

@@ -47,17 +47,17 @@ shared-slice-read-chain-of c = search needs
 chain-of-requires : tie.Need-chain-of-requires Inv-loop μ-loop
 chain-of-requires c κs = search needs
 
-mul-level : tie.Need-mul-level Inv-loop μ-loop
-mul-level c = search needs
+mul-word : tie.Need-mul-word Inv-loop μ-loop
+mul-word c = search needs
 
-add-level : tie.Need-add-level Inv-loop μ-loop
-add-level c = search needs
+add-word : tie.Need-add-word Inv-loop μ-loop
+add-word c = search needs
 
-mul-level-2 : tie.Need-mul-level-2 Inv-loop μ-loop
-mul-level-2 c = search needs
+mul-word-2 : tie.Need-mul-word-2 Inv-loop μ-loop
+mul-word-2 c = search needs
 
-shared-slice-read-level : tie.Need-shared-slice-read-level Inv-loop μ-loop
-shared-slice-read-level c = search needs
+shared-slice-read-word : tie.Need-shared-slice-read-word Inv-loop μ-loop
+shared-slice-read-word c = search needs
 
 level-requires-2 : tie.Need-level-requires-2 Inv-loop μ-loop
 level-requires-2 c κs = search needs
@@ -101,10 +101,10 @@ levels-of-spec =
     mul-chain-of-2
     shared-slice-read-chain-of
     chain-of-requires
-    mul-level
-    add-level
-    mul-level-2
-    shared-slice-read-level
+    mul-word
+    add-word
+    mul-word-2
+    shared-slice-read-word
     level-requires-2
     mul-out
     array-set-from-out

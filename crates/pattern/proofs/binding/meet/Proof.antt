@@ -37,16 +37,16 @@ unmet-requires c κs = search needs
 
 returns : tie.Need-returns Inv-loop μ-loop
 returns c =
-    let a = c .before .before .before .before .before .before .before .args in
-    let loop = c .before .before .before .before .before .before .loop in
-    let loop-test = c .before .before .before .before .before .loop-test in
-    let word-at = c .before .before .before .before .word-at in
-    let number-at = c .before .before .before .number-at in
-    let if1 = c .before .before .if1 in
+    let a = c .before .before .before .before .before .before .before .before .args in
+    let loop = c .before .before .before .before .before .before .before .loop in
+    let loop-test = c .before .before .before .before .before .before .loop-test in
+    let word-at = c .before .before .before .before .before .word-at in
+    let number-at = c .before .before .before .before .number-at in
+    let if1 = c .before .before .before .if1 in
     let if2 = c .before .if2 in
     let unmet = c .unmet in
     unmet .ensures ∙ ap (matchedAs (a .bound)) (sym (loop .inv ∙ number-unmet (a .x) (a .t) (loop .k)
-    (word-at .result) (number-at .result) (loop .b .values) (loop-test .taken) (word-at .ensures .0)
+    (word-at .result) (number-at .result .0) (loop .b .values) (loop-test .taken) (word-at .ensures .0)
     (number-at .ensures) (word-at .ensures .1) (if1 .taken) (if2 .taken)))
 
 loop-less : tie.Need-loop-less Inv-loop μ-loop
@@ -54,14 +54,14 @@ loop-less c = search needs
 
 loop-again : tie.Need-loop-again Inv-loop μ-loop
 loop-again c =
-    let a = c .before .before .before .before .before .before .args in
-    let loop = c .before .before .before .before .before .loop in
-    let loop-test = c .before .before .before .before .loop-test in
-    let word-at = c .before .before .before .word-at in
-    let number-at = c .before .before .number-at in
-    let if1 = c .before .if1 in
+    let a = c .before .before .before .before .before .before .before .args in
+    let loop = c .before .before .before .before .before .before .loop in
+    let loop-test = c .before .before .before .before .before .loop-test in
+    let word-at = c .before .before .before .before .word-at in
+    let number-at = c .before .before .before .number-at in
+    let if1 = c .before .before .if1 in
     let if2 = c .if2 in
-    loop .inv ∙ number-met (a .x) (a .t) (loop .k) (word-at .result) (number-at .result) (loop .b .values)
+    loop .inv ∙ number-met (a .x) (a .t) (loop .k) (word-at .result) (number-at .result .0) (loop .b .values)
     (loop-test .taken) (word-at .ensures .0) (number-at .ensures) (word-at .ensures .1) (if1 .taken) (if2 .left)
 
 cast-v : tie.Need-cast-v Inv-loop μ-loop
@@ -91,7 +91,7 @@ loop-again-2 c =
     let number-at = c .before .before .before .before .number-at in
     let if1 = c .before .before .before .if1 in
     let if3 = c .if3 in
-    loop .inv ∙ open-met (a .x) (a .t) (loop .k) (word-at .result) (number-at .result) (loop .b .values)
+    loop .inv ∙ open-met (a .x) (a .t) (loop .k) (word-at .result) (number-at .result .0) (loop .b .values)
     (loop-test .taken) (word-at .ensures .0) (number-at .ensures) (word-at .ensures .1) (if1 .left) (if3 .taken)
 
 unmet-requires-2 : tie.Need-unmet-requires-2 Inv-loop μ-loop
@@ -99,17 +99,17 @@ unmet-requires-2 c κs = search needs
 
 returns-2 : tie.Need-returns-2 Inv-loop μ-loop
 returns-2 c =
-    let a = c .before .before .before .before .before .before .before .before .before .before .before .args in
-    let loop = c .before .before .before .before .before .before .before .before .before .before .loop in
-    let loop-test = c .before .before .before .before .before .before .before .before .before .loop-test in
-    let word-at = c .before .before .before .before .before .before .before .before .word-at in
-    let number-at = c .before .before .before .before .before .before .before .number-at in
-    let if1 = c .before .before .before .before .before .before .if1 in
-    let if3 = c .before .before .before .if3 in
+    let a = c .before .before .before .before .before .before .before .before .before .before .before .before .args in
+    let loop = c .before .before .before .before .before .before .before .before .before .before .before .loop in
+    let loop-test = c .before .before .before .before .before .before .before .before .before .before .loop-test in
+    let word-at = c .before .before .before .before .before .before .before .before .before .word-at in
+    let number-at = c .before .before .before .before .before .before .before .before .number-at in
+    let if1 = c .before .before .before .before .before .before .before .if1 in
+    let if3 = c .before .before .before .before .if3 in
     let if4 = c .before .if4 in
     let unmet2 = c .unmet2 in
     unmet2 .ensures ∙ ap (matchedAs (a .bound)) (sym (loop .inv ∙ bound-unmet (a .x) (a .t) (loop .k)
-    (word-at .result) (number-at .result) (loop .b .values) (loop-test .taken) (word-at .ensures .0)
+    (word-at .result) (number-at .result .0) (loop .b .values) (loop-test .taken) (word-at .ensures .0)
     (number-at .ensures) (word-at .ensures .1) (if1 .left) (if3 .left) (if4 .taken)))
 
 loop-less-3 : tie.Need-loop-less-3 Inv-loop μ-loop
@@ -117,15 +117,15 @@ loop-less-3 c = search needs
 
 loop-again-3 : tie.Need-loop-again-3 Inv-loop μ-loop
 loop-again-3 c =
-    let a = c .before .before .before .before .before .before .before .before .before .before .args in
-    let loop = c .before .before .before .before .before .before .before .before .before .loop in
-    let loop-test = c .before .before .before .before .before .before .before .before .loop-test in
-    let word-at = c .before .before .before .before .before .before .before .word-at in
-    let number-at = c .before .before .before .before .before .before .number-at in
-    let if1 = c .before .before .before .before .before .if1 in
-    let if3 = c .before .before .if3 in
+    let a = c .before .before .before .before .before .before .before .before .before .before .before .args in
+    let loop = c .before .before .before .before .before .before .before .before .before .before .loop in
+    let loop-test = c .before .before .before .before .before .before .before .before .before .loop-test in
+    let word-at = c .before .before .before .before .before .before .before .before .word-at in
+    let number-at = c .before .before .before .before .before .before .before .number-at in
+    let if1 = c .before .before .before .before .before .before .if1 in
+    let if3 = c .before .before .before .if3 in
     let if4 = c .if4 in
-    loop .inv ∙ bound-met (a .x) (a .t) (loop .k) (word-at .result) (number-at .result) (loop .b .values)
+    loop .inv ∙ bound-met (a .x) (a .t) (loop .k) (word-at .result) (number-at .result .0) (loop .b .values)
     (loop-test .taken) (word-at .ensures .0) (number-at .ensures) (word-at .ensures .1) (if1 .left) (if3 .left)
     (if4 .left)
 

@@ -14,7 +14,7 @@ value-of-requires-3 c κs = search needs
 
 returns : tie.Need-returns
 unfolding under
-returns c = cc
+returns c = rw (← c .before .before .value-of .ensures, ← c .before .value-of2 .ensures, ← c .value-of3 .ensures)
 
 pub under-spec : {M : Type 1} → statement M
 under-spec = tie.close (tie.spec value-of-requires value-of-requires-2 value-of-requires-3 returns)

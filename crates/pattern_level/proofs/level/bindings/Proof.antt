@@ -39,13 +39,13 @@ pattern-at-requires : tie.Need-pattern-at-requires Inv-loop μ-loop
 pattern-at-requires c κs = search needs
 
 triple-at-requires : tie.Need-triple-at-requires Inv-loop μ-loop
-triple-at-requires c κs = c .before .before .before .before .before .before .before .pre .2 .each
-    (c .before .before .before .loop .i) (c .before .before .loop-test .taken)
+triple-at-requires c κs = c .before .before .before .before .before .before .before .before .pre .2 .each
+    (c .before .before .before .before .loop .i) (c .before .before .before .loop-test .taken)
 
 meet-requires : tie.Need-meet-requires Inv-loop μ-loop
 meet-requires c κs = rw (c .before .pattern-at .ensures)
-    (c .before .before .before .before .before .before .before .before .pre .0 .each
-    (c .before .before .before .before .loop .i) (omega arith))
+    (c .before .before .before .before .before .before .before .before .before .pre .0 .each
+    (c .before .before .before .before .before .loop .i) (omega arith))
 
 add-i : tie.Need-add-i Inv-loop μ-loop
 add-i c = search needs
@@ -55,8 +55,8 @@ loop-less c = search needs
 
 loop-again : tie.Need-loop-again Inv-loop μ-loop
 loop-again c =
-    let a = c .before .before .before .before .before .before .before .before .before .before .args in
-    let l = c .before .before .before .before .before .before .loop in (
+    let a = c .before .before .before .before .before .before .before .before .before .before .before .args in
+    let l = c .before .before .before .before .before .before .before .loop in (
       omega arith,
       bindings-step (a .statements .now) (patternsOf (a .words .now)) (a .t3) (l .i)
           (c .before .before .before .pattern-at .result) (c .before .before .triple-at .result) (l .bound)

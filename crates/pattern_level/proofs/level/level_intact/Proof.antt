@@ -8,11 +8,10 @@ flag-at-requires : tie.Need-flag-at-requires
 flag-at-requires c κs = search needs
 
 returns : tie.Need-returns
-returns c = let a = c .before .before .before .args in
+returns c = let a = c .before .before .before .before .args in
     rw (
-      intact-at (a .statements .now) (a .l) (c .before .before .before .pre .from-one),
-      ← c .before .flag-at
-          .ensures,
+      intact-at (a .statements .now) (a .l) (c .before .before .before .before .pre .from-one),
+      ← c .before .flag-at .ensures,
       lt-leb _ _ (c .if1 .taken),
     )
 
@@ -21,14 +20,12 @@ past-requires c κs = search needs
 
 returns-2 : tie.Need-returns-2
 returns-2 c =
-    let a = c .before .before .before .before .before .args in
+    let a = c .before .before .before .before .before .before .before .args in
     rw (
-      intact-at (a .statements .now) (a .l) (c .before .before .before .before .before .pre .from-one),
-      ← c
-          .before .before .before .flag-at .ensures,
-      le-leb _ _
-          (c .before .before .if1 .left),
-      ← c .before .past .ensures,
+      intact-at (a .statements .now) (a .l) (c .before .before .before .before .before .before .before .pre .from-one),
+      ← c .before .before .before .before .flag-at .ensures,
+      le-leb _ _ (c .before .before .before .if1 .left),
+      ← c .before .before .past .ensures,
     )
 
 pub level-intact-spec : {M : Type 1} → statement M

@@ -7,7 +7,7 @@ link-of-requires : tie.Need-link-of-requires
 link-of-requires c κs = search needs
 
 returns : tie.Need-returns
-returns c = let a = c .before .before .args in rw (past-at (a .statements .now) (a .l), ← c .link-of .ensures)
+returns c = let a = c .before .before .before .args in rw (past-at (a .statements .now) (a .l), ← c .link-of .ensures)
 
 pub past-spec : {M : Type 1} → statement M
 past-spec = tie.close (tie.spec link-of-requires returns)

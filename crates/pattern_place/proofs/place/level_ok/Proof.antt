@@ -10,13 +10,13 @@ use Rattle.pattern_place.proofs.place.level_ok.Statement.{statement}
 use Rattle.pattern_place.proofs.place.level_ok.Tie as tie
 
 returns : tie.Need-returns
-returns c = let a = c .before .before .args in tested-miss (a .c .resources) (a .c .statements) (a .statements .now)
+returns c = let a = c .before .before .before .before .args in tested-miss (a .c .resources) (a .c .statements) (a .statements .now)
     (a .x) (a .bound) (a .l) (ok-zero (a .c .resources) (a .c .statements) (a .statements .now) (a .x)
     (a .bound .values) (a .l) (c .if1 .taken))
 
 returns-2 : tie.Need-returns-2
 returns-2 c =
-    let a = c .before .before .before .before .args in
+    let a = c .before .before .before .before .before .before .before .args in
     tested-miss (a .c .resources) (a .c .statements) (a .statements .now) (a .x) (a .bound) (a .l)
     (ok-above (a .c .resources) (a .c .statements) (a .statements .now) (a .x) (a .bound .values) (a .l)
     (c .if2 .taken))
@@ -29,12 +29,12 @@ chain-ok-requires c κs = search needs
 
 returns-3 : tie.Need-returns-3
 returns-3 c =
-    let a = c .before .before .before .before .before .before .before .args in
+    let a = c .before .before .before .before .before .before .before .before .before .before .args in
     let h = sym (c .before .chain-ok .ensures ∙ ap (λ (z : Triple). chainOk (a .l .chain) z)
     (c .before .before .under .ensures)) ∙ not-true (c .before .chain-ok .result) (c .if3 .taken) in tested-miss
     (a .c .resources) (a .c .statements) (a .statements .now) (a .x) (a .bound) (a .l)
     (ok-chain (a .c .resources) (a .c .statements) (a .statements .now) (a .x) (a .bound .values) (a .l)
-    (c .before .before .before .before .before .if1 .left) (c .before .before .before .if2 .left) h)
+    (c .before .before .before .before .before .before .if1 .left) (c .before .before .before .if2 .left) h)
 
 triple-at-requires : tie.Need-triple-at-requires
 triple-at-requires c κs = search needs
@@ -44,7 +44,7 @@ known-requires c κs = search needs
 
 returns-4 : tie.Need-returns-4
 returns-4 c =
-    let a = c .before .before .before .before .before .before .before .before .before .before .args in
+    let a = c .before .before .before .before .before .before .before .before .before .before .before .before .before .args in
     let h = sym (c .before .before .before .before .chain-ok .ensures
     ∙ ap (λ (z : Triple). chainOk (a .l .chain) z) (c .before .before .before .before .before .under .ensures))
     ∙ not-false (c .before .before .before .before .chain-ok .result) (c .before .before .before .if3 .left) in
@@ -52,15 +52,16 @@ returns-4 c =
     (c .before .before .triple-at .ensures)) ∙ not-true (c .before .known .result) (c .if4 .taken) in
     tested-miss (a .c .resources) (a .c .statements) (a .statements .now) (a .x) (a .bound) (a .l)
     (ok-known (a .c .resources) (a .c .statements) (a .statements .now) (a .x) (a .bound .values) (a .l)
-    (c .before .before .before .before .before .before .before .before .if1 .left)
+    (c .before .before .before .before .before .before .before .before .before .if1 .left)
     (c .before .before .before .before .before .before .if2 .left) h k)
 
 meet-requires : tie.Need-meet-requires
 meet-requires c κs = search needs
 
 returns-5 : tie.Need-returns-5
-returns-5 c = let a = c .before .before .before .before .before .before .before .before .before .before .before
-    .args in let h = sym (c .before .before .before .before .before .chain-ok .ensures
+returns-5 c =
+    let a = c .before .before .before .before .before .before .before .before .before .before .before .before .before .before .args in
+    let h = sym (c .before .before .before .before .before .chain-ok .ensures
     ∙ ap (λ (z : Triple). chainOk (a .l .chain) z)
     (c .before .before .before .before .before .before .under .ensures))
     ∙ not-false (c .before .before .before .before .before .chain-ok .result)
@@ -71,7 +72,7 @@ returns-5 c = let a = c .before .before .before .before .before .before .before 
     (a .bound) (a .l) (c .meet .result) (rw (← c .before .before .before .triple-at .ensures)
     (c .meet .ensures)) (ok-match (a .c .resources) (a .c .statements) (a .statements .now) (a .x)
     (a .bound .values) (a .l)
-    (c .before .before .before .before .before .before .before .before .before .if1 .left)
+    (c .before .before .before .before .before .before .before .before .before .before .if1 .left)
     (c .before .before .before .before .before .before .before .if2 .left) h k)
 
 pub level-ok-spec : {M : Type 1} → statement M

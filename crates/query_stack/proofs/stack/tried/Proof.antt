@@ -39,7 +39,7 @@ returns c =
     let ps = patternsOf (a .words .now) in
     let d : meet .result ≡ matchedAs (a .b) (metAt stm ps (a .top) (a .l) (a .b)) = meet .ensures ∙ rw
     (pattern-at .ensures, triple-at .ensures) in
-    tried-unmet t res stm ps (a .top) (a .l) (a .x) (a .b) (a .next) (meet .result) d
+    tried-unmet t res stm ps (a .top) (a .l) (a .x) (a .b) (a .next .0) (meet .result) d
     (not-true (meet .result .hit) (if1 .taken)) (moved .result) (moved .ensures)
 
 add-if2 : tie.Need-add-if2
@@ -65,7 +65,7 @@ returns-2 c =
     let ps = patternsOf (a .words .now) in
     let d : meet .result ≡ matchedAs (a .b) (metAt stm ps (a .top) (a .l) (a .b)) = meet .ensures ∙ rw
     (pattern-at .ensures, triple-at .ensures) in
-    tried-last t res stm ps (a .top) (a .l) (a .x) (a .b) (a .next) (meet .result) d
+    tried-last t res stm ps (a .top) (a .l) (a .x) (a .b) (a .next .0) (meet .result) d
     (not-false (meet .result .hit) (if1 .left)) (moved2 .result) (moved2 .ensures) (if2 .taken ∙ patterns .ensures)
 
 add-enter : tie.Need-add-enter
@@ -107,7 +107,7 @@ returns-3 c =
     let ps = patternsOf (a .words .now) in
     let d : meet .result ≡ matchedAs (a .b) (metAt stm ps (a .top) (a .l) (a .b)) = meet .ensures ∙ rw
     (pattern-at .ensures, triple-at .ensures) in
-    tried-more t res stm ps (a .top) (a .l) (a .x) (a .b) (a .next) (meet .result) d
+    tried-more t res stm ps (a .top) (a .l) (a .x) (a .b) (a .next .0) (meet .result) d
     (not-false (meet .result .hit) (if1 .left)) (λ z. if2 .left (z ∙ sym (patterns .ensures))) (enter .result)
     (enter .ensures)
 
