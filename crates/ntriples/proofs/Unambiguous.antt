@@ -208,21 +208,26 @@ final-is [] c = refl
 final-is (a ∷ []) c = refl
 final-is (a ∷ (b ∷ s)) c = final-is (b ∷ s) c
 
+last-same : (s t : List ℕ) (c d : ℕ) → s ++ (c ∷ []) ≡ t ++ (d ∷ []) → c ≡ d
+last-same s t c d e = sym (final-is s c) ∙ (ap final e ∙ final-is t d)
+
 first-char : {s : List ℕ} → (one std.PN-CHARS-U ∣ one (between 48 57)) s → (c : ℕ) × (s ≡ c ∷ []) × (std.PN-CHARS c ≡ true)
 first-char (_∣_.left (one.char {c = c} h)) = (c, refl, under-part c h)
 first-char (_∣_.right (one.char {c = c} h)) = (c, refl, digit-part c h)
 
+no-dot : (c : ℕ) → std.PN-CHARS c ≡ true → c ≡ 46 → ⊥
+unfolding std.PN-CHARS std.PN-CHARS-U std.PN-CHARS-BASE
+no-dot c h e = never (rw e at h)
+
 -- no label ends in a dot
 label-ends : {s : List ℕ} (x : List ℕ) → std.BLANK-NODE-LABEL s → s ≡ x ++ (46 ∷ []) → ⊥
-unfolding final std.PN-CHARS std.PN-CHARS-U std.PN-CHARS-BASE
 label-ends x (_▸_.pair the.char (_▸_.pair the.char (_▸_.pair f maybe.none))) e =
     let c = first-char f in
-    let z : c .0 ≡ 46 = ap (λ (l : List ℕ). final (95 ∷ (58 ∷ (l ++ [])))) (sym (c .1)) ∙ (ap final e ∙ final-is x 46) in
-    never (rw z at (c .2))
+    no-dot (c .0) (c .2)
+    (last-same (95 ∷ (58 ∷ [])) x (c .0) 46 (ap (λ (l : List ℕ). 95 ∷ (58 ∷ (l ++ []))) (sym (c .1)) ∙ e))
 label-ends x (_▸_.pair the.char (_▸_.pair the.char (_▸_.pair {s = a} f (maybe.some (_▸_.pair {s = b} m (one.char {c = c} h)))))) e =
-    let l : List ℕ = 95 ∷ (58 ∷ (a ++ b)) in
-    let z : c ≡ 46 = sym (final-is l c) ∙ (ap final (ap (λ (y : List ℕ). 95 ∷ (58 ∷ y)) (append-assoc a b (c ∷ [])) ∙ e) ∙ final-is x 46) in
-    never (rw z at h)
+    no-dot c h
+    (last-same (95 ∷ (58 ∷ (a ++ b))) x c 46 (ap (λ (l : List ℕ). 95 ∷ (58 ∷ l)) (append-assoc a b (c ∷ [])) ∙ e))
 
 -- what may follow the line's dot does not go on with a label
 trail-ends : (f : ℕ → Bool) {r : List ℕ} → f 32 ≡ false → f 9 ≡ false → f 35 ≡ false → (std.WS ▸ maybe std.COMMENT) r → Ends f r
