@@ -5,7 +5,7 @@
 -- does not look at live counts. Assumes nothing.
 use mathlib.Core.Path.{_≡_}
 use mathlib.Core.Logic.{_⊎_, _↔_, _≢_}
-use mathlib.Core.Bool.{Bool, true, false, cond, _&&_}
+use mathlib.Core.Bool.{Bool, true, false, _&&_}
 use mathlib.Core.List.{List, [], _∷_, map, List·Memᴰ}
 use Prim.Native.Nat.{ℕ, _+_, _*_, _≤_, _<_}
 use lib.ListN.{length}
@@ -22,7 +22,7 @@ use Rattle.store.specs.declared.ScanOpened.the-variants.{Cursor}
 use Rattle.store.specs.declared.Scanned.{Scanned}
 use Rattle.store.specs.declared.Scanned.the-variants.{Found as ScanFound, Ended as ScanEnded, Spent as ScanSpent}
 use Rattle.store.specs.declared.Scanned.the-variants.{Refused as NotScanned}
-use Rattle.store.specs.Shared.{at, triple, within, prev}
+use Rattle.store.specs.Shared.{unless, at, triple, within, prev}
 use Rattle.store.specs.Tables.{Tables, fits, tripleAt, liveAt}
 use Rattle.store.specs.Values.{Values}
 use Rattle.store.specs.Model.{Call, Form, byValue, intern, assert, retract, reclaim}
@@ -371,19 +371,17 @@ pub record Writes (s : Store) : Type 0 where
 abbrev pub WriteClaim : Type 0
 WriteClaim = (s : Store) → SoundStore s → Writes s
 
--- the three names of a line entered, subject first, and their triple asserted, up to the first refusal: its number,
--- or 0
-unfoldable pub loadOf : Store → RdfTriple → Store × ℕ
+-- the three names of a line entered, subject first, and their triple asserted, up to the first refusal: what the last call made answered
+unfoldable pub loadOf : Store → RdfTriple → Store × Values
 loadOf s y =
     let a = callStore s (intern (y .subject)) in
     let b = callStore (a .0) (intern (y .predicate)) in
     let d = callStore (b .0) (intern (y .object)) in
     let e = callStore (d .0) (assert byValue (triple (a .1 .number) (b .1 .number) (d .1 .number))) in
-    cond (eqb (a .1 .refusal) 0)
-    (cond (eqb (b .1 .refusal) 0)
-    (cond (eqb (d .1 .refusal) 0) (e .0, e .1 .refusal) (d .0, d .1 .refusal))
-    (b .0, b .1 .refusal))
-    (a .0, a .1 .refusal)
+    unless (eqb (a .1 .refusal) 0) a
+    (unless (eqb (b .1 .refusal) 0) b
+    (unless (eqb (d .1 .refusal) 0) d
+    e))
 
 -- a triple of names, each without the string ending
 abbrev pub canonicalTriple : RdfTriple → RdfTriple
@@ -398,4 +396,4 @@ pub record Loaded (s s′ : Store) (y : RdfTriple) (refusal : ℕ) : Type 0 wher
 
 abbrev pub LoadClaim : Type 0
 LoadClaim = (s : Store) → SoundStore s → (y : RdfTriple)
-    → Loaded s ((loadOf s y) .0) (canonicalTriple y) ((loadOf s y) .1)
+    → Loaded s ((loadOf s y) .0) (canonicalTriple y) ((loadOf s y) .1 .refusal)
