@@ -3,8 +3,13 @@
 // A line's bytes gather in a lent buffer of `LINE_BUFFER` bytes until its LF or the end of the input. Every line is numbered. A statement
 // line is answered by one line of output, `NUMBER new|already N` or `NUMBER refused N`; a blank or comment line by none. Names are entered
 // once the whole line is read, subject first; those entered before a refusal remain.
+ghost use mathlib.Core.Path.{_≡_};
 ghost use Prim.Native.Nat.{ℕ, _≤_};
 ghost use lib.ListN.{length};
+ghost use Rattle.term.specs.Grammar.{nameLimit};
+ghost use Rattle.store.specs.Tables.{tables};
+ghost use Rattle.ntriples.specs.Text.{readOf};
+ghost use Rattle.loader.specs.Lines.{refusedLine, assertedLine, LineInside, Loads};
 use ntriples::Line;
 use ntriples::Span;
 use store::Asserted;
@@ -66,45 +71,21 @@ pub fn start() -> Load {
     }
 }
 
-// Enters the name that a span of the line spells. A span of a line that was read lies in it, so the first test is never true.
-fn intern_part(
-    c: Counters,
-    resources: &mut [u32],
-    statements: &[u32],
-    index: &mut [u32],
-    text: &mut [u8],
-    line: &[u8],
-    part: Span,
-) -> Interned {
-    let a = part.start;
-    let b = part.end;
-    if b > line.len() {
-        return Interned::Refused(Refusal::BadLine);
-    }
-    if a > b {
-        return Interned::Refused(Refusal::BadLine);
-    }
-    dictionary::intern(c, resources, statements, index, text, &line[a..b])
-}
-
 // A line that is refused, with the counters it leaves.
-fn refused(c: Counters, r: Refusal) -> LineLoaded {
+fn refused(c: Counters, e: Refusal) -> LineLoaded
+    ensures { λ r. ⌜ r ≡ refusedLine c e ⌝ }
+{
     LineLoaded {
         counters: c,
-        outcome: Outcome::Refused(refusal_number(r)),
+        outcome: Outcome::Refused(refusal_number(e)),
     }
 }
 
-// Asserts a line's triple.
-fn load_triple(
-    c: Counters,
-    resources: &mut [u32],
-    statements: &mut [u32],
-    index: &[u32],
-    text: &[u8],
-    x: Triple,
-) -> LineLoaded {
-    match statement::assert(c, resources, statements, index, text, x) {
+// A line whose triple was asserted. Nothing is retracted by loading, so a known triple is live.
+fn asserted(c: Counters, a: Asserted) -> LineLoaded
+    ensures { λ r. ⌜ r ≡ assertedLine c a ⌝ }
+{
+    match a {
         Asserted::New(n, d) => LineLoaded {
             counters: d,
             outcome: Outcome::New(n.0),
@@ -113,93 +94,83 @@ fn load_triple(
             counters: d,
             outcome: Outcome::Already(n.0),
         },
-        // Nothing is retracted by loading, so a known triple is live.
         Asserted::Revived(n, d) => LineLoaded {
             counters: d,
             outcome: Outcome::Already(n.0),
         },
-        Asserted::Refused(r) => refused(c, r),
+        Asserted::Refused(e) => refused(c, e),
     }
 }
 
-// Enters the object, and asserts.
-fn load_object(
+// Loads a triple whose parts lie in the source: enters their names, subject first, and asserts.
+fn load_triple(
     c: Counters,
     resources: &mut [u32],
     statements: &mut [u32],
     index: &mut [u32],
     text: &mut [u8],
-    line: &[u8],
-    s: ResourceId,
-    p: ResourceId,
-    object: Span,
-) -> LineLoaded {
-    match intern_part(c, resources, statements, index, text, line, object) {
-        Interned::Refused(r) => refused(c, r),
-        Interned::Number(o, d) => {
-            let x = Triple {
-                subject: s,
-                predicate: p,
-                object: o,
-            };
-            load_triple(d, resources, statements, index, text, x)
-        }
-    }
-}
-
-// Enters the predicate, then the object.
-fn load_predicate(
-    c: Counters,
-    resources: &mut [u32],
-    statements: &mut [u32],
-    index: &mut [u32],
-    text: &mut [u8],
-    line: &[u8],
-    s: ResourceId,
-    predicate: Span,
-    object: Span,
-) -> LineLoaded {
-    match intern_part(c, resources, statements, index, text, line, predicate) {
-        Interned::Refused(r) => refused(c, r),
-        Interned::Number(p, d) => load_object(
-            d,
-            resources,
-            statements,
-            index,
-            text,
-            line,
-            s,
-            p,
-            object,
-        ),
-    }
-}
-
-// Enters the subject, then the predicate.
-fn load_subject(
-    c: Counters,
-    resources: &mut [u32],
-    statements: &mut [u32],
-    index: &mut [u32],
-    text: &mut [u8],
-    line: &[u8],
+    source: &[u8],
     subject: Span,
     predicate: Span,
     object: Span,
-) -> LineLoaded {
-    match intern_part(c, resources, statements, index, text, line, subject) {
-        Interned::Refused(r) => refused(c, r),
-        Interned::Number(s, d) => load_predicate(
-            d,
-            resources,
-            statements,
-            index,
-            text,
-            line,
-            s,
-            predicate,
-            object,
-        ),
+) -> LineLoaded
+    requires { ⌜ LineInside (now source) (Line.Triple subject predicate object) ⌝ }
+    ensures { λ r. ⌜ Loads c (tables (now (resources .entry)) (now (statements .entry)) (now (index .entry)) (now (text .entry)))
+        (tables (now (resources .exit)) (now (statements .exit)) (now (index .exit)) (now (text .exit)))
+        (now (source .entry)) (Line.Triple subject predicate object) r ⌝ }
+{
+    let parts = [subject, predicate, object];
+    let mut ids = [ResourceId(0); 3];
+    let mut d = c;
+    let mut i = 0;
+    while i < 3 {
+        let part = parts[i];
+        let a = part.start;
+        let b = part.end;
+        match dictionary::intern(d, resources, statements, index, text, &source[a..b]) {
+            Interned::Refused(e) => return refused(d, e),
+            Interned::Number(n, k) => {
+                ids[i] = n;
+                d = k;
+            }
+        }
+        i += 1;
+    }
+    let x = Triple {
+        subject: ids[0],
+        predicate: ids[1],
+        object: ids[2],
+    };
+    let r = statement::assert(d, resources, statements, index, text, x);
+    asserted(d, r)
+}
+
+// Loads what was read of a line of the source.
+fn load_read(
+    c: Counters,
+    resources: &mut [u32],
+    statements: &mut [u32],
+    index: &mut [u32],
+    text: &mut [u8],
+    source: &[u8],
+    line: Line,
+) -> LineLoaded
+    requires { ⌜ LineInside (now source) line ⌝ }
+    ensures { λ r. ⌜ Loads c (tables (now (resources .entry)) (now (statements .entry)) (now (index .entry)) (now (text .entry)))
+        (tables (now (resources .exit)) (now (statements .exit)) (now (index .exit)) (now (text .exit)))
+        (now (source .entry)) line r ⌝ }
+{
+    match line {
+        Line::Triple(s, p, o) => load_triple(c, resources, statements, index, text, source, s, p, o),
+        Line::Refused(_) => refused(c, Refusal::BadLine),
+        Line::End => LineLoaded {
+            counters: c,
+            outcome: Outcome::Nothing,
+        },
+        Line::Nothing => LineLoaded {
+            counters: c,
+            outcome: Outcome::Nothing,
+        },
     }
 }
 
@@ -211,21 +182,14 @@ pub fn load_line(
     index: &mut [u32],
     text: &mut [u8],
     line: &[u8],
-) -> LineLoaded {
+) -> LineLoaded
+    ensures { λ r. ⌜ Loads c (tables (now (resources .entry)) (now (statements .entry)) (now (index .entry)) (now (text .entry)))
+        (tables (now (resources .exit)) (now (statements .exit)) (now (index .exit)) (now (text .exit)))
+        (now (line .entry)) (readOf nameLimit (now (line .entry)) 0 .line) r ⌝ }
+{
     let got = line_reader::line_at(line, 0);
-    let answer = got.line;
-    match answer {
-        Line::Triple(s, p, o) => load_subject(c, resources, statements, index, text, line, s, p, o),
-        Line::Refused(_) => refused(c, Refusal::BadLine),
-        Line::End => LineLoaded {
-            counters: c,
-            outcome: Outcome::Nothing,
-        },
-        Line::Nothing => LineLoaded {
-            counters: c,
-            outcome: Outcome::Nothing,
-        },
-    }
+    let read = got.line;
+    load_read(c, resources, statements, index, text, line, read)
 }
 
 // How many of the buffer's bytes are the line: those in use, less one CR before an LF.

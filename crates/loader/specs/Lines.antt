@@ -1,0 +1,77 @@
+-- Loading a line (paper 01, "Loading program"): what a line that was read comes to and does to the store, by `loadOf` of crate `graph`, and
+-- what holds of the code that loads it. Assumes nothing.
+use mathlib.Core.Path.{_≡_}
+use mathlib.Core.Logic.{_≢_}
+use mathlib.Core.Bool.{false, cond}
+use mathlib.Core.List.{List}
+use Prim.Native.Nat.{ℕ, _≤_}
+use lib.ListN.{length}
+use lib.Dec.{eqb}
+use Rattle.store.specs.declared.Counters.{Counters}
+use Rattle.store.specs.declared.ScanCursor.{ScanCursor}
+use Rattle.store.specs.declared.Refusal.{Refusal}
+use Rattle.store.specs.declared.Asserted.{Asserted}
+use Rattle.store.specs.Shared.{unless}
+use Rattle.store.specs.Tables.{Tables, fits}
+use Rattle.store.specs.Values.{Values, refusalNumber, assertedValues}
+use Rattle.store.specs.Statement.{countersAfter}
+use Rattle.store.specs.Soundness.{Sound}
+use Rattle.store.specs.History.{Store, store}
+use Rattle.ntriples.specs.declared.Span.{Span}
+use Rattle.ntriples.specs.declared.Line.{Line}
+use Rattle.ntriples.specs.declared.Line.the-variants as answer
+use Rattle.graph.specs.Claims.{loadOf}
+use Rattle.lines.specs.Claims.{namesIn}
+use Rattle.loader.specs.declared.Outcome.{Outcome}
+use Rattle.loader.specs.declared.Outcome.the-variants.{Nothing, New, Already, Refused}
+use Rattle.loader.specs.declared.LineLoaded.{LineLoaded}
+
+-- ---- what a line comes to
+
+-- by the values of the last call made. Status 2 is "already", 3 "revived": loading retracts nothing, so that a known triple is live.
+abbrev pub outcomeOf : Values → Outcome
+outcomeOf v = unless (eqb (v .refusal) 0) (Refused (v .refusal)) (cond (eqb (v .status) 1) (New (v .number)) (Already (v .number)))
+
+abbrev pub come : Store → Outcome → Store × Outcome
+come s o = (s, o)
+
+abbrev pub reported : Store × Values → Store × Outcome
+reported a = come (a .0) (outcomeOf (a .1))
+
+-- a line of the text, by what was read of it: the store after it, and what it comes to
+unfoldable pub loadLineOf : Store → List ℕ → Line → Store × Outcome
+loadLineOf s text answer.End = come s Nothing
+loadLineOf s text answer.Nothing = come s Nothing
+loadLineOf s text (answer.Refused k) = come s (Refused 10)
+loadLineOf s text (answer.Triple x y z) = reported (loadOf s (namesIn text x y z))
+
+-- ---- the code that loads it
+
+-- the counters and the outcome answered and the tables left are those of the definition, whatever listings are open
+abbrev pub Exact : Counters → Tables → Tables → List ℕ → Line → LineLoaded → Type 0
+Exact c m m′ text line r = (qs : List ScanCursor) → come (store (r .counters) m′ qs) (r .outcome) ≡ loadLineOf (store c m qs) text line
+
+-- exact on a sound store; on any tables where a counter is over its capacity, and where no triple was read
+pub record Loads (c : Counters) (m m′ : Tables) (text : List ℕ) (line : Line) (r : LineLoaded) : Type 0 where
+  pub sound : Sound c m → Exact c m m′ text line r
+  pub capacity : fits c m ≡ false → Exact c m m′ text line r
+  pub unread : ((x y z : Span) → line ≢ answer.Triple x y z) → Exact c m m′ text line r
+
+-- ---- inside it
+
+-- the parts of what was read lie in the text
+abbrev pub Inside : List ℕ → Span → Type 0
+Inside text p = (p .start ≤ p .end) × (p .end ≤ length text)
+
+abbrev pub LineInside : List ℕ → Line → Type 0
+LineInside text answer.End = Unit {0}
+LineInside text answer.Nothing = Unit {0}
+LineInside text (answer.Refused k) = Unit {0}
+LineInside text (answer.Triple x y z) = Inside text x × Inside text y × Inside text z
+
+-- a line refused, a line asserted
+abbrev pub refusedLine : Counters → Refusal → LineLoaded
+refusedLine c e = record { counters = c; outcome = Refused (refusalNumber e) }
+
+abbrev pub assertedLine : Counters → Asserted → LineLoaded
+assertedLine c a = record { counters = countersAfter c a; outcome = outcomeOf (assertedValues a) }
