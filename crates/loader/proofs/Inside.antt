@@ -1,10 +1,10 @@
 -- The parts of a line that was read lie in the text. Assumes nothing.
 use mathlib.Core.Path.{_≡_, refl, sym, ap, _∙_}
 use mathlib.Core.Logic.{_⊎_, inl, inr}
-use mathlib.Core.List.{List, _++_}
-use Prim.Native.Nat.{ℕ, _≤_, _<_}
+use mathlib.Core.List.{List, [], _∷_, _++_}
+use Prim.Native.Nat.{ℕ, zero, suc, _≤_, _<_}
 use native.Mathlib.Omega.{arith}
-use lib.ListN.{length, drop, length-append, length-drop}
+use lib.ListN.{length, drop, getD, length-append, length-drop}
 use Rattle.term.specs.Grammar.{nameLimit}
 use Rattle.term.proofs.Turn.{below-or}
 use Rattle.term.proofs.Shortened.{canonical-short}
@@ -19,8 +19,24 @@ use Rattle.ntriples.proofs.Lines.{line-exists, line-first}
 use Rattle.ntriples.proofs.Claims.{reads-a-line}
 use Rattle.loader.specs.Lines.{Inside, LineInside}
 
-same-inside : (text : List ℕ) (p q : Span) → p ≡ q → Inside text p → Inside text q
-same-inside text p q e h = rw e at h
+abbrev pub noPart : Span
+noPart = record { start = 0; end = 0 }
+
+-- each of several parts
+pub record EachInside (text : List ℕ) (ps : List Span) : Type 0 where
+  pub each : (i : ℕ) → i < length ps → (getD ps i noPart .start ≤ getD ps i noPart .end) × (getD ps i noPart .end ≤ length text)
+
+pub each-inside : (text : List ℕ) (ps : List Span) → Inside text ps → EachInside text ps
+each-inside text ps h = record { each = λ i k. part ps h i k }
+  where
+    part : (ps : List Span) → Inside text ps → (i : ℕ) → i < length ps
+        → (getD ps i noPart .start ≤ getD ps i noPart .end) × (getD ps i noPart .end ≤ length text)
+    part [] h i k = absurd (omega arith)
+    part (p ∷ ps) h zero k = (h .0, h .1)
+    part (p ∷ ps) h (suc i) k = part ps (h .2) i (omega arith)
+
+same-parts : (text : List ℕ) (x y z x′ y′ z′ : Span) → x ≡ x′ → y ≡ y′ → z ≡ z′ → Inside text (x ∷ y ∷ z ∷ []) → Inside text (x′ ∷ y′ ∷ z′ ∷ [])
+same-parts text x y z x′ y′ z′ a b c h = rw (a, b, c) at h
 
 derived-inside : (i : ℕ) (text l r : List ℕ) (x y z : Span) → i ≤ length text → drop i text ≡ l ++ r → Derived nameLimit i l x y z
     → LineInside text (answer.Triple x y z)
@@ -28,11 +44,9 @@ derived-inside i text l r x y z h e D =
     let d = D .derivation in
     let k = simp length-append at (sym (length-drop i text) ∙ ap length e) in
     let n = simp length-append at (ap length (d .spells)) in
-    let o = canonical-short (d .object) in (
-      same-inside text (subjectSpan i d) x (D .subjectAt) (omega arith, omega arith),
-      same-inside text (predicateSpan i d) y (D .predicateAt) (omega arith, omega arith),
-      same-inside text (objectPart i d) z (D .objectAt) (omega arith, omega arith),
-    )
+    let o = canonical-short (d .object) in
+    same-parts text (subjectSpan i d) (predicateSpan i d) (objectPart i d) x y z (D .subjectAt) (D .predicateAt) (D .objectAt)
+    (omega arith, omega arith, (omega arith, omega arith, (omega arith, omega arith, tt)))
 
 end-triple : {C : Type 0} (x y z : Span) → answer.End ≡ answer.Triple x y z → C
 end-triple x y z e = let f : _≡_ {A = ℕ} 0 1 = cc in absurd (omega arith)

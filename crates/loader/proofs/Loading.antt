@@ -4,7 +4,7 @@ use mathlib.Core.Path.{_≡_, refl, sym, ap, _∙_}
 use mathlib.Core.Logic.{_⊎_, inl, inr}
 use mathlib.Core.Bool.{true, false}
 use mathlib.Core.List.{List, [], _∷_, _++_}
-use Prim.Native.Nat.{ℕ, zero, suc, _+_, _<_}
+use Prim.Native.Nat.{ℕ, suc, _+_, _<_}
 use native.Mathlib.Omega.{arith}
 use native.Mathlib.Numerals.{add-one}
 use lib.ListN.{length, take, drop, getD, set}
@@ -39,7 +39,8 @@ use Rattle.lines.specs.Claims.{namesIn}
 use Rattle.loader.specs.declared.Outcome.{Outcome}
 use Rattle.loader.specs.declared.Outcome.the-variants.{Nothing, Refused}
 use Rattle.loader.specs.declared.LineLoaded.{LineLoaded}
-use Rattle.loader.specs.Lines.{come, reported, loadLineOf, Loads, Inside, LineInside, refusedLine, assertedLine}
+use Rattle.loader.proofs.Inside.{noPart}
+use Rattle.loader.specs.Lines.{come, reported, loadLineOf, Loads, refusedLine, assertedLine}
 
 abbrev pub Ready : Counters → Tables → Type 0
 Ready c m = Sound c m ⊎ (fits c m ≡ false)
@@ -105,19 +106,6 @@ load-from : (text : List ℕ) (x y z : Span) (s : Store) → loadOf s (namesIn t
 unfolding loadOf loadFrom
 load-from text x y z s = refl
 
-abbrev pub three : Span → Span → Span → List Span
-three x y z = x ∷ y ∷ z ∷ []
-
-abbrev pub noPart : Span
-noPart = record { start = 0; end = 0 }
-
-pub part-inside : (text : List ℕ) (x y z : Span) → LineInside text (answer.Triple x y z) → (i : ℕ) → i < 3
-    → Inside text (getD (three x y z) i noPart)
-part-inside text x y z h zero k = h .0
-part-inside text x y z h (suc zero) k = h .1
-part-inside text x y z h (suc (suc zero)) k = h .2
-part-inside text x y z h (suc (suc (suc i))) k = absurd (omega arith)
-
 -- the names of the first i parts have been entered, which led from c and m to d and m′
 pub record Entering (text : List ℕ) (parts : List Span) (c : Counters) (m : Tables) (ids : List ResourceId) (d : Counters) (m′ : Tables) (i : ℕ)
     : Type 0 where
@@ -128,66 +116,72 @@ pub record Entering (text : List ℕ) (parts : List Span) (c : Counters) (m : Ta
 pub entering-none : (text : List ℕ) (parts : List Span) (c : Counters) (m : Tables) (ids : List ResourceId) → Entering text parts c m ids c m 0
 entering-none text parts c m ids = record { ready = λ R. R; onward = λ R qs. refl }
 
-module _ (text : List ℕ) (x y z : Span) (c : Counters) (m : Tables) (ids : List ResourceId) (d : Counters) (m′ m″ : Tables) (i : ℕ)
-    (E : Entering text (three x y z) c m ids d m′ i) where
-  -- a line whose triple was loaded so
-  loads-by : (r : LineLoaded)
-      → (Ready c m → (qs : List ScanCursor) → come (store (r .counters) m″ qs) (r .outcome) ≡ reported (loadFrom text (drop i (three x y z)) (take i ids) (store d m′ qs)))
+module _ (text : List ℕ) (parts : List Span) (c : Counters) (m : Tables) (ids : List ResourceId) (d : Counters) (m′ m″ : Tables) (i : ℕ)
+    (E : Entering text parts c m ids d m′ i) where
+  -- what is left to do
+  abbrev rest : List ScanCursor → Store × Values
+  rest qs = loadFrom text (drop i parts) (take i ids) (store d m′ qs)
+
+  -- a line with these parts, once the rest is done
+  loads-by : (x y z : Span) → parts ≡ x ∷ y ∷ z ∷ [] → (r : LineLoaded)
+      → (Ready c m → (qs : List ScanCursor) → come (store (r .counters) m″ qs) (r .outcome) ≡ reported (rest qs))
       → Loads c m m″ text (answer.Triple x y z) r
   unfolding loadLineOf
-  loads-by r f =
-      let whole : Ready c m → (qs : List ScanCursor) → come (store (r .counters) m″ qs) (r .outcome) ≡ reported (loadOf (store c m qs) (namesIn text x y z)) =
-      λ R qs. f R qs ∙ ap reported (sym (load-from text x y z (store c m qs) ∙ E .onward R qs))
+  loads-by x y z p r f =
+      let whole : Ready c m → (qs : List ScanCursor)
+      → come (store (r .counters) m″ qs) (r .outcome) ≡ reported (loadOf (store c m qs) (namesIn text x y z)) =
+      λ R qs. f R qs ∙ ap reported (sym (E .onward R qs)
+      ∙ (ap (λ (ps : List Span). loadFrom text ps [] (store c m qs)) p ∙ sym (load-from text x y z (store c m qs))))
       in
       record { sound = λ S. whole (inl S); capacity = λ e. whole (inr e); unread = λ h. absurd (h x y z refl) }
 
-  -- ---- the turn at part i
-  module _ (h : i < 3) where
+  -- the turn at part i
+  module _ (h : i < length parts) where
     abbrev name : List ℕ
-    name = bytesOf text (getD (three x y z) i noPart)
+    name = bytesOf text (getD parts i noPart)
 
-    next-part : (qs : List ScanCursor) → loadFrom text (drop i (three x y z)) (take i ids) (store d m′ qs)
-        ≡ loadFrom text (getD (three x y z) i noPart ∷ drop (suc i) (three x y z)) (take i ids) (store d m′ qs)
-    next-part qs = ap (λ (ps : List Span). loadFrom text ps (take i ids) (store d m′ qs)) (drop-cons (three x y z) i noPart h)
+    next-part : (qs : List ScanCursor) → rest qs ≡ loadFrom text (getD parts i noPart ∷ drop (suc i) parts) (take i ids) (store d m′ qs)
+    next-part qs = ap (λ (ps : List Span). loadFrom text ps (take i ids) (store d m′ qs)) (drop-cons parts i noPart h)
 
-    part-entered : (n : ResourceId) (k : Counters) (qs : List ScanCursor) → after m″ (Id n k) ≡ internOf d m′ name → i < length ids
-        → loadFrom text (drop i (three x y z)) (take i ids) (store d m′ qs)
-        ≡ loadFrom text (drop (i + 1) (three x y z)) (take (i + 1) (set ids i n)) (store k m″ qs)
+    rest-entered : (n : ResourceId) (k : Counters) (qs : List ScanCursor) → after m″ (Id n k) ≡ internOf d m′ name → i < length ids
+        → rest qs ≡ loadFrom text (drop (i + 1) parts) (take (i + 1) (set ids i n)) (store k m″ qs)
     unfolding loadFrom
-    part-entered n k qs e g = next-part qs ∙ rw (entered d m′ m″ name (Id n k) e qs, add-one i, take-suc-set ids i n g) refl
+    rest-entered n k qs e g = next-part qs ∙ rw (entered d m′ m″ name (Id n k) e qs, add-one i, take-suc-set ids i n g) refl
 
     pub entering-more : (a : Interned) (n : ResourceId) (k : Counters) → InternAnswer d m′ m″ name a → a ≡ Id n k → i < length ids
-        → Entering text (three x y z) c m (set ids i n) k m″ (i + 1)
+        → Entering text parts c m (set ids i n) k m″ (i + 1)
     entering-more a n k I e g =
         let J : InternAnswer d m′ m″ name (Id n k) = (rw e at I) in
         record {
           ready = λ R. ready-on d k m′ m″ name n (E .ready R) J;
-          onward = λ R qs. E .onward R qs ∙ part-entered n k qs (enter-exact d m′ m″ name (Id n k) (E .ready R) J) g;
+          onward = λ R qs. E .onward R qs ∙ rest-entered n k qs (enter-exact d m′ m″ name (Id n k) (E .ready R) J) g;
         }
 
-    part-refused : (e : Refusal) (qs : List ScanCursor) → after m″ (NotInterned e) ≡ internOf d m′ name
-        → loadFrom text (drop i (three x y z)) (take i ids) (store d m′ qs) ≡ answered (store d m″ qs) (refusedWith (refusalNumber e))
+    rest-refused : (e : Refusal) (qs : List ScanCursor) → after m″ (NotInterned e) ≡ internOf d m′ name
+        → rest qs ≡ answered (store d m″ qs) (refusedWith (refusalNumber e))
     unfolding loadFrom
-    part-refused e qs f = next-part qs ∙ rw (entered d m′ m″ name (NotInterned e) f qs, refuses e) refl
+    rest-refused e qs f = next-part qs ∙ rw (entered d m′ m″ name (NotInterned e) f qs, refuses e) refl
 
-    pub loads-refused : (a : Interned) (e : Refusal) (r : LineLoaded) → InternAnswer d m′ m″ name a → a ≡ NotInterned e → r ≡ refusedLine d e
+    pub loads-refused : (x y z : Span) → parts ≡ x ∷ y ∷ z ∷ [] → (a : Interned) (e : Refusal) (r : LineLoaded) → InternAnswer d m′ m″ name a
+        → a ≡ NotInterned e → r ≡ refusedLine d e
         → Loads c m m″ text (answer.Triple x y z) r
-    loads-refused a e r I f g =
+    loads-refused x y z p a e r I f g =
         let J : InternAnswer d m′ m″ name (NotInterned e) = (rw f at I) in
-        rw g (loads-by (refusedLine d e) (λ R qs.
-        rw (part-refused e qs (enter-exact d m′ m″ name (NotInterned e) (E .ready R) J), refuses e) refl))
+        rw g (loads-by x y z p (refusedLine d e) (λ R qs.
+        rw (rest-refused e qs (enter-exact d m′ m″ name (NotInterned e) (E .ready R) J), refuses e) refl))
 
-  -- ---- all three entered
+  -- all names entered
   asserted : (a : Asserted) (qs : List ScanCursor) → after m″ a ≡ assertOf d m′ (tripleOf ids)
       → callStore (store d m′ qs) (assert byValue (tripleOf ids)) ≡ answered (store (countersAfter d a) m″ qs) (assertedValues a)
   unfolding callStore
   asserted a qs e = rw (← e)
 
-  pub loads-asserted : (a : Asserted) (r : LineLoaded) → i ≡ 3 → length ids ≡ 3 → after m″ a ≡ assertOf d m′ (tripleOf ids)
-      → r ≡ assertedLine d a
+  pub loads-asserted : (x y z : Span) → parts ≡ x ∷ y ∷ z ∷ [] → (a : Asserted) (r : LineLoaded) → i ≡ 3 → length ids ≡ 3
+      → after m″ a ≡ assertOf d m′ (tripleOf ids) → r ≡ assertedLine d a
       → Loads c m m″ text (answer.Triple x y z) r
   unfolding loadFrom
-  loads-asserted a r h k e g = rw g (loads-by (assertedLine d a) (λ R qs. rw (h, take-all 3 ids (omega arith), asserted a qs e) refl))
+  loads-asserted x y z p a r h k e g =
+      rw g (loads-by x y z p (assertedLine d a) (λ R qs. rw (h, p, take-all 3 ids (omega arith), asserted a qs e) refl))
 
 -- ---- no triple
 

@@ -3,7 +3,7 @@
 use mathlib.Core.Path.{_≡_}
 use mathlib.Core.Logic.{_≢_}
 use mathlib.Core.Bool.{false, cond}
-use mathlib.Core.List.{List}
+use mathlib.Core.List.{List, [], _∷_}
 use Prim.Native.Nat.{ℕ, _≤_}
 use lib.ListN.{length}
 use lib.Dec.{eqb}
@@ -59,15 +59,16 @@ pub record Loads (c : Counters) (m m′ : Tables) (text : List ℕ) (line : Line
 
 -- ---- inside it
 
--- the parts of what was read lie in the text
-abbrev pub Inside : List ℕ → Span → Type 0
-Inside text p = (p .start ≤ p .end) × (p .end ≤ length text)
+-- parts that lie in a text, and what was read of a line, if its parts do
+abbrev pub Inside : List ℕ → List Span → Type 0
+Inside text [] = Unit {0}
+Inside text (p ∷ ps) = (p .start ≤ p .end) × (p .end ≤ length text) × Inside text ps
 
 abbrev pub LineInside : List ℕ → Line → Type 0
 LineInside text answer.End = Unit {0}
 LineInside text answer.Nothing = Unit {0}
 LineInside text (answer.Refused k) = Unit {0}
-LineInside text (answer.Triple x y z) = Inside text x × Inside text y × Inside text z
+LineInside text (answer.Triple x y z) = Inside text (x ∷ y ∷ z ∷ [])
 
 -- a line refused, a line asserted
 abbrev pub refusedLine : Counters → Refusal → LineLoaded

@@ -5,7 +5,8 @@ use native.Mathlib.Omega.{arith}
 use lib.ListN.{length}
 use borrow.Author.Needs.{needs}
 use Rattle.store.specs.Tables.{tables}
-use Rattle.loader.proofs.Loading.{Entering, entering-none, entering-more, part-inside, loads-refused, loads-asserted}
+use Rattle.loader.proofs.Loading.{Entering, entering-none, entering-more, loads-refused, loads-asserted}
+use Rattle.loader.proofs.Inside.{EachInside, each-inside}
 use Rattle.loader.proofs.load_triple.Statement.{statement}
 use Rattle.loader.proofs.load_triple.Tie as tie
 use Rattle.loader.proofs.load_triple.Reads as reads
@@ -18,6 +19,7 @@ use Rattle.statement.proofs.assert.Reads as assert-reads
 abbrev Inv-loop : tie.InvT-loop
 Inv-loop resources₀ statements index₀ text₀ source parts ids₀ d₀ i₀ resources index text ids d i =
     (length resources ≡ length resources₀) × (length index ≡ length index₀) × (length text ≡ length text₀) × (i ≤ 3) × (length ids ≡ 3)
+    × EachInside source parts
     × Entering source parts d₀ (tables resources₀ statements index₀ text₀) ids d (tables resources statements index text) i
 
 abbrev μ-loop : tie.MeasureT-loop
@@ -27,7 +29,7 @@ loop-holds : tie.Need-loop-holds Inv-loop μ-loop
 loop-holds c =
     let a = c .before .before .before .before .before .args in
     let m = tables (now (a .resources)) (now (a .statements)) (now (a .index)) (now (a .text)) in
-    (refl, refl, refl, omega arith, refl, entering-none _ _ (a .c) m _)
+    (refl, refl, refl, omega arith, refl, each-inside _ _ (search needs), entering-none _ _ (a .c) m _)
 
 mul-part : tie.Need-mul-part Inv-loop μ-loop
 mul-part c = search needs
@@ -37,18 +39,18 @@ array-copy-out-part c = search needs
 
 sub-intern : tie.Need-sub-intern Inv-loop μ-loop
 sub-intern c =
-    let a = c .before .before .before .before .before .before .before .before .before .before .before .before .args in
-    part-inside (now (a .source)) (a .subject) (a .predicate) (a .object) (c .before .before .before .before .before .before .before .before .before .before .before .before .pre) (c .before .before .before .before .before .before .loop .i) (c .before .before .before .before .before .loop-test .taken) .0
+    let l = c .before .before .before .before .before .before .loop in
+    l .inv .5 .each (l .i) (c .before .before .before .before .before .loop-test .taken) .0
 
 part-intern-start : tie.Need-part-intern-start Inv-loop μ-loop
 part-intern-start c =
-    let a = c .before .before .before .before .before .before .before .before .before .before .before .before .args in
-    part-inside (now (a .source)) (a .subject) (a .predicate) (a .object) (c .before .before .before .before .before .before .before .before .before .before .before .before .pre) (c .before .before .before .before .before .before .loop .i) (c .before .before .before .before .before .loop-test .taken) .0
+    let l = c .before .before .before .before .before .before .loop in
+    l .inv .5 .each (l .i) (c .before .before .before .before .before .loop-test .taken) .0
 
 part-intern-end : tie.Need-part-intern-end Inv-loop μ-loop
 part-intern-end c =
-    let a = c .before .before .before .before .before .before .before .before .before .before .before .before .args in
-    part-inside (now (a .source)) (a .subject) (a .predicate) (a .object) (c .before .before .before .before .before .before .before .before .before .before .before .before .pre) (c .before .before .before .before .before .before .loop .i) (c .before .before .before .before .before .loop-test .taken) .1
+    let l = c .before .before .before .before .before .before .loop in
+    l .inv .5 .each (l .i) (c .before .before .before .before .before .loop-test .taken) .1
 
 intern-requires : tie.Need-intern-requires Inv-loop μ-loop
 intern-requires c κs = search needs
@@ -80,8 +82,8 @@ returns c =
     let m′ = tables (l .resources) (now (a .statements)) (l .index) (l .text) in
     let m″ = tables (intern .last .1 .0) (now (a .statements)) (intern .last .1 .1 .1 .0) (intern .last .1 .1 .1 .1 .0) in
     let e = c .before .before .e in
-    loads-refused (now (a .source)) (a .subject) (a .predicate) (a .object) (a .c) m (l .ids) (l .d) m′ m″ (l .i) (l .inv .5)
-    (c .before .before .before .before .before .before .before .before .before .before .before .before .before .before .before .before .before .loop-test .taken) (intern .result) (e .given .0 .0) (c .refused .result) (intern .ensures) (e .given .1) (c .refused .ensures)
+    loads-refused (now (a .source)) _ (a .c) m (l .ids) (l .d) m′ m″ (l .i) (l .inv .6)
+    (c .before .before .before .before .before .before .before .before .before .before .before .before .before .before .before .before .before .loop-test .taken) (a .subject) (a .predicate) (a .object) refl (intern .result) (e .given .0 .0) (c .refused .result) (intern .ensures) (e .given .1) (c .refused .ensures)
 
 enum-known-n : tie.Need-enum-known-n Inv-loop μ-loop
 enum-known-n c = search needs
@@ -113,7 +115,8 @@ loop-again c =
       search needs,
       omega (arith, h),
       search needs,
-      entering-more (now (a .source)) (a .subject) (a .predicate) (a .object) (a .c) m (l .ids) (l .d) m′ m″ (l .i) (l .inv .5)
+      l .inv .5,
+      entering-more (now (a .source)) _ (a .c) m (l .ids) (l .d) m′ m″ (l .i) (l .inv .6)
           h (intern .result) (n .given .0 .0) (n .given .0 .1 .0) (intern .ensures) (n .given .1) (omega (arith, h)),
     )
 
@@ -152,8 +155,8 @@ returns-2 c =
     let m = tables (now (a .resources)) (now (a .statements)) (now (a .index)) (now (a .text)) in
     let m′ = tables (l .resources) (now (a .statements)) (l .index) (l .text) in
     let m″ = tables (assert .last .1 .0) (assert .last .1 .1 .0) (l .index) (l .text) in
-    loads-asserted (now (a .source)) (a .subject) (a .predicate) (a .object) (a .c) m (l .ids) (l .d) m′ m″ (l .i) (l .inv .5)
-    (assert .result) (c .asserted .result) (omega arith) (l .inv .4) (assert .ensures) (c .asserted .ensures)
+    loads-asserted (now (a .source)) _ (a .c) m (l .ids) (l .d) m′ m″ (l .i) (l .inv .6)
+    (a .subject) (a .predicate) (a .object) refl (assert .result) (c .asserted .result) (omega arith) (l .inv .4) (assert .ensures) (c .asserted .ensures)
 
 pub load-triple-spec : {M : Type 1} → statement M
 load-triple-spec =
