@@ -20,7 +20,7 @@ use Rattle.store.specs.History.{Store, store}
 use Rattle.ntriples.specs.declared.Span.{Span}
 use Rattle.ntriples.specs.declared.Line.{Line}
 use Rattle.ntriples.specs.declared.Line.the-variants as answer
-use Rattle.graph.specs.Claims.{loadOf}
+use Rattle.graph.specs.Claims.{loadOf, canonicalTriple, Loaded}
 use Rattle.lines.specs.Claims.{namesIn}
 use Rattle.loader.specs.declared.Outcome.{Outcome}
 use Rattle.loader.specs.declared.Outcome.the-variants.{Nothing, New, Already, Refused}
@@ -56,6 +56,20 @@ pub record Loads (c : Counters) (m m′ : Tables) (text : List ℕ) (line : Line
   pub sound : Sound c m → Exact c m m′ text line r
   pub capacity : fits c m ≡ false → Exact c m m′ text line r
   pub unread : ((x y z : Span) → line ≢ answer.Triple x y z) → Exact c m m′ text line r
+
+-- the refusal's number, or 0
+abbrev pub refusalIn : Outcome → ℕ
+refusalIn Nothing = 0
+refusalIn (New n) = 0
+refusalIn (Already n) = 0
+refusalIn (Refused n) = n
+
+-- Loaded by the code into a sound store, a triple is added to the graph, and nothing else; a refusal leaves the graph; the store stays sound, and
+-- so the next line is exact too. (Fresh counters are sound over any tables: `FreshIsSound` of crate `store`.)
+abbrev pub CodeLoads : Type 0
+CodeLoads = (c : Counters) (m m′ : Tables) (text : List ℕ) (x y z : Span) (r : LineLoaded) → Sound c m
+    → Loads c m m′ text (answer.Triple x y z) r
+    → Loaded (store c m []) (store (r .counters) m′ []) (canonicalTriple (namesIn text x y z)) (refusalIn (r .outcome))
 
 -- ---- inside it
 

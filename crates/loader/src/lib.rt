@@ -161,7 +161,17 @@ fn load_read(
         (now (source .entry)) line r ⌝ }
 {
     match line {
-        Line::Triple(s, p, o) => load_triple(c, resources, statements, index, text, source, s, p, o),
+        Line::Triple(s, p, o) => load_triple(
+            c,
+            resources,
+            statements,
+            index,
+            text,
+            source,
+            s,
+            p,
+            o,
+        ),
         Line::Refused(_) => refused(c, Refusal::BadLine),
         Line::End => LineLoaded {
             counters: c,
