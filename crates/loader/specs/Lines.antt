@@ -4,9 +4,10 @@ use mathlib.Core.Path.{_≡_}
 use mathlib.Core.Logic.{_≢_}
 use mathlib.Core.Bool.{false, cond}
 use mathlib.Core.List.{List, [], _∷_}
-use Prim.Native.Nat.{ℕ, _≤_}
+use Prim.Native.Nat.{ℕ, _≤_, _<_}
 use lib.ListN.{length}
 use lib.Dec.{eqb}
+use Rattle.term.specs.Grammar.{nameLimit}
 use Rattle.store.specs.declared.Counters.{Counters}
 use Rattle.store.specs.declared.ScanCursor.{ScanCursor}
 use Rattle.store.specs.declared.Refusal.{Refusal}
@@ -20,6 +21,7 @@ use Rattle.store.specs.History.{Store, store}
 use Rattle.ntriples.specs.declared.Span.{Span}
 use Rattle.ntriples.specs.declared.Line.{Line}
 use Rattle.ntriples.specs.declared.Line.the-variants as answer
+use Rattle.ntriples.specs.Text.{readOf}
 use Rattle.graph.specs.Claims.{loadOf, canonicalTriple, Loaded}
 use Rattle.lines.specs.Claims.{namesIn}
 use Rattle.loader.specs.declared.Outcome.{Outcome}
@@ -83,6 +85,12 @@ LineInside text answer.End = Unit {0}
 LineInside text answer.Nothing = Unit {0}
 LineInside text (answer.Refused k) = Unit {0}
 LineInside text (answer.Triple x y z) = Inside text (x ∷ y ∷ z ∷ [])
+
+-- what was read of the line that begins at a position of the text, and the position after it
+pub record ReadAt (text : List ℕ) (from : ℕ) (line : Line) (next : ℕ) : Type 0 where
+  pub before-end : from < length text
+  pub answered : line ≡ readOf nameLimit text from .line
+  pub moved : next ≡ readOf nameLimit text from .next
 
 -- a line refused, a line asserted
 abbrev pub refusedLine : Counters → Refusal → LineLoaded
