@@ -1,4 +1,4 @@
--- The parts of a line that was read lie in the text. Assumes nothing.
+-- The parts of a line that was read lie in the text, and the position after it is further on. Assumes nothing.
 use mathlib.Core.Path.{_≡_, refl, sym, ap, _∙_}
 use mathlib.Core.Logic.{_⊎_, inl, inr}
 use mathlib.Core.List.{List, [], _∷_, _++_}
@@ -17,7 +17,8 @@ use Rattle.ntriples.specs.Text.{readOf}
 use Rattle.ntriples.specs.Claims.{objectPart, Derived}
 use Rattle.ntriples.proofs.Lines.{line-exists, line-first}
 use Rattle.ntriples.proofs.Claims.{reads-a-line}
-use Rattle.loader.specs.Lines.{Inside, LineInside}
+use Rattle.line_reader.proofs.Moves.{moves}
+use Rattle.loader.specs.Lines.{Inside, LineInside, ReadAt}
 
 abbrev pub noPart : Span
 noPart = record { start = 0; end = 0 }
@@ -67,8 +68,11 @@ line-inside text i answer.Nothing e = tt
 line-inside text i (answer.Refused k) e = tt
 line-inside text i (answer.Triple x y z) e = triple-inside text i x y z e (below-or i (length text))
 
-pub read-inside : (text : List ℕ) (i : ℕ) (r : LineRead) → r ≡ readOf nameLimit text i → LineInside text (r .line)
-read-inside text i r e = line-inside text i (r .line) (ap (λ (z : LineRead). z .line) (sym e))
+pub read-inside : (text : List ℕ) (from : ℕ) (line : Line) (next : ℕ) → ReadAt text from line next → LineInside text line
+read-inside text from line next R = line-inside text from line (sym (R .answered))
+
+pub read-moves : (text : List ℕ) (from : ℕ) (line : Line) (next : ℕ) → ReadAt text from line next → (from < next) × (next ≤ length text)
+read-moves text from line next R = rw (R .moved) (moves nameLimit text from (R .before-end))
 
 pub parts-inside : (text : List ℕ) (a b : Line) → a ≡ b → LineInside text a → LineInside text b
 parts-inside text a b e h = rw e at h
