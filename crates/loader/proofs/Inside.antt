@@ -36,7 +36,8 @@ each-inside text ps h = record { each = λ i k. part ps h i k }
     part (p ∷ ps) h zero k = (h .0, h .1)
     part (p ∷ ps) h (suc i) k = part ps (h .2) i (omega arith)
 
-same-parts : (text : List ℕ) (x y z x′ y′ z′ : Span) → x ≡ x′ → y ≡ y′ → z ≡ z′ → Inside text (x ∷ y ∷ z ∷ []) → Inside text (x′ ∷ y′ ∷ z′ ∷ [])
+same-parts : (text : List ℕ) (x y z x′ y′ z′ : Span) → x ≡ x′ → y ≡ y′ → z ≡ z′ → Inside text (x ∷ y ∷ z ∷ []) → Inside text (x′ ∷ y′ ∷ z′ ∷
+    [])
 same-parts text x y z x′ y′ z′ a b c h = rw (a, b, c) at h
 
 derived-inside : (i : ℕ) (text l r : List ℕ) (x y z : Span) → i ≤ length text → drop i text ≡ l ++ r → Derived nameLimit i l x y z
@@ -52,7 +53,8 @@ derived-inside i text l r x y z h e D =
 end-triple : {C : Type 0} (x y z : Span) → answer.End ≡ answer.Triple x y z → C
 end-triple x y z e = let f : _≡_ {A = ℕ} 0 1 = cc in absurd (omega arith)
 
-triple-inside : (text : List ℕ) (i : ℕ) (x y z : Span) → readOf nameLimit text i .line ≡ answer.Triple x y z → (i < length text) ⊎ (length text ≤ i)
+triple-inside : (text : List ℕ) (i : ℕ) (x y z : Span) → readOf nameLimit text i .line ≡ answer.Triple x y z → (i < length text) ⊎ (length
+    text ≤ i)
     → LineInside text (answer.Triple x y z)
 triple-inside text i x y z e (inl h) =
     let w = line-exists (drop i text) in

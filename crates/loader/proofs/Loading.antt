@@ -107,13 +107,15 @@ unfolding loadOf loadFrom
 load-from text x y z s = refl
 
 -- the names of the first i parts have been entered, which led from c and m to d and m′
-pub record Entering (text : List ℕ) (parts : List Span) (c : Counters) (m : Tables) (ids : List ResourceId) (d : Counters) (m′ : Tables) (i : ℕ)
+pub record Entering (text : List ℕ) (parts : List Span) (c : Counters) (m : Tables) (ids : List ResourceId) (d : Counters) (m′ : Tables) (i
+    : ℕ)
     : Type 0 where
   pub ready : Ready c m → Ready d m′
   pub onward : Ready c m → (qs : List ScanCursor)
       → loadFrom text parts [] (store c m qs) ≡ loadFrom text (drop i parts) (take i ids) (store d m′ qs)
 
-pub entering-none : (text : List ℕ) (parts : List Span) (c : Counters) (m : Tables) (ids : List ResourceId) → Entering text parts c m ids c m 0
+pub entering-none : (text : List ℕ) (parts : List Span) (c : Counters) (m : Tables) (ids : List ResourceId) → Entering text parts c m ids c
+    m 0
 entering-none text parts c m ids = record { ready = λ R. R; onward = λ R qs. refl }
 
 module _ (text : List ℕ) (parts : List Span) (c : Counters) (m : Tables) (ids : List ResourceId) (d : Counters) (m′ m″ : Tables) (i : ℕ)
@@ -162,7 +164,8 @@ module _ (text : List ℕ) (parts : List Span) (c : Counters) (m : Tables) (ids 
     unfolding loadFrom
     rest-refused e qs f = next-part qs ∙ rw (entered d m′ m″ name (NotInterned e) f qs, refuses e) refl
 
-    pub loads-refused : (x y z : Span) → parts ≡ x ∷ y ∷ z ∷ [] → (a : Interned) (e : Refusal) (r : LineLoaded) → InternAnswer d m′ m″ name a
+    pub loads-refused : (x y z : Span) → parts ≡ x ∷ y ∷ z ∷ [] → (a : Interned) (e : Refusal) (r : LineLoaded) → InternAnswer d m′ m″ name
+        a
         → a ≡ NotInterned e → r ≡ refusedLine d e
         → Loads c m m″ text (answer.Triple x y z) r
     loads-refused x y z p a e r I f g =
@@ -202,5 +205,6 @@ module _ (c : Counters) (m : Tables) (text : List ℕ) (line : Line) where
   unfolding loadLineOf
   loads-bad k r e f = rw f (loads-kept (Refused 10) (λ qs. rw e refl))
 
-pub loads-as : (c : Counters) (m m′ : Tables) (text : List ℕ) (a b : Line) (r : LineLoaded) → a ≡ b → Loads c m m′ text b r → Loads c m m′ text a r
+pub loads-as : (c : Counters) (m m′ : Tables) (text : List ℕ) (a b : Line) (r : LineLoaded) → a ≡ b → Loads c m m′ text b r → Loads c m m′
+    text a r
 loads-as c m m′ text a b r e h = rw e h

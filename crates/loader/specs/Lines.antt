@@ -66,7 +66,8 @@ refusalIn (New n) = 0
 refusalIn (Already n) = 0
 refusalIn (Refused n) = n
 
--- Loaded by the code into a sound store, a triple is added to the graph, and nothing else; a refusal leaves the graph; the store stays sound, and
+-- Loaded by the code into a sound store, a triple is added to the graph, and nothing else; a refusal leaves the graph; the store stays
+-- sound, and
 -- so the next line is exact too. (Fresh counters are sound over any tables: `FreshIsSound` of crate `store`.)
 abbrev pub CodeLoads : Type 0
 CodeLoads = (c : Counters) (m m′ : Tables) (text : List ℕ) (x y z : Span) (r : LineLoaded) → Sound c m

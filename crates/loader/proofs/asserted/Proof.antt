@@ -44,7 +44,8 @@ returns-3 c = sym (ap (assertedLine (c .before .before .before .args .c)) (c .be
 returns-4 : tie.Need-returns-4
 returns-4 c =
     let k = c .before .before .before .before .args .c in
-    c .refused .ensures ∙ (assert-refused k (c .before .before .a4 .given .0 .0) ∙ sym (ap (assertedLine k) (c .before .before .a4 .given .1)))
+    c .refused .ensures ∙ (assert-refused k (c .before .before .a4 .given .0 .0) ∙ sym (ap (assertedLine k) (c .before .before .a4 .given
+    .1)))
 
 pub asserted-spec : {M : Type 1} → statement M
 asserted-spec =

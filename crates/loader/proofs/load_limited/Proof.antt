@@ -24,7 +24,8 @@ returns c = search needs
 load-line-requires : tie.Need-load-line-requires
 load-line-requires c κs =
     let a = c .before .before .before .before .before .before .before .before .before .before .before .args in
-    read-inside (now (a .source)) (a .from) (a .line) (a .next) (c .before .before .before .before .before .before .before .before .before .before .before .pre)
+    read-inside (now (a .source)) (a .from) (a .line) (a .next) (c .before .before .before .before .before .before .before .before .before
+    .before .before .pre)
 
 same-length : tie.Need-same-length
 same-length c = search needs

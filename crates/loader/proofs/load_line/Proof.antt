@@ -16,7 +16,8 @@ enum-known-line c = search needs
 load-triple-requires : tie.Need-load-triple-requires
 load-triple-requires c κs =
     let a = c .before .before .before .before .before .before .before .before .before .before .before .before .args in
-    parts-inside (now (a .source)) (a .line) _ (c .before .before .before .before .before .line .given .1) (c .before .before .before .before .before .before .before .before .before .before .before .before .pre)
+    parts-inside (now (a .source)) (a .line) _ (c .before .before .before .before .before .line .given .1) (c .before .before .before
+    .before .before .before .before .before .before .before .before .before .pre)
 
 enum-told : tie.Need-enum-told
 enum-told c = search needs
@@ -43,7 +44,8 @@ same-length-4 : tie.Need-same-length-4
 same-length-4 c = search needs
 
 returns : tie.Need-returns
-returns c = loads-as _ _ _ _ _ _ _ (c .before .before .before .before .before .before .before .before .before .before .before .before .before .before .line .given .1) (c .before .before .before .before .before .before .before .before .load-triple .ensures)
+returns c = loads-as _ _ _ _ _ _ _ (c .before .before .before .before .before .before .before .before .before .before .before .before
+    .before .before .line .given .1) (c .before .before .before .before .before .before .before .before .load-triple .ensures)
 
 returns-2 : tie.Need-returns-2
 returns-2 c =

@@ -75,15 +75,19 @@ same-length-4 c = search needs
 
 returns : tie.Need-returns Inv-loop μ-loop
 returns c =
-    let a = c .before .before .before .before .before .before .before .before .before .before .before .before .before .before .before .before .before .before .before .before .before .before .before .before .args in
-    let l = c .before .before .before .before .before .before .before .before .before .before .before .before .before .before .before .before .before .before .loop in
+    let a = c .before .before .before .before .before .before .before .before .before .before .before .before .before .before .before
+    .before .before .before .before .before .before .before .before .before .args in
+    let l = c .before .before .before .before .before .before .before .before .before .before .before .before .before .before .before
+    .before .before .before .loop in
     let intern = c .before .before .before .before .before .before .before .before .before .before .intern in
     let m = tables (now (a .resources)) (now (a .statements)) (now (a .index)) (now (a .text)) in
     let m′ = tables (l .resources) (now (a .statements)) (l .index) (l .text) in
     let m″ = tables (intern .last .1 .0) (now (a .statements)) (intern .last .1 .1 .1 .0) (intern .last .1 .1 .1 .1 .0) in
     let e = c .before .before .e in
     loads-refused (now (a .source)) _ (a .c) m (l .ids) (l .d) m′ m″ (l .i) (l .inv .6)
-    (c .before .before .before .before .before .before .before .before .before .before .before .before .before .before .before .before .before .loop-test .taken) (a .subject) (a .predicate) (a .object) refl (intern .result) (e .given .0 .0) (c .refused .result) (intern .ensures) (e .given .1) (c .refused .ensures)
+    (c .before .before .before .before .before .before .before .before .before .before .before .before .before .before .before .before
+    .before .loop-test .taken) (a .subject) (a .predicate) (a .object) refl (intern .result) (e .given .0 .0) (c .refused .result) (intern
+    .ensures) (e .given .1) (c .refused .ensures)
 
 enum-known-n : tie.Need-enum-known-n Inv-loop μ-loop
 enum-known-n c = search needs
@@ -102,13 +106,16 @@ loop-less c = search needs
 
 loop-again : tie.Need-loop-again Inv-loop μ-loop
 loop-again c =
-    let a = c .before .before .before .before .before .before .before .before .before .before .before .before .before .before .before .before .before .before .before .before .before .before .before .args in
-    let l = c .before .before .before .before .before .before .before .before .before .before .before .before .before .before .before .before .before .loop in
+    let a = c .before .before .before .before .before .before .before .before .before .before .before .before .before .before .before
+    .before .before .before .before .before .before .before .before .args in
+    let l = c .before .before .before .before .before .before .before .before .before .before .before .before .before .before .before
+    .before .before .loop in
     let intern = c .before .before .before .before .before .before .before .before .before .intern in
     let m = tables (now (a .resources)) (now (a .statements)) (now (a .index)) (now (a .text)) in
     let m′ = tables (l .resources) (now (a .statements)) (l .index) (l .text) in
     let m″ = tables (intern .last .1 .0) (now (a .statements)) (intern .last .1 .1 .1 .0) (intern .last .1 .1 .1 .1 .0) in
-    let h = c .before .before .before .before .before .before .before .before .before .before .before .before .before .before .before .before .loop-test .taken in
+    let h = c .before .before .before .before .before .before .before .before .before .before .before .before .before .before .before
+    .before .loop-test .taken in
     let n = c .before .n in (
       search needs,
       search needs,
@@ -149,14 +156,16 @@ same-length-8 c = search needs
 
 returns-2 : tie.Need-returns-2 Inv-loop μ-loop
 returns-2 c =
-    let a = c .before .before .before .before .before .before .before .before .before .before .before .before .before .before .before .before .before .before .before .before .args in
+    let a = c .before .before .before .before .before .before .before .before .before .before .before .before .before .before .before
+    .before .before .before .before .before .args in
     let l = c .before .before .before .before .before .before .before .before .before .before .before .before .before .before .loop in
     let assert = c .before .before .before .before .before .assert in
     let m = tables (now (a .resources)) (now (a .statements)) (now (a .index)) (now (a .text)) in
     let m′ = tables (l .resources) (now (a .statements)) (l .index) (l .text) in
     let m″ = tables (assert .last .1 .0) (assert .last .1 .1 .0) (l .index) (l .text) in
     loads-asserted (now (a .source)) _ (a .c) m (l .ids) (l .d) m′ m″ (l .i) (l .inv .6)
-    (a .subject) (a .predicate) (a .object) refl (assert .result) (c .asserted .result) (omega arith) (l .inv .4) (assert .ensures) (c .asserted .ensures)
+    (a .subject) (a .predicate) (a .object) refl (assert .result) (c .asserted .result) (omega arith) (l .inv .4) (assert .ensures) (c
+    .asserted .ensures)
 
 pub load-triple-spec : {M : Type 1} → statement M
 load-triple-spec =
