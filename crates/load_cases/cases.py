@@ -144,6 +144,13 @@ S0, P = iri('s:0', 255), iri('p:', 255)
 case('string-ending-full.nt', [line(iri(f's:{i}', 255), P, iri(f'o:{i}', 255)) for i in range(31)]
      + [line(iri('s:31', 251), P, iri('o:0', 255)), typed(S0, P, A), line(S0, P, A), typed(S0, P, A), typed(S0, P, B)])
 
+# Lines that do not end in the loader's buffer: the first fills it, with its LF in the next block and a CR where a line of 1,024 bytes would have one
+BUFFER = 8192
+case('over-buffer.nt', [
+    (padded(1024, b'')[0] + b'\r' + b'x' * (BUFFER - 1025), b'\n', 'bad'), line(R21, TRIPS, B7), (b'#' + b'x' * 3 * BUFFER, b'\n', None),
+    padded(1024, b'\r\n'), (b'#' + b'x' * (BUFFER - 100), b'\r\n', None), padded(1024, b'\n'), padded(1025, b'\n'), line(R21, TRIPS, B4),
+    (b'#' + b'x' * BUFFER, b'', None)])
+
 with open('args', 'w') as f:
     f.write('\n'.join(args) + '\n')
 with open('stdout', 'w') as f:

@@ -110,7 +110,7 @@ module _ (s : Store) (S : SoundStore s) (y : RdfTriple) where
       back z (inl g) = inl (three-graph z .1 g)
       back z (inr h) = inr (h ∙ sym (names-are p q r))
 
-loaded : (s : Store) (S : SoundStore s) (y : RdfTriple) → Loaded s ((loadOf s y) .0) (canonicalTriple y) ((loadOf s y) .1)
+loaded : (s : Store) (S : SoundStore s) (y : RdfTriple) → Loaded s ((loadOf s y) .0) (canonicalTriple y) ((loadOf s y) .1 .refusal)
 unfolding loading
 loaded s S y =
     decide (eqb (a s S y .1 .refusal) 0)
@@ -261,7 +261,7 @@ module _ (k : Capacities) (l : Model) (D : Tidy l) (y : RdfTriple) (L : Loadable
       high Predicate a b c = b
       high Object a b c = c
 
-  load-full : ZeroOrFull ((loadModel k l y) .1)
+  load-full : AnswersOrFull (loadModel k l y)
   unfolding loading
   load-full =
       decide (eqb (one .1 .refusal) 0)

@@ -331,23 +331,23 @@ pub record Writes (s : Store) : Type 0 where
 abbrev pub WriteClaim : Type 0
 WriteClaim = (s : Store) → SoundStore s → Writes s
 
--- the three names of a line entered, subject first, and their triple asserted, up to the first refusal: its number, or 0; on a store or on
--- plain lists
-unfoldable pub loading : {S : Type 0} → (S → Call → S × Values) → S → RdfTriple → S × ℕ
+-- the three names of a line entered, subject first, and their triple asserted, up to the first refusal: what the last call made answered; on a
+-- store or on plain lists
+unfoldable pub loading : {S : Type 0} → (S → Call → S × Values) → S → RdfTriple → S × Values
 loading call s y =
     let a = call s (intern (y .subject)) in
     let b = call (a .0) (intern (y .predicate)) in
     let d = call (b .0) (intern (y .object)) in
     let e = call (d .0) (assert byValue (triple (a .1 .number) (b .1 .number) (d .1 .number))) in
-    unless (eqb (a .1 .refusal) 0) (a .0, a .1 .refusal)
-    (unless (eqb (b .1 .refusal) 0) (b .0, b .1 .refusal)
-    (unless (eqb (d .1 .refusal) 0) (d .0, d .1 .refusal)
-    (e .0, e .1 .refusal)))
+    unless (eqb (a .1 .refusal) 0) a
+    (unless (eqb (b .1 .refusal) 0) b
+    (unless (eqb (d .1 .refusal) 0) d
+    e))
 
-abbrev pub loadOf : Store → RdfTriple → Store × ℕ
+abbrev pub loadOf : Store → RdfTriple → Store × Values
 loadOf s y = loading callStore s y
 
-abbrev pub loadModel : Capacities → Model → RdfTriple → Model × ℕ
+abbrev pub loadModel : Capacities → Model → RdfTriple → Model × Values
 loadModel k l y = loading (callModel k) l y
 
 -- a triple of names, each without the string ending
@@ -367,11 +367,11 @@ pub record Loaded (s s′ : Store) (y : RdfTriple) (refusal : ℕ) : Type 0 wher
   pub refused : refusal ≢ 0 → SameGraph (graphIn s′) (graphIn s)
   pub loaded : refusal ≡ 0 → (z : RdfTriple) → graphIn s′ z ↔ (graphIn s z ⊎ (z ≡ y))
 
--- refused as by the plain lists, and only for want of room
+-- answered as by the plain lists, and refused only for want of room
 pub record LoadRefuses (s : Store) (y : RdfTriple) : Type 0 where
   pub listed : (loadOf s y) .1 ≡ (loadModel (capacitiesOf (s .tables)) (listsOf s) y) .1
-  pub room : Loadable y → ((loadOf s y) .1 ≡ 0) ⊎ ((loadOf s y) .1 ≡ 3)
+  pub room : Loadable y → ((loadOf s y) .1 .refusal ≡ 0) ⊎ ((loadOf s y) .1 .refusal ≡ 3)
 
 abbrev pub LoadClaim : Type 0
 LoadClaim = (s : Store) → SoundStore s → (y : RdfTriple)
-    → Loaded s ((loadOf s y) .0) (canonicalTriple y) ((loadOf s y) .1) × LoadRefuses s y
+    → Loaded s ((loadOf s y) .0) (canonicalTriple y) ((loadOf s y) .1 .refusal) × LoadRefuses s y

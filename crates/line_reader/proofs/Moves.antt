@@ -11,7 +11,7 @@ use native.Mathlib.Omega.{arith}
 use Rattle.term.proofs.Booleans.{decide}
 use Rattle.term.specs.Bytes.{pick}
 use Rattle.ntriples.specs.declared.Line.the-variants.{End}
-use Rattle.ntriples.specs.Text.{readOf, readSpelled, shortLine, takenOf, untilLf, hasLf}
+use Rattle.ntriples.specs.Reader.{readOf, readSpelled, shortLine, takenOf, untilLf, hasLf}
 
 -- a LF is a line by itself; another byte makes the line that follows it longer by one
 taken-lf : (b : ℕ) (s : List ℕ) → eqb b 10 ≡ true → takenOf (b ∷ s) ≡ 1

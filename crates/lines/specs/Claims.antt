@@ -33,7 +33,7 @@ pub record LineLoads (text l : List ℕ) (s p o : Span) (before : Store) : Type 
   pub short : canonicalTriple (namesIn text s p o) ≡ namesIn text s p o
   -- their triple is added, and nothing else; a refusal leaves the graph
   pub loaded : Loaded before ((loadOf before (namesIn text s p o)) .0) (canonicalTriple (namesIn text s p o))
-      ((loadOf before (namesIn text s p o)) .1)
+      ((loadOf before (namesIn text s p o)) .1 .refusal)
 
 abbrev pub LinesLoad : Type 0
 LinesLoad = (text : List ℕ) (at : ℕ) (l : List ℕ) (n : ℕ) → at < length text → FirstLine (drop at text) l n

@@ -9,13 +9,13 @@ fn load_files(
     statements: &mut [u32],
     index: &mut [u32],
     text: &mut [u8],
-    line: &mut [u8],
+    buffer: &mut [u8],
 ) -> Load {
     let mut m = l;
     let count = os::arg_count();
     let mut i = 1;
     while i < count {
-        m = loader::file::load_argument(m, resources, statements, index, text, line, i);
+        m = loader::file::load_argument(m, resources, statements, index, text, buffer, i);
         i += 1;
     }
     m
@@ -26,7 +26,7 @@ fn main() {
     let mut statements = [0u32; loader::STATEMENT_TABLE];
     let mut index = [0u32; loader::INDEX_TABLE];
     let mut text = [0u8; loader::TEXT_TABLE];
-    let mut line = [0u8; loader::LINE_BUFFER];
+    let mut buffer = [0u8; loader::BUFFER];
     let fresh = loader::start();
     if os::arg_count() < 2 {
         let l = loader::file::load_open(
@@ -35,7 +35,7 @@ fn main() {
             &mut statements,
             &mut index,
             &mut text,
-            &mut line,
+            &mut buffer,
             0,
             b"standard input",
         );
@@ -48,7 +48,7 @@ fn main() {
         &mut statements,
         &mut index,
         &mut text,
-        &mut line,
+        &mut buffer,
     );
     loader::output::totals(l.counters);
 }

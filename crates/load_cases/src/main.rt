@@ -17,12 +17,12 @@ fn load_case(
     statements: &mut [u32],
     index: &mut [u32],
     text: &mut [u8],
-    line: &mut [u8],
+    buffer: &mut [u8],
     i: usize,
 ) {
     heading(i);
     let fresh = loader::start();
-    let l = loader::file::load_argument(fresh, resources, statements, index, text, line, i);
+    let l = loader::file::load_argument(fresh, resources, statements, index, text, buffer, i);
     loader::output::totals(l.counters);
 }
 
@@ -32,14 +32,14 @@ fn load_all(
     statements: &mut [u32],
     index: &mut [u32],
     text: &mut [u8],
-    line: &mut [u8],
+    buffer: &mut [u8],
 ) {
     let count = os::arg_count();
     let mut i = 1;
     while i < count {
         let k = i;
         i += 1;
-        load_case(resources, statements, index, text, line, k);
+        load_case(resources, statements, index, text, buffer, k);
     }
 }
 
@@ -48,12 +48,12 @@ fn main() {
     let mut statements = [7u32; loader::STATEMENT_TABLE];
     let mut index = [7u32; loader::INDEX_TABLE];
     let mut text = [7u8; loader::TEXT_TABLE];
-    let mut line = [7u8; loader::LINE_BUFFER];
+    let mut buffer = [7u8; loader::BUFFER];
     load_all(
         &mut resources,
         &mut statements,
         &mut index,
         &mut text,
-        &mut line,
+        &mut buffer,
     );
 }

@@ -14,12 +14,12 @@ fn load_some(
     statements: &mut [u32],
     index: &mut [u32],
     text: &mut [u8],
-    line: &mut [u8],
+    buffer: &mut [u8],
     fd: i32,
     name: &[u8],
 ) -> Block {
-    let mut block = io::buffer();
-    let got = libc::read(fd, &mut block);
+    let used = crate::within(l.used, buffer.len());
+    let got = libc::read(fd, &mut buffer[used..]);
     if got < 0 {
         os::fail(name);
         return Block {
@@ -27,8 +27,8 @@ fn load_some(
             more: false,
         };
     }
-    let n = io::count(got, &block);
-    let m = crate::load_block(l, resources, statements, index, text, line, &block[..n]);
+    let n = io::count(got, &buffer[used..]);
+    let m = crate::load_block(l, resources, statements, index, text, buffer, used + n);
     Block {
         load: m,
         more: got > 0,
@@ -42,14 +42,14 @@ fn load_blocks(
     statements: &mut [u32],
     index: &mut [u32],
     text: &mut [u8],
-    line: &mut [u8],
+    buffer: &mut [u8],
     fd: i32,
     name: &[u8],
 ) -> Load {
     let mut m = l;
     let mut turns = 18446744073709551615u64;
     while turns > 0 {
-        let r = load_some(m, resources, statements, index, text, line, fd, name);
+        let r = load_some(m, resources, statements, index, text, buffer, fd, name);
         m = r.load;
         if !r.more {
             return m;
@@ -66,12 +66,12 @@ pub fn load_open(
     statements: &mut [u32],
     index: &mut [u32],
     text: &mut [u8],
-    line: &mut [u8],
+    buffer: &mut [u8],
     fd: i32,
     name: &[u8],
 ) -> Load {
-    let m = load_blocks(l, resources, statements, index, text, line, fd, name);
-    crate::finish(m, resources, statements, index, text, line)
+    let m = load_blocks(l, resources, statements, index, text, buffer, fd, name);
+    crate::finish(m, resources, statements, index, text, buffer)
 }
 
 // Loads the file with this path.
@@ -81,7 +81,7 @@ pub fn load_path(
     statements: &mut [u32],
     index: &mut [u32],
     text: &mut [u8],
-    line: &mut [u8],
+    buffer: &mut [u8],
     path: &[u8],
 ) -> Load {
     let fd = os::open_read(path);
@@ -89,7 +89,7 @@ pub fn load_path(
         os::fail(path);
         return l;
     }
-    let m = load_open(l, resources, statements, index, text, line, fd, path);
+    let m = load_open(l, resources, statements, index, text, buffer, fd, path);
     libc::close(fd);
     m
 }
@@ -101,7 +101,7 @@ pub fn load_argument(
     statements: &mut [u32],
     index: &mut [u32],
     text: &mut [u8],
-    line: &mut [u8],
+    buffer: &mut [u8],
     i: usize,
 ) -> Load {
     let mut path = io::buffer();
@@ -110,5 +110,13 @@ pub fn load_argument(
         os::fail(b"argument");
         return l;
     }
-    load_path(l, resources, statements, index, text, line, &path[..length])
+    load_path(
+        l,
+        resources,
+        statements,
+        index,
+        text,
+        buffer,
+        &path[..length],
+    )
 }

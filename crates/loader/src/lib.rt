@@ -1,10 +1,16 @@
 // Loading N-Triples (paper 01, "Loading program"): lines out of blocks of any length, in fixed memory, and each line into the store.
 //
-// A line's bytes gather in a lent buffer of `LINE_BUFFER` bytes until its LF or the end of the input. Every line is numbered. A statement
-// line is answered by one line of output, `NUMBER new|already N` or `NUMBER refused N`; a blank or comment line by none. Names are entered
-// once the whole line is read, subject first; those entered before a refusal remain.
-ghost use Prim.Native.Nat.{ℕ, _≤_};
+// The input comes in blocks into a lent buffer. One reader is carried over the whole lines in it; the bytes of the line that has not ended are moved
+// to its front, and the next block is read behind them. Every line is numbered. A statement line is answered by one line of output,
+// `NUMBER new|already N` or `NUMBER refused N`; a blank or comment line by none. Names are entered once the whole line is read, subject first;
+// those entered before a refusal remain.
+ghost use mathlib.Core.Path.{_≡_};
+ghost use Prim.Native.Nat.{ℕ, _≤_, _<_};
 ghost use lib.ListN.{length};
+ghost use Rattle.term.specs.Grammar.{nameLimit};
+ghost use Rattle.store.specs.Tables.{tables};
+ghost use Rattle.ntriples.specs.Text.{readOf};
+ghost use Rattle.loader.specs.Lines.{refusedLine, assertedLine, LineInside, ReadAt, Loads};
 use ntriples::Line;
 use ntriples::Span;
 use store::Asserted;
@@ -21,8 +27,11 @@ pub mod output;
 // A line has at most this many bytes, its ending apart.
 pub const LINE_LIMIT: usize = 1024;
 
-// A line and the CR before its LF.
-pub const LINE_BUFFER: usize = LINE_LIMIT + 1;
+// Of a line that has not ended, at most so many bytes are kept: with a CR among them and a LF after them, it is over the limit.
+const KEPT: usize = LINE_LIMIT + 2;
+
+// The bytes of a line that has not ended, and room for a block.
+pub const BUFFER: usize = 8192;
 
 // The loading program's tables: 512 resources, 1,024 statements, 16 KiB of text.
 pub const RESOURCE_TABLE: usize = 512 * table::RESOURCE_WORDS;
@@ -33,13 +42,11 @@ pub const INDEX_TABLE: usize = 512;
 
 pub const TEXT_TABLE: usize = 16384;
 
-// How far a load is: the store's counters, the lines that have ended, and the bytes in the buffer of the line being read. `over`: the
-// line has more bytes than the buffer.
+// How far a load is: the store's counters, the lines that have ended, and how many bytes of the line being read stand at the front of the buffer.
 pub struct Load {
     pub counters: Counters,
     pub lines: u64,
     pub used: usize,
-    pub over: bool,
 }
 
 // What a line comes to. Nothing: it is blank or a comment.
@@ -62,49 +69,24 @@ pub fn start() -> Load {
         counters: Counters::fresh(),
         lines: 0,
         used: 0,
-        over: false,
     }
-}
-
-// Enters the name that a span of the line spells. A span of a line that was read lies in it, so the first test is never true.
-fn intern_part(
-    c: Counters,
-    resources: &mut [u32],
-    statements: &[u32],
-    index: &mut [u32],
-    text: &mut [u8],
-    line: &[u8],
-    part: Span,
-) -> Interned {
-    let a = part.start;
-    let b = part.end;
-    if b > line.len() {
-        return Interned::Refused(Refusal::BadLine);
-    }
-    if a > b {
-        return Interned::Refused(Refusal::BadLine);
-    }
-    dictionary::intern(c, resources, statements, index, text, &line[a..b])
 }
 
 // A line that is refused, with the counters it leaves.
-fn refused(c: Counters, r: Refusal) -> LineLoaded {
+fn refused(c: Counters, e: Refusal) -> LineLoaded
+    ensures { λ r. ⌜ r ≡ refusedLine c e ⌝ }
+{
     LineLoaded {
         counters: c,
-        outcome: Outcome::Refused(refusal_number(r)),
+        outcome: Outcome::Refused(refusal_number(e)),
     }
 }
 
-// Asserts a line's triple.
-fn load_triple(
-    c: Counters,
-    resources: &mut [u32],
-    statements: &mut [u32],
-    index: &[u32],
-    text: &[u8],
-    x: Triple,
-) -> LineLoaded {
-    match statement::assert(c, resources, statements, index, text, x) {
+// A line whose triple was asserted. Nothing is retracted by loading, so a known triple is live.
+fn asserted(c: Counters, a: Asserted) -> LineLoaded
+    ensures { λ r. ⌜ r ≡ assertedLine c a ⌝ }
+{
+    match a {
         Asserted::New(n, d) => LineLoaded {
             counters: d,
             outcome: Outcome::New(n.0),
@@ -113,109 +95,84 @@ fn load_triple(
             counters: d,
             outcome: Outcome::Already(n.0),
         },
-        // Nothing is retracted by loading, so a known triple is live.
         Asserted::Revived(n, d) => LineLoaded {
             counters: d,
             outcome: Outcome::Already(n.0),
         },
-        Asserted::Refused(r) => refused(c, r),
+        Asserted::Refused(e) => refused(c, e),
     }
 }
 
-// Enters the object, and asserts.
-fn load_object(
+// Loads a triple whose parts lie in the source: enters their names, subject first, and asserts.
+fn load_triple(
     c: Counters,
     resources: &mut [u32],
     statements: &mut [u32],
     index: &mut [u32],
     text: &mut [u8],
-    line: &[u8],
-    s: ResourceId,
-    p: ResourceId,
-    object: Span,
-) -> LineLoaded {
-    match intern_part(c, resources, statements, index, text, line, object) {
-        Interned::Refused(r) => refused(c, r),
-        Interned::Number(o, d) => {
-            let x = Triple {
-                subject: s,
-                predicate: p,
-                object: o,
-            };
-            load_triple(d, resources, statements, index, text, x)
-        }
-    }
-}
-
-// Enters the predicate, then the object.
-fn load_predicate(
-    c: Counters,
-    resources: &mut [u32],
-    statements: &mut [u32],
-    index: &mut [u32],
-    text: &mut [u8],
-    line: &[u8],
-    s: ResourceId,
-    predicate: Span,
-    object: Span,
-) -> LineLoaded {
-    match intern_part(c, resources, statements, index, text, line, predicate) {
-        Interned::Refused(r) => refused(c, r),
-        Interned::Number(p, d) => load_object(
-            d,
-            resources,
-            statements,
-            index,
-            text,
-            line,
-            s,
-            p,
-            object,
-        ),
-    }
-}
-
-// Enters the subject, then the predicate.
-fn load_subject(
-    c: Counters,
-    resources: &mut [u32],
-    statements: &mut [u32],
-    index: &mut [u32],
-    text: &mut [u8],
-    line: &[u8],
+    source: &[u8],
     subject: Span,
     predicate: Span,
     object: Span,
-) -> LineLoaded {
-    match intern_part(c, resources, statements, index, text, line, subject) {
-        Interned::Refused(r) => refused(c, r),
-        Interned::Number(s, d) => load_predicate(
-            d,
-            resources,
-            statements,
-            index,
-            text,
-            line,
-            s,
-            predicate,
-            object,
-        ),
+) -> LineLoaded
+    requires { ⌜ LineInside (now source) (Line.Triple subject predicate object) ⌝ }
+    ensures { λ r. ⌜ Loads c (tables (now (resources .entry)) (now (statements .entry)) (now (index .entry)) (now (text .entry)))
+        (tables (now (resources .exit)) (now (statements .exit)) (now (index .exit)) (now (text .exit)))
+        (now (source .entry)) (Line.Triple subject predicate object) r ⌝ }
+{
+    let parts = [subject, predicate, object];
+    let mut ids = [ResourceId(0); 3];
+    let mut d = c;
+    let mut i = 0;
+    while i < 3 {
+        let part = parts[i];
+        let a = part.start;
+        let b = part.end;
+        match dictionary::intern(d, resources, statements, index, text, &source[a..b]) {
+            Interned::Refused(e) => return refused(d, e),
+            Interned::Number(n, k) => {
+                ids[i] = n;
+                d = k;
+            }
+        }
+        i += 1;
     }
+    let x = Triple {
+        subject: ids[0],
+        predicate: ids[1],
+        object: ids[2],
+    };
+    let r = statement::assert(d, resources, statements, index, text, x);
+    asserted(d, r)
 }
 
-// Loads one line, given without its ending.
-pub fn load_line(
+// Loads what was read of a line of the source.
+fn load_line(
     c: Counters,
     resources: &mut [u32],
     statements: &mut [u32],
     index: &mut [u32],
     text: &mut [u8],
-    line: &[u8],
-) -> LineLoaded {
-    let got = line_reader::line_at(line, 0);
-    let answer = got.line;
-    match answer {
-        Line::Triple(s, p, o) => load_subject(c, resources, statements, index, text, line, s, p, o),
+    source: &[u8],
+    line: Line,
+) -> LineLoaded
+    requires { ⌜ LineInside (now source) line ⌝ }
+    ensures { λ r. ⌜ Loads c (tables (now (resources .entry)) (now (statements .entry)) (now (index .entry)) (now (text .entry)))
+        (tables (now (resources .exit)) (now (statements .exit)) (now (index .exit)) (now (text .exit)))
+        (now (source .entry)) line r ⌝ }
+{
+    match line {
+        Line::Triple(s, p, o) => load_triple(
+            c,
+            resources,
+            statements,
+            index,
+            text,
+            source,
+            s,
+            p,
+            o,
+        ),
         Line::Refused(_) => refused(c, Refusal::BadLine),
         Line::End => LineLoaded {
             counters: c,
@@ -228,68 +185,41 @@ pub fn load_line(
     }
 }
 
-// How many of the buffer's bytes are the line: those in use, less one CR before an LF.
-fn content(line: &[u8], used: usize, by_lf: bool) -> usize
-    ensures { λ n. ⌜ n ≤ length (now (line .entry)) ⌝ }
+// How many bytes a line of the source has that was read from `from` up to `next`, its ending apart: a LF, and one CR before it.
+fn content(source: &[u8], from: usize, next: usize) -> usize
+    requires { ⌜ (from < next) × (next ≤ length (now source)) ⌝ }
 {
-    if used > line.len() {
-        return line.len();
+    let last = next - 1;
+    if source[last] != b'\n' {
+        return next - from;
     }
-    if !by_lf {
-        return used;
-    }
-    if used == 0 {
+    if last == from {
         return 0;
     }
-    let last = used - 1;
-    if line[last] == b'\r' {
-        return last;
+    if source[last - 1] == b'\r' {
+        return last - 1 - from;
     }
-    used
+    last - from
 }
 
-// Loads the line in the buffer. Over `LINE_LIMIT` bytes it is refused 10, whatever it holds.
-fn load_buffered(
-    l: Load,
+// Loads what was read of a line. Over `LINE_LIMIT` bytes it is refused 10, whatever it holds.
+fn load_limited(
+    c: Counters,
     resources: &mut [u32],
     statements: &mut [u32],
     index: &mut [u32],
     text: &mut [u8],
-    line: &[u8],
-    by_lf: bool,
-) -> LineLoaded {
-    let c = l.counters;
-    if l.over {
+    source: &[u8],
+    from: usize,
+    line: Line,
+    next: usize,
+) -> LineLoaded
+    requires { ⌜ ReadAt (now source) from line next ⌝ }
+{
+    if content(source, from, next) > LINE_LIMIT {
         return refused(c, Refusal::BadLine);
     }
-    let n = content(line, l.used, by_lf);
-    if n > LINE_LIMIT {
-        return refused(c, Refusal::BadLine);
-    }
-    load_line(c, resources, statements, index, text, &line[0..n])
-}
-
-// Ends the line in the buffer: loads it, reports it, and starts the next.
-fn end_line(
-    l: Load,
-    resources: &mut [u32],
-    statements: &mut [u32],
-    index: &mut [u32],
-    text: &mut [u8],
-    line: &[u8],
-    by_lf: bool,
-) -> Load {
-    let r = load_buffered(l, resources, statements, index, text, line, by_lf);
-    let number = counted(l.lines);
-    let outcome = r.outcome;
-    output::report(number, outcome);
-    let d = r.counters;
-    Load {
-        counters: d,
-        lines: number,
-        used: 0,
-        over: false,
-    }
+    load_line(c, resources, statements, index, text, source, line)
 }
 
 // One line more. No input has as many lines as the number can count.
@@ -301,53 +231,131 @@ fn counted(lines: u64) -> u64 {
     }
 }
 
-// One byte more of the line.
-fn push(l: Load, line: &mut [u8], b: u8) -> Load {
-    let used = l.used;
-    let mut m = l;
-    if used < line.len() {
-        line[used] = b;
-        m.used = used + 1;
-    } else {
-        m.over = true;
-    }
-    m
-}
-
-// Takes one byte of the input.
-fn take_byte(
+// Takes a line that was read: loads it, reports it, and counts it.
+fn take_line(
     l: Load,
     resources: &mut [u32],
     statements: &mut [u32],
     index: &mut [u32],
     text: &mut [u8],
-    line: &mut [u8],
-    b: u8,
-) -> Load {
-    if b == b'\n' {
-        return end_line(l, resources, statements, index, text, line, true);
+    source: &[u8],
+    from: usize,
+    line: Line,
+    next: usize,
+) -> Load
+    requires { ⌜ ReadAt (now source) from line next ⌝ }
+{
+    let c = l.counters;
+    let r = load_limited(
+        c,
+        resources,
+        statements,
+        index,
+        text,
+        source,
+        from,
+        line,
+        next,
+    );
+    let number = counted(l.lines);
+    let outcome = r.outcome;
+    output::report(number, outcome);
+    let d = r.counters;
+    Load {
+        counters: d,
+        lines: number,
+        used: l.used,
     }
-    push(l, line, b)
 }
 
-// Takes a block of the input: lines that end in it are loaded, the rest stays in the buffer.
+// Loads every line of the source, by one reader. Proved by a walk of its code, since it holds the reader.
+fn load_lines(
+    l: Load,
+    resources: &mut [u32],
+    statements: &mut [u32],
+    index: &mut [u32],
+    text: &mut [u8],
+    source: &[u8],
+) -> Load {
+    let mut m = l;
+    let mut r = line_reader::reader(source);
+    loop {
+        let from = r.at;
+        if from >= source.len() {
+            break;
+        }
+        let line = line_reader::read_line(&mut r);
+        m = take_line(
+            m,
+            resources,
+            statements,
+            index,
+            text,
+            source,
+            from,
+            line,
+            r.at,
+        );
+    }
+    m
+}
+
+// The smaller number.
+pub fn within(a: usize, b: usize) -> usize
+    ensures { λ r. ⌜ r ≤ b ⌝ }
+{
+    if a < b { a } else { b }
+}
+
+// Where the whole lines among the buffer's first bytes end: after the last LF.
+fn whole_lines(buffer: &[u8], filled: usize) -> usize
+    ensures { λ n. ⌜ n ≤ length (now (buffer .entry)) ⌝ }
+{
+    let mut end = within(filled, buffer.len());
+    while end > 0 {
+        if buffer[end - 1] == b'\n' {
+            return end;
+        }
+        end -= 1;
+    }
+    end
+}
+
+// Moves what stands from `from` up to `filled`, at most `KEPT` bytes, to the buffer's front, and answers how many there are.
+fn keep_rest(buffer: &mut [u8], from: usize, filled: usize) -> usize {
+    let stop = within(filled, buffer.len());
+    let mut i = from;
+    let mut n = 0;
+    while i < stop {
+        if n >= KEPT {
+            return n;
+        }
+        buffer[n] = buffer[i];
+        n += 1;
+        i += 1;
+    }
+    n
+}
+
+// Takes what fills the buffer: loads the lines that have ended, and keeps the rest.
 pub fn load_block(
     l: Load,
     resources: &mut [u32],
     statements: &mut [u32],
     index: &mut [u32],
     text: &mut [u8],
-    line: &mut [u8],
-    block: &[u8],
+    buffer: &mut [u8],
+    filled: usize,
 ) -> Load {
-    let mut m = l;
-    let mut i = 0;
-    while i < block.len() {
-        let b = block[i];
-        i += 1;
-        m = take_byte(m, resources, statements, index, text, line, b);
+    let end = whole_lines(buffer, filled);
+    let m = load_lines(l, resources, statements, index, text, &buffer[0..end]);
+    let used = keep_rest(buffer, end, filled);
+    let c = m.counters;
+    Load {
+        counters: c,
+        lines: m.lines,
+        used: used,
     }
-    m
 }
 
 // The input ends: a last line without its LF is loaded.
@@ -357,12 +365,14 @@ pub fn finish(
     statements: &mut [u32],
     index: &mut [u32],
     text: &mut [u8],
-    line: &mut [u8],
+    buffer: &mut [u8],
 ) -> Load {
-    if !l.over {
-        if l.used == 0 {
-            return l;
-        }
+    let end = within(l.used, buffer.len());
+    let m = load_lines(l, resources, statements, index, text, &buffer[0..end]);
+    let c = m.counters;
+    Load {
+        counters: c,
+        lines: m.lines,
+        used: 0,
     }
-    end_line(l, resources, statements, index, text, line, false)
 }

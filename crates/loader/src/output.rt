@@ -2,18 +2,12 @@
 ghost use Prim.Native.Nat.{ℕ, _≤_};
 ghost use Rattle.io.specs.Counts.{Counts};
 use crate::Outcome;
+use crate::within;
 use libc::STDOUT_FILENO;
 use store::Counters;
 
 // A line of output fits: at most two numbers of 20 digits and 24 other bytes.
 const OUTPUT_LINE: usize = 64;
-
-// The smaller number.
-fn within(a: usize, b: usize) -> usize
-    ensures { λ r. ⌜ r ≤ b ⌝ }
-{
-    if a < b { a } else { b }
-}
 
 // Appends bytes to what stands before `at`, as far as there is room, and answers where they end.
 fn append(out: &mut [u8], at: usize, bytes: &[u8]) -> usize

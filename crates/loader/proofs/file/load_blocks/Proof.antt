@@ -10,12 +10,12 @@ use Rattle.loader.proofs.file.load_blocks.Lts as lts
 use Rattle.loader.proofs.file.load_some.Reads as load-some-reads
 
 abbrev Inv-loop : tie.InvT-loop
-Inv-loop resources₀ statements₀ index₀ text₀ line₀ fd name m₀ turns₀ resources statements index text line m turns =
+Inv-loop resources₀ statements₀ index₀ text₀ buffer₀ fd name m₀ turns₀ resources statements index text buffer m turns =
     (length resources ≡ length resources₀) × (length statements ≡ length statements₀) × (length index ≡ length index₀)
-    × (length text ≡ length text₀) × (length line ≡ length line₀)
+    × (length text ≡ length text₀) × (length buffer ≡ length buffer₀)
 
 abbrev μ-loop : tie.MeasureT-loop
-μ-loop resources₀ statements₀ index₀ text₀ line₀ fd name m₀ turns₀ resources statements index text line m turns = turns
+μ-loop resources₀ statements₀ index₀ text₀ buffer₀ fd name m₀ turns₀ resources statements index text buffer m turns = turns
 
 loop-holds : tie.Need-loop-holds Inv-loop μ-loop
 loop-holds c = search needs

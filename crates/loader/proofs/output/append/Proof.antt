@@ -9,7 +9,7 @@ use Rattle.loader.proofs.output.append.Statement.{statement}
 use Rattle.loader.proofs.output.append.Tie as tie
 use Rattle.loader.proofs.output.append.Reads as reads
 use Rattle.loader.proofs.output.append.Lts as lts
-use Rattle.loader.proofs.output.within.Reads as within-reads
+use Rattle.loader.proofs.within.Reads as within-reads
 
 abbrev Inv-loop : tie.InvT-loop
 Inv-loop out₀ at bytes end₀ i₀ out end i = (length out ≡ length out₀) × (end ≤ length out) × (i ≤ length bytes)

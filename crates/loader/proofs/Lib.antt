@@ -1,0 +1,4 @@
+pub mod Inside
+pub mod Loading
+pub mod Theorems
+pub mod Again
