@@ -5,7 +5,7 @@ use mathlib.Core.Logic.{_⊎_, inl, inr, _↔_}
 use mathlib.Core.Bool.{true}
 use mathlib.Core.List.{List}
 use native.Mathlib.Omega.{arith}
-use borrow.Author.Tests.{ltb-true}
+use borrow.Author.Tests.{ltb-true, lt-ltb}
 use Rattle.term.specs.Grammar.{Name, nameLimit}
 use Rattle.term.specs.Scanner.{kindOf}
 use Rattle.term.specs.Canonical.{canonical}
@@ -27,7 +27,7 @@ use Rattle.ntriples.proofs.Claims.{reads-a-line}
 use Rattle.ntriples.proofs.Terms.{distinct-terms}
 use Rattle.graph.specs.Meaning.{RdfTriple}
 use Rattle.graph.specs.Graph.{named}
-use Rattle.graph.specs.Claims.{SoundStore, canonicalTriple}
+use Rattle.graph.specs.Claims.{SoundStore, canonicalTriple, Loadable}
 use Rattle.graph.proofs.Solve.{triple-ext}
 use Rattle.graph.proofs.Names.{named-at, name-kind, term-low, term-high}
 use Rattle.graph.proofs.Theorems.{live-graph, graph-writes, line-loads}
@@ -53,15 +53,32 @@ parts-short text s p o e =
     same-triple _ _ _ _ _ _ (subject-short (bytesOf text s) (e .subjectKind))
     (no-literal (bytesOf text p) 1 (e .predicateKind) (λ z. omega arith) (λ z. omega arith)) (e .objectShort)
 
+object-formed : (w : List ℕ) → (kindOf nameLimit w ≡ 1) ⊎ ((kindOf nameLimit w ≡ 2) ⊎ (kindOf nameLimit w ≡ 3)) → wellFormed w ≡ true
+unfolding wellFormed
+object-formed w (inl e) = lt-ltb 0 (kindOf nameLimit w) (omega arith)
+object-formed w (inr (inl e)) = lt-ltb 0 (kindOf nameLimit w) (omega arith)
+object-formed w (inr (inr e)) = lt-ltb 0 (kindOf nameLimit w) (omega arith)
+
+-- the parts of a line are of the kinds that their places allow
+parts-loadable : (text : List ℕ) (s p o : Span) → Enterable nameLimit text s p o → Loadable (namesIn text s p o)
+parts-loadable text s p o e = record {
+  subject = e .subjectKind;
+  predicate = e .predicateKind;
+  object = object-formed (bytesOf text o) (e .objectKind);
+}
+
 pub lines-load : LinesLoad
 lines-load text at l n h f s p o e before S =
     let a = reads-a-line 255 text at (omega arith) .answered l n h f in
     let b = a .enterable s p o e in
+    let r = line-loads before S (namesIn text s p o) in
     record {
       meant = a .meant s p o e;
       enterable = b;
       short = parts-short text s p o b;
-      loaded = line-loads before S (namesIn text s p o) .0;
+      loaded = r .0;
+      listed = r .1 .listed;
+      room = r .1 .room (parts-loadable text s p o b);
     }
 
 -- ---- a number, a term

@@ -1,6 +1,6 @@
 -- What a line of N-Triples does to the graph (demand 2, its last sentence), from its text to the triple in the graph; and what the numbers
 -- of a sound store are in RDF 1.1: a term each. Assumes nothing.
-use Rattle.term.specs.Prelude.{ℕ, _≤_, _<_, _≡_, List, _↔_, length, drop}
+use Rattle.term.specs.Prelude.{ℕ, _≤_, _<_, _≡_, List, _⊎_, _↔_, length, drop}
 use Rattle.term.specs.Grammar.{nameLimit}
 use Rattle.store.specs.declared.Position.{Position}
 use Rattle.store.specs.declared.Counters.{Counters}
@@ -10,14 +10,15 @@ use Rattle.store.specs.Tables.{Tables, tripleAt}
 use Rattle.store.specs.Model.{intern}
 use Rattle.store.specs.Dictionary.{nameAt, findOf}
 use Rattle.store.specs.Soundness.{Sound}
-use Rattle.store.specs.History.{Store, callStore}
+use Rattle.store.specs.History.{Store, callStore, capacitiesOf}
+use Rattle.store.specs.Claims.{listsOf}
 use Rattle.ntriples.specs.declared.Span.{Span}
 use Rattle.ntriples.specs.Grammar.{FirstLine, bytesOf, values}
 use Rattle.ntriples.specs.TermOf.{termOf}
 use Rattle.ntriples.specs.Claims.{Meant, Enterable, answerAt}
 use Rattle.graph.specs.Meaning.{RdfTriple, termAt}
 use Rattle.graph.specs.Graph.{named, LiveAt}
-use Rattle.graph.specs.Claims.{SoundStore, Loaded, loadOf, canonicalTriple}
+use Rattle.graph.specs.Claims.{SoundStore, Loaded, loadOf, loadModel, canonicalTriple}
 
 -- the triple of names that stand in the parts answered
 abbrev pub namesIn : List ℕ → Span → Span → Span → RdfTriple
@@ -34,6 +35,9 @@ pub record LineLoads (text l : List ℕ) (s p o : Span) (before : Store) : Type 
   -- their triple is added, and nothing else; a refusal leaves the graph
   pub loaded : Loaded before ((loadOf before (namesIn text s p o)) .0) (canonicalTriple (namesIn text s p o))
       ((loadOf before (namesIn text s p o)) .1 .refusal)
+  -- answered as by the plain lists, with 0 or 3, so 3 exactly where they have no room
+  pub listed : (loadOf before (namesIn text s p o)) .1 ≡ (loadModel (capacitiesOf (before .tables)) (listsOf before) (namesIn text s p o)) .1
+  pub room : ((loadOf before (namesIn text s p o)) .1 .refusal ≡ 0) ⊎ ((loadOf before (namesIn text s p o)) .1 .refusal ≡ 3)
 
 abbrev pub LinesLoad : Type 0
 LinesLoad = (text : List ℕ) (at : ℕ) (l : List ℕ) (n : ℕ) → at < length text → FirstLine (drop at text) l n
