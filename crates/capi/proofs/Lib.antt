@@ -1,3 +1,3 @@
-pub mod Lent
+pub mod Lengths
 pub mod Writes
 pub mod QueryWrites

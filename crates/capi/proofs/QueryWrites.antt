@@ -11,13 +11,13 @@ use Rattle.store.specs.declared.Counters.{Counters}
 use Rattle.store.specs.declared.Refusal.{Refusal}
 use Rattle.store.specs.declared.Refusal.the-variants.{BadCursor, StaleCursor}
 use Rattle.store.specs.Tables.{Tables, word}
-use Rattle.graph.specs.declared.Opening.{Opening}
-use Rattle.graph.specs.declared.Opening.the-variants.{Opened}
+use Rattle.graph.specs.declared.QueryOpening.{QueryOpening}
+use Rattle.graph.specs.declared.QueryOpening.the-variants.{Opened}
 use Rattle.graph.specs.declared.QueryOpened.{QueryOpened}
 use Rattle.graph.specs.declared.QueryAnswer.{QueryAnswer}
 use Rattle.graph.specs.Query.{refused, packed, openQueryOf, nextQueryOf}
 use Rattle.graph.specs.Values.{openingRefusal, stepRefusal}
-use Rattle.capi_calls.specs.Words.{counterWords, countersOf, done, lent}
+use Rattle.capi_calls.specs.Words.{counterWords, countersOf, done, ifShort}
 use Rattle.capi_calls.specs.QueryWords.{queryCursorWords, queryReplyWords, queryCursorOf, spelt, misspelt, nextQueryFrom, withQueryCursor}
 use Rattle.capi_calls.specs.QueryWords.{withQueryAnswer}
 use Rattle.capi_calls.specs.QueryCalls.{queryOpenCall, queryNextCall}
@@ -36,7 +36,7 @@ module _ (c : Counters) (m : Tables) (ws w : List ℕ) (b : ℕ) where
       simp (s, z, em, ea)
 
 -- a query, and words that tell no cursor: the number of reclaims decides
-module _ (c : Counters) (w : List ℕ) {o : Opening} where
+module _ (c : Counters) (w : List ℕ) {o : QueryOpening} where
   pub misspelt-stale : o ≡ Opened → word w 2 ≢ c .generation → misspelt (eqb (word w 2) (c .generation)) o ≡ StaleCursor
   misspelt-stale eo ne = simp (eo, ne-eqb (word w 2) (c .generation) ne)
 
@@ -46,7 +46,7 @@ module _ (c : Counters) (w : List ℕ) {o : Opening} where
 module _ (cw w ws : List ℕ) (m : Tables) {o : QueryOpened} {c : Counters} {r : ℕ} where
   pub open-refused : c ≡ countersOf cw → o ≡ openQueryOf c m ws → r ≡ openingRefusal (o .opening) → (r ≡ 0 → ⊥)
       → counterWords ≤ length cw → queryCursorWords ≤ length w → done r w ≡ queryOpenCall cw m ws w
-  unfolding queryOpenCall lent
+  unfolding queryOpenCall ifShort
   open-refused ec eo er ne h k =
       let z : openQueryOf (countersOf cw) m ws ≡ o = cc in
       let f : eqb (openingRefusal (o .opening)) 0 ≡ false = ne-eqb (openingRefusal (o .opening)) 0 (λ e. ne (er ∙ e)) in
@@ -55,7 +55,7 @@ module _ (cw w ws : List ℕ) (m : Tables) {o : QueryOpened} {c : Counters} {r :
   pub open-opened : {w′ : List ℕ} → c ≡ countersOf cw → o ≡ openQueryOf c m ws → r ≡ openingRefusal (o .opening) → r ≡ 0
       → w′ ≡ withQueryCursor w (o .cursor) → counterWords ≤ length cw → queryCursorWords ≤ length w
       → done 0 w′ ≡ queryOpenCall cw m ws w
-  unfolding queryOpenCall lent
+  unfolding queryOpenCall ifShort
   open-opened {w′} ec eo er ne ew h k =
       let z : openQueryOf (countersOf cw) m ws ≡ o = cc in
       let f : openingRefusal (o .opening) ≡ 0 = sym er ∙ ne in

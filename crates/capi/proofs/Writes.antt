@@ -28,15 +28,16 @@ use Rattle.store.specs.Dictionary.{InternAnswer}
 use Rattle.store.specs.Reclaim.{ReclaimAnswer}
 use Rattle.store.specs.Values.{refusalNumber, scannedValues, assertedValues, internedValues}
 use Rattle.capi_calls.specs.declared.Answer.{Answer}
-use Rattle.capi_calls.specs.Words.{tooShort, counterWords, countersOf, cursorWords, retractAnswer, withCursor, lent, done, wrote, nextFrom, scannedAnswer, assertAnswer, enterAnswer, withCounters}
+use Rattle.capi_calls.specs.Words.{tooShort, counterWords, countersOf, cursorWords, retractAnswer, withCursor, ifShort, done, wrote}
+use Rattle.capi_calls.specs.Words.{nextFrom, scannedAnswer, assertAnswer, enterAnswer, withCounters}
 use Rattle.capi_calls.specs.Calls.{retractCall, openCall, nextCall, assertCall, enterAs, EnterCall, reclaimAs, ReclaimCall}
 use Rattle.capi_calls.proofs.Unanswered.{refuses}
-use Rattle.capi.proofs.Lent.{no-counters, no-reply, some-room}
+use Rattle.capi.proofs.Lengths.{no-counters, no-reply, some-room}
 
 pub retract-done : (cw w : List ℕ) (m : Tables) {m′ : Tables} {r : Retracted} {c : Counters} {x y : Triple} {a : Answer}
     → c ≡ countersOf cw → x ≡ y → after m′ r ≡ retractOf c m x → a ≡ retractAnswer r → counterWords ≤ length cw → 1 ≤ length w
     → wrote (a .result) m′ (set w 0 (a .first)) ≡ retractCall cw m y w
-unfolding retractCall lent
+unfolding retractCall ifShort
 retract-done cw w m {m′} {r} {c} {x} {y} {a} ec ex e ea h k =
     let z : retractOf (countersOf cw) m y ≡ after m′ r = cc in
     simp (le-ltb (length cw) counterWords h, le-ltb (length w) 1 k, z, ea)
@@ -44,7 +45,7 @@ retract-done cw w m {m′} {r} {c} {x} {y} {a} ec ex e ea h k =
 pub open-refused : (cw w : List ℕ) (m : Tables) {s : ScanOpened} {c : Counters} {x y : Triple} {e : Refusal} {n : ℕ}
     → c ≡ countersOf cw → x ≡ y → s ≡ openOf c m x → s ≡ NotOpened e → n ≡ refusalNumber e → counterWords ≤ length cw → cursorWords ≤ length w
     → done n w ≡ openCall cw m y w
-unfolding openCall lent
+unfolding openCall ifShort
 open-refused cw w m {s} {c} {x} {y} {e} {n} ec ex es ee en h k =
     let z : openOf (countersOf cw) m y ≡ NotOpened e = cc in
     simp (le-ltb (length cw) counterWords h, le-ltb (length w) cursorWords k, z, refuses e, en)
@@ -52,7 +53,7 @@ open-refused cw w m {s} {c} {x} {y} {e} {n} ec ex es ee en h k =
 pub open-opened : (cw w : List ℕ) (m : Tables) {s : ScanOpened} {c : Counters} {x y : Triple} {q : ScanCursor} {w′ : List ℕ}
     → c ≡ countersOf cw → x ≡ y → s ≡ openOf c m x → s ≡ Cursor q → w′ ≡ withCursor w q → counterWords ≤ length cw → cursorWords ≤ length w
     → done 0 w′ ≡ openCall cw m y w
-unfolding openCall lent
+unfolding openCall ifShort
 open-opened cw w m {s} {c} {x} {y} {q} {w′} ec ex es eq ew h k =
     let z : openOf (countersOf cw) m y ≡ Cursor q = cc in
     simp (le-ltb (length cw) counterWords h, le-ltb (length w) cursorWords k, z, ew)
@@ -81,7 +82,7 @@ pub assert-refused : (cw w : List ℕ) (m : Tables) {m′ : Tables} {r : Asserte
     → c ≡ countersOf cw → x ≡ y → after m′ r ≡ assertOf c m x → a ≡ assertAnswer r → (a .result ≡ 0 → ⊥)
     → counterWords ≤ length cw → 2 ≤ length w
     → (a .result, (cw, (m′, set (set w 0 (a .first)) 1 (a .second)))) ≡ assertCall cw m y w
-unfolding assertCall lent
+unfolding assertCall ifShort
 assert-refused cw w m {m′} {r} {c} {x} {y} {a} ec ex e ea ne h k =
     let z : assertOf (countersOf cw) m y ≡ after m′ r = cc in
     let f : eqb ((assertAnswer r) .result) 0 ≡ false = ne-eqb ((assertAnswer r) .result) 0 (λ o. ne (ap (λ (t : Answer). t .result) ea ∙ o)) in
@@ -91,7 +92,7 @@ pub assert-answered : (cw w : List ℕ) (m : Tables) {m′ : Tables} {r : Assert
     → c ≡ countersOf cw → x ≡ y → after m′ r ≡ assertOf c m x → a ≡ assertAnswer r → a .result ≡ 0
     → d ≡ (assertedValues r) .counters → cw′ ≡ withCounters cw d → counterWords ≤ length cw → 2 ≤ length w
     → (0, (cw′, (m′, set (set w 0 (a .first)) 1 (a .second)))) ≡ assertCall cw m y w
-unfolding assertCall lent
+unfolding assertCall ifShort
 assert-answered cw w m {m′} {r} {c} {d} {x} {y} {a} {cw′} ec ex e ea eo ed ew h k =
     let z : assertOf (countersOf cw) m y ≡ after m′ r = cc in
     let f : (assertAnswer r) .result ≡ 0 = sym (ap (λ (t : Answer). t .result) ea) ∙ eo in
@@ -99,7 +100,7 @@ assert-answered cw w m {m′} {r} {c} {d} {x} {y} {a} {cw′} ec ex e ea eo ed e
 
 pub enter-no-counters : (cw w : List ℕ) {name : List ℕ} {m : Tables} → length cw < counterWords
     → EnterCall cw m m name w (tooShort, (cw, w))
-unfolding enterAs lent
+unfolding enterAs ifShort
 enter-no-counters cw w h = record {
   entered = NotInterned Capacity;
   told = simp (lt-ltb (length cw) counterWords h);
@@ -109,7 +110,7 @@ enter-no-counters cw w h = record {
 
 pub enter-no-reply : (cw w : List ℕ) {name : List ℕ} {m : Tables} → counterWords ≤ length cw → length w < 1
     → EnterCall cw m m name w (tooShort, (cw, w))
-unfolding enterAs lent
+unfolding enterAs ifShort
 enter-no-reply cw w h k = record {
   entered = NotInterned Capacity;
   told = simp (le-ltb (length cw) counterWords h, lt-ltb (length w) 1 k);
@@ -121,7 +122,7 @@ pub enter-refused : (cw w : List ℕ) {name : List ℕ} {m m′ : Tables} {r : I
     → c ≡ countersOf cw → InternAnswer c m m′ name r → a ≡ enterAnswer r → (a .result ≡ 0 → ⊥)
     → counterWords ≤ length cw → 1 ≤ length w
     → EnterCall cw m m′ name w (a .result, (cw, set w 0 (a .first)))
-unfolding enterAs lent
+unfolding enterAs ifShort
 enter-refused cw w {name} {m} {m′} {r} {c} {a} ec es ea ne h k =
     let f : eqb ((enterAnswer r) .result) 0 ≡ false = ne-eqb ((enterAnswer r) .result) 0 (λ o. ne (ap (λ (t : Answer). t .result) ea ∙ o)) in
     record {
@@ -135,7 +136,7 @@ pub enter-answered : (cw w : List ℕ) {name : List ℕ} {m m′ : Tables} {r : 
     → c ≡ countersOf cw → InternAnswer c m m′ name r → a ≡ enterAnswer r → a .result ≡ 0
     → d ≡ (internedValues r) .counters → cw′ ≡ withCounters cw d → counterWords ≤ length cw → 1 ≤ length w
     → EnterCall cw m m′ name w (0, (cw′, set w 0 (a .first)))
-unfolding enterAs lent
+unfolding enterAs ifShort
 enter-answered cw w {name} {m} {m′} {r} {c} {d} {a} {cw′} ec es ea eo ed ew h k =
     let f : (enterAnswer r) .result ≡ 0 = sym (ap (λ (t : Answer). t .result) ea) ∙ eo in
     record {

@@ -12,8 +12,8 @@ use capi_query_words::queries::query_cursor_of;
 use capi_query_words::queries::spelt;
 use capi_query_words::queries::step_refusal;
 use capi_words::words::counters_of;
-use graph::Opening;
 use graph::QueryAnswer;
+use graph::QueryOpening;
 use query::query_next;
 use query::query_open;
 use query_stack::stack::refused;
@@ -48,8 +48,8 @@ fn query_from(
     let o = query_open(c, resources, statements, index, text, words);
     let opening = o.opening;
     match opening {
-        Opening::Refused(e) => refused(e),
-        Opening::Opened => {
+        QueryOpening::Refused(e) => refused(e),
+        QueryOpening::Opened => {
             if cursor[2] != c.generation {
                 return refused(Refusal::StaleCursor);
             }

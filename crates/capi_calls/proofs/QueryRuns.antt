@@ -8,16 +8,16 @@ use Rattle.store.specs.declared.Chain.the-variants.{All, By}
 use Rattle.store.specs.declared.Position.the-variants.{Object}
 use Rattle.store.specs.Shared.{known, better, pick}
 use Rattle.store.specs.Tables.{Tables, tables, fits, termAt, nextAt, flagAt, tripleAt, firstAt, countAt}
-use Rattle.store.specs.Walk.{pickChain, pickable, startOf, linkOf, sits, visitable}
+use Rattle.store.specs.Walk.{pickChain, pickable, startOf, linkOf, holdsResource, visitable}
 use Rattle.store.specs.Scan.{chainOk, recordOk}
 use Rattle.graph.specs.declared.Progress.the-variants.{Within}
-use Rattle.graph.specs.Query.{bind, match, recordAt, past, struck}
+use Rattle.graph.specs.Query.{bindWord, match, recordAt, past, levelRetracted}
 use Rattle.graph.specs.Place.{level, noLevel, levelsOf, insideOf, placeAs, written, cursorAt}
 use Rattle.graph.specs.Words.{patternsOf, wordOk, allOk, wordsOk, valueOf, under, maxPatterns, variables}
-use Rattle.graph.specs.Query.{intact, anyStruck, pruned, settle, remains, nextPattern, binds, asked, enteredOk, placeOk, enter, hit}
+use Rattle.graph.specs.Query.{intact, anyRetracted, pruned, backtrack, remains, nextPattern, binds, asked, enteredOk, placeOk, enter, hit}
 use Rattle.graph.specs.Query.{tried, visit, walk, begun, resume, answerOf, openQueryOf, packed, stale, nextQueryOf}
 use Rattle.integrity.specs.Tests.{allBelow}
-use Rattle.capi_calls.specs.Words.{lent}
+use Rattle.capi_calls.specs.Words.{ifShort}
 use Rattle.capi_calls.specs.QueryWords.{queryCursorWords, queryReplyWords, queryCursorOf, levelsFrom, spelt, nextQueryFrom, levelWords, numbersFrom}
 use Rattle.capi_calls.specs.QueryCalls.{queryOpenCall, queryNextCall}
 
@@ -153,10 +153,12 @@ pub record Calling : Type 0 where
   pub many-reclaims : queryNextCall (countersIn 65536) two about (cursorIn 4 0 0 0 0 0 0 0) 0 blank ≡ refusal 1 (cursorIn 4 0 0 0 0 0 0 0)
 
 calls : Calling
-unfolding queryOpenCall queryNextCall lent nextQueryFrom spelt allBelow levelsFrom levelWords numbersFrom wordOk allOk wordsOk patternsOf
-    valueOf under bind match recordAt past struck intact anyStruck pruned settle remains nextPattern binds asked enteredOk placeOk
+unfolding queryOpenCall queryNextCall ifShort nextQueryFrom spelt allBelow levelsFrom levelWords numbersFrom wordOk allOk wordsOk patternsOf
+    valueOf under bindWord match recordAt past levelRetracted intact anyRetracted pruned backtrack remains nextPattern binds asked
+    enteredOk placeOk
     enter hit tried visit walk begun resume answerOf levelsOf insideOf placeAs written cursorAt openQueryOf packed stale nextQueryOf known
-    better pick termAt nextAt flagAt tripleAt firstAt countAt linkOf startOf sits visitable pickChain pickable chainOk recordOk fits
+    better pick termAt nextAt flagAt tripleAt firstAt countAt linkOf startOf holdsResource visitable pickChain pickable chainOk recordOk
+    fits
 calls =
     record {
       opens = refl;

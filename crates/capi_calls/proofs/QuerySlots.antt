@@ -21,7 +21,7 @@ use Rattle.graph.specs.Query.{Answer, refused, found, ended, spent, packed, ans
 use Rattle.graph.specs.Place.{noLevel, startCursor, Place, start, inside, finish, cursorAt, placeOf}
 use Rattle.graph.specs.Words.{maxPatterns, wordsOk}
 use Rattle.graph.proofs.Laws.{written-past}
-use Rattle.capi_calls.specs.Words.{counterWords, tooShort, countersOf, chainWord, done, lent}
+use Rattle.capi_calls.specs.Words.{counterWords, tooShort, countersOf, chainWord, done, ifShort}
 use Rattle.capi_calls.specs.QueryWords.{queryCursorWords, queryReplyWords, progressWord, queryCursorOf, spelt, misspelt, nextQueryFrom}
 use Rattle.capi_calls.specs.QueryWords.{levelWords, withQueryCursor}
 use Rattle.capi_calls.specs.QueryCalls.{queryOpenCall, queryNextCall, SlotsBlank, OpenedSlotsBlank, AnsweredSlotsBlank}
@@ -112,7 +112,7 @@ each P true p q = p
 each P false p q = q refl
 
 pub opened-slots-blank : OpenedSlotsBlank
-unfolding queryOpenCall lent
+unfolding queryOpenCall ifShort
 opened-slots-blank cw m ws w =
     let P : ℕ × List ℕ → Type 0 = λ z. z .0 ≡ 0 → SlotsBlank (z .1) in
     let a = openQueryOf (countersOf cw) m ws in

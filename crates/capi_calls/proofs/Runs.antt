@@ -8,15 +8,15 @@ use Rattle.store.specs.declared.Interned.the-variants.{Number as Id}
 use Rattle.store.specs.declared.Lookup.the-variants.{Number}
 use Rattle.store.specs.declared.Reclaimed.the-variants.{Refused as NotReclaimed}
 use Rattle.store.specs.declared.Refusal.the-variants.{Capacity, Damaged}
-use Rattle.store.specs.Shared.{triple, known, within, same, agrees, permitted, below, matches, pick, better}
+use Rattle.store.specs.Shared.{triple, known, within, same, agrees, kindsPermitted, below, matches, pick, better}
 use Rattle.store.specs.Tables.{Tables, tables, fits, termAt, nextAt, flagAt, tripleAt, firstAt, countAt, offsetAt, kindAt, liveAt}
-use Rattle.store.specs.Walk.{entryAt, pickChain, pickable, startOf, linkOf, sits, visitable, walk}
-use Rattle.store.specs.Statement.{seek, countable, locate, tallyAt, tally, counting, appendRecord, linkFirst, linkRecord, kinded, asserting, assertOf}
-use Rattle.store.specs.Statement.{retracting, retractOf}
+use Rattle.store.specs.Walk.{entryAt, pickChain, pickable, startOf, linkOf, holdsResource, visitable, walk}
+use Rattle.store.specs.Statement.{seek, countable, locate, tallyAt, tally, counting, appendRecord, linkFirst, linkRecord, kindsOk}
+use Rattle.store.specs.Statement.{asserting, assertOf, retracting, retractOf}
 use Rattle.store.specs.Scan.{openOf, chainOk, recordOk, cursorOk, walkFrom, nextOf}
 use Rattle.store.specs.Reclaim.{unlinked, sweepOne, sweep, blanked, sweptOf, reclaimOf}
 use Rattle.store.specs.Reading.{inRange, statementOf, zeroFrom, nameSpanOf}
-use Rattle.capi_calls.specs.Words.{countersOf, lent, done, wrote, misread, nextFrom}
+use Rattle.capi_calls.specs.Words.{countersOf, ifShort, done, wrote, misread, nextFrom}
 use Rattle.capi_calls.specs.Calls.{findAs, enterAs, nameCall, statementCall, retractCall, openCall, nextCall, assertCall, reclaimAs}
 
 -- ---- the store before <a> <b> <a> . and after it; its two statement records hold anything
@@ -71,7 +71,7 @@ asserts : assertCall (counters 0) before (triple 1 2 1) (5 ∷ 5 ∷ 66 ∷ [])
     ∷ written 4 (counters 1) (holding 0) (0 ∷ 0 ∷ 66 ∷ [])
     ∷ written 100 (counters 0) before (5 ∷ [])
     ∷ []
-unfolding fits known within same agrees permitted below termAt nextAt flagAt tripleAt firstAt countAt kindAt liveAt matches pick better entryAt pickChain pickable startOf linkOf sits visitable walk seek countable locate tallyAt tally counting appendRecord linkFirst linkRecord kinded asserting assertOf lent assertCall
+unfolding fits known within same agrees kindsPermitted below termAt nextAt flagAt tripleAt firstAt countAt kindAt liveAt matches pick better entryAt pickChain pickable startOf linkOf holdsResource visitable walk seek countable locate tallyAt tally counting appendRecord linkFirst linkRecord kindsOk asserting assertOf ifShort assertCall
 asserts = refl
 
 -- ---- retract: live until now, no longer live, a live count above its count, a live count of 0
@@ -86,26 +86,26 @@ retracts : retractCall (counters 1) (holding 0) (triple 1 2 1) (5 ∷ 66 ∷ [])
     ∷ wrote 9 (liveAs 0 2) (0 ∷ 66 ∷ [])
     ∷ wrote 9 (liveAs 0 0) (0 ∷ 66 ∷ [])
     ∷ []
-unfolding fits known within same agrees permitted below termAt nextAt flagAt tripleAt firstAt countAt kindAt liveAt matches pick better entryAt pickChain pickable startOf linkOf sits visitable walk seek countable locate tallyAt tally counting retracting retractOf lent retractCall
+unfolding fits known within same agrees kindsPermitted below termAt nextAt flagAt tripleAt firstAt countAt kindAt liveAt matches pick better entryAt pickChain pickable startOf linkOf holdsResource visitable walk seek countable locate tallyAt tally counting retracting retractOf ifShort retractCall
 retracts = refl
 
 -- ---- a statement and a name; find and enter as answered
 
 reads-statement : statementCall (counters 1) (holding 1) 1 (5 ∷ 5 ∷ 5 ∷ 5 ∷ 66 ∷ []) ≡ done 0 (1 ∷ 2 ∷ 1 ∷ 1 ∷ 66 ∷ [])
-unfolding fits known inRange statementOf tripleAt termAt flagAt lent statementCall
+unfolding fits known inRange statementOf tripleAt termAt flagAt ifShort statementCall
 reads-statement = refl
 
 reads-name : nameCall (counters 1) (holding 0) 2 (5 ∷ 5 ∷ 66 ∷ []) ≡ done 0 (4 ∷ 3 ∷ 66 ∷ [])
-unfolding fits inRange zeroFrom nameSpanOf offsetAt lent nameCall
+unfolding fits inRange zeroFrom nameSpanOf offsetAt ifShort nameCall
 reads-name = refl
 
 finds : findAs (counters 1) (5 ∷ 66 ∷ []) (Number (record { 0 = 2 })) ≡ done 0 (2 ∷ 66 ∷ [])
-unfolding lent findAs
+unfolding ifShort findAs
 finds = refl
 
 enters : enterAs (counters 1) (5 ∷ 66 ∷ []) (Id (record { 0 = 3 }) (record { resources = 3; statements = 1; text = 12; generation = 3 }))
     ≡ beside 0 (3 ∷ 1 ∷ 12 ∷ 3 ∷ 77 ∷ []) (3 ∷ 66 ∷ [])
-unfolding lent enterAs
+unfolding ifShort enterAs
 enters = refl
 
 -- ---- a scan: opened at the subject's chain; found, ended past a retracted statement, at its end, no budget, a chain word above 3
@@ -118,7 +118,7 @@ abbrev cursor : ℕ → ℕ → ℕ → ℕ → ℕ → List ℕ
 cursor s p o k n = cursorIn 3 s p o k n
 
 opens : openCall (counters 1) (holding 0) (triple 1 0 0) (cursorIn 5 5 5 5 5 5) ≡ done 0 (1 ∷ 0 ∷ 0 ∷ 1 ∷ 1 ∷ 3 ∷ 88 ∷ [])
-unfolding fits known within same agrees permitted below termAt nextAt flagAt tripleAt firstAt countAt kindAt matches pick better entryAt pickChain pickable startOf linkOf sits visitable walk openOf lent openCall
+unfolding fits known within same agrees kindsPermitted below termAt nextAt flagAt tripleAt firstAt countAt kindAt matches pick better entryAt pickChain pickable startOf linkOf holdsResource visitable walk openOf ifShort openCall
 opens = refl
 
 abbrev nextIn : ℕ → ℕ → List ℕ → ℕ → ℕ × (List ℕ × List ℕ)
@@ -139,7 +139,7 @@ nexts : nextIn 3 0 (cursor 1 0 0 1 1) 5
     ∷ refusal 7 (cursor 1 0 0 1 1)
     ∷ refusal 6 (cursor 1 0 0 4 1)
     ∷ []
-unfolding fits known within same agrees permitted below termAt nextAt flagAt tripleAt firstAt countAt kindAt matches pick better entryAt pickChain pickable startOf linkOf sits visitable walk chainOk recordOk cursorOk walkFrom nextOf misread nextFrom nextCall
+unfolding fits known within same agrees kindsPermitted below termAt nextAt flagAt tripleAt firstAt countAt kindAt matches pick better entryAt pickChain pickable startOf linkOf holdsResource visitable walk chainOk recordOk cursorOk walkFrom nextOf misread nextFrom nextCall
 nexts = refl
 
 -- Another number of reclaims is 13: at a cursor that was good, at the end, before a chain that is none and a chain word above 3, each
@@ -160,7 +160,7 @@ stale-nexts : nextIn 3 0 (cursorIn 2 1 0 0 1 1) 5
     ∷ refusal 1 (cursorIn 65536 1 0 0 1 1)
     ∷ beside 0 (cursorIn 65535 1 0 0 1 0) (1 ∷ 1 ∷ 1 ∷ 66 ∷ [])
     ∷ []
-unfolding fits known within same agrees permitted below termAt nextAt flagAt tripleAt firstAt countAt kindAt matches pick better entryAt pickChain pickable startOf linkOf sits visitable walk chainOk recordOk cursorOk walkFrom nextOf misread nextFrom nextCall
+unfolding fits known within same agrees kindsPermitted below termAt nextAt flagAt tripleAt firstAt countAt kindAt matches pick better entryAt pickChain pickable startOf linkOf holdsResource visitable walk chainOk recordOk cursorOk walkFrom nextOf misread nextFrom nextCall
 stale-nexts = refl
 
 -- ---- reclaim: a retracted statement dropped, a live one kept, past the maximum, above it, damaged as answered, counters too short

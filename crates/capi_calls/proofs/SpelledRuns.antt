@@ -9,13 +9,13 @@ use Rattle.term.specs.Scanner.{stepOf, runOf, wholeOf, isBad, firstKindOf, kind
 use Rattle.term.specs.Canonical.{stringEnding, writesString, canonical}
 use Rattle.store.specs.Shared.{below, wellFormed, lookupName}
 use Rattle.store.specs.Tables.{Tables, tables, resourceWords, fits, offsetAt}
-use Rattle.store.specs.Dictionary.{compare, nameAt, namesUpTo, rank, placeAt, indexPlaceOf, findOf, roomFor, bring, insertAt, internAs}
-use Rattle.store.specs.Dictionary.{internOf}
+use Rattle.store.specs.Dictionary.{rank, placeAt, indexPlaceOf, findOf, roomFor, bring, insertAt, internAs, internOf}
+use Rattle.store.specs.Names.{compareBytes, nameAt, namesUpTo}
 use Rattle.ntriples.specs.Grammar.{white, commentByte}
-use Rattle.ntriples.specs.Reader.{permitted, isDot, opens, dotted, afterOf, enterOf, gapOf, goesOnOf, leaveOf, advanceOf, placeOf}
+use Rattle.ntriples.specs.Reader.{kindAllowed, isDot, opens, dotted, afterOf, enterOf, gapOf, goesOnOf, leaveOf, advanceOf, stateOf}
 use Rattle.ntriples.specs.Reader.{endOf, lineOf}
 use Rattle.ntriples.specs.Reader.{untilLf, hasLf, dropCr, firstLineOf, takenOf, answerOf, readSpelled, shortLine, readOf}
-use Rattle.capi_calls.specs.Words.{lent, done, countersOf}
+use Rattle.capi_calls.specs.Words.{ifShort, done, countersOf}
 use Rattle.capi_calls.specs.Calls.{kindCall, findAs, enterAs, lineCall}
 
 abbrev plainA : List ℕ
@@ -54,20 +54,21 @@ kinds-either = refl
 
 finds-either : finds plainA ∷ finds longA ∷ [] ≡ done 0 (1 ∷ 66 ∷ []) ∷ done 0 (1 ∷ 66 ∷ []) ∷ []
 unfolding among iriByte textByte pairByte firstByte labelByte letter alnum eqBytes stepOf runOf wholeOf firstKindOf kindOf writesString
-    canonical below fits offsetAt wellFormed nameAt namesUpTo lookupName findOf lent findAs
+    canonical below fits offsetAt wellFormed nameAt namesUpTo lookupName findOf ifShort findAs
 finds-either = refl
 
 -- the first time and again, in each order of the spellings
 enters-either : enters none empty plainA ∷ enters none empty longA ∷ enters one holding plainA ∷ enters one holding longA ∷ []
     ≡ entered ∷ entered ∷ entered ∷ entered ∷ []
 unfolding among iriByte textByte pairByte firstByte labelByte letter alnum eqBytes stepOf runOf wholeOf firstKindOf kindOf writesString
-    canonical below fits offsetAt wellFormed compare nameAt rank placeAt indexPlaceOf roomFor bring insertAt internAs internOf lent enterAs
+    canonical below fits offsetAt wellFormed compareBytes nameAt rank placeAt indexPlaceOf roomFor bring insertAt internAs internOf
+    ifShort enterAs
 enters-either = refl
 
 -- <a><b>, then "A" with the ending, and the dot at once: the object has three bytes, and the line ends at byte 53
 reads-line : lineCall (60 ∷ 97 ∷ 62 ∷ 60 ∷ 98 ∷ 62 ∷ (longA ++ 46 ∷ [])) 0 (replicate 9 5)
     ≡ done 0 (2 ∷ 53 ∷ 0 ∷ 3 ∷ 3 ∷ 3 ∷ 6 ∷ 3 ∷ 5 ∷ [])
 unfolding readOf readSpelled shortLine eqBytes writesString canonical answerOf firstLineOf takenOf untilLf hasLf
-    dropCr lineOf placeOf endOf advanceOf leaveOf goesOnOf gapOf enterOf afterOf dotted opens isDot isBad permitted
+    dropCr lineOf stateOf endOf advanceOf leaveOf goesOnOf gapOf enterOf afterOf dotted opens isDot isBad kindAllowed
     commentByte white stepOf wholeOf firstKindOf among iriByte textByte pairByte firstByte labelByte letter alnum lineCall
 reads-line = refl

@@ -22,7 +22,7 @@ use Rattle.graph.specs.Query.{openQueryOf, packed}
 use Rattle.graph.specs.Words.{wordsOk}
 use Rattle.graph.specs.Values.{queryValues}
 use Rattle.graph.proofs.Theorems as graph-claims
-use Rattle.capi_calls.specs.Words.{counterWords, cursorWords, countersOf, cursorOf, misread, nextFrom, reclaimedAs}
+use Rattle.capi_calls.specs.Words.{counterWords, cursorWords, countersOf, cursorFrom, misread, nextFrom, reclaimedAs}
 use Rattle.capi_calls.specs.Calls.{nextCall, reclaimAs}
 use Rattle.capi_calls.specs.QueryWords.{queryCursorWords, queryReplyWords, queryCursorOf, spelt, misspelt, nextQueryFrom}
 use Rattle.capi_calls.specs.QueryCalls.{queryNextCall}
@@ -48,8 +48,8 @@ unfolding nextFrom
 next-stale c m w b =
     decide (leb (word w 3) 3)
     (λ e. rw e (
-      stale-when c m (cursorOf w) b,
-      λ h. ap (λ (v : Values). v .refusal) (store-claims.stale-refused c m (cursorOf w) b .1 h),
+      stale-when c m (cursorFrom w) b,
+      λ h. ap (λ (v : Values). v .refusal) (store-claims.stale-refused c m (cursorFrom w) b .1 h),
     ))
     (λ e. rw e (misread-stale c m w))
 

@@ -20,7 +20,7 @@ use Rattle.store.specs.declared.Interned.the-variants.{Number as Id, Refused as
 use Rattle.store.specs.declared.Asserted.{Asserted}
 use Rattle.store.specs.declared.Asserted.the-variants.{New, Already, Revived, Refused as NotAsserted}
 use Rattle.store.specs.declared.Retracted.{Retracted}
-use Rattle.store.specs.declared.Retracted.the-variants.{Number as Struck, Absent as NotLive, Refused as NotRetracted}
+use Rattle.store.specs.declared.Retracted.the-variants.{Number as WasLive, Absent as NotLive, Refused as NotRetracted}
 use Rattle.store.specs.declared.Reclaimed.{Reclaimed}
 use Rattle.store.specs.declared.Reclaimed.the-variants.{Done, Refused as NotReclaimed}
 use Rattle.store.specs.declared.ScanOpened.{ScanOpened}
@@ -43,7 +43,9 @@ use Rattle.store.proofs.Cases.{assert-refused, retract-refused}
 use Rattle.store.proofs.Limits.{reclaim-refuses}
 use Rattle.graph.proofs.Refusals.{refusal-positive}
 use Rattle.capi_calls.proofs.Runs as runs
-use Rattle.capi_calls.specs.Words.{tooShort, counterWords, cursorWords, countersOf, lent, roomy, done, wrote, one, two, four, lookupAnswer, nameAnswer, statementAnswer, retractAs, openedAs, scannedAs, assertAs, enteredAs, reclaimedAs, nextFrom}
+use Rattle.capi_calls.specs.Words.{tooShort, counterWords, cursorWords, countersOf, ifShort, longEnough, done, wrote, one, two, four}
+use Rattle.capi_calls.specs.Words.{lookupAnswer, nameAnswer, statementAnswer, retractAs, openedAs, scannedAs, assertAs, enteredAs}
+use Rattle.capi_calls.specs.Words.{reclaimedAs, nextFrom}
 use Rattle.capi_calls.specs.Calls.{findAs, nameCall, statementCall, retractCall, openCall, nextCall, assertCall, enterAs, reclaimAs}
 use Rattle.capi_calls.specs.Claims.{bare, bareBeside, bareStore, UnansweredFind, UnansweredName, UnansweredStatement, UnansweredRetract, UnansweredAssert, UnansweredEnter, UnansweredReclaim, UnansweredOpen, UnansweredNext}
 use Rattle.capi_calls.specs.Claims.{UnansweredQueryOpen, UnansweredQueryNext}
@@ -75,8 +77,8 @@ both : {A : Type 0} (P : A → Type 0) (b : Bool) {s a : A} → P s → P a → 
 both P true p q = p
 both P false p q = q
 
-either : {A : Type 0} (P : A → Type 0) (cw : List ℕ) (n : ℕ) (w : List ℕ) {s a : A} → P s → P a → P (lent cw n w s a)
-unfolding lent
+either : {A : Type 0} (P : A → Type 0) (cw : List ℕ) (n : ℕ) (w : List ℕ) {s a : A} → P s → P a → P (ifShort cw n w s a)
+unfolding ifShort
 either P cw n w p q = both P (ltb (length cw) counterWords) p (both P (ltb (length w) n) p q)
 
 -- with room it is the answer
@@ -85,9 +87,9 @@ inside true d s a e = never e
 inside false true s a e = never e
 inside false false s a e = refl
 
-roomy-is : {A : Type 0} (cw : List ℕ) (n : ℕ) (w : List ℕ) (s a : A) → roomy cw n w ≡ true → lent cw n w s a ≡ a
-unfolding lent
-roomy-is cw n w s a e = inside (ltb (length cw) counterWords) (ltb (length w) n) s a e
+long-enough-is : {A : Type 0} (cw : List ℕ) (n : ℕ) (w : List ℕ) (s a : A) → longEnough cw n w ≡ true → ifShort cw n w s a ≡ a
+unfolding ifShort
+long-enough-is cw n w s a e = inside (ltb (length cw) counterWords) (ltb (length w) n) s a e
 
 -- ---- replies alone
 
@@ -128,7 +130,7 @@ unanswered-statement cw m n w =
 
 retracted-bare : (w : List ℕ) (m m′ : Tables) (a : Retracted) → ((e : Refusal) → a ≡ NotRetracted e → m′ ≡ m)
     → (retractAs w (after m′ a)) .0 ≢ 0 → retractAs w (after m′ a) ≡ wrote ((retractAs w (after m′ a)) .0) m ((bare 1 w ((retractAs w (after m′ a)) .0)) .1)
-retracted-bare w m m′ (Struck n) quiet h = absurd (h refl)
+retracted-bare w m m′ (WasLive n) quiet h = absurd (h refl)
 retracted-bare w m m′ NotLive quiet h = absurd (h refl)
 retracted-bare w m m′ (NotRetracted e) quiet h = rw (not-short e, quiet e refl)
 
@@ -169,8 +171,8 @@ unanswered-enter cw m m′ name w z f h =
     rw (f .told)
     (either (λ (y : ℕ × (List ℕ × List ℕ)). y .0 ≢ 0 → y ≡ bareBeside 1 cw w (y .0)) cw 1 w (λ _. refl) (entered-bare cw w a)) in (
       g h,
-      decide (roomy cw 1 w)
-          (λ r. let k : z ≡ enteredAs cw w a = f .told ∙ roomy-is cw 1 w (bareBeside 1 cw w tooShort) (enteredAs cw w a) r in
+      decide (longEnough cw 1 w)
+          (λ r. let k : z ≡ enteredAs cw w a = f .told ∙ long-enough-is cw 1 w (bareBeside 1 cw w tooShort) (enteredAs cw w a) r in
           entered-kept cw w m m′ a ((f .exact r) .refused) (λ e. h (ap (λ (y : ℕ × (List ℕ × List ℕ)). y .0) k ∙ e)))
           (f .kept),
     )

@@ -18,7 +18,8 @@ use Rattle.store.specs.Tables.{Tables, word, fits, after}
 use Rattle.store.specs.Soundness.{Sound}
 use Rattle.store.specs.Reclaim.{reclaimOf}
 use Rattle.graph.specs.Words.{wordsOk}
-use Rattle.capi_calls.specs.Words.{counterWords, cursorWords, tooShort, countersOf, withCounters, cursorOf, withCursor, chainOf, chainWord, done, wrote}
+use Rattle.capi_calls.specs.Words.{counterWords, cursorWords, tooShort, countersOf, withCounters, cursorFrom, withCursor}
+use Rattle.capi_calls.specs.Words.{chainOf, chainWord, done, wrote}
 use Rattle.capi_calls.specs.Calls.{FindCall, nameCall, statementCall, retractCall, openCall, nextCall, assertCall, EnterCall, ReclaimCall}
 use Rattle.capi_calls.specs.QueryWords.{queryCursorWords, queryReplyWords}
 use Rattle.capi_calls.specs.QueryCalls.{queryOpenCall, queryNextCall}
@@ -38,7 +39,7 @@ abbrev pub ChainsReadBack : Type 0
 ChainsReadBack = (k : Chain) → (chainWord k ≤ 3) × (chainOf (chainWord k) ≡ k)
 
 abbrev pub CursorsReadBack : Type 0
-CursorsReadBack = (w : List ℕ) (q : ScanCursor) → cursorWords ≤ length w → cursorOf (withCursor w q) ≡ q
+CursorsReadBack = (w : List ℕ) (q : ScanCursor) → cursorWords ≤ length w → cursorFrom (withCursor w q) ≡ q
 
 abbrev pub CursorsKeepTheRest : Type 0
 CursorsKeepTheRest = (w : List ℕ) (q : ScanCursor)

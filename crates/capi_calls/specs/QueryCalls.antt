@@ -16,7 +16,7 @@ use Rattle.graph.specs.declared.QueryAnswer.{QueryAnswer}
 use Rattle.graph.specs.Query.{openQueryOf}
 use Rattle.graph.specs.Words.{maxPatterns}
 use Rattle.graph.specs.Values.{queryOpenedValues, queryValues}
-use Rattle.capi_calls.specs.Words.{counterWords, countersOf, tooShort, done, lent}
+use Rattle.capi_calls.specs.Words.{counterWords, countersOf, tooShort, done, ifShort}
 use Rattle.capi_calls.specs.QueryWords.{queryCursorWords, queryReplyWords, queryCursorOf, spelt, nextQueryFrom, withQueryCursor, withQueryAnswer}
 
 abbrev pub queryOpenedAs : List ℕ → QueryOpened → ℕ × List ℕ
@@ -26,7 +26,7 @@ queryOpenedAs w a =
 
 -- `lt_query_open`: the words, the cursor
 unfoldable pub queryOpenCall : List ℕ → Tables → List ℕ → List ℕ → ℕ × List ℕ
-queryOpenCall cw m ws w = lent cw queryCursorWords w (done tooShort w) (queryOpenedAs w (openQueryOf (countersOf cw) m ws))
+queryOpenCall cw m ws w = ifShort cw queryCursorWords w (done tooShort w) (queryOpenedAs w (openQueryOf (countersOf cw) m ws))
 
 abbrev pub queryAnsweredAs : List ℕ → List ℕ → QueryAnswer → ℕ × (List ℕ × List ℕ)
 queryAnsweredAs q w a = (

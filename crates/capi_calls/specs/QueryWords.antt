@@ -15,8 +15,8 @@ use Rattle.graph.specs.declared.Level.{Level}
 use Rattle.graph.specs.declared.Progress.{Progress}
 use Rattle.graph.specs.declared.Progress.the-variants.{Start, Within, End}
 use Rattle.graph.specs.declared.QueryCursor.{QueryCursor}
-use Rattle.graph.specs.declared.Opening.{Opening}
-use Rattle.graph.specs.declared.Opening.the-variants.{Opened, Refused as NotOpened}
+use Rattle.graph.specs.declared.QueryOpening.{QueryOpening}
+use Rattle.graph.specs.declared.QueryOpening.the-variants.{Opened, Refused as NotOpened}
 use Rattle.graph.specs.declared.QueryAnswer.{QueryAnswer}
 use Rattle.graph.specs.Query.{refused, packed, openQueryOf, nextQueryOf}
 use Rattle.graph.specs.Place.{level, noLevel}
@@ -72,7 +72,7 @@ unfoldable pub spelt : List ℕ → Bool
 spelt w = cond (leb (word w 0) 2) (cond (eqb (word w 0) 1) (allBelow (chainSpelt w) (slotsOf (word w 1))) true) false
 
 -- words that tell no cursor, which have the store's number of reclaims or not: 1; 8; 13; 6
-abbrev pub misspelt : Bool → Opening → Refusal
+abbrev pub misspelt : Bool → QueryOpening → Refusal
 misspelt now Opened = cond now BadCursor StaleCursor
 misspelt now (NotOpened e) = e
 

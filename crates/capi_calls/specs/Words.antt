@@ -111,8 +111,8 @@ withCursor w q =
 abbrev pub chainOf : ℕ → Chain
 chainOf k = cond (eqb k 1) (By Subject) (cond (eqb k 2) (By Predicate) (cond (eqb k 3) (By Object) All))
 
-abbrev pub cursorOf : List ℕ → ScanCursor
-cursorOf w =
+abbrev pub cursorFrom : List ℕ → ScanCursor
+cursorFrom w =
     record { pattern = triple (word w 0) (word w 1) (word w 2); chain = chainOf (word w 3); next = record { 0 = word w 4 }; generation = word w 5 }
 
 -- words that tell no cursor: 1; 13; 6
@@ -121,7 +121,7 @@ misread c m w = cond (fits c m) (cond (eqb (word w 5) (c .generation)) BadCursor
 
 -- next from a cursor's words: 1; 13; 6, also for a chain word above 3; 7; 9
 unfoldable pub nextFrom : Counters → Tables → List ℕ → ℕ → Scanned
-nextFrom c m w b = cond (leb (word w 3) 3) (nextOf c m (cursorOf w) b) (NotScanned (misread c m w))
+nextFrom c m w b = cond (leb (word w 3) 3) (nextOf c m (cursorFrom w) b) (NotScanned (misread c m w))
 
 abbrev pub scannedAnswer : Scanned → Answer
 scannedAnswer a = answer ((scannedValues a) .refusal) ((scannedValues a) .status) ((scannedValues a) .number) ((scannedValues a) .visits) 0
@@ -195,8 +195,8 @@ reclaimedAs cw a =
     done ((reclaimedValues a) .refusal) (cond (eqb ((reclaimedValues a) .refusal) 0) (withCounters cw ((reclaimedValues a) .counters)) cw)
 
 -- s where the counters or the reply, of n words, are lent too short, else a
-unfoldable pub lent : {A : Type 0} → List ℕ → ℕ → List ℕ → A → A → A
-lent cw n w s a = cond (ltb (length cw) counterWords) s (cond (ltb (length w) n) s a)
+unfoldable pub ifShort : {A : Type 0} → List ℕ → ℕ → List ℕ → A → A → A
+ifShort cw n w s a = cond (ltb (length cw) counterWords) s (cond (ltb (length w) n) s a)
 
-abbrev pub roomy : List ℕ → ℕ → List ℕ → Bool
-roomy cw n w = lent cw n w false true
+abbrev pub longEnough : List ℕ → ℕ → List ℕ → Bool
+longEnough cw n w = ifShort cw n w false true

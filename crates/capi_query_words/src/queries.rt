@@ -9,10 +9,10 @@ use capi_words::replies::chain_of;
 use capi_words::replies::chain_word;
 use graph::Level;
 use graph::MAX_PATTERNS;
-use graph::Opening;
 use graph::Progress;
 use graph::QueryAnswer;
 use graph::QueryCursor;
+use graph::QueryOpening;
 use graph::QueryStep;
 use graph::Solution;
 use graph::VARIABLES;
@@ -208,11 +208,11 @@ pub fn put_query_answer(reply: &mut [u32], a: QueryAnswer)
 }
 
 // The refusal's number, or 0.
-pub fn opening_refusal(opening: Opening) -> u32
+pub fn opening_refusal(opening: QueryOpening) -> u32
     ensures { λ r. ⌜ r ≡ openingRefusal opening ⌝ }
 {
     match opening {
-        Opening::Opened => 0,
-        Opening::Refused(e) => refusal_number(e),
+        QueryOpening::Opened => 0,
+        QueryOpening::Refused(e) => refusal_number(e),
     }
 }

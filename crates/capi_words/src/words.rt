@@ -13,7 +13,7 @@ ghost use Prim.Native.Nat.{_≤_};
 ghost use lib.ListN.{length};
 ghost use Rattle.store.specs.Tables.{tables};
 ghost use Rattle.store.specs.Shared.{triple};
-ghost use Rattle.capi_calls.specs.Words.{counterWords, cursorWords, countersOf, withCounters, cursorOf, withCursor, nextFrom};
+ghost use Rattle.capi_calls.specs.Words.{counterWords, cursorWords, countersOf, withCounters, cursorFrom, withCursor, nextFrom};
 
 // Three numbers as a triple or a pattern.
 pub fn triple_of(subject: u32, predicate: u32, object: u32) -> Triple
@@ -67,9 +67,9 @@ pub fn put_counters(words: &mut [u32], c: Counters)
 }
 
 // The cursor that words tell, whose chain word is at most 3.
-fn cursor_of(words: &[u32]) -> ScanCursor
+fn cursor_from(words: &[u32]) -> ScanCursor
     requires { ⌜ cursorWords ≤ length (now words) ⌝ }
-    ensures { λ q. ⌜ q ≡ cursorOf (now (words .entry)) ⌝ }
+    ensures { λ q. ⌜ q ≡ cursorFrom (now (words .entry)) ⌝ }
 {
     ScanCursor {
         pattern: triple_of(words[0], words[1], words[2]),
@@ -101,6 +101,6 @@ pub fn next_from(
         }
         return Scanned::Refused(Refusal::BadCursor);
     }
-    let q = cursor_of(words);
+    let q = cursor_from(words);
     scan::scan_next(c, resources, statements, index, text, q, budget)
 }

@@ -2,10 +2,10 @@
 use crate::print;
 use crate::state;
 use crate::state::State;
-use graph::Opening;
 use graph::QueryAnswer;
 use graph::QueryCursor;
 use graph::QueryOpened;
+use graph::QueryOpening;
 use graph::QueryStep;
 use store::Asserted;
 use store::Counters;
@@ -159,10 +159,10 @@ fn listed(s: State, p: ScanCursor) -> State {
 }
 
 // Of an opening: whether it is no refusal.
-fn told(opening: Opening) -> bool {
+fn told(opening: QueryOpening) -> bool {
     match opening {
-        Opening::Opened => print::status(print::OPENED),
-        Opening::Refused(e) => print::refused(e),
+        QueryOpening::Opened => print::status(print::OPENED),
+        QueryOpening::Refused(e) => print::refused(e),
     }
 }
 

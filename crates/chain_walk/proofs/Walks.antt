@@ -12,11 +12,11 @@ use Rattle.store.specs.declared.Chain.{Chain}
 use Rattle.store.specs.declared.Triple.{Triple}
 use Rattle.store.specs.Shared.{known}
 use Rattle.store.specs.Tables.{flagAt, tripleAt}
-use Rattle.store.specs.Walk.{linkOf, sits, visitable, walk, Step, found, ended, spent, afterVisit, foundIn}
+use Rattle.store.specs.Walk.{linkOf, holdsResource, visitable, walk, Step, found, ended, spent, afterVisit, foundIn}
 use Rattle.store.specs.Scan.{recordOk}
 use Rattle.store.proofs.Tests.{and-l, and-r}
 use Rattle.chain_walk.specs.declared.walk.Sought.{Sought}
-use Rattle.chain_walk.specs.declared.walk.Visited.the-variants.{Damaged as Torn, Hit, Miss}
+use Rattle.chain_walk.specs.declared.walk.Visited.the-variants.{Damaged as BadRecord, Hit, Miss}
 use Rattle.chain_walk.specs.Walks.{hits, visitOf}
 
 -- ---- the walk
@@ -41,17 +41,17 @@ plus-after v (some (ended w)) = ap (λ (z : ℕ). some (ended z)) (omega arith)
 plus-after v (some (spent w r)) = ap (λ (z : ℕ). some (spent z r)) (omega arith)
 
 -- what a visit's tests were
-pub was-torn : (a b : Bool) (m : StatementId) → cond a (cond b (Hit m) (Miss m)) Torn ≡ Torn → a ≡ false
-was-torn true true m e = let z : _≡_ {A = ℕ} 0 1 = cc in absurd (omega arith)
-was-torn true false m e = let z : _≡_ {A = ℕ} 0 1 = cc in absurd (omega arith)
-was-torn false b m e = refl
+pub was-damaged : (a b : Bool) (m : StatementId) → cond a (cond b (Hit m) (Miss m)) BadRecord ≡ BadRecord → a ≡ false
+was-damaged true true m e = let z : _≡_ {A = ℕ} 0 1 = cc in absurd (omega arith)
+was-damaged true false m e = let z : _≡_ {A = ℕ} 0 1 = cc in absurd (omega arith)
+was-damaged false b m e = refl
 
-pub was-hit : (a b : Bool) (m k : StatementId) → cond a (cond b (Hit m) (Miss m)) Torn ≡ Hit k → (a ≡ true) × (b ≡ true) × (m ≡ k)
+pub was-hit : (a b : Bool) (m k : StatementId) → cond a (cond b (Hit m) (Miss m)) BadRecord ≡ Hit k → (a ≡ true) × (b ≡ true) × (m ≡ k)
 was-hit true true m k e = (refl, refl, cc)
 was-hit true false m k e = let z : _≡_ {A = ℕ} 0 1 = cc in absurd (omega arith)
 was-hit false b m k e = let z : _≡_ {A = ℕ} 0 1 = cc in absurd (omega arith)
 
-pub was-miss : (a b : Bool) (m k : StatementId) → cond a (cond b (Hit m) (Miss m)) Torn ≡ Miss k → (a ≡ true) × (b ≡ false) × (m ≡ k)
+pub was-miss : (a b : Bool) (m k : StatementId) → cond a (cond b (Hit m) (Miss m)) BadRecord ≡ Miss k → (a ≡ true) × (b ≡ false) × (m ≡ k)
 was-miss true true m k e = let z : _≡_ {A = ℕ} 0 1 = cc in absurd (omega arith)
 was-miss true false m k e = (refl, refl, cc)
 was-miss false b m k e = let z : _≡_ {A = ℕ} 0 1 = cc in absurd (omega arith)
@@ -73,13 +73,13 @@ module _ (k : Sought) (r : ℕ) (stm : List ℕ) (ch : Chain) (x : Triple) where
   walk-spent v zero (suc i) h e = ap (λ (z : ℕ). some (spent z (suc i))) (omega arith)
   walk-spent v (suc b) (suc i) h e = absurd (omega arith)
 
-  pub walk-torn : (v left n : ℕ) → (n ≡ 0 → ⊥) → (left ≡ 0 → ⊥) → visitOf k r stm ch x (n - 1) ≡ Torn → onward v left n ≡ none
+  pub walk-damaged : (v left n : ℕ) → (n ≡ 0 → ⊥) → (left ≡ 0 → ⊥) → visitOf k r stm ch x (n - 1) ≡ BadRecord → onward v left n ≡ none
   unfolding walk visitOf
-  walk-torn v left zero h f e = absurd (h refl)
-  walk-torn v zero (suc i) h f e = absurd (f refl)
-  walk-torn v (suc b) (suc i) h f e =
+  walk-damaged v left zero h f e = absurd (h refl)
+  walk-damaged v zero (suc i) h f e = absurd (f refl)
+  walk-damaged v (suc b) (suc i) h f e =
       let d : suc i - 1 ≡ i = omega arith in
-      let a = was-torn (visitable r stm ch x i) (hits k stm x i) (record { 0 = linkOf stm ch i }) (rw d at e) in
+      let a = was-damaged (visitable r stm ch x i) (hits k stm x i) (record { 0 = linkOf stm ch i }) (rw d at e) in
       rw (walk, a)
 
   pub walk-hit : (v left n : ℕ) (m : StatementId) → (n ≡ 0 → ⊥) → (left ≡ 0 → ⊥) → visitOf k r stm ch x (n - 1) ≡ Hit m → onward v left n ≡ some (found n (v + 1) (m .0))
@@ -111,7 +111,7 @@ module _ (k : Sought) (r : ℕ) (stm : List ℕ) (ch : Chain) (x : Triple) where
       let l = leb (linkOf stm ch i) i in
       let f = leb (flagAt stm i) 1 in
       let a = was-miss (visitable r stm ch x i) (hits k stm x i) (record { 0 = linkOf stm ch i }) m e in
-      let b = and-l l f (and-r (sits stm ch x i) (l && f) (and-r (known r (tripleAt stm i)) (sits stm ch x i && (l && f)) (a .0))) in
+      let b = and-l l f (and-r (holdsResource stm ch x i) (l && f) (and-r (known r (tripleAt stm i)) (holdsResource stm ch x i && (l && f)) (a .0))) in
       let d = leb-true (linkOf stm ch i) i b in
       let z : linkOf stm ch i ≡ m .0 = ap (λ (n : StatementId). n .0) (a .2) in
       omega arith
@@ -149,7 +149,7 @@ unfolding visitable
 falling r stm ch x i e =
     let l = leb (linkOf stm ch i) i in
     let f = leb (flagAt stm i) 1 in
-    leb-true (linkOf stm ch i) i (and-l l f (and-r (sits stm ch x i) (l && f) (and-r (known r (tripleAt stm i)) (sits stm ch x i && (l && f)) e)))
+    leb-true (linkOf stm ch i) i (and-l l f (and-r (holdsResource stm ch x i) (l && f) (and-r (known r (tripleAt stm i)) (holdsResource stm ch x i && (l && f)) e)))
 
 -- ---- a cursor
 
@@ -159,7 +159,7 @@ module _ (stm : List ℕ) (ch : Chain) (x : Triple) where
   record-none zero e = refl
   record-none (suc i) e = absurd (omega arith)
 
-  pub record-some : (n : ℕ) → (n ≡ 0 → ⊥) → recordOk stm ch x n ≡ sits stm ch x (n - 1)
+  pub record-some : (n : ℕ) → (n ≡ 0 → ⊥) → recordOk stm ch x n ≡ holdsResource stm ch x (n - 1)
   unfolding recordOk
   record-some zero h = absurd (h refl)
   record-some (suc i) h = let e : suc i - 1 ≡ i = omega arith in rw e

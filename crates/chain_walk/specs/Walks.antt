@@ -12,7 +12,7 @@ use Rattle.chain_walk.specs.declared.walk.Sought.{Sought}
 use Rattle.chain_walk.specs.declared.walk.Sought.the-variants.{Same, LiveMatch}
 use Rattle.store.specs.declared.StatementId.{StatementId}
 use Rattle.chain_walk.specs.declared.walk.Visited.{Visited}
-use Rattle.chain_walk.specs.declared.walk.Visited.the-variants.{Damaged as Torn, Hit, Miss}
+use Rattle.chain_walk.specs.declared.walk.Visited.the-variants.{Damaged as BadRecord, Hit, Miss}
 use Rattle.chain_walk.specs.declared.walk.Walked.{Walked}
 use Rattle.chain_walk.specs.declared.walk.Walked.the-variants.{Found, Ended, Spent, Damaged}
 
@@ -25,7 +25,7 @@ hits LiveMatch stm x = λ i. matches x (entryAt stm i)
 unfoldable pub visitOf : Sought → ℕ → List ℕ → Chain → Triple → ℕ → Visited
 visitOf k r stm ch x i =
     let after : StatementId = record { 0 = linkOf stm ch i } in
-    cond (visitable r stm ch x i) (cond (hits k stm x i) (Hit after) (Miss after)) Torn
+    cond (visitable r stm ch x i) (cond (hits k stm x i) (Hit after) (Miss after)) BadRecord
 
 -- the code's answer to a walk as the definition's
 abbrev pub stepOf : Walked → Option Step

@@ -18,7 +18,7 @@ ghost use mathlib.Core.Path.{_≡_};
 ghost use Prim.Native.Nat.{ℕ, _-_, _*_, _≤_};
 ghost use lib.ListN.{length};
 ghost use Rattle.store.specs.Tables.{statementWords};
-ghost use Rattle.store.specs.Walk.{linkOf, sits, visitable, walk};
+ghost use Rattle.store.specs.Walk.{linkOf, holdsResource, visitable, walk};
 ghost use Rattle.store.specs.Scan.{recordOk};
 ghost use Rattle.table.specs.Held.{StatementHeld};
 ghost use Rattle.chain_walk.specs.Walks.{hits, visitOf, stepOf};
@@ -57,9 +57,9 @@ pub fn link_of(statements: &[u32], chain: Chain, n: StatementId) -> StatementId
 }
 
 // Whether record n has the chain's resource at the chain's position.
-pub fn sits(statements: &[u32], chain: Chain, x: Triple, n: StatementId) -> bool
+pub fn holds_resource(statements: &[u32], chain: Chain, x: Triple, n: StatementId) -> bool
     requires { ⌜ StatementHeld (now statements) (n .0) ⌝ }
-    ensures { λ b. ⌜ b ≡ sits (now (statements .entry)) chain x (n .0 - 1) ⌝ }
+    ensures { λ b. ⌜ b ≡ holdsResource (now (statements .entry)) chain x (n .0 - 1) ⌝ }
 {
     match chain {
         Chain::All => true,
@@ -97,7 +97,7 @@ pub fn visitable(statements: &[u32], r: u32, chain: Chain, x: Triple, n: Stateme
     if !known(r, t) {
         return false;
     }
-    if !sits(statements, chain, x, n) {
+    if !holds_resource(statements, chain, x, n) {
         return false;
     }
     let next = link_of(statements, chain, n);
@@ -177,5 +177,5 @@ pub fn record_ok(statements: &[u32], chain: Chain, x: Triple, n: StatementId) ->
     if n.0 == 0 {
         return true;
     }
-    sits(statements, chain, x, n)
+    holds_resource(statements, chain, x, n)
 }

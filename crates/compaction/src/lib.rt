@@ -1,4 +1,4 @@
-// Reclaim (paper 02, note 6): the room of struck-out statements is given back.
+// Reclaim (paper 02, note 6): the room of retracted statements is given back.
 //
 // The live statements move down in their order and are numbered from 1, chains and counts are built anew, the words of the records given
 // up are 0, names stay. Refusals, tested in this order, nothing written beside one: 1; 14 after 65,535 reclaims; 9 where the store is not

@@ -9,7 +9,7 @@ ghost use Prim.Native.Nat.{_-_};
 ghost use Rattle.store.specs.Reclaim.{swept, sweepOne, sweep};
 ghost use Rattle.compaction.specs.Steps.{Sweepable, AllSweepable};
 
-// Record n, with t live ones before it: passed over if struck out, else moved down to record t + 1 and linked there.
+// Record n, with t live ones before it: passed over if retracted, else moved down to record t + 1 and linked there.
 // How many live ones there are then.
 pub fn sweep_one(resources: &mut [u32], statements: &mut [u32], n: StatementId, t: u32) -> u32
     requires { ⌜ Sweepable (n .0) (swept t (now resources) (now statements)) ⌝ }

@@ -16,7 +16,7 @@ use Rattle.store.specs.declared.Counters.{Counters}
 use Rattle.store.specs.declared.Refusal.{Refusal}
 use Rattle.store.specs.declared.Refusal.the-variants.{Capacity, Malformed, Full, Damaged}
 use Rattle.store.specs.declared.IndexPlace.{IndexPlace}
-use Rattle.store.specs.declared.IndexPlace.the-variants.{At, Before, Torn}
+use Rattle.store.specs.declared.IndexPlace.the-variants.{At, Before, OutOfRange}
 use Rattle.store.specs.declared.Lookup.{Lookup}
 use Rattle.store.specs.declared.Lookup.the-variants.{Number, Absent, Refused as NotFound}
 use Rattle.store.specs.declared.Interned.{Interned}
@@ -24,7 +24,8 @@ use Rattle.store.specs.declared.Interned.the-variants.{Number as Id, Refused as
 use Rattle.store.specs.Tables.{Tables, tables, after, fits, word, resourceCapacity, statementCapacity, textCapacity, resourceWords}
 use Rattle.store.specs.Shared.{maxResources, maxReclaims, wellFormed, lookupName}
 use Rattle.store.specs.Reading.{inRange}
-use Rattle.store.specs.Dictionary.{Named, PlaceWithin, indexPlaceOf, namesUpTo, foundAt, findOf, FindAnswer, roomFor, oneNameMore}
+use Rattle.store.specs.Dictionary.{PlaceWithin, indexPlaceOf, foundAt, findOf, FindAnswer, roomFor, oneNameMore}
+use Rattle.store.specs.Names.{Named, namesUpTo}
 use Rattle.store.specs.Dictionary.{freshRecord, withName, internAs, internOf, InternWrites, InternAnswer}
 use Rattle.store.proofs.Tests.{decide, and-l, and-r}
 use Rattle.store.proofs.Form.{form-clean, form-short, canonical-formed, canonical-kind}
@@ -34,20 +35,20 @@ use Rattle.store.proofs.Held.{named-names}
 use Rattle.table.proofs.Capacity.{fits-room}
 use Rattle.table.proofs.Held.{from-one, up-to}
 use Rattle.dictionary.specs.Search.{Readable, compareOf, probeOf, middle, searchOf, searched, foundAs}
-use Rattle.dictionary.specs.Extend.{Roomy, Extended}
+use Rattle.dictionary.specs.Extend.{HasRoom, Extended}
 use Rattle.dictionary.specs.declared.Compared.{Compared}
-use Rattle.dictionary.specs.declared.Compared.the-variants.{Less, Same, More, Cut}
+use Rattle.dictionary.specs.declared.Compared.the-variants.{Less, Same, More, Unreadable}
 use Rattle.dictionary.proofs.Named.{searched-is}
 
 -- ---- the search on any tables: a number in 1..R at an entry of the index, a position within it, or damage
 
-cut-same : Cut ≡ Same → ⊥
-cut-same e = let z : _≡_ {A = ℕ} 0 1 = cc in omega arith
+unreadable-same : Unreadable ≡ Same → ⊥
+unreadable-same e = let z : _≡_ {A = ℕ} 0 1 = cc in omega arith
 
 module _ (c : Counters) (res idx text w : List ℕ) where
   probe-range : (k : ℕ) → probeOf c res idx text w k ≡ Same → inRange (c .resources) (word idx k) ≡ true
   unfolding probeOf
-  probe-range k = decide (inRange (c .resources) (word idx k)) (λ q. rw q (λ e. refl)) (λ q. rw q (λ e. absurd (cut-same e)))
+  probe-range k = decide (inRange (c .resources) (word idx k)) (λ q. rw q (λ e. refl)) (λ q. rw q (λ e. absurd (unreadable-same e)))
 
   abbrev Bounded : ℕ → Type 0
   Bounded f = (lo hi : ℕ) → lo ≤ hi → hi ≤ c .resources → PlaceWithin (c .resources) (searchOf c res idx text w f lo hi)
@@ -60,7 +61,7 @@ module _ (c : Counters) (res idx text w : List ℕ) where
   bounded-turn f lo hi ih lt b Same e =
       let p = probe-range (middle lo hi) e in
       rw (searchOf, lt-ltb lo hi lt, e) (from-one _ _ p, up-to _ _ p, omega arith)
-  bounded-turn f lo hi ih lt b Cut e = rw (searchOf, lt-ltb lo hi lt, e) tt
+  bounded-turn f lo hi ih lt b Unreadable e = rw (searchOf, lt-ltb lo hi lt, e) tt
 
   bounded : (f : ℕ) → Bounded f
   unfolding searchOf
@@ -100,9 +101,9 @@ module _ (c : Counters) (m : Tables) where
       let g = le-leb (c .generation) maxReclaims (fits-room c m f .few-reclaims) in
       rw (t, g, and-true (leb (c .text + length w + 1) (textCapacity m)))
 
-  pub roomy : (w : List ℕ) (k : ℕ) → fits (oneNameMore c w) m ≡ true → k ≤ c .resources
-      → Roomy c (m .resources) (m .index) (m .text) w k
-  roomy w k f h =
+  pub has-room : (w : List ℕ) (k : ℕ) → fits (oneNameMore c w) m ≡ true → k ≤ c .resources
+      → HasRoom c (m .resources) (m .index) (m .text) w k
+  has-room w k f h =
       let r = fits-room (oneNameMore c w) m f in
       record {
         few = omega (arith, r .few-resources);
@@ -134,7 +135,7 @@ number-at (suc n) h = refl
 found-within : (r : ℕ) (x : IndexPlace) → PlaceWithin r x → WithinNumbers r (foundAs x)
 found-within r (At n k) h = inr (n .0, number-at (n .0) (h .0), h .1)
 found-within r (Before k) h = inr (0, refl, omega arith)
-found-within r Torn h = inl refl
+found-within r OutOfRange h = inl refl
 
 module _ (c : Counters) (m : Tables) (w : List ℕ) (a : Lookup) where
   pub find-capacity : fits c m ≡ false → a ≡ NotFound Capacity → FindAnswer c m w a

@@ -13,11 +13,12 @@ use borrow.Author.Tests.{eq-eqb, ne-eqb, lt-ltb, le-ltb, le-leb, ltb-true, ltb-f
 use Rattle.term.proofs.Booleans.{eqBytes-not}
 use Rattle.store.specs.declared.Counters.{Counters}
 use Rattle.store.specs.declared.IndexPlace.{IndexPlace}
-use Rattle.store.specs.declared.IndexPlace.the-variants.{At, Before, Torn}
+use Rattle.store.specs.declared.IndexPlace.the-variants.{At, Before, OutOfRange}
 use Rattle.store.specs.Tables.{Tables, word, offsetAt}
-use Rattle.store.specs.Shared.{maxResources, nameOf, bytesOf}
+use Rattle.store.specs.Shared.{maxResources, nameOf, textBytes}
 use Rattle.store.specs.Reading.{inRange}
-use Rattle.store.specs.Dictionary.{Ordering, less, equal, more, compare, isLess, Named, nameAt, rank, placeAt, indexPlaceOf}
+use Rattle.store.specs.Dictionary.{rank, placeAt, indexPlaceOf}
+use Rattle.store.specs.Names.{ByteOrdering, less, equal, more, compareBytes, isLess, Named, nameAt}
 use Rattle.store.proofs.Tests.{decide, three, and-of}
 use Rattle.store.proofs.Order.{flip, compare-less as order-less, compare-more as order-more, compare-tail, compare-refl, compare-flip}
 use Rattle.store.proofs.Order.{compare-equal, compare-trans, eqBytes-compare, less-not-equal}
@@ -27,12 +28,12 @@ use Rattle.store.proofs.Index.{rank-is}
 use Rattle.store.proofs.NamesAgree.{name-indexed}
 use Rattle.dictionary.specs.Search.{compareOf, probeOf, middle, searchOf, searched}
 use Rattle.dictionary.specs.declared.Compared.{Compared}
-use Rattle.dictionary.specs.declared.Compared.the-variants.{Less, Same, More, Cut}
+use Rattle.dictionary.specs.declared.Compared.the-variants.{Less, Same, More, Unreadable}
 use Rattle.dictionary.proofs.Steps.{pow2}
 
 -- ---- the comparison is the byte order
 
-abbrev compared : Ordering → Compared
+abbrev compared : ByteOrdering → Compared
 compared less = Less
 compared equal = Same
 compared more = More
@@ -50,8 +51,8 @@ clean-head zero r e = absurd (let z : _≡_ {A = ℕ} 0 1 = cc in omega arith)
 clean-head (suc x) r e = (λ q. omega arith, e)
 
 compare-is : (t : List ℕ) (e : ℕ) (n w : List ℕ) (o : ℕ) (r : List ℕ) → clean n ≡ true → clean w ≡ true → drop o t ≡ n ++ 0 ∷ r
-    → o + length n < e → compareOf t e o w ≡ compared (compare n w)
-unfolding compareOf compare
+    → o + length n < e → compareOf t e o w ≡ compared (compareBytes n w)
+unfolding compareOf compareBytes
 compare-is t e [] [] o r cn cw d h = rw (lt-ltb o e (omega arith), eq-eqb (word t o) 0 (at-head t o 0 r d))
 compare-is t e [] (y ∷ ys) o r cn cw d h =
     let z = clean-head y ys cw .0 in
@@ -79,10 +80,10 @@ compare-is t e (x ∷ xs) (y ∷ ys) o r cn cw d h =
       order-more x y xs ys g,
     ))
 
-is-more : (a b : List ℕ) → compare a b ≡ less → compare b a ≡ more
+is-more : (a b : List ℕ) → compareBytes a b ≡ less → compareBytes b a ≡ more
 is-more a b e = compare-flip a b ∙ ap flip e
 
-is-less : (a b : List ℕ) → compare a b ≡ more → compare b a ≡ less
+is-less : (a b : List ℕ) → compareBytes a b ≡ more → compareBytes b a ≡ less
 is-less a b e = compare-flip a b ∙ ap flip e
 
 -- ---- the search
@@ -98,10 +99,10 @@ module _ (ns : List (List ℕ)) (c : Counters) (m : Tables) (N : Named ns c m) (
   listed : (i : ℕ) → i < R → nm i ≡ nameOf ns (word (m .index) i)
   listed = name-indexed ns c m N
 
-  rises : (i j : ℕ) → i < j → j < R → compare (nm i) (nm j) ≡ less
+  rises : (i j : ℕ) → i < j → j < R → compareBytes (nm i) (nm j) ≡ less
   rises i j h g = rw (listed i (omega arith), listed j g) (N .index .rise i j h g)
 
-  probe-is : (k : ℕ) → k < R → probeOf c (m .resources) (m .index) (m .text) w k ≡ compared (compare (nm k) w)
+  probe-is : (k : ℕ) → k < R → probeOf c (m .resources) (m .index) (m .text) w k ≡ compared (compareBytes (nm k) w)
   unfolding probeOf inRange nameOf
   probe-is k h =
       let y = word (m .index) k in
@@ -110,11 +111,11 @@ module _ (ns : List (List ℕ)) (c : Counters) (m : Tables) (N : Named ns c m) (
       let q : y - 1 < length ns = omega (arith, N .size, low, high) in
       let clear = form-clean _ (storable-formed _ (N .well (y - 1) q)) in
       rw (lt-ltb 0 y low, le-leb y R high, listed k h, N .offsets y low high)
-      (compare-is (m .text) (c .text) (getD ns (y - 1) []) w (bytesOf (take (y - 1) ns)) _ clear cw
+      (compare-is (m .text) (c .text) (getD ns (y - 1) []) w (textBytes (take (y - 1) ns)) _ clear cw
       (text-at ns (m .text) (c .text) (y - 1) (N .spelled) q)
       (omega (arith, bytes-take ns (y - 1) q, N .bytes)))
 
-  hit : (k : ℕ) → k < R → compare (nm k) w ≡ equal → At (record { 0 = word (m .index) k }) k ≡ indexPlaceOf c m w
+  hit : (k : ℕ) → k < R → compareBytes (nm k) w ≡ equal → At (record { 0 = word (m .index) k }) k ≡ indexPlaceOf c m w
   unfolding indexPlaceOf placeAt
   hit k h e =
       let d = compare-equal (nm k) w e in
@@ -127,10 +128,10 @@ module _ (ns : List (List ℕ)) (c : Counters) (m : Tables) (N : Named ns c m) (
       rw (rk, lt-ltb k R h, eqBytes-compare (nm k) w e)
 
   abbrev Low : ℕ → Type 0
-  Low lo = (i : ℕ) → i < lo → compare (nm i) w ≡ less
+  Low lo = (i : ℕ) → i < lo → compareBytes (nm i) w ≡ less
 
   abbrev High : ℕ → Type 0
-  High hi = (i : ℕ) → hi ≤ i → i < R → compare w (nm i) ≡ less
+  High hi = (i : ℕ) → hi ≤ i → i < R → compareBytes w (nm i) ≡ less
 
   missed : (k : ℕ) → k ≤ R → Low k → High k → Before k ≡ indexPlaceOf c m w
   unfolding indexPlaceOf placeAt
@@ -142,13 +143,13 @@ module _ (ns : List (List ℕ)) (c : Counters) (m : Tables) (N : Named ns c m) (
       rw (rk, q, eqBytes-not (nm k) w ne))
       (λ q. rw (rk, q))
 
-  low-up : (k : ℕ) → k < R → compare (nm k) w ≡ less → Low (k + 1)
+  low-up : (k : ℕ) → k < R → compareBytes (nm k) w ≡ less → Low (k + 1)
   low-up k h e i q =
       decide (eqb i k)
       (λ z. rw (eqb-true i k z) e)
       (λ z. let ne : i ≢ k = eqb-false i k z in compare-trans (nm i) (nm k) w (rises i k (omega arith) h) e)
 
-  high-down : (k : ℕ) → k < R → compare (nm k) w ≡ more → High k
+  high-down : (k : ℕ) → k < R → compareBytes (nm k) w ≡ more → High k
   high-down k h e i q g =
       decide (eqb i k)
       (λ z. rw (eqb-true i k z) (is-less (nm k) w e))
@@ -158,8 +159,8 @@ module _ (ns : List (List ℕ)) (c : Counters) (m : Tables) (N : Named ns c m) (
   Claim f = (lo hi : ℕ) → lo ≤ hi → hi ≤ R → hi - lo < pow2 f → Low lo → High hi
       → searchOf c (m .resources) (m .index) (m .text) w f lo hi ≡ indexPlaceOf c m w
 
-  turn : (f lo hi : ℕ) → Claim f → lo < hi → hi ≤ R → hi - lo < pow2 (suc f) → Low lo → High hi → (o : Ordering)
-      → compare (nm (middle lo hi)) w ≡ o → searchOf c (m .resources) (m .index) (m .text) w (suc f) lo hi ≡ indexPlaceOf c m w
+  turn : (f lo hi : ℕ) → Claim f → lo < hi → hi ≤ R → hi - lo < pow2 (suc f) → Low lo → High hi → (o : ByteOrdering)
+      → compareBytes (nm (middle lo hi)) w ≡ o → searchOf c (m .resources) (m .index) (m .text) w (suc f) lo hi ≡ indexPlaceOf c m w
   unfolding searchOf
   turn f lo hi ih lt b h l g less e =
       let p = probe-is (middle lo hi) (omega arith) in
@@ -178,7 +179,7 @@ module _ (ns : List (List ℕ)) (c : Counters) (m : Tables) (N : Named ns c m) (
   search-is zero lo hi a b h l g = missed lo (omega arith) l (λ i q. g i (omega arith))
   search-is (suc f) lo hi a b h l g =
       decide (ltb lo hi)
-      (λ q. turn f lo hi (search-is f) (ltb-true lo hi q) b h l g (compare (nm (middle lo hi)) w) refl)
+      (λ q. turn f lo hi (search-is f) (ltb-true lo hi q) b h l g (compareBytes (nm (middle lo hi)) w) refl)
       (λ q. let le = ltb-false lo hi q in rw (searchOf, q) (missed lo (omega arith) l (λ i q. g i (omega arith))))
 
   pub searched-is : R ≤ maxResources → searched c (m .resources) (m .index) (m .text) w ≡ indexPlaceOf c m w

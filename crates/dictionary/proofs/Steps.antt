@@ -11,16 +11,16 @@ use lib.Dec.{eqb, ltb}
 use borrow.Author.Tests.{eq-eqb, ne-eqb, lt-ltb, le-ltb, ltb-true, ltb-false}
 use Rattle.store.specs.declared.Counters.{Counters}
 use Rattle.store.specs.declared.IndexPlace.{IndexPlace}
-use Rattle.store.specs.declared.IndexPlace.the-variants.{At, Before, Torn}
+use Rattle.store.specs.declared.IndexPlace.the-variants.{At, Before, OutOfRange}
 use Rattle.store.specs.Tables.{word}
 use Rattle.dictionary.specs.Search.{compareOf, probeOf, middle, searchOf}
 use Rattle.dictionary.specs.declared.Compared.{Compared}
-use Rattle.dictionary.specs.declared.Compared.the-variants.{Less, Same, More, Cut}
+use Rattle.dictionary.specs.declared.Compared.the-variants.{Less, Same, More, Unreadable}
 
 -- ---- the comparison
 
 -- nothing is read at or past the end
-pub compare-past : (t : List ℕ) (e o : ℕ) (w : List ℕ) → e ≤ o → compareOf t e o w ≡ Cut
+pub compare-past : (t : List ℕ) (e o : ℕ) (w : List ℕ) → e ≤ o → compareOf t e o w ≡ Unreadable
 unfolding compareOf
 compare-past t e o [] g = rw (compareOf, le-ltb o e g)
 compare-past t e o (y ∷ ys) g = rw (compareOf, le-ltb o e g)
@@ -93,10 +93,11 @@ module _ (c : Counters) (res idx text w : List ℕ) (s : IndexPlace) (lo hi : �
   same′ zero h e l p = absurd (omega arith)
   same′ (suc f) h e l p = e ∙ rw (searchOf, lt-ltb lo hi l, p)
 
-  torn′ : (f : ℕ) → hi - lo < pow2 f → s ≡ searchOf c res idx text w f lo hi → lo < hi → probeOf c res idx text w mid ≡ Cut → s ≡ Torn
+  damaged′ : (f : ℕ) → hi - lo < pow2 f → s ≡ searchOf c res idx text w f lo hi → lo < hi → probeOf c res idx text w mid ≡ Unreadable
+      → s ≡ OutOfRange
   unfolding searchOf
-  torn′ zero h e l p = absurd (omega arith)
-  torn′ (suc f) h e l p = e ∙ rw (searchOf, lt-ltb lo hi l, p)
+  damaged′ zero h e l p = absurd (omega arith)
+  damaged′ (suc f) h e l p = e ∙ rw (searchOf, lt-ltb lo hi l, p)
 
   module _ (g : Going c res idx text w s lo hi) where
     pub search-end : hi ≤ lo → s ≡ Before lo
@@ -111,5 +112,5 @@ module _ (c : Counters) (res idx text w : List ℕ) (s : IndexPlace) (lo hi : �
     pub search-same : lo < hi → probeOf c res idx text w mid ≡ Same → s ≡ At (record { 0 = word idx mid }) mid
     search-same l p = same′ (g .0) (g .1) (g .2) l p
 
-    pub search-torn : lo < hi → probeOf c res idx text w mid ≡ Cut → s ≡ Torn
-    search-torn l p = torn′ (g .0) (g .1) (g .2) l p
+    pub search-damaged : lo < hi → probeOf c res idx text w mid ≡ Unreadable → s ≡ OutOfRange
+    search-damaged l p = damaged′ (g .0) (g .1) (g .2) l p

@@ -10,7 +10,7 @@ use Rattle.store.specs.Shared.{maxResources}
 use Rattle.store.specs.Dictionary.{freshRecord, insertAt}
 
 -- room for one name more, at position k of the index
-pub record Roomy (c : Counters) (res idx text w : List ℕ) (k : ℕ) : Type 0 where
+pub record HasRoom (c : Counters) (res idx text w : List ℕ) (k : ℕ) : Type 0 where
   pub few : c .resources < maxResources
   pub in-resources : resourceWords * suc (c .resources) ≤ length res
   pub in-index : c .resources < length idx

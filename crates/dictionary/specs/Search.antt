@@ -8,7 +8,7 @@ use lib.ListN.{length}
 use lib.Dec.{eqb, ltb}
 use Rattle.store.specs.declared.Counters.{Counters}
 use Rattle.store.specs.declared.IndexPlace.{IndexPlace}
-use Rattle.store.specs.declared.IndexPlace.the-variants.{At, Before, Torn}
+use Rattle.store.specs.declared.IndexPlace.the-variants.{At, Before, OutOfRange}
 use Rattle.store.specs.declared.Refusal.the-variants.{Damaged}
 use Rattle.store.specs.declared.Lookup.{Lookup}
 use Rattle.store.specs.declared.Lookup.the-variants.{Number, Absent, Refused as NotFound}
@@ -16,7 +16,7 @@ use Rattle.store.specs.Tables.{word, offsetAt, resourceWords}
 use Rattle.store.specs.Shared.{maxResources}
 use Rattle.store.specs.Reading.{inRange}
 use Rattle.dictionary.specs.declared.Compared.{Compared}
-use Rattle.dictionary.specs.declared.Compared.the-variants.{Less, Same, More, Cut}
+use Rattle.dictionary.specs.declared.Compared.the-variants.{Less, Same, More, Unreadable}
 
 -- what the counters allow to be read
 pub record Readable (c : Counters) (res idx text : List ℕ) : Type 0 where
@@ -26,12 +26,12 @@ pub record Readable (c : Counters) (res idx text : List ℕ) : Type 0 where
   pub in-text : c .text ≤ length text
 
 -- The bytes from o on, closed by a zero byte before e, against a name: by the first byte that differs. A well-formed name has no zero
--- byte, so a text that ends first is less. No byte at or past e is needed, or the answer is Cut.
+-- byte, so a text that ends first is less. No byte at or past e is needed, or the answer is Unreadable.
 unfoldable pub compareOf : List ℕ → ℕ → ℕ → List ℕ → Compared
-compareOf t e o [] = cond (ltb o e) (cond (eqb (word t o) 0) Same More) Cut
+compareOf t e o [] = cond (ltb o e) (cond (eqb (word t o) 0) Same More) Unreadable
 compareOf t e o (y ∷ ys) =
     elim (ltb o e) [
-      | false ↦ Cut
+      | false ↦ Unreadable
       | true ↦ elim (ltb (word t o) y)
           [ true ↦ Less | false ↦ elim (ltb y (word t o)) [ true ↦ More | false ↦ compareOf t e (o + 1) ys ] ]
     ]
@@ -39,7 +39,7 @@ compareOf t e o (y ∷ ys) =
 -- entry k of the index: its number, tested; the name at its offset against w
 unfoldable pub probeOf : Counters → List ℕ → List ℕ → List ℕ → List ℕ → ℕ → Compared
 probeOf c res idx text w k =
-    cond (inRange (c .resources) (word idx k)) (compareOf text (c .text) (offsetAt res (word idx k)) w) Cut
+    cond (inRange (c .resources) (word idx k)) (compareOf text (c .text) (offsetAt res (word idx k)) w) Unreadable
 
 abbrev pub middle : ℕ → ℕ → ℕ
 middle lo hi = lo + (hi - lo) / 2
@@ -54,7 +54,7 @@ searchOf c res idx text w (suc fuel) lo hi =
         | Less ↦ searchOf c res idx text w fuel (middle lo hi + 1) hi
         | More ↦ searchOf c res idx text w fuel lo (middle lo hi)
         | Same ↦ At (record { 0 = word idx (middle lo hi) }) (middle lo hi)
-        | Cut ↦ Torn
+        | Unreadable ↦ OutOfRange
       ]
     ]
 
@@ -66,4 +66,4 @@ searched c res idx text w = searchOf c res idx text w 16 0 (c .resources)
 abbrev pub foundAs : IndexPlace → Lookup
 foundAs (At n k) = Number n
 foundAs (Before k) = Absent
-foundAs Torn = NotFound Damaged
+foundAs OutOfRange = NotFound Damaged

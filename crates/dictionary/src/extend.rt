@@ -10,7 +10,7 @@ ghost use Rattle.term.specs.Grammar.{nameLimit};
 ghost use Rattle.store.specs.Tables.{resourceWords};
 ghost use Rattle.store.specs.Shared.{maxResources, maxText};
 ghost use Rattle.store.specs.Dictionary.{oneNameMore, freshRecord, bring, insertAt};
-ghost use Rattle.dictionary.specs.Extend.{Roomy, Extended};
+ghost use Rattle.dictionary.specs.Extend.{HasRoom, Extended};
 
 // The counters with one name more.
 pub fn one_name_more(c: Counters, name: &[u8]) -> Counters
@@ -87,7 +87,7 @@ pub fn append(
     at: u32,
     kind: u32,
 )
-    requires { ⌜ Roomy c (now resources) (now index) (now text) (now name) at ⌝ }
+    requires { ⌜ HasRoom c (now resources) (now index) (now text) (now name) at ⌝ }
     ensures { λ _. ⌜ Extended c (now (resources .entry)) (now (resources .exit)) (now (index .entry)) (now (index .exit))
         (now (text .entry)) (now (text .exit)) (now (name .entry)) at kind ⌝ }
 {

@@ -17,7 +17,7 @@ pub fn compare(text: &[u8], end: u32, from: u32, name: &[u8]) -> Compared
     let stop = end as usize;
     let start = from as usize;
     if start >= stop {
-        return Compared::Cut;
+        return Compared::Unreadable;
     }
     let n = table::inner::lesser(name.len(), stop - start);
     let mut i = 0;
@@ -34,7 +34,7 @@ pub fn compare(text: &[u8], end: u32, from: u32, name: &[u8]) -> Compared
         i += 1;
     }
     if start + i >= stop {
-        return Compared::Cut;
+        return Compared::Unreadable;
     }
     if text[start + i] == 0 {
         Compared::Same
@@ -57,7 +57,7 @@ pub fn probe(
 {
     let y = ResourceId(index[at as usize]);
     if !table::in_range(c.resources, y.0) {
-        return Compared::Cut;
+        return Compared::Unreadable;
     }
     let from = table::inner::offset_at(resources, y);
     compare(text, c.text, from, name)
@@ -77,7 +77,7 @@ pub fn search(c: Counters, resources: &[u32], index: &[u32], text: &[u8], name: 
             Compared::Less => lo = mid + 1,
             Compared::More => hi = mid,
             Compared::Same => return IndexPlace::At(ResourceId(index[mid as usize]), mid),
-            Compared::Cut => return IndexPlace::Torn,
+            Compared::Unreadable => return IndexPlace::OutOfRange,
         }
     }
     IndexPlace::Before(lo)

@@ -20,12 +20,12 @@ ghost use Rattle.store.specs.Dictionary.{FindAnswer, InternAnswer};
 mod extend;
 pub mod inner;
 
-// The bytes at an offset of the text against a name: less, the same, more, or cut off by the end of the text in use.
+// The bytes at an offset of the text against a name: less, the same, more, or unreadable: a byte past the text in use is needed.
 pub enum Compared {
     Less,
     Same,
     More,
-    Cut,
+    Unreadable,
 }
 
 // Find a name: its number, or absent.
@@ -50,7 +50,7 @@ pub fn find(
     match inner::search(c, resources, index, text, short) {
         IndexPlace::At(n, _) => Lookup::Number(n),
         IndexPlace::Before(_) => Lookup::Absent,
-        IndexPlace::Torn => Lookup::Refused(Refusal::Damaged),
+        IndexPlace::OutOfRange => Lookup::Refused(Refusal::Damaged),
     }
 }
 
@@ -76,7 +76,7 @@ pub fn intern(
     let short = term::canonical(name);
     match inner::search(c, resources, index, text, short) {
         IndexPlace::At(n, _) => Interned::Number(n, c),
-        IndexPlace::Torn => Interned::Refused(Refusal::Damaged),
+        IndexPlace::OutOfRange => Interned::Refused(Refusal::Damaged),
         IndexPlace::Before(at) => {
             let grown = extend::one_name_more(c, short);
             if !fits(grown, resources, statements, index, text) {

@@ -10,14 +10,18 @@ use borrow.Author.Tests.{eqb-true}
 use Rattle.term.specs.Bytes.{among, letter, alnum, iriByte, textByte, pairByte, firstByte, labelByte, eqBytes}
 use Rattle.term.specs.Scanner.{kindOf, firstKindOf, runOf, stepOf, wholeOf}
 use Rattle.term.specs.Canonical.{writesString, canonical}
-use Rattle.store.specs.Shared.{known, within, same, agrees, permitted, below, wellFormed, matches, better, pick}
+use Rattle.store.specs.Shared.{known, within, same, agrees, kindsPermitted, below, wellFormed, matches, better, pick}
 use Rattle.store.specs.Tables.{fits, termAt, nextAt, flagAt, tripleAt, firstAt, countAt, offsetAt, kindAt, liveAt}
-use Rattle.store.specs.Walk.{entryAt, pickChain, pickable, startOf, linkOf, sits, visitable, walk as walkChain}
-use Rattle.store.specs.Statement.{seek, countable, locate, tallyAt, tally, counting, appendRecord, linkFirst, linkRecord, kinded, asserting, assertOf, retracting, retractOf}
+use Rattle.store.specs.Walk.{entryAt, pickChain, pickable, startOf, linkOf, holdsResource, visitable, walk as walkChain}
+use Rattle.store.specs.Statement.{seek, countable, locate, tallyAt, tally, counting, appendRecord, linkFirst, linkRecord}
+use Rattle.store.specs.Statement.{kindsOk, asserting, assertOf, retracting, retractOf}
 use Rattle.store.specs.Scan.{openOf, chainOk, recordOk, cursorOk, walkFrom, nextOf}
-use Rattle.store.specs.Dictionary.{compare, nameAt, rank, placeAt, indexPlaceOf, roomFor, bring, insertAt, internAs, internOf}
+use Rattle.store.specs.Dictionary.{rank, placeAt, indexPlaceOf, roomFor, bring, insertAt, internAs, internOf}
+use Rattle.store.specs.Names.{compareBytes, nameAt}
 use Rattle.store.specs.History.{Store, callStore, storeAfter}
-use Rattle.graph.specs.Query.{bind, match, recordAt, past, struck, intact, anyStruck, pruned, settle, remains, nextPattern, binds, asked, enteredOk, placeOk, enter, hit, tried, visit, walk, begun, resume, answerOf, packed, stale, nextQueryOf}
+use Rattle.graph.specs.Query.{bindWord, match, recordAt, past, levelRetracted, intact, anyRetracted, pruned, backtrack, remains}
+use Rattle.graph.specs.Query.{nextPattern, binds, asked, enteredOk, placeOk, enter, hit, tried, visit, walk, begun, resume, answerOf}
+use Rattle.graph.specs.Query.{packed, stale, nextQueryOf}
 use Rattle.graph.specs.Place.{levelsOf, insideOf, placeAs, written, cursorAt}
 use Rattle.graph.specs.Words.{patternsOf, wordOk, allOk, wordsOk, valueOf, under}
 use Rattle.store.proofs.Tests.{and-l, and-r}
@@ -55,12 +59,14 @@ agreed s (r ∷ rows) e = (
 
 test : agree sample markedRows ≡ true
 unfolding r21 trips b4 b7 sampleLoad sampleTables sample readOn solveOn answer markedRows eqNumbers agree writesString canonical kindOf
-    firstKindOf runOf stepOf wholeOf among letter alnum iriByte textByte pairByte firstByte labelByte known within same agrees permitted
+    firstKindOf runOf stepOf wholeOf among letter alnum iriByte textByte pairByte firstByte labelByte known within same agrees
+    kindsPermitted
     below fits termAt nextAt flagAt tripleAt firstAt countAt offsetAt kindAt liveAt wellFormed eqBytes matches better pick entryAt pickChain
-    pickable startOf linkOf sits visitable walkChain seek countable locate tallyAt tally counting appendRecord linkFirst linkRecord kinded asserting assertOf retracting
-    retractOf openOf chainOk recordOk cursorOk walkFrom nextOf compare nameAt rank placeAt indexPlaceOf roomFor bring insertAt internAs
-    internOf callStore storeAfter patternsOf wordOk allOk wordsOk valueOf under bind match recordAt past struck intact anyStruck pruned
-    settle remains nextPattern binds asked enteredOk placeOk enter hit tried visit walk begun resume answerOf levelsOf insideOf placeAs
+    pickable startOf linkOf holdsResource visitable walkChain seek countable locate tallyAt tally counting appendRecord linkFirst linkRecord kindsOk asserting assertOf retracting
+    retractOf openOf chainOk recordOk cursorOk walkFrom nextOf compareBytes nameAt rank placeAt indexPlaceOf roomFor bring insertAt internAs
+    internOf callStore storeAfter patternsOf wordOk allOk wordsOk valueOf under bindWord match recordAt past levelRetracted intact
+    anyRetracted pruned
+    backtrack remains nextPattern binds asked enteredOk placeOk enter hit tried visit walk begun resume answerOf levelsOf insideOf placeAs
     written cursorAt packed stale nextQueryOf
 test = refl
 

@@ -60,7 +60,7 @@ pub data Ask : Type 0 where
   -- a query read to its end: the visits, then the value of a variable in each solution
   solve : List ℕ → ℕ → Ask
   -- the number answered
-  strike : Triple → Ask
+  remove : Triple → Ask
   -- status (new 1, already 2, revived 3) and number
   put : Triple → Ask
   -- one next call with a budget: status (found 1, ended 2, spent 3) and visits
@@ -105,7 +105,7 @@ answer s (links n) = (
       ∷ nextAt (s .tables .statements) Object (prev n) ∷ [],
 )
 answer s (solve ws x) = (s, solveOn 9 s ws x (startCursor (s .counters .generation)) 0 [])
-answer s (strike x) = let r = callStore s (retract byValue x) in (r .0, (r .1) .number ∷ [])
+answer s (remove x) = let r = callStore s (retract byValue x) in (r .0, (r .1) .number ∷ [])
 answer s (put x) = let r = callStore s (assert byValue x) in (r .0, (r .1) .status ∷ (r .1) .number ∷ [])
 answer s (once x b) = let r = callStore (opened s x) (next (length (s .cursors)) b) in (s, (r .1) .status ∷ (r .1) .visits ∷ [])
 
@@ -128,12 +128,12 @@ markedRows =
     ∷ row (scan (triple 0 0 0)) (2 ∷ 2 ∷ 1 ∷ [])
     ∷ row (links 2) (1 ∷ 1 ∷ 0 ∷ [])
     ∷ row (solve (v0 ∷ 2 ∷ 3 ∷ v0 ∷ 2 ∷ v1 ∷ []) 1) (3 ∷ 4 ∷ 3 ∷ [])
-    ∷ row (strike (triple 1 2 3)) (1 ∷ [])
+    ∷ row (remove (triple 1 2 3)) (1 ∷ [])
     ∷ row (scan (triple 0 0 3)) (1 ∷ [])
-    ∷ row (strike (triple 1 2 3)) (0 ∷ [])
+    ∷ row (remove (triple 1 2 3)) (0 ∷ [])
     ∷ row (put (triple 1 2 3)) (3 ∷ 1 ∷ [])
     -- the last example is about statement 2 retracted
-    ∷ row (strike (triple 1 2 4)) (2 ∷ [])
+    ∷ row (remove (triple 1 2 4)) (2 ∷ [])
     ∷ row (once (triple 1 2 0) 1) (3 ∷ 1 ∷ []) ∷ []
 
 -- ---- the claim

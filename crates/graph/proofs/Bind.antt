@@ -1,5 +1,5 @@
--- What a record that meets a pattern binds (`bind`, `match`): exactly its resources at the pattern's open variables, and only where every
--- other word is the record's. Assumes nothing.
+-- What a record that meets a pattern binds (`bindWord`, `match`): exactly its resources at the pattern's open variables, and only where
+-- every other word is the record's. Assumes nothing.
 use mathlib.Core.Path.{_≡_, refl, sym, ap, _∙_}
 use mathlib.Core.Logic.{_≢_}
 use mathlib.Core.Bool.{Bool, true, false, _||_, true≢false}
@@ -17,7 +17,7 @@ use Rattle.store.specs.declared.Triple.{Triple}
 use Rattle.store.specs.Shared.{at}
 use Rattle.store.proofs.Tests.{decide}
 use Rattle.graph.specs.declared.QueryPattern.{QueryPattern}
-use Rattle.graph.specs.Query.{bind, after, orElse, isSome, match}
+use Rattle.graph.specs.Query.{bindWord, andThen, orElse, isSome, match}
 use Rattle.graph.specs.Words.{firstVariable, isVariable, Bindings, resource, boundTo, valueOf, under}
 unfoldable pub use Rattle.graph.specs.Standing.{isThe, occursIn}
 
@@ -112,8 +112,8 @@ bind-open b w r f e =
           let n : v ≢ w - firstVariable = omega arith in bound-other b (w - firstVariable) v r n ∙ q;
     }
 
-pub bind-bound : (b : Bindings) (w r : ℕ) (b′ : Bindings) → Fit (length b) w → bind w r b ≡ some b′ → Bound w r b b′
-unfolding bind
+pub bind-bound : (b : Bindings) (w r : ℕ) (b′ : Bindings) → Fit (length b) w → bindWord w r b ≡ some b′ → Bound w r b b′
+unfolding bindWord
 bind-bound b w r b′ f e = decide (eqb (valueOf b w) 0)
     (λ d. rw (← some-eq (rw d at e)) (bind-open b w r f (eqb-true (valueOf b w) 0 d)))
     (λ d. decide (eqb (valueOf b w) r)
@@ -124,8 +124,8 @@ bind-bound b w r b′ f e = decide (eqb (valueOf b w) 0)
 -- a solution with more, that reads the record's number, lets the word bind
 pub bind-complete : (b s : Bindings) (w r : ℕ) → Fit (length b) w → 0 < r → length s ≡ length b → More b s
     → valueOf s w ≡ r
-    → (b′ : Bindings) × (bind w r b ≡ some b′) × More b′ s
-unfolding bind
+    → (b′ : Bindings) × (bindWord w r b ≡ some b′) × More b′ s
+unfolding bindWord
 bind-complete b s w r f p l m h = decide (eqb (valueOf b w) 0)
     (λ d. rw d (set b (w - firstVariable) (resource r), refl, λ v q. into (eqb-true (valueOf b w) 0 d) v q))
     (λ d. let n : valueOf b w ≢ 0 = eqb-false (valueOf b w) 0 d in
@@ -159,7 +159,7 @@ Known3 t = (p : Position) → 0 < at p t
 pub more-trans : (a b d : Bindings) → More a b → More b d → More a d
 more-trans a b d m n v q = n v (rw (m v q) q) ∙ m v q
 
-pub after-some : {A B : Type 0} (o : Option A) (f : A → Option B) (z : B) → after o f ≡ some z → (a : A)
+pub after-some : {A B : Type 0} (o : Option A) (f : A → Option B) (z : B) → andThen o f ≡ some z → (a : A)
     × (o ≡ some a) × (f a ≡ some z)
 after-some none f z e = none≢some e
 after-some (some a) f z e = (a, refl, e)
@@ -168,9 +168,9 @@ pub match-matched : (x : QueryPattern) (t : Triple) (b b′ : Bindings) → Fits
     → match x t b ≡ some b′ → Matched x t b b′
 unfolding match under occursIn
 match-matched x t b b′ f k e =
-    let r1 = after-some (bind (x .subject) (t .subject .0) b) _ b′ e in
+    let r1 = after-some (bindWord (x .subject) (t .subject .0) b) _ b′ e in
     let b1 = r1 .0 in
-    let r2 = after-some (bind (x .predicate) (t .predicate .0) b1) _ b′ (r1 .2) in
+    let r2 = after-some (bindWord (x .predicate) (t .predicate .0) b1) _ b′ (r1 .2) in
     let b2 = r2 .0 in
     let w1 = bind-bound b (x .subject) (t .subject .0) b1 (f Subject) (r1 .1) in
     let w2 = bind-bound b1 (x .predicate) (t .predicate .0) b2 (rw (w1 .len) (f Predicate)) (r2 .1) in

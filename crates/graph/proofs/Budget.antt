@@ -9,7 +9,7 @@ use Rattle.store.specs.Tables.{fits}
 use Rattle.store.proofs.Tests.{decide}
 use Rattle.graph.specs.declared.QueryPattern.{QueryPattern}
 use Rattle.graph.specs.declared.Level.{Level}
-use Rattle.graph.specs.Query.{placeOk, intact, pruned, settle, remains}
+use Rattle.graph.specs.Query.{placeOk, intact, pruned, backtrack, remains}
 use Rattle.graph.specs.Place.{Place, start, inside, finish, placeOf}
 use Rattle.graph.specs.Words.{wordsOk, patternsOf}
 use Rattle.graph.specs.Query.{Turn, bad, go, whole, Answer, enter, visit, walk, begun, resume, answerOf, packed, stale, nextQueryOf}
@@ -29,12 +29,12 @@ module _ (g r t : ℕ) (res stm : List ℕ) (ps : List QueryPattern) where
   walk-within zero l up v =
       rw (walk-over r t res stm ps l up v zero refl)
       (decide (remains stm l up) (λ e. rw e (omega arith)) (λ e. rw e (omega arith)))
-  walk-within (suc left) l up v = settled (λ n top w. walk-within left n top w) (settle stm l up) refl
+  walk-within (suc left) l up v = backtracked (λ n top w. walk-within left n top w) (backtrack stm l up) refl
     where
       more : suc left ≡ 0 → ⊥
       more e = omega arith
 
-      turned : Lower left → (n : Level) (top : List Level) → settle stm l up ≡ n ∷ top → (z : Turn) → visit r t res stm ps n top ≡ z
+      turned : Lower left → (n : Level) (top : List Level) → backtrack stm l up ≡ n ∷ top → (z : Turn) → visit r t res stm ps n top ≡ z
           → Within g (v + suc left) (walk r t res stm ps (suc left) l up v)
       turned ih n top e bad d = rw (turn-bad r t res stm ps l up v (suc left) n top more e d) (omega arith)
       turned ih n top e (go n′ top′) d =
@@ -42,9 +42,9 @@ module _ (g r t : ℕ) (res stm : List ℕ) (ps : List QueryPattern) where
           rw (turn-go r t res stm ps l up v (suc left) n top n′ top′ more e d, q) (omega (arith, ih n′ top′ (v + 1)))
       turned ih n top e (whole b n′ top′) d = rw (turn-whole r t res stm ps l up v (suc left) n top b n′ top′ more e d) (omega arith)
 
-      settled : Lower left → (s : List Level) → settle stm l up ≡ s → Within g (v + suc left) (walk r t res stm ps (suc left) l up v)
-      settled ih [] e = rw (turn-ended r t res stm ps l up v (suc left) more e) (omega arith)
-      settled ih (n ∷ top) e = turned ih n top e (visit r t res stm ps n top) refl
+      backtracked : Lower left → (s : List Level) → backtrack stm l up ≡ s → Within g (v + suc left) (walk r t res stm ps (suc left) l up v)
+      backtracked ih [] e = rw (turn-ended r t res stm ps l up v (suc left) more e) (omega arith)
+      backtracked ih (n ∷ top) e = turned ih n top e (visit r t res stm ps n top) refl
 
   begun-within : (b : ℕ) (z : Turn) → Within g b (begun r t res stm ps b z)
   unfolding begun packed

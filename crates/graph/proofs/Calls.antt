@@ -17,7 +17,7 @@ use Rattle.store.specs.Walk.{entryAt}
 use Rattle.store.specs.Soundness.{Sound}
 use Rattle.store.proofs.Tests.{and-l, and-r, fits-parts}
 use Rattle.graph.specs.declared.QueryPattern.{QueryPattern}
-use Rattle.graph.specs.declared.Opening.the-variants.{Opened}
+use Rattle.graph.specs.declared.QueryOpening.the-variants.{Opened}
 use Rattle.graph.specs.declared.QueryCursor.{QueryCursor}
 use Rattle.graph.specs.declared.QueryAnswer.{QueryAnswer}
 use Rattle.graph.specs.Words.{maxPatterns, variables, firstVariable, isVariable, wordOk, allOk, wordsOk}
@@ -27,7 +27,7 @@ use Rattle.graph.specs.Query.{Answer, refused, found, ended, spent, answ
 use Rattle.graph.specs.Query.{openQueryOf, packed, nextQueryOf}
 use Rattle.graph.specs.Values.{queryValues}
 use Rattle.graph.specs.Order.{Descending, recordOf, statementsOf}
-use Rattle.graph.specs.Claims.{Reply, queryReply, AllPositive, statementsIn, AllInOrder, nextReply, reading, ReadingClaim}
+use Rattle.graph.specs.Claims.{Reply, queryReply, AllPositive, statementNumbers, AllInOrder, nextReply, reading, ReadingClaim}
 use Rattle.graph.proofs.Accepted.{or-cases}
 use Rattle.graph.proofs.Laws.{Shallow, place-cursor}
 use Rattle.graph.proofs.Generations.{cursor-number, own-number, read-on}
@@ -233,10 +233,10 @@ module _ (c : Counters) (m : Tables) (S : Sound c m) (ws : List ℕ) (words : wo
   unfolding leftAt visitsAt toilAt cursorAt
   start-told bs h = rw opens (told (nextReply c m ws) cursorHere leftFrom visitsFrom toilFrom At next-leaves bs start tt h)
 
-  everything-order : Descending (statementsIn c m ws) everything
+  everything-order : Descending (statementNumbers c m ws) everything
   everything-order =
       descending-cong (statements (entryAt (m .statements)) (c .statements) (patternsOf ws))
-      (statementsIn c m ws) everything
+      (statementNumbers c m ws) everything
       (statements-are (c .statements) (m .statements) (patternsOf ws))
       (solve-descending (entryAt (m .statements)) (c .statements) (positive c m S) (single c m S)
       (patternsOf ws) unbound fit)
@@ -245,7 +245,7 @@ module _ (c : Counters) (m : Tables) (S : Sound c m) (ws : List ℕ) (words : wo
   in-order = record {
     exact = exactly c m S (patternsOf ws) fit low;
     once = once-as-mappings c m S (patternsOf ws) fit low everything (λ s k. k)
-        (descending-nodup (statementsIn c m ws) everything everything-order);
+        (descending-nodup (statementNumbers c m ws) everything everything-order);
     order = everything-order;
   }
 

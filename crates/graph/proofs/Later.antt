@@ -15,7 +15,7 @@ use Rattle.store.specs.declared.Chain.the-variants.{All, By}
 use Rattle.store.specs.declared.Counters.{Counters}
 use Rattle.store.specs.declared.Triple.{Triple}
 use Rattle.store.specs.declared.IndexPlace.{IndexPlace}
-use Rattle.store.specs.declared.IndexPlace.the-variants.{At, Before, Torn}
+use Rattle.store.specs.declared.IndexPlace.the-variants.{At, Before, OutOfRange}
 use Rattle.store.specs.declared.Interned.{Interned}
 use Rattle.store.specs.declared.Asserted.{Asserted}
 use Rattle.store.specs.declared.Retracted.{Retracted}
@@ -23,14 +23,14 @@ use Rattle.store.specs.declared.Reclaimed.{Reclaimed}
 use Rattle.store.specs.declared.Asserted.the-variants.{Refused as NotAsserted}
 use Rattle.store.specs.declared.Retracted.the-variants.{Refused as NotRetracted}
 use Rattle.store.specs.declared.Refusal.the-variants.{Damaged}
-use Rattle.store.specs.Shared.{known, prev, permitted, maxReclaims, wellFormed}
+use Rattle.store.specs.Shared.{known, prev, kindsPermitted, maxReclaims, wellFormed}
 use Rattle.store.specs.Tables.{Tables, fits, termAt, kindAt, flagAt, statementCapacity}
 use Rattle.store.specs.Values.{reclaimedValues}
-use Rattle.store.specs.Model.{Call, intern, assert, retract, open′, next, reclaim, byValue, lent}
-use Rattle.store.specs.Walk.{sits}
+use Rattle.store.specs.Model.{Call, intern, assert, retract, open′, next, reclaim, byValue, updating}
+use Rattle.store.specs.Walk.{holdsResource}
 use Rattle.store.specs.Scan.{recordOk}
-use Rattle.store.specs.Statement.{locate, kinded, withFlag, counting, asserting, assertOf, retracting, retractOf, countersAfter}
-use Rattle.store.specs.Statement.{assertLentOf, retractLentOf}
+use Rattle.store.specs.Statement.{locate, kindsOk, withFlag, counting, asserting, assertOf, retracting, retractOf, countersAfter}
+use Rattle.store.specs.Statement.{assertUpdatingOf, retractUpdatingOf}
 use Rattle.store.specs.Dictionary.{indexPlaceOf, roomFor, internAs, internOf}
 use Rattle.store.specs.Reclaim.{reclaimOf}
 use Rattle.store.specs.Soundness.{Sound}
@@ -91,7 +91,7 @@ module _ (r t : ℕ) (stm : List ℕ) (r′ t′ : ℕ) (stm′ : List ℕ) (K :
       )
 
   next-kept : (ch : Chain) (x : Triple) (n : ℕ) → n ≤ t → recordOk stm ch x n ≡ true → recordOk stm′ ch x n ≡ true
-  unfolding recordOk sits
+  unfolding recordOk holdsResource
   next-kept ch x zero h e = refl
   next-kept All x (suc i) h e = refl
   next-kept (By p) x (suc i) h e = rw (K .terms p i (omega arith)) e
@@ -149,8 +149,8 @@ module _ (c : Counters) (m : Tables) where
   assert-keeps x =
       cond-all AssertKeeps (fits c m) _ _
       (cond-all AssertKeeps (known (c .resources) x) _ _
-      (cond-all AssertKeeps (kinded (m .resources) x) _ _
-      (cond-all AssertKeeps (permitted (kindAt (m .resources)) x) _ _ (walked (locate c m x)) (keeps-same c m))
+      (cond-all AssertKeeps (kindsOk (m .resources) x) _ _
+      (cond-all AssertKeeps (kindsPermitted (kindAt (m .resources)) x) _ _ (walked (locate c m x)) (keeps-same c m))
       (keeps-same c m)) (keeps-same c m))
       (keeps-same c m)
     where
@@ -188,7 +188,7 @@ module _ (c : Counters) (m : Tables) where
   interned-keeps w (Before k) =
       cond-all InternKeeps (roomFor c m w) _ _
       (record { resources = omega arith; records = omega arith; terms = λ p i h. refl }, refl) (keeps-same c m)
-  interned-keeps w Torn = keeps-same c m
+  interned-keeps w OutOfRange = keeps-same c m
 
   intern-keeps : (w : List ℕ) → InternKeeps (internOf c m w)
   unfolding internOf
@@ -239,12 +239,12 @@ abbrev answered : Store → Call → ℕ
 answered s a = reclaims a ((callStore s a) .1)
 
 call-keeps : (s : Store) (a : Call) → answered s a ≡ 0 → StoreKeeps s ((callStore s a) .0)
-unfolding callStore assertLentOf retractLentOf
+unfolding callStore assertUpdatingOf retractUpdatingOf
 call-keeps s (intern w) n = intern-keeps (s .counters) (s .tables) w
 call-keeps s (assert byValue x) n = assert-keeps (s .counters) (s .tables) x
-call-keeps s (assert lent x) n = assert-keeps (s .counters) (s .tables) x
+call-keeps s (assert updating x) n = assert-keeps (s .counters) (s .tables) x
 call-keeps s (retract byValue x) n = retract-keeps (s .counters) (s .tables) x
-call-keeps s (retract lent x) n = retract-keeps (s .counters) (s .tables) x
+call-keeps s (retract updating x) n = retract-keeps (s .counters) (s .tables) x
 call-keeps s (open′ x) n = keeps-same (s .counters) (s .tables)
 call-keeps s (next j b) n = keeps-same (s .counters) (s .tables)
 call-keeps s reclaim n = reclaim-refused (s .counters) (s .tables) n
@@ -292,12 +292,12 @@ module _ (c : Counters) (m : Tables) (S : Sound c m) where
 
 -- the cursors of open listings do not matter
 call-sound : (s : Store) → SoundStore s → (a : Call) → SoundStore ((callStore s a) .0)
-unfolding callStore assertLentOf retractLentOf
+unfolding callStore assertUpdatingOf retractUpdatingOf
 call-sound s S (intern w) = sound-once (s .counters) (s .tables) S (intern w)
 call-sound s S (assert byValue x) = sound-once (s .counters) (s .tables) S (assert byValue x)
-call-sound s S (assert lent x) = sound-once (s .counters) (s .tables) S (assert lent x)
+call-sound s S (assert updating x) = sound-once (s .counters) (s .tables) S (assert updating x)
 call-sound s S (retract byValue x) = sound-once (s .counters) (s .tables) S (retract byValue x)
-call-sound s S (retract lent x) = sound-once (s .counters) (s .tables) S (retract lent x)
+call-sound s S (retract updating x) = sound-once (s .counters) (s .tables) S (retract updating x)
 call-sound s S (open′ x) = S
 call-sound s S (next j b) = S
 call-sound s S reclaim = sound-once (s .counters) (s .tables) S reclaim

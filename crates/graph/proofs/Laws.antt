@@ -16,7 +16,7 @@ use Rattle.store.specs.Scan.{chainOk, recordOk}
 use Rattle.store.proofs.Tests.{decide, and-l, and-r, and-of}
 use Rattle.graph.specs.declared.QueryPattern.{QueryPattern}
 use Rattle.graph.specs.declared.Level.{Level}
-use Rattle.graph.specs.Query.{bad, go, whole, refused, found, ended, spent, past, settle, remains, visit, walk}
+use Rattle.graph.specs.Query.{bad, go, whole, refused, found, ended, spent, past, backtrack, remains, visit, walk}
 use Rattle.graph.specs.Query.{match, isSome, recordAt, nextPattern, binds, asked, enteredOk, placeOk}
 use Rattle.graph.specs.Place.{Place, start, inside, finish, noLevel, levelsOf, insideOf, placeAs, placeOf, written, cursorAt}
 use Rattle.graph.specs.Words.{patternsOf, pattern, maxPatterns, Bindings}
@@ -30,19 +30,19 @@ prev-minus (suc n) = omega arith
 -- ---- the inner loops: levels that have run out are left; whether a record remains
 
 module _ (stm : List ℕ) where
-  pub settle-stop : (l : Level) (up : List Level) → (l .statement .0 ≡ 0 → ⊥) → settle stm l up ≡ l ∷ up
-  unfolding settle
-  settle-stop l [] h = rw (ne-eqb (l .statement .0) 0 h)
-  settle-stop l (e ∷ up) h = rw (ne-eqb (l .statement .0) 0 h)
+  pub backtrack-stop : (l : Level) (up : List Level) → (l .statement .0 ≡ 0 → ⊥) → backtrack stm l up ≡ l ∷ up
+  unfolding backtrack
+  backtrack-stop l [] h = rw (ne-eqb (l .statement .0) 0 h)
+  backtrack-stop l (e ∷ up) h = rw (ne-eqb (l .statement .0) 0 h)
 
-  pub settle-pop : (l e : Level) (up : List Level) → l .statement .0 ≡ 0
-      → settle stm l (e ∷ up) ≡ settle stm (past stm e) up
-  unfolding settle
-  settle-pop l e up h = rw (eq-eqb (l .statement .0) 0 h)
+  pub backtrack-pop : (l e : Level) (up : List Level) → l .statement .0 ≡ 0
+      → backtrack stm l (e ∷ up) ≡ backtrack stm (past stm e) up
+  unfolding backtrack
+  backtrack-pop l e up h = rw (eq-eqb (l .statement .0) 0 h)
 
-  pub settle-none : (l : Level) → l .statement .0 ≡ 0 → settle stm l [] ≡ []
-  unfolding settle
-  settle-none l h = rw (eq-eqb (l .statement .0) 0 h)
+  pub backtrack-none : (l : Level) → l .statement .0 ≡ 0 → backtrack stm l [] ≡ []
+  unfolding backtrack
+  backtrack-none l h = rw (eq-eqb (l .statement .0) 0 h)
 
   pub remains-here : (l : Level) (up : List Level) → (l .statement .0 ≡ 0 → ⊥) → remains stm l up ≡ true
   unfolding remains
@@ -61,23 +61,23 @@ module _ (stm : List ℕ) where
 -- ---- the walk
 
 module _ (r t : ℕ) (res stm : List ℕ) (ps : List QueryPattern) (l : Level) (up : List Level) (v : ℕ) where
-  pub walk-ended : (b : ℕ) → settle stm l up ≡ [] → walk r t res stm ps (suc b) l up v ≡ ended v
+  pub walk-ended : (b : ℕ) → backtrack stm l up ≡ [] → walk r t res stm ps (suc b) l up v ≡ ended v
   unfolding walk
   walk-ended b e = rw (walk, e)
 
-  pub walk-bad : (b : ℕ) (n : Level) (top : List Level) → settle stm l up ≡ n ∷ top → visit r t res stm ps n top ≡ bad
+  pub walk-bad : (b : ℕ) (n : Level) (top : List Level) → backtrack stm l up ≡ n ∷ top → visit r t res stm ps n top ≡ bad
       → walk r t res stm ps (suc b) l up v ≡ refused Damaged
   unfolding walk
   walk-bad b n top e d = rw (walk, e, d)
 
-  pub walk-go : (b : ℕ) (n : Level) (top : List Level) (n′ : Level) (top′ : List Level) → settle stm l up ≡ n ∷ top
+  pub walk-go : (b : ℕ) (n : Level) (top : List Level) (n′ : Level) (top′ : List Level) → backtrack stm l up ≡ n ∷ top
       → visit r t res stm ps n top ≡ go n′ top′ → walk r t res stm ps (suc b) l up v ≡ walk r t res stm ps b n′ top′
       (v + 1)
   unfolding walk
   walk-go b n top n′ top′ e d = rw (walk, e, d)
 
   pub walk-whole : (b : ℕ) (n : Level) (top : List Level) (s : Bindings) (n′ : Level) (top′ : List Level)
-      → settle stm l up ≡ n ∷ top
+      → backtrack stm l up ≡ n ∷ top
       → visit r t res stm ps n top ≡ whole s n′ top′ → walk r t res stm ps (suc b) l up v ≡ found s (v + 1)
       (inside n′ top′)
   unfolding walk
@@ -93,23 +93,23 @@ module _ (r t : ℕ) (res stm : List ℕ) (ps : List QueryPattern) (l : Level) (
       (suc (left - 1)) l up v
   more-left left h = let q : left ≡ suc (left - 1) = omega arith in ap (λ (z : ℕ). walk r t res stm ps z l up v) q
 
-  pub turn-ended : (left : ℕ) → (left ≡ 0 → ⊥) → settle stm l up ≡ [] → walk r t res stm ps left l up v ≡ ended v
+  pub turn-ended : (left : ℕ) → (left ≡ 0 → ⊥) → backtrack stm l up ≡ [] → walk r t res stm ps left l up v ≡ ended v
   turn-ended left h e = more-left left h ∙ walk-ended (left - 1) e
 
-  pub turn-bad : (left : ℕ) (n : Level) (top : List Level) → (left ≡ 0 → ⊥) → settle stm l up ≡ n ∷ top
+  pub turn-bad : (left : ℕ) (n : Level) (top : List Level) → (left ≡ 0 → ⊥) → backtrack stm l up ≡ n ∷ top
       → visit r t res stm ps n top ≡ bad
       → walk r t res stm ps left l up v ≡ refused Damaged
   turn-bad left n top h e d = more-left left h ∙ walk-bad (left - 1) n top e d
 
   pub turn-go : (left : ℕ) (n : Level) (top : List Level) (n′ : Level) (top′ : List Level) → (left ≡ 0 → ⊥)
-      → settle stm l up ≡ n ∷ top
+      → backtrack stm l up ≡ n ∷ top
       → visit r t res stm ps n top ≡ go n′ top′ → walk r t res stm ps left l up v ≡ walk r t res stm ps
       (left - 1) n′ top′ (v + 1)
   turn-go left n top n′ top′ h e d = more-left left h ∙ walk-go (left - 1) n top n′ top′ e d
 
   pub turn-whole : (left : ℕ) (n : Level) (top : List Level) (s : Bindings) (n′ : Level) (top′ : List Level)
       → (left ≡ 0 → ⊥)
-      → settle stm l up ≡ n ∷ top → visit r t res stm ps n top ≡ whole s n′ top′
+      → backtrack stm l up ≡ n ∷ top → visit r t res stm ps n top ≡ whole s n′ top′
       → walk r t res stm ps left l up v ≡ found s (v + 1) (inside n′ top′)
   turn-whole left n top s n′ top′ h e d = more-left left h ∙ walk-whole (left - 1) n top s n′ top′ e d
 

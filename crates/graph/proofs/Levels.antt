@@ -30,9 +30,9 @@ use Rattle.store.proofs.Chains.{onWords, chain-links, chain-fine, chain-start, 
 use Rattle.graph.specs.declared.QueryPattern.{QueryPattern}
 use Rattle.graph.specs.declared.Level.{Level}
 use Rattle.graph.specs.Words.{firstVariable, isVariable, variables, Bindings, resource, boundTo, pattern, valueOf, under}
-use Rattle.graph.specs.Query.{bind, match, Turn, bad, go, whole, recordAt, past}
+use Rattle.graph.specs.Query.{bindWord, match, Turn, bad, go, whole, recordAt, past}
 use Rattle.graph.specs.Place.{level}
-use Rattle.graph.specs.Query.{struck, settle, remains, nextPattern, binds, asked, enter, hit, tried, visit}
+use Rattle.graph.specs.Query.{levelRetracted, backtrack, remains, nextPattern, binds, asked, enter, hit, tried, visit}
 use Rattle.graph.proofs.Bind.{wordAt, bound-same, bound-other, Fits3, Known3, or-l, or-r, none≢some, some-eq}
 use Rattle.graph.proofs.Bind.{after-some, value-number, value-variable, value-more, match-matched}
 use Rattle.graph.proofs.Solve.{down, each, solve, AllFit, under-at, hit-some}
@@ -68,8 +68,8 @@ set-low k b i n h q v = decide (eqb v i)
     (λ d. rw (set-out b i (resource n) (ltb-false i (length b) d)) (h v)))
     (λ e. rw (bound-other b i v n (eqb-false v i e)) (h v))
 
-bind-low : (k w r : ℕ) (b b′ : Bindings) → Low k b → r ≤ k → bind w r b ≡ some b′ → Low k b′
-unfolding bind
+bind-low : (k w r : ℕ) (b b′ : Bindings) → Low k b → r ≤ k → bindWord w r b ≡ some b′ → Low k b′
+unfolding bindWord
 bind-low k w r b b′ h q e = decide (eqb (valueOf b w) 0)
     (λ d. rw (← some-eq (rw d at e)) (set-low k b (w - firstVariable) r h q))
     (λ d. decide (eqb (valueOf b w) r)
@@ -80,8 +80,8 @@ pub match-low : (k : ℕ) (x : QueryPattern) (t : Triple) (b b′ : Bindings) �
     → match x t b ≡ some b′ → Low k b′
 unfolding match
 match-low k x t b b′ h q e =
-    let r1 = after-some (bind (x .subject) (t .subject .0) b) _ b′ e in
-    let r2 = after-some (bind (x .predicate) (t .predicate .0) (r1 .0)) _ b′ (r1 .2) in
+    let r1 = after-some (bindWord (x .subject) (t .subject .0) b) _ b′ e in
+    let r2 = after-some (bindWord (x .predicate) (t .predicate .0) (r1 .0)) _ b′ (r1 .2) in
     bind-low k (x .object) (t .object .0) (r2 .0) b′
     (bind-low k (x .predicate) (t .predicate .0) (r1 .0) (r2 .0)
     (bind-low k (x .subject) (t .subject .0) b (r1 .0) h (q Subject) (r1 .1)) (q Predicate) (r2 .1)) (q Object)
@@ -172,9 +172,9 @@ module _ (r t : ℕ) (res stm : List ℕ) (ps : List QueryPattern) where
   Entered [] = Unit {0}
   Entered (e ∷ up) = Passed e up × Entered up
 
-  abbrev pub Settled : Level → List Level → List Level → Type 0
-  Settled l up [] = (left l up ≡ []) × (toilLeft l up ≡ 0)
-  Settled l up (m ∷ top) = Deep m top × Entered top × (0 < m .statement .0) × (left m top ≡ left l up)
+  abbrev pub Backtracked : Level → List Level → List Level → Type 0
+  Backtracked l up [] = (left l up ≡ []) × (toilLeft l up ≡ 0)
+  Backtracked l up (m ∷ top) = Deep m top × Entered top × (0 < m .statement .0) × (left m top ≡ left l up)
       × (toilLeft m top ≡ toilLeft l up)
 
   abbrev pub firstOf : List Level → Level
@@ -199,7 +199,7 @@ module _ (r t : ℕ) (res stm : List ℕ) (ps : List QueryPattern) where
     -- the machine's hit is the enumerator's
     pub hit-same : (l : Level) (up : List Level) → hit r t res stm ps l up ≡ hitAt (entryAt stm) (nextPattern ps up)
         (binds stm ps up) (prev (l .statement .0))
-    unfolding hit hitAt struck recordAt entryAt
+    unfolding hit hitAt levelRetracted recordAt entryAt
     hit-same l up = refl
 
     pub under-top : (e : Level) (up : List Level) → Passed e up → prev (e .statement .0) < t
@@ -313,22 +313,22 @@ module _ (r t : ℕ) (res stm : List ℕ) (ps : List QueryPattern) where
     unfolding down
     down-zero up n e = rw e
 
-    settled-more : (l l′ : Level) (up up′ r : List Level) → left l up ≡ left l′ up′ → toilLeft l up ≡ toilLeft l′ up′
-        → Settled l up r → Settled l′ up′ r
-    settled-more l l′ up up′ [] e h S = (sym e ∙ S .0, sym h ∙ S .1)
-    settled-more l l′ up up′ (m ∷ top) e h S = (S .0, S .1, S .2, S .3 ∙ e, S .4 ∙ h)
+    backtracked-more : (l l′ : Level) (up up′ r : List Level) → left l up ≡ left l′ up′ → toilLeft l up ≡ toilLeft l′ up′
+        → Backtracked l up r → Backtracked l′ up′ r
+    backtracked-more l l′ up up′ [] e h S = (sym e ∙ S .0, sym h ∙ S .1)
+    backtracked-more l l′ up up′ (m ∷ top) e h S = (S .0, S .1, S .2, S .3 ∙ e, S .4 ∙ h)
 
-    pub settled : (l : Level) (up : List Level) → Deep l up → Entered up → Settled l up (settle stm l up)
-    unfolding settle
-    settled l [] D N = decide (eqb (l .statement .0) 0)
+    pub backtracked : (l : Level) (up : List Level) → Deep l up → Entered up → Backtracked l up (backtrack stm l up)
+    unfolding backtrack
+    backtracked l [] D N = decide (eqb (l .statement .0) 0)
         (λ d. rw d (unfold left above toilLeft toilAbove in
         (let z = eqb-true (l .statement .0) 0 d in
         (rw (down-zero [] (l .statement .0) z), rw (sum-zero (toil (l .chain) []) (l .statement .0) z)))))
         (λ d. rw d (let n : l .statement .0 ≢ 0 = eqb-false (l .statement .0) 0 d in
         (D, tt, omega arith, refl, refl)))
-    settled l (e ∷ up) D N = decide (eqb (l .statement .0) 0)
+    backtracked l (e ∷ up) D N = decide (eqb (l .statement .0) 0)
         (λ d. rw d (let P = N .0 in let q = suc-prev (e .statement .0) (P .pos) in
-        settled-more (past stm e) l up (e ∷ up) (settle stm (past stm e) up)
+        backtracked-more (past stm e) l up (e ∷ up) (backtrack stm (past stm e) up)
         (unfold left above in
         (rw (down-zero (e ∷ up) (l .statement .0) (eqb-true (l .statement .0) 0 d))
         (ap (λ (r : List Bindings). r ++ above up) (past-sols e up (prev (e .statement .0)) (N .1) (P .deep) q))))
@@ -339,7 +339,7 @@ module _ (r t : ℕ) (res stm : List ℕ) (ps : List QueryPattern) where
           sum-zero (toil (l .chain) (e ∷ up))
               (l .statement .0) (eqb-true (l .statement .0) 0 d),
         )))
-        (settled (past stm e) up (past-deep e up (prev (e .statement .0)) (P .deep) q) (N .1))))
+        (backtracked (past stm e) up (past-deep e up (prev (e .statement .0)) (P .deep) q) (N .1))))
         (λ d. rw d (let n : l .statement .0 ≢ 0 = eqb-false (l .statement .0) 0 d in (D, N, omega arith, refl, refl)))
 
     pub remains-none : (l : Level) (up : List Level) → Entered up → remains stm l up ≡ false → (left l up ≡ [])

@@ -16,17 +16,17 @@ use Rattle.term.proofs.Booleans.{eqBytes-is}
 use Rattle.store.specs.declared.Position.{Position}
 use Rattle.store.specs.declared.Position.the-variants.{Subject, Predicate, Object}
 use Rattle.store.specs.declared.Triple.{Triple}
-use Rattle.store.specs.Shared.{at, known, same, permitted, maxReclaims, Entry, wellFormed, nameOf, bytesOf, lookupName}
+use Rattle.store.specs.Shared.{at, known, same, kindsPermitted, maxReclaims, Entry, wellFormed, nameOf, textBytes, lookupName}
 use Rattle.store.specs.Values.{Values}
 use Rattle.store.specs.Model.{Model, Capacities, intern, internName, internModel, entry, lookup, mark, put, assertModel}
-use Rattle.store.specs.Model.{strike, retractModel, unstruck, reclaimModel, callModel}
+use Rattle.store.specs.Model.{retractEntry, retractModel, unretracted, reclaimModel, callModel}
 use Rattle.store.proofs.Tests.{decide, three, known-low, known-high, same-self, same-is}
 use Rattle.store.proofs.Falling.{head-le, head-passes, head-pos}
 use Rattle.store.proofs.Text.{name-old, name-new, length-snoc}
 use Rattle.store.proofs.Represented.{mark-length, mark-same, mark-other}
-use Rattle.store.proofs.Unstruck.{unstruck-keep, unstruck-drop, origin, origin-in, origin-reads}
+use Rattle.store.proofs.Unretracted.{unretracted-keep, unretracted-drop, origin, origin-in, origin-reads}
 use Rattle.store.proofs.Kept.{Tidy}
-use Rattle.graph.specs.Meaning.{Term, RdfTriple, termAt, Graph}
+use Rattle.graph.specs.Meaning.{Term, RdfTriple, partAt, Graph}
 use Rattle.graph.specs.Claims.{SameGraph}
 use Rattle.graph.proofs.Solve.{triple-ext}
 
@@ -39,7 +39,7 @@ nameTriple ns x = record {
       nameOf ns (x .object .0);
 }
 
-pub name-triple-at : (ns : List Term) (x : Triple) (p : Position) → termAt p (nameTriple ns x) ≡ nameOf ns (at p x)
+pub name-triple-at : (ns : List Term) (x : Triple) (p : Position) → partAt p (nameTriple ns x) ≡ nameOf ns (at p x)
 unfolding nameTriple
 name-triple-at ns x Subject = refl
 name-triple-at ns x Predicate = refl
@@ -50,7 +50,7 @@ pub name-triple-same : (ns ns′ : List Term) (x : Triple)
 unfolding nameTriple
 name-triple-same ns ns′ x h = rw (h Subject, h Predicate, h Object)
 
--- the graph: the triples listed and not struck out
+-- the graph: the triples listed and not retracted
 abbrev pub listGraph : List Term → List Entry → Graph
 listGraph ns l y = (i : ℕ) × (i < length l) × ((entry l i) .retracted ≡ false)
     × (nameTriple ns ((entry l i) .spo) ≡ y)
@@ -124,7 +124,7 @@ module _ (k : Capacities) (s : Model) (D : Tidy s) where
       → ModelEntered s ((internName k s w t) .0) w ((internName k s w t) .1)
   unfolding internName
   entered-as w zero e =
-      decide (ltb (length (s .names)) (k .resources) && leb (bytesOf (s .names ++ w ∷ [])) (k .text))
+      decide (ltb (length (s .names)) (k .resources) && leb (textBytes (s .names ++ w ∷ [])) (k .text))
       (λ d. rw d (record {
         graph = named-more (s .names) w (s .entries) (D .inside);
         longer = omega (arith, length-snoc (s .names) w);
@@ -254,7 +254,7 @@ module _ (s : Model) (D : Tidy s)
       → N x ≡ N t → x ≡ t
   triples-apart x t a b e = triple-ext x t (λ p.
       distinct (at p x) (at p t) (known-low _ x a p) (known-high _ x a p) (known-low _ t b p) (known-high _ t b p)
-      (sym (name-triple-at (s .names) x p) ∙ ap (termAt p) e ∙ name-triple-at (s .names) t p))
+      (sym (name-triple-at (s .names) x p) ∙ ap (partAt p) e ∙ name-triple-at (s .names) t p))
 
   -- a triple of the graph is listed and live
   pub in-graph : (x : Triple) → known (length (s .names)) x ≡ true → modelGraph s (N x)
@@ -275,10 +275,10 @@ module _ (s : Model) (D : Tidy s)
   not-in : (x : Triple) → known (length (s .names)) x ≡ true → lookup x (s .entries) ≡ 0 → modelGraph s (N x) → ⊥
   not-in x k e g = let r = in-graph x k g in unlisted x (s .entries) e (r .0) (r .1) (r .2)
 
-  not-struck : (x : Triple) (i : ℕ) → known (length (s .names)) x ≡ true → lookup x (s .entries) ≡ suc i
+  not-retracted : (x : Triple) (i : ℕ) → known (length (s .names)) x ≡ true → lookup x (s .entries) ≡ suc i
       → (entry (s .entries) i) .retracted ≡ true
       → modelGraph s (N x) → ⊥
-  not-struck x i k e d g =
+  not-retracted x i k e d g =
       let r = in-graph x k g in
       let q = listed-at x (s .entries) i e in
       let j = one-place (r .0) i (r .1) (q .0) (r .2 ∙ sym (q .1)) in
@@ -320,7 +320,7 @@ module _ (s : Model) (D : Tidy s)
       (λ d. rw d (record {
         refused = λ n. absurd (n refl);
         added = λ n z. rw (← q .1) (revived (s .names) (s .entries) i (q .0) z);
-        already = λ n. ((λ q. absurd (omega arith)), (λ g. absurd (not-struck x i kn e d g)));
+        already = λ n. ((λ q. absurd (omega arith)), (λ g. absurd (not-retracted x i kn e d g)));
       }))
       (λ d. rw d (record {
         refused = λ n. absurd (n refl);
@@ -337,7 +337,7 @@ module _ (s : Model) (D : Tidy s)
   unfolding assertModel
   model-asserts k x =
       decide (known (length (s .names)) x)
-      (λ e. rw e (decide (permitted (λ y. firstKindOf (nameOf (s .names) y)) x)
+      (λ e. rw e (decide (kindsPermitted (λ y. firstKindOf (nameOf (s .names) y)) x)
       (λ d. rw d (put-adds k x e (lookup x (s .entries)) refl))
       (λ d. rw d (not-added (N x) _ (λ n. omega arith)))))
       (λ e. rw e (not-added (N x) _ (λ n. omega arith)))
@@ -365,10 +365,10 @@ module _ (s : Model) (D : Tidy s)
     absent = λ e. ((λ q. h), (λ q. n));
   }
 
-  struck-out : (x : Triple) (i : ℕ) → known (length (s .names)) x ≡ true → lookup x (s .entries) ≡ suc i
+  mark-removes : (x : Triple) (i : ℕ) → known (length (s .names)) x ≡ true → lookup x (s .entries) ≡ suc i
       → (z : RdfTriple)
       → listGraph (s .names) (mark (s .entries) i true) z ↔ (modelGraph s z × (z ≢ N x))
-  struck-out x i kn e z = (there, back)
+  mark-removes x i kn e z = (there, back)
     where
       h : i < length (s .entries)
       h = listed-at x (s .entries) i e .0
@@ -408,16 +408,16 @@ module _ (s : Model) (D : Tidy s)
             ap (λ (e : Entry). N (e .spo)) o ∙ g .3,
           )
 
-  strike-removes : (x : Triple) → known (length (s .names)) x ≡ true → (t : ℕ) → lookup x (s .entries) ≡ t
-      → ModelRemoved ((strike s t) .0) (N x) ((strike s t) .1)
-  unfolding strike
-  strike-removes x kn zero e = was-absent (N x) _ refl (not-in x kn e)
-  strike-removes x kn (suc i) e =
+  retract-entry-removes : (x : Triple) → known (length (s .names)) x ≡ true → (t : ℕ) → lookup x (s .entries) ≡ t
+      → ModelRemoved ((retractEntry s t) .0) (N x) ((retractEntry s t) .1)
+  unfolding retractEntry
+  retract-entry-removes x kn zero e = was-absent (N x) _ refl (not-in x kn e)
+  retract-entry-removes x kn (suc i) e =
       decide ((entry (s .entries) i) .retracted)
-      (λ d. rw d (was-absent (N x) _ refl (not-struck x i kn e d)))
+      (λ d. rw d (was-absent (N x) _ refl (not-retracted x i kn e d)))
       (λ d. rw d (record {
         refused = λ n. absurd (n refl);
-        removed = λ n z. struck-out x i kn e z;
+        removed = λ n z. mark-removes x i kn e z;
         absent = λ n. ((λ q. absurd (omega arith)), (λ q. absurd (q (is-in x i e d))));
       }))
 
@@ -425,24 +425,24 @@ module _ (s : Model) (D : Tidy s)
   unfolding retractModel
   model-retracts x =
       decide (known (length (s .names)) x)
-      (λ e. rw e (strike-removes x e (lookup x (s .entries)) refl))
+      (λ e. rw e (retract-entry-removes x e (lookup x (s .entries)) refl))
       (λ e. rw e (not-removed (N x) _ (λ n. omega arith)))
 
--- ---- struck-out entries forgotten
+-- ---- retracted entries forgotten
 
--- an entry that is not struck out is kept
+-- an entry that is not retracted is kept
 stays : (l : List Entry) (i : ℕ) → i < length l → (entry l i) .retracted ≡ false
-    → (j : ℕ) × (j < length (unstruck l)) × (entry (unstruck l) j ≡ entry l i)
+    → (j : ℕ) × (j < length (unretracted l)) × (entry (unretracted l) j ≡ entry l i)
 stays [] i h d = absurd (omega arith)
-stays (e ∷ l) zero h d = rw (unstruck-keep e l d) (0, omega arith, refl)
+stays (e ∷ l) zero h d = rw (unretracted-keep e l d) (0, omega arith, refl)
 stays (e ∷ l) (suc i) h d =
     let r = stays l i (omega arith) d in
     decide (e .retracted)
-    (λ b. rw (unstruck-drop e l b) r)
-    (λ b. rw (unstruck-keep e l b) (suc (r .0), omega (arith, r .1), r .2))
+    (λ b. rw (unretracted-drop e l b) r)
+    (λ b. rw (unretracted-keep e l b) (suc (r .0), omega (arith, r .1), r .2))
 
-unstruck-graph : (ns : List Term) (l : List Entry) → SameGraph (listGraph ns (unstruck l)) (listGraph ns l)
-unstruck-graph ns l z = (
+unretracted-graph : (ns : List Term) (l : List Entry) → SameGraph (listGraph ns (unretracted l)) (listGraph ns l)
+unretracted-graph ns l z = (
   (λ g. let e = origin-reads l (g .0) (g .1) in (
     origin l (g .0),
     origin-in l (g .0) (g .1),
@@ -466,5 +466,5 @@ pub model-reclaims : (s : Model) → ModelRebuilt s ((reclaimModel s) .0)
 unfolding reclaimModel
 model-reclaims s =
     decide (ltb (s .generation) maxReclaims)
-    (λ e. rw e (record { graph = unstruck-graph (s .names) (s .entries); names = refl }))
+    (λ e. rw e (record { graph = unretracted-graph (s .names) (s .entries); names = refl }))
     (λ e. rw e (record { graph = graph-same (modelGraph s); names = refl }))

@@ -15,12 +15,12 @@ use Rattle.term.specs.Canonical.{canonical}
 use Rattle.store.specs.declared.Position.{Position}
 use Rattle.store.specs.declared.Position.the-variants.{Subject, Predicate, Object}
 use Rattle.store.specs.declared.Triple.{Triple}
-use Rattle.store.specs.Shared.{at, triple, known, permitted, wellFormed, nameOf, bytesOf, lookupName}
+use Rattle.store.specs.Shared.{at, triple, known, kindsPermitted, wellFormed, nameOf, textBytes, lookupName}
 use Rattle.store.specs.Tables.{Tables}
 use Rattle.store.specs.Values.{Values}
 use Rattle.store.specs.Model.{Model, Capacities, byValue, intern, assert, internName, internModel, entry, lookup, put}
 use Rattle.store.specs.Model.{assertModel, callModel}
-use Rattle.store.specs.Dictionary.{nameAt}
+use Rattle.store.specs.Names.{nameAt}
 use Rattle.store.specs.History.{Store, store, capacitiesOf, callStore}
 use Rattle.store.specs.Claims.{listsOf}
 use Rattle.store.proofs.Tests.{decide, cond-all, known-of}
@@ -175,11 +175,11 @@ module _ (k : Capacities) (l : Model) where
     where
       at-place : (t : ℕ) → AnswersOrFull (internName k l (canonical w) t)
       at-place zero =
-          cond-all AnswersOrFull (ltb (length (l .names)) (k .resources) && leb (bytesOf (l .names ++ canonical w ∷ [])) (k .text)) _ _
+          cond-all AnswersOrFull (ltb (length (l .names)) (k .resources) && leb (textBytes (l .names ++ canonical w ∷ [])) (k .text)) _ _
           (inl refl) (inr refl)
       at-place (suc i) = inl refl
 
-  assert-full : (x : Triple) → known (length (l .names)) x ≡ true → permitted (kindIn l) x ≡ true
+  assert-full : (x : Triple) → known (length (l .names)) x ≡ true → kindsPermitted (kindIn l) x ≡ true
       → AnswersOrFull (callModel k l (assert byValue x))
   unfolding callModel assertModel put
   assert-full x f g = rw (f, g) (at-place (lookup x (l .entries)))
@@ -195,8 +195,8 @@ formed w h = lt-ltb 0 (kindOf nameLimit w) h
 -- subject and predicate are of permitted kinds
 kinds-of : (ns : List (List ℕ)) (s p o : ℕ) (v w : List ℕ) → nameOf ns s ≡ canonical v → nameOf ns p ≡ canonical w
     → wellFormed v ≡ true → kindOf nameLimit v ≢ 3 → kindOf nameLimit w ≡ 1
-    → permitted (λ y. firstKindOf (nameOf ns y)) (triple s p o) ≡ true
-unfolding permitted
+    → kindsPermitted (λ y. firstKindOf (nameOf ns y)) (triple s p o) ≡ true
+unfolding kindsPermitted
 kinds-of ns s p o v w e d f n q =
     rw (
       e,
@@ -232,7 +232,7 @@ module _ (k : Capacities) (l : Model) (D : Tidy l) (y : RdfTriple) (L : Loadable
   listed = triple (one .1 .number) (two .1 .number) (three .1 .number)
 
   entered-all : one .1 .refusal ≡ 0 → two .1 .refusal ≡ 0 → three .1 .refusal ≡ 0
-      → (known (length (three .0 .names)) listed ≡ true) × (permitted (kindIn (three .0)) listed ≡ true)
+      → (known (length (three .0 .names)) listed ≡ true) × (kindsPermitted (kindIn (three .0)) listed ≡ true)
   entered-all p q r =
       let D₁ = tidy-call l D k (intern (y .subject)) in
       let D₂ = tidy-call (one .0) D₁ k (intern (y .predicate)) in

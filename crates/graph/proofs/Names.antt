@@ -17,9 +17,9 @@ use Rattle.store.specs.declared.Position.{Position}
 use Rattle.store.specs.declared.Position.the-variants.{Subject, Predicate, Object}
 use Rattle.store.specs.declared.Counters.{Counters}
 use Rattle.store.specs.declared.Triple.{Triple}
-use Rattle.store.specs.Shared.{at, permitted, wellFormed, nameOf, lookupName}
+use Rattle.store.specs.Shared.{at, kindsPermitted, wellFormed, nameOf, lookupName}
 use Rattle.store.specs.Tables.{Tables, tripleAt, kindAt}
-use Rattle.store.specs.Dictionary.{nameAt}
+use Rattle.store.specs.Names.{nameAt}
 use Rattle.store.specs.Soundness.{Sound}
 use Rattle.store.proofs.Tests.{and-l, and-r, three}
 use Rattle.store.proofs.Falling.{head-le}
@@ -27,13 +27,13 @@ use Rattle.store.proofs.Words.{triple-at}
 use Rattle.store.proofs.Form.{form-kind, form-kindOf, storable-formed, storable-plain}
 use Rattle.store.proofs.NamesAgree.{name-at}
 use Rattle.store.proofs.RoundTrips.{name-storable, name-kept, distinct-names, lookup-name}
-use Rattle.graph.specs.Meaning.{Term, termAt, IsTriple}
+use Rattle.graph.specs.Meaning.{Term, partAt, IsTriple}
 use Rattle.graph.specs.Graph.{named, LiveAt}
 use Rattle.graph.specs.Claims.{GraphClaim}
 use Rattle.graph.proofs.Solve.{triple-ext}
 
 -- a triple's name at a position is the name of its number there
-pub named-at : (m : Tables) (x : Triple) (p : Position) → termAt p (named m x) ≡ nameAt m (at p x)
+pub named-at : (m : Tables) (x : Triple) (p : Position) → partAt p (named m x) ≡ nameAt m (at p x)
 unfolding named
 named-at m x Subject = refl
 named-at m x Predicate = refl
@@ -104,7 +104,7 @@ module _ (c : Counters) (m : Tables) (S : Sound c m) where
   term-high p i h = rw (triple-at (m .statements) p i) (S .linked .high p i h)
 
   live-triple : (i : ℕ) → i < c .statements → IsTriple (named m (tripleAt (m .statements) i))
-  unfolding named permitted
+  unfolding named kindsPermitted
   live-triple i h =
       let x = tripleAt (m .statements) i in
       let k′ : not (eqb (kindAt (m .resources) (x .subject .0)) 3) && eqb (kindAt (m .resources) (x .predicate .0)) 1
@@ -123,7 +123,7 @@ module _ (c : Counters) (m : Tables) (S : Sound c m) where
   live-once i j a b e =
       let t : tripleAt (m .statements) i ≡ tripleAt (m .statements) j = triple-ext _ _ (λ p.
       names-apart _ _ (term-low p i (a .0)) (term-high p i (a .0)) (term-low p j (b .0)) (term-high p j (b .0))
-      (sym (named-at m (tripleAt (m .statements) i) p) ∙ ap (termAt p) e
+      (sym (named-at m (tripleAt (m .statements) i) p) ∙ ap (partAt p) e
       ∙ named-at m (tripleAt (m .statements) j) p)) in
       three i j (λ h. absurd (S .once i j h (b .0) t)) (λ h. h) (λ h. absurd (S .once j i h (a .0) (sym t)))
 

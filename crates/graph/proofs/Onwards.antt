@@ -23,13 +23,13 @@ use Rattle.graph.specs.declared.QueryPattern.{QueryPattern}
 use Rattle.graph.specs.declared.Level.{Level}
 use Rattle.graph.specs.declared.QueryCursor.{QueryCursor}
 use Rattle.graph.specs.declared.QueryAnswer.{QueryAnswer}
-use Rattle.graph.specs.Query.{Turn, bad, go, whole, Answer, refused, found, ended, spent, settle, remains, intact, pruned}
+use Rattle.graph.specs.Query.{Turn, bad, go, whole, Answer, refused, found, ended, spent, backtrack, remains, intact, pruned}
 use Rattle.graph.specs.Place.{Place, start, inside, finish, placeAs, placeOf, cursorAt}
 use Rattle.graph.specs.Words.{wordsOk, patternsOf, Bindings, unbound}
 use Rattle.graph.specs.Query.{placeOk, enter, visit, walk, begun, resume, answerOf, packed, stale, openQueryOf, nextQueryOf}
 use Rattle.graph.specs.Values.{QueryValues, queryOpenedValues, queryValues}
 use Rattle.graph.specs.Order.{numbersOn, atOrAfter, keep, onwardsOf}
-use Rattle.graph.specs.Claims.{statementsIn, accepted, onwardsFrom, Answers, NextClaim}
+use Rattle.graph.specs.Claims.{statementNumbers, accepted, onwardsFrom, Answers, NextClaim}
 use Rattle.graph.specs.Claims.{KeptClaim, ReclaimedClaim, moreVisits, SplitClaim}
 use Rattle.graph.proofs.Laws.{Shallow, place-cursor, walk-ended, walk-bad, walk-go, walk-whole}
 use Rattle.graph.proofs.Refusals.{says, answer-not, number-not}
@@ -69,7 +69,7 @@ module _ (c : Counters) (m : Tables) (S : Sound c m) (ws : List ℕ) (words : wo
   Ok q = placeOk (m .statements) (patternsOf ws) (c .resources) (c .statements) q ≡ true
 
   abbrev after : Place → List Bindings
-  after q = onwardsOf (statementsIn c m ws) all q
+  after q = onwardsOf (statementNumbers c m ws) all q
 
   abbrev from : Place → List Bindings
   from q = fromPlace (c .resources) (c .statements) (m .resources) (m .statements) (patternsOf ws) q
@@ -324,9 +324,9 @@ module _ (r t : ℕ) (res stm : List ℕ) (ps : List QueryPattern) where
   walk-plus : (b : ℕ) (l : Level) (up : List Level) (w v : ℕ) → walk r t res stm ps b l up (w + v)
       ≡ plus w (walk r t res stm ps b l up v)
   walk-plus zero l up w v = unfold walk in (decide (remains stm l up) (λ e. rw e) (λ e. rw e))
-  walk-plus (suc b) l up w v = one (settle stm l up) refl (λ l up v. walk-plus b l up w v)
+  walk-plus (suc b) l up w v = one (backtrack stm l up) refl (λ l up v. walk-plus b l up w v)
     where
-      two : (n : Level) (top : List Level) → settle stm l up ≡ n ∷ top → (g : Turn) → visit r t res stm ps n top ≡ g
+      two : (n : Level) (top : List Level) → backtrack stm l up ≡ n ∷ top → (g : Turn) → visit r t res stm ps n top ≡ g
           → ((l : Level) (up : List Level) (v : ℕ) → walk r t res stm ps b l up (w + v)
           ≡ plus w (walk r t res stm ps b l up v))
           → walk r t res stm ps (suc b) l up (w + v) ≡ plus w (walk r t res stm ps (suc b) l up v)
@@ -347,7 +347,7 @@ module _ (r t : ℕ) (res stm : List ℕ) (ps : List QueryPattern) where
             k,
           )
 
-      one : (k : List Level) → settle stm l up ≡ k
+      one : (k : List Level) → backtrack stm l up ≡ k
           → ((l : Level) (up : List Level) (v : ℕ) → walk r t res stm ps b l up (w + v)
           ≡ plus w (walk r t res stm ps b l up v))
           → walk r t res stm ps (suc b) l up (w + v) ≡ plus w (walk r t res stm ps (suc b) l up v)
@@ -378,12 +378,12 @@ module _ (r t : ℕ) (res stm : List ℕ) (ps : List QueryPattern) where
             ap (λ (k : ℕ). walk r t res stm ps k l up v) z
                 ∙ ap (λ (k : ℕ). walk r t res stm ps b′ l up k) x,
           )
-  walk-split (suc b) b′ l up v v′ q = one (settle stm l up) refl (λ l up v. walk-split b b′ l up v v′ q)
+  walk-split (suc b) b′ l up v v′ q = one (backtrack stm l up) refl (λ l up v. walk-split b b′ l up v v′ q)
     where
       more : suc b + b′ ≡ suc (b + b′)
       more = omega arith
 
-      two : (n : Level) (top : List Level) → settle stm l up ≡ n ∷ top → (g : Turn) → visit r t res stm ps n top ≡ g
+      two : (n : Level) (top : List Level) → backtrack stm l up ≡ n ∷ top → (g : Turn) → visit r t res stm ps n top ≡ g
           → ((l : Level) (up : List Level) (v : ℕ) → walk r t res stm ps b l up v ≡ spent v′ q
           → Splits b b′ l up v v′ q)
           → walk r t res stm ps (suc b) l up v ≡ spent v′ q → Splits (suc b) b′ l up v v′ q
@@ -401,7 +401,7 @@ module _ (r t : ℕ) (res stm : List ℕ) (ps : List QueryPattern) where
           spent-only (found s (v + 1) (inside n′ top′)) v′ q refl
           (sym (walk-whole r t res stm ps l up v b n top s n′ top′ e d) ∙ k)
 
-      one : (k : List Level) → settle stm l up ≡ k
+      one : (k : List Level) → backtrack stm l up ≡ k
           → ((l : Level) (up : List Level) (v : ℕ) → walk r t res stm ps b l up v ≡ spent v′ q
           → Splits b b′ l up v v′ q)
           → walk r t res stm ps (suc b) l up v ≡ spent v′ q → Splits (suc b) b′ l up v v′ q

@@ -1,5 +1,5 @@
 -- Any place that refusal 6 accepts, after whatever was asserted or retracted since it was given: a call answers from the solutions that
--- hold now, at or after the place; levels below a record struck out since do not count. Assumes nothing.
+-- hold now, at or after the place; levels below a record retracted since do not count. Assumes nothing.
 use mathlib.Core.Path.{_≡_, refl, sym, ap, _∙_, fun-ext}
 use mathlib.Core.Logic.{_≢_}
 use mathlib.Core.Bool.{Bool, true, false, _||_, true≢false, false≢true}
@@ -17,7 +17,7 @@ use Rattle.store.specs.declared.Triple.{Triple}
 use Rattle.store.specs.Shared.{at, prev, Entry}
 use Rattle.store.specs.Tables.{tripleAt, termAt, flagAt}
 use Rattle.store.specs.Model.{onChain}
-use Rattle.store.specs.Walk.{entryAt, linkOf, sits}
+use Rattle.store.specs.Walk.{entryAt, linkOf, holdsResource}
 use Rattle.store.specs.Scan.{chainOk, recordOk}
 use Rattle.store.specs.Soundness.{Linked, holding}
 use Rattle.store.proofs.Tests.{decide, and-of}
@@ -26,10 +26,10 @@ use Rattle.store.proofs.Words.{triple-at}
 use Rattle.store.proofs.Chains.{onWords}
 use Rattle.graph.specs.declared.QueryPattern.{QueryPattern}
 use Rattle.graph.specs.declared.Level.{Level}
-use Rattle.graph.specs.Query.{match, Answer, refused, found, ended, spent, recordAt, past, struck}
+use Rattle.graph.specs.Query.{match, Answer, refused, found, ended, spent, recordAt, past, levelRetracted}
 use Rattle.graph.specs.Place.{Place, start, inside, finish}
 use Rattle.graph.specs.Words.{variables, Bindings, unbound, pattern, under}
-use Rattle.graph.specs.Query.{intact, anyStruck, pruned, nextPattern, binds, asked, enteredOk, placeOk, resume}
+use Rattle.graph.specs.Query.{intact, anyRetracted, pruned, nextPattern, binds, asked, enteredOk, placeOk, resume}
 use Rattle.graph.specs.Order.{atOrAfter, keep, numbersOn}
 use Rattle.graph.proofs.Laws.{entered-tests, place-tests}
 use Rattle.graph.proofs.Bind.{or-l, or-r, some-orElse, Known3, match-matched}
@@ -285,9 +285,9 @@ module _ (r t : ℕ) (res stm : List ℕ) (ps : List QueryPattern) where
             (pat-fit r t res stm ps L fit low up N h) (tri-low r t res stm ps L fit low (prev (e .statement .0)) i)
             (unfold asked in o) (B .matched))
 
-    struck-entry : (e : Level) → struck stm e ≡ (entryAt stm (prev (e .statement .0))) .retracted
-    unfolding struck entryAt
-    struck-entry e = refl
+    retracted-entry : (e : Level) → levelRetracted stm e ≡ (entryAt stm (prev (e .statement .0))) .retracted
+    unfolding levelRetracted entryAt
+    retracted-entry e = refl
 
     hit-entry : (e : Level) (up : List Level) → (entryAt stm (prev (e .statement .0))) .retracted ≡ false
         → match (nextPattern ps up) (tripleAt stm (prev (e .statement .0))) (binds stm ps up)
@@ -300,51 +300,51 @@ module _ (r t : ℕ) (res stm : List ℕ) (ps : List QueryPattern) where
         (prev (e .statement .0)) d h
 
     entered-of : (up : List Level) → length up ≤ length ps → enteredOk stm ps r t up ≡ true
-        → anyStruck stm up ≡ false → Entered r t res stm ps up
-    unfolding anyStruck
+        → anyRetracted stm up ≡ false → Entered r t res stm ps up
+    unfolding anyRetracted
     entered-of [] h o z = tt
     entered-of (e ∷ up) h o z =
         let K = bits e up o in let B = K .0 in
-        let N = entered-of up (omega arith) (K .1) (or-r (struck stm e) _ z) in (
+        let N = entered-of up (omega arith) (K .1) (or-r (levelRetracted stm e) _ z) in (
           record {
             deep = deep-of e up N (omega arith) B;
             pos = B .pos;
             hits = hit-same r t res stm ps L fit low e up
-                ∙ hit-entry e up (sym (struck-entry e) ∙ or-l (struck stm e) _ z) (B .matched);
+                ∙ hit-entry e up (sym (retracted-entry e) ∙ or-l (levelRetracted stm e) _ z) (B .matched);
           },
           N,
         )
 
-    hit-struck : (e : Level) (up : List Level) → struck stm e ≡ true
+    hit-retracted : (e : Level) (up : List Level) → levelRetracted stm e ≡ true
         → hitAt (entryAt stm) (nextPattern ps up) (binds stm ps up) (prev (e .statement .0)) ≡ none
     unfolding hitAt
-    hit-struck e up z = rw (sym (struck-entry e) ∙ z)
+    hit-retracted e up z = rw (sym (retracted-entry e) ∙ z)
 
-    -- a record struck out: what is deeper does not count
-    struck-split : (e : Level) (up : List Level) (ns : List ℕ) → Entered r t res stm ps up → length up < length ps
-        → 0 < e .statement .0 → struck stm e ≡ true
+    -- a record retracted: what is deeper does not count
+    retracted-split : (e : Level) (up : List Level) (ns : List ℕ) → Entered r t res stm ps up → length up < length ps
+        → 0 < e .statement .0 → levelRetracted stm e ≡ true
         → fromC (numbersOn up (e .statement .0 ∷ ns)) ≡ down (sols r t res stm ps up)
         (prev (e .statement .0)) ++ above r t res stm ps up
-    struck-split e up ns N h p z =
+    retracted-split e up ns N h p z =
         from-split up (e .statement .0 ∷ ns) N
         ∙ ap (λ (z : ℕ). fromIn up (z ∷ ns) ++ above r t res stm ps up) (suc-prev (e .statement .0) p)
         ∙ ap (λ (z : List Bindings). z ++ above r t res stm ps up) (in-suc up (prev (e .statement .0)) ns h)
         ∙ ap (λ (z : Option Bindings).
         (each z (λ b′. from (entryAt stm) t (drop (suc (length up)) ps) b′ ns) ++ down (sols r t res stm ps up)
-        (prev (e .statement .0))) ++ above r t res stm ps up) (hit-struck e up z)
+        (prev (e .statement .0))) ++ above r t res stm ps up) (hit-retracted e up z)
 
     from-cut : (up : List Level) (ns ns′ : List ℕ) → length up ≤ length ps → enteredOk stm ps r t up ≡ true
-        → anyStruck stm up ≡ true → fromC (numbersOn up ns) ≡ fromC (numbersOn up ns′)
-    unfolding anyStruck numbersOn
+        → anyRetracted stm up ≡ true → fromC (numbersOn up ns) ≡ fromC (numbersOn up ns′)
+    unfolding anyRetracted numbersOn
     from-cut [] ns ns′ h o z = absurd (false≢true z)
     from-cut (e ∷ up) ns ns′ h o z =
         let K = bits e up o in
-        decide (anyStruck stm up)
+        decide (anyRetracted stm up)
         (λ d. from-cut up (e .statement .0 ∷ ns) (e .statement .0 ∷ ns′) (omega arith) (K .1) d)
-        (λ d. let N = entered-of up (omega arith) (K .1) d in let k : struck stm e ≡ true =
-        last (struck stm e) (rw d at z) in
-        struck-split e up ns N (omega arith) (K .0 .pos) k
-        ∙ sym (struck-split e up ns′ N (omega arith) (K .0 .pos) k))
+        (λ d. let N = entered-of up (omega arith) (K .1) d in let k : levelRetracted stm e ≡ true =
+        last (levelRetracted stm e) (rw d at z) in
+        retracted-split e up ns N (omega arith) (K .0 .pos) k
+        ∙ sym (retracted-split e up ns′ N (omega arith) (K .0 .pos) k))
       where
         last : (a : Bool) → a || false ≡ true → a ≡ true
         last true e = refl
@@ -357,30 +357,30 @@ module _ (r t : ℕ) (res stm : List ℕ) (ps : List QueryPattern) where
     only-last false b e d = absurd (true≢false (sym e ∙ d))
 
     past-step : (e : Level) (up : List Level) (l : Level) → length up < length ps
-        → enteredOk stm ps r t (e ∷ up) ≡ true → anyStruck stm (e ∷ up) ≡ true
+        → enteredOk stm ps r t (e ∷ up) ≡ true → anyRetracted stm (e ∷ up) ≡ true
         → fromC (numbersOn up ((past stm e) .statement .0 ∷ [])) ≡ fromC (numbersOn (e ∷ up) (l .statement .0 ∷ []))
-    unfolding numbersOn anyStruck
+    unfolding numbersOn anyRetracted
     past-step e up l h o z =
         let K = bits e up o in let B = K .0 in
-        decide (anyStruck stm up)
+        decide (anyRetracted stm up)
         (λ d. from-cut up ((past stm e) .statement .0 ∷ []) (e .statement .0 ∷ l .statement .0 ∷ []) (omega arith)
         (K .1) d)
         (λ d. let N = entered-of up (omega arith) (K .1) d in
         sym (place-left (past stm e) up h N)
         ∙ left-past r t res stm ps L fit low e up (prev (e .statement .0)) (deep-of e up N h B) N
         (suc-prev (e .statement .0) (B .pos))
-        ∙ sym (struck-split e up (l .statement .0 ∷ []) N h (B .pos)
-        (only-last (struck stm e) (anyStruck stm up) z d)))
+        ∙ sym (retracted-split e up (l .statement .0 ∷ []) N h (B .pos)
+        (only-last (levelRetracted stm e) (anyRetracted stm up) z d)))
 
     pruned-is : (up : List Level) (l : Level) → length up < length ps → enteredOk stm ps r t up ≡ true
-        → (anyStruck stm up ≡ false → Deep r t res stm ps l up) → Pruned l up (pruned stm l up)
+        → (anyRetracted stm up ≡ false → Deep r t res stm ps l up) → Pruned l up (pruned stm l up)
     unfolding pruned
-    pruned-is [] l h o D = let d = D (unfold anyStruck in refl) in (d, tt, place-left l [] h tt)
+    pruned-is [] l h o D = let d = D (unfold anyRetracted in refl) in (d, tt, place-left l [] h tt)
     pruned-is (e ∷ up) l h o D =
         let K = bits e up o in let B = K .0 in
-        decide (anyStruck stm (e ∷ up))
+        decide (anyRetracted stm (e ∷ up))
         (λ z. rw z (
-        let past-is : anyStruck stm up ≡ false → Deep r t res stm ps (past stm e) up
+        let past-is : anyRetracted stm up ≡ false → Deep r t res stm ps (past stm e) up
         = λ d. past-deep r t res stm ps L fit low e up (prev (e .statement .0))
         (deep-of e up (entered-of up (omega arith) (K .1) d) (omega arith) B)
         (suc-prev (e .statement .0) (B .pos)) in
@@ -404,16 +404,16 @@ module _ (r t : ℕ) (res stm : List ℕ) (ps : List QueryPattern) where
         (link-le (e .chain) (prev (e .statement .0)) i)))
         (intact-any up (K .1))
 
-    sits-on : (ch : Chain) (x : Triple) (i : ℕ) → sits stm ch x i ≡ true → onWords stm ch x i ≡ true
-    unfolding sits onChain
-    sits-on All x i e = refl
-    sits-on (By p) x i e = rw (triple-at stm p i) e
+    holds-resource-on : (ch : Chain) (x : Triple) (i : ℕ) → holdsResource stm ch x i ≡ true → onWords stm ch x i ≡ true
+    unfolding holdsResource onChain
+    holds-resource-on All x i e = refl
+    holds-resource-on (By p) x i e = rw (triple-at stm p i) e
 
     next-on : (ch : Chain) (x : Triple) (n : ℕ) → recordOk stm ch x n ≡ true → (i : ℕ) → n ≡ suc i
         → onWords stm ch x i ≡ true
     unfolding recordOk
     next-on ch x zero e i h = absurd (omega arith)
-    next-on ch x (suc n) e i h = let k : n ≡ i = omega arith in rw (← k) (sits-on ch x n e)
+    next-on ch x (suc n) e i h = let k : n ≡ i = omega arith in rw (← k) (holds-resource-on ch x n e)
 
     reached-place : (q : Place) → Reached r t res stm ps q → leftAt r t res stm ps q ≡ fromPlace q
     unfolding leftAt fromPlace

@@ -18,19 +18,19 @@ use Rattle.store.specs.Scan.{recordOk}
 use Rattle.store.specs.Soundness.{Linked}
 use Rattle.store.proofs.Tests.{decide, and-of}
 use Rattle.store.proofs.Falling.{head-le}
-use Rattle.store.proofs.Chains.{onWords, entry-known, chain-sits}
+use Rattle.store.proofs.Chains.{onWords, entry-known, chain-holds-resource}
 use Rattle.graph.specs.declared.QueryPattern.{QueryPattern}
 use Rattle.graph.specs.declared.Level.{Level}
-use Rattle.graph.specs.Query.{match, isSome, Turn, bad, go, whole, Answer, refused, found, ended, spent, recordAt, past, struck}
+use Rattle.graph.specs.Query.{match, isSome, Turn, bad, go, whole, Answer, refused, found, ended, spent, recordAt, past}
 use Rattle.graph.specs.Place.{Place, start, inside, finish}
 use Rattle.graph.specs.Words.{variables, Bindings, unbound}
-use Rattle.graph.specs.Query.{intact, anyStruck, pruned, settle, remains, nextPattern, binds, asked, enteredOk}
+use Rattle.graph.specs.Query.{levelRetracted, intact, anyRetracted, pruned, backtrack, remains, nextPattern, binds, asked, enteredOk}
 use Rattle.graph.specs.Query.{placeOk, visit, walk, begun, resume}
 use Rattle.graph.proofs.Laws.{walk-ended, walk-go, walk-whole}
 use Rattle.graph.proofs.Solve.{solve, AllFit, hit-some}
-use Rattle.graph.proofs.Levels.{AllLow, left, toilLeft, Deep, Passed, Entered, Settled, Turned, firstOf}
+use Rattle.graph.proofs.Levels.{AllLow, left, toilLeft, Deep, Passed, Entered, Backtracked, Turned, firstOf}
 use Rattle.graph.specs.Work.{work}
-use Rattle.graph.proofs.Levels.{suc-prev, hit-same, under-top, passed-match, past-num, settled, remains-none}
+use Rattle.graph.proofs.Levels.{suc-prev, hit-same, under-top, passed-match, past-num, backtracked, remains-none}
 use Rattle.graph.proofs.Levels.{remains-some, enter-is, first-deep, turn, left-first, toil-first}
 
 solve-none : (E : ℕ → Entry) (n : ℕ) (ps : List QueryPattern) (b : Bindings) → length ps ≡ 0 → solve E n ps b ≡ b ∷ []
@@ -98,10 +98,10 @@ module _ (r t : ℕ) (res stm : List ℕ) (ps : List QueryPattern) where
         (λ e. let z = remains-none r t res stm ps L fit low l up N e in unfold walk in
         (rw e (z .0, omega (arith, z .1))))
     walk-outcome (suc b) l up v D N =
-        one (settle stm l up) refl (settled r t res stm ps L fit low l up D N)
+        one (backtrack stm l up) refl (backtracked r t res stm ps L fit low l up D N)
         (λ l up v D N. walk-outcome b l up v D N)
       where
-        two : (m : Level) (top : List Level) → settle stm l up ≡ m ∷ top → Settled r t res stm ps l up (m ∷ top)
+        two : (m : Level) (top : List Level) → backtrack stm l up ≡ m ∷ top → Backtracked r t res stm ps l up (m ∷ top)
             → (g : Turn) → visit r t res stm ps m top ≡ g → Turned r t res stm ps m top g
             → ((l : Level) (up : List Level) (v : ℕ) → Deep r t res stm ps l up → Entered r t res stm ps up
             → Outcome v b (left r t res stm ps l up) (toilLeft r t res stm ps l up)
@@ -120,7 +120,7 @@ module _ (r t : ℕ) (res stm : List ℕ) (ps : List QueryPattern) where
             (unfold leftAt toilAt visitsAt in
             (sym (S .3) ∙ T .2, (T .0, T .1), omega (arith, T .3, S .4), omega (arith, T .3, S .4)))
 
-        one : (k : List Level) → settle stm l up ≡ k → Settled r t res stm ps l up k
+        one : (k : List Level) → backtrack stm l up ≡ k → Backtracked r t res stm ps l up k
             → ((l : Level) (up : List Level) (v : ℕ) → Deep r t res stm ps l up → Entered r t res stm ps up
             → Outcome v b (left r t res stm ps l up) (toilLeft r t res stm ps l up)
             (toilLeft r t res stm ps l up) (walk r t res stm ps b l up v))
@@ -146,9 +146,9 @@ module _ (r t : ℕ) (res stm : List ℕ) (ps : List QueryPattern) where
     unfolding recordAt
     isSome-match e up P = rw (passed-match r t res stm ps L fit low e up P)
 
-    struck-same : (e : Level) → struck stm e ≡ (entryAt stm (prev (e .statement .0))) .retracted
-    unfolding struck entryAt
-    struck-same e = refl
+    retracted-same : (e : Level) → levelRetracted stm e ≡ (entryAt stm (prev (e .statement .0))) .retracted
+    unfolding levelRetracted entryAt
+    retracted-same e = refl
 
     entered-ok : (up : List Level) → Entered r t res stm ps up → enteredOk stm ps r t up ≡ true
     unfolding enteredOk
@@ -167,7 +167,7 @@ module _ (r t : ℕ) (res stm : List ℕ) (ps : List QueryPattern) where
         → recordOk stm ch x n ≡ true
     unfolding recordOk
     next-ok ch x zero h = refl
-    next-ok ch x (suc i) h = chain-sits stm ch x i (h i refl)
+    next-ok ch x (suc i) h = chain-holds-resource stm ch x i (h i refl)
 
     pub reached-ok : (q : Place) → Reached q → placeOk stm ps r t q ≡ true
     unfolding placeOk
@@ -193,17 +193,17 @@ module _ (r t : ℕ) (res stm : List ℕ) (ps : List QueryPattern) where
         (rw q (head-le (onWords stm (e .chain) (asked stm ps up)) (prev (e .statement .0))))))
         (intact-ok up (N .1))
 
-    none-struck : (up : List Level) → Entered r t res stm ps up → anyStruck stm up ≡ false
-    unfolding anyStruck
-    none-struck [] N = refl
-    none-struck (e ∷ up) N =
+    none-retracted : (up : List Level) → Entered r t res stm ps up → anyRetracted stm up ≡ false
+    unfolding anyRetracted
+    none-retracted [] N = refl
+    none-retracted (e ∷ up) N =
         let h = (hit-some _ _ _ _ _ (sym (hit-same r t res stm ps L fit low e up) ∙ N .0 .hits)) .0 in
-        rw (none-struck up (N .1), struck-same e, h)
+        rw (none-retracted up (N .1), retracted-same e, h)
 
     pub pruned-same : (l : Level) (up : List Level) → Entered r t res stm ps up → pruned stm l up ≡ (l, up)
     unfolding pruned
     pruned-same l [] N = refl
-    pruned-same l (e ∷ up) N = rw (none-struck (e ∷ up) N)
+    pruned-same l (e ∷ up) N = rw (none-retracted (e ∷ up) N)
 
     pub start-outcome : (b : ℕ) → 0 < b → Outcome 0 b (leftAt start) (visitsAt start) (toilAt start)
         (resume r t res stm ps start b)

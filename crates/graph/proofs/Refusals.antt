@@ -21,7 +21,7 @@ use Rattle.graph.specs.declared.Level.{Level}
 use Rattle.graph.specs.Query.{Turn, bad, go, whole, Answer, refused}
 use Rattle.graph.specs.Place.{Place, start, inside, finish}
 use Rattle.graph.specs.Words.{wordsOk, patternsOf}
-use Rattle.graph.specs.Query.{found, ended, spent, settle, remains, intact, pruned, placeOk, enter, visit, walk, begun, resume}
+use Rattle.graph.specs.Query.{found, ended, spent, backtrack, remains, intact, pruned, placeOk, enter, visit, walk, begun, resume}
 use Rattle.graph.specs.Query.{answerOf, packed, openQueryOf, nextQueryOf}
 use Rattle.graph.specs.Values.{queryValues}
 use Rattle.graph.specs.Claims.{refusedQuery, RefusalsBare}
@@ -40,16 +40,16 @@ module _ (k : ℕ) (nine : 9 ≢ k) where
   module _ (r t : ℕ) (res stm : List ℕ) (ps : List QueryPattern) where
     walk-not : (b : ℕ) (l : Level) (up : List Level) (v : ℕ) → says k (walk r t res stm ps b l up v) ≡ false
     walk-not zero l up v = unfold walk in (decide (remains stm l up) (λ e. rw e) (λ e. rw e))
-    walk-not (suc b) l up v = one (settle stm l up) refl (λ l up v. walk-not b l up v)
+    walk-not (suc b) l up v = one (backtrack stm l up) refl (λ l up v. walk-not b l up v)
       where
-        two : (n : Level) (top : List Level) → settle stm l up ≡ n ∷ top → (g : Turn) → visit r t res stm ps n top ≡ g
+        two : (n : Level) (top : List Level) → backtrack stm l up ≡ n ∷ top → (g : Turn) → visit r t res stm ps n top ≡ g
             → ((l : Level) (up : List Level) (v : ℕ) → says k (walk r t res stm ps b l up v) ≡ false)
             → says k (walk r t res stm ps (suc b) l up v) ≡ false
         two n top e bad d ih = rw (walk-bad r t res stm ps l up v b n top e d) (ne-eqb 9 k nine)
         two n top e (go n′ top′) d ih = rw (walk-go r t res stm ps l up v b n top n′ top′ e d) (ih n′ top′ (v + 1))
         two n top e (whole s n′ top′) d ih = rw (walk-whole r t res stm ps l up v b n top s n′ top′ e d)
 
-        one : (x : List Level) → settle stm l up ≡ x
+        one : (x : List Level) → backtrack stm l up ≡ x
             → ((l : Level) (up : List Level) (v : ℕ) → says k (walk r t res stm ps b l up v) ≡ false)
             → says k (walk r t res stm ps (suc b) l up v) ≡ false
         one [] e ih = rw (walk-ended r t res stm ps l up v b e)

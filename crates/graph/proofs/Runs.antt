@@ -11,7 +11,7 @@ use Rattle.store.specs.declared.Position.the-variants.{Subject, Predicate, Obje
 use Rattle.store.specs.declared.Triple.{Triple}
 use Rattle.store.specs.Shared.{triple, known, within, agrees, matches, better, pick}
 use Rattle.store.specs.Tables.{Tables, tables, fits, termAt, nextAt, flagAt, tripleAt, firstAt, countAt, liveAt}
-use Rattle.store.specs.Walk.{entryAt, pickChain, pickable, startOf, linkOf, sits, visitable, walk as along}
+use Rattle.store.specs.Walk.{entryAt, pickChain, pickable, startOf, linkOf, holdsResource, visitable, walk as along}
 use Rattle.store.specs.Scan.{openOf, chainOk, recordOk, cursorOk, walkFrom, nextOf}
 use Rattle.store.specs.Statement.{appendRecord, linkFirst, linkRecord}
 use Rattle.store.specs.Reclaim.{unlinked, sweepOne, sweep, blanked, sweptOf, reclaimOf}
@@ -20,7 +20,7 @@ use Rattle.graph.specs.declared.Level.{Level}
 use Rattle.graph.specs.declared.Progress.{Progress}
 use Rattle.graph.specs.declared.Progress.the-variants.{Start, Within, End}
 use Rattle.graph.specs.declared.QueryCursor.{QueryCursor}
-use Rattle.graph.specs.Query.{bind, match, recordAt, past, struck, intact, anyStruck, pruned, settle}
+use Rattle.graph.specs.Query.{bindWord, match, recordAt, past, levelRetracted, intact, anyRetracted, pruned, backtrack}
 use Rattle.graph.specs.Words.{patternsOf, wordOk, allOk, wordsOk, Bindings, resource, valueOf, under}
 use Rattle.graph.specs.Place.{level, noLevel, levelsOf, insideOf, placeAs, written, cursorAt}
 use Rattle.graph.specs.Query.{remains, nextPattern, binds, asked, enteredOk, placeOk, enter, hit, tried, visit}
@@ -33,15 +33,15 @@ use Rattle.graph.specs.Claims.{Reply, queryReply, readOn, foundIn, hasEn
 abbrev v : ℕ → ℕ
 v n = 2147483648 + n
 
-pub record Lent : Type 0 where
+pub record TestStore : Type 0 where
   pub counters : Counters
-  pub lent : Tables
+  pub tables : Tables
 
 -- R and T, the resource and the statement table; no text is needed
-abbrev store : ℕ → ℕ → List ℕ → List ℕ → Lent
+abbrev store : ℕ → ℕ → List ℕ → List ℕ → TestStore
 store r t res stm = record {
   counters = record { resources = r; statements = t; text = 0; generation = 0 };
-  lent =
+  tables =
       tables res stm (replicate r 0) [];
 }
 
@@ -54,50 +54,50 @@ abbrev sr : ℕ → ℕ → ℕ → ℕ → ℕ → ℕ → ℕ → List ℕ →
 sr a b c d e f g rest = a ∷ b ∷ c ∷ d ∷ e ∷ f ∷ g ∷ rest
 
 -- after the loading program's example: 1 = (1,2,3), 2 = (1,2,4)
-two : Lent
+two : TestStore
 two = store 4 2 (rr 2 0 0 2 0 0 (rr 0 2 0 0 2 0 (rr 0 0 1 0 0 1 (rr 0 0 2 0 0 1 []))))
     (sr 1 2 3 0 0 0 0 (sr 1 2 4 1 1 0 0 []))
 
--- the same with 2 struck out
-latest-struck : Lent
-latest-struck = store 4 2 (rr 2 0 0 2 0 0 (rr 0 2 0 0 2 0 (rr 0 0 1 0 0 1 (rr 0 0 2 0 0 1 []))))
+-- the same with 2 retracted
+latest-retracted : TestStore
+latest-retracted = store 4 2 (rr 2 0 0 2 0 0 (rr 0 2 0 0 2 0 (rr 0 0 1 0 0 1 (rr 0 0 2 0 0 1 []))))
     (sr 1 2 3 0 0 0 0 (sr 1 2 4 1 1 0 1 []))
 
 -- 1 = (1,2,3), 2 = (1,2,4), 3 = (3,2,4); the flag of 1 and the subject's next of 3 as given
-three : ℕ → ℕ → Lent
+three : ℕ → ℕ → TestStore
 three f n =
     store 4 3 (rr 2 0 0 2 0 0 (rr 0 3 0 0 3 0 (rr 3 0 1 1 0 1 (rr 0 0 3 0 0 2 []))))
     (sr 1 2 3 0 0 0 f (sr 1 2 4 1 1 0 0 (sr 3 2 4 n 2 2 0 [])))
 
 -- 1 = (1,2,4) alone
-lone : Lent
+lone : TestStore
 lone = store 4 1 (rr 1 0 0 1 0 0 (rr 0 1 0 0 1 0 (rr 0 0 0 0 0 0 (rr 0 0 1 0 0 1 [])))) (sr 1 2 4 0 0 0 0 [])
 
 -- 1 = (1,2,3), and 99 for the count of 3 as subject
-much : Lent
+much : TestStore
 much = store 4 1 (rr 1 0 0 1 0 0 (rr 0 1 0 0 1 0 (rr 0 0 1 99 0 1 (rr 0 0 0 0 0 0 [])))) (sr 1 2 3 0 0 0 0 [])
 
 -- 1 = (1,2,n), whatever n is
-odd : ℕ → Lent
+odd : ℕ → TestStore
 odd n = store 4 1 (rr 1 0 0 1 0 0 (rr 0 1 0 0 1 0 (rr 0 0 0 0 0 0 (rr 0 0 0 0 0 0 [])))) (sr 1 2 n 0 0 0 0 [])
 
 -- the same tables with t for T
-abbrev counted : ℕ → Lent → Lent
+abbrev counted : ℕ → TestStore → TestStore
 counted t s = record {
   counters = record { resources = s .counters .resources; statements = t; text = s .counters .text; generation = s .counters .generation };
-  lent = s .lent;
+  tables = s .tables;
 }
 
 -- the same tables with g for the number of reclaims
-abbrev numbered : ℕ → Lent → Lent
+abbrev numbered : ℕ → TestStore → TestStore
 numbered g s = record {
   counters = record { resources = s .counters .resources; statements = s .counters .statements; text = s .counters .text; generation = g };
-  lent = s .lent;
+  tables = s .tables;
 }
 
 -- after a reclaim
-abbrev reclaimed : Lent → Lent
-reclaimed s = let r = reclaimOf (s .counters) (s .lent) in record { counters = afterReclaim (s .counters) (r .1); lent = r .0 }
+abbrev reclaimed : TestStore → TestStore
+reclaimed s = let r = reclaimOf (s .counters) (s .tables) in record { counters = afterReclaim (s .counters) (r .1); tables = r .0 }
 
 -- the cursors of a store never reclaimed: eight levels written out, the first pattern first
 abbrev none : QueryCursor
@@ -209,14 +209,14 @@ abbrev filled : Progress → ℕ → QueryCursor
 filled g n = record { progress = g; depth = n; generation = 0; levels = replicate 8 (P 77) }
 
 -- open, one next call, calls one after another from the start
-abbrev open′ : Lent → List ℕ → Replied
-open′ s ws = queryReply (queryOpenedValues (openQueryOf (s .counters) (s .lent) ws))
+abbrev open′ : TestStore → List ℕ → Replied
+open′ s ws = queryReply (queryOpenedValues (openQueryOf (s .counters) (s .tables) ws))
 
-abbrev next : Lent → List ℕ → QueryCursor → ℕ → Replied
-next s ws q b = nextReply (s .counters) (s .lent) ws q b
+abbrev next : TestStore → List ℕ → QueryCursor → ℕ → Replied
+next s ws q b = nextReply (s .counters) (s .tables) ws q b
 
-abbrev read : Lent → List ℕ → List ℕ → List Replied
-read s ws bs = reading (s .counters) (s .lent) ws bs
+abbrev read : TestStore → List ℕ → List ℕ → List Replied
+read s ws bs = reading (s .counters) (s .tables) ws bs
 
 -- ---- the table
 
@@ -316,9 +316,9 @@ places-accepted = record {
       ∷ replicate 13 (refusedWith 6) ++ refusedWith 9 ∷ [];
 }
 
--- the entered record 1 is struck out since, and nothing is below it on its chain
-struck-since : Case
-struck-since = record {
+-- the entered record 1 is retracted since, and nothing is below it on its chain
+retracted-since : Case
+retracted-since = record {
   given = next (three 1 0) hops (in2 (P 1) (S 3)) 9 ∷ [];
   due = ended 0 ∷ [];
 }
@@ -351,7 +351,7 @@ found-run-out = record {
   due = found 1 (sol 0 0) (in1 (O 0)) ∷ ended 0 ∷ [];
 }
 
--- 9 before any visit, also below a record struck out since
+-- 9 before any visit, also below a record retracted since
 damaged-below : Case
 damaged-below = record {
   given = next (three 1 3) (v 0 ∷ 2 ∷ v 1 ∷ v 1 ∷ 2 ∷ v 2 ∷ v 2 ∷ 2 ∷ v 3 ∷ []) (in3 (P 1) (S 3) (S 0)) 1 ∷ [];
@@ -417,7 +417,7 @@ carried = record {
       ∷ endedAfter 3 0 ∷ [];
 }
 
--- statement 1 is struck out, a query stands before 2: once reclaimed, its cursor is refused 13, and a query anew finds the two left
+-- statement 1 is retracted, a query stands before 2: once reclaimed, its cursor is refused 13, and a query anew finds the two left
 reclaimed-between : Case
 reclaimed-between = record {
   given = next (three 1 0) (v 0 ∷ 2 ∷ 4 ∷ []) (in1 (P 2)) 9
@@ -431,7 +431,8 @@ reclaimed-between = record {
 }
 
 cases : List Case
-cases = paper ∷ opened ∷ no-patterns ∷ eight-patterns ∷ slots-ignored ∷ variable-thrice ∷ places-accepted ∷ struck-since ∷ enter-refused ∷
+cases =
+    paper ∷ opened ∷ no-patterns ∷ eight-patterns ∷ slots-ignored ∷ variable-thrice ∷ places-accepted ∷ retracted-since ∷ enter-refused ∷
     run-out-stays ∷ nothing-remains ∷ found-run-out ∷ damaged-below ∷ large-budget ∷ stale-places ∷ refusals-in-order ∷ carried ∷
     reclaimed-between ∷ []
 
@@ -465,14 +466,14 @@ queries-due = due [] 0 false false
     ∷ due (sol 1 4 ∷ sol 1 3 ∷ []) 3 true false
     ∷ due [] 2 false true ∷ []
 
--- scans, the latest struck out: spent on it; found, a refusal between; ended, and ended again; of three, the first struck out or not
-abbrev scan : Lent → Triple → List ℕ → Heard ℕ
-scan s x bs = heard (scanning (s .counters) (s .lent) x bs)
+-- scans, the latest retracted: spent on it; found, a refusal between; ended, and ended again; of three, the first retracted or not
+abbrev scan : TestStore → Triple → List ℕ → Heard ℕ
+scan s x bs = heard (scanning (s .counters) (s .tables) x bs)
 
 scans-heard : List (Heard ℕ)
-scans-heard = scan latest-struck (triple 1 2 0) (1 ∷ [])
-    ∷ scan latest-struck (triple 1 2 0) (1 ∷ 0 ∷ 1 ∷ [])
-    ∷ scan latest-struck (triple 1 2 0) (9 ∷ 9 ∷ 9 ∷ [])
+scans-heard = scan latest-retracted (triple 1 2 0) (1 ∷ [])
+    ∷ scan latest-retracted (triple 1 2 0) (1 ∷ 0 ∷ 1 ∷ [])
+    ∷ scan latest-retracted (triple 1 2 0) (9 ∷ 9 ∷ 9 ∷ [])
     ∷ scan (three 0 0) (triple 0 2 0) (9 ∷ 9 ∷ 9 ∷ [])
     ∷ scan (three 1 0) (triple 0 2 0) (9 ∷ 9 ∷ 9 ∷ []) ∷ []
 
@@ -487,13 +488,13 @@ scans-due = due [] 1 false true
 
 all-as-due : (map (λ (x : Case). x .given) cases ≡ map (λ (x : Case). x .due) cases)
     × (queries-heard ≡ queries-due) × (scans-heard ≡ scans-due)
-unfolding cases paper opened no-patterns eight-patterns slots-ignored variable-thrice places-accepted struck-since
+unfolding cases paper opened no-patterns eight-patterns slots-ignored variable-thrice places-accepted retracted-since
     enter-refused run-out-stays nothing-remains found-run-out damaged-below large-budget stale-places refusals-in-order
-    carried reclaimed-between queries-heard queries-due scans-heard scans-due two three latest-struck lone much odd copies
-    wordOk allOk wordsOk patternsOf valueOf under bind match recordAt past struck intact anyStruck pruned settle
+    carried reclaimed-between queries-heard queries-due scans-heard scans-due two three latest-retracted lone much odd copies
+    wordOk allOk wordsOk patternsOf valueOf under bindWord match recordAt past levelRetracted intact anyRetracted pruned backtrack
     remains nextPattern binds asked enteredOk placeOk enter hit tried visit walk begun resume answerOf levelsOf
     insideOf placeAs written cursorAt openQueryOf packed stale nextQueryOf readOn foundIn hasEnded lastSpent visitsIn
-    known within agrees matches better pick termAt nextAt flagAt tripleAt firstAt countAt liveAt entryAt linkOf startOf sits
+    known within agrees matches better pick termAt nextAt flagAt tripleAt firstAt countAt liveAt entryAt linkOf startOf holdsResource
     visitable pickChain pickable chainOk recordOk cursorOk along walkFrom openOf nextOf fits appendRecord
     linkFirst linkRecord unlinked sweepOne sweep blanked sweptOf reclaimOf
 all-as-due = (refl, refl, refl)

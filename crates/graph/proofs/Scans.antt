@@ -21,9 +21,9 @@ use Rattle.store.specs.declared.ScanOpened.the-variants.{Cursor}
 use Rattle.store.specs.Shared.{at, within, agrees, below, head0, prev, matches}
 use Rattle.store.specs.Tables.{Tables, tripleAt, flagAt}
 use Rattle.store.specs.Values.{scannedValues}
-use Rattle.store.specs.Model.{onChain, Taken, found as took, ended as emptied, spent as stopped, oneMore, take-off}
+use Rattle.store.specs.Model.{onChain, Taken, found as took, ended as emptied, spent as stopped, oneMore, readRest}
 use Rattle.store.specs.Walk.{entryAt, pickChain}
-use Rattle.store.specs.Dictionary.{nameAt}
+use Rattle.store.specs.Names.{nameAt}
 use Rattle.store.specs.Scan.{openOf, cursorIn, chainOk, recordOk, cursorOk, walkFrom, scannedAs, nextOf}
 use Rattle.store.specs.Soundness.{living, Sound}
 use Rattle.store.proofs.Tests.{decide, and-l, and-r, and-of, all3-at, all3-of, within-high, within-of}
@@ -32,10 +32,10 @@ use Rattle.store.proofs.Words.{triple-at}
 use Rattle.store.proofs.Walks.{asStep, take-hit, take-miss}
 use Rattle.store.proofs.Picking.{pick-ok}
 use Rattle.store.proofs.LiveCounts.{counted-is}
-use Rattle.store.proofs.Chains.{onWords, pickChain-bound, chain-sits, chain-start, pickable-linked, walk-linked}
+use Rattle.store.proofs.Chains.{onWords, pickChain-bound, chain-holds-resource, chain-start, pickable-linked, walk-linked}
 use Rattle.graph.specs.Work.{scanWorkOf}
 use Rattle.graph.specs.Order.{Descending}
-use Rattle.graph.specs.Meaning.{RdfTriple, termAt}
+use Rattle.graph.specs.Meaning.{RdfTriple, partAt}
 use Rattle.graph.specs.Graph.{named, graphOf}
 use Rattle.graph.specs.Claims.{Reply, scanReply, readOn, AllPositive, namedAt, Matches, AllMatches, scanNext, scanning, ScanClaim}
 use Rattle.graph.specs.Claims.{only, LiveCountClaim}
@@ -86,29 +86,29 @@ module _ (f hit : ℕ → Bool) (on : (i : ℕ) → hit i ≡ true → f i ≡ t
   off : (i : ℕ) → f i ≡ false → hit i ≡ false
   off i e = decide (hit i) (λ d. absurd (true≢false (sym (on i d) ∙ e))) (λ d. d)
 
-  takes : (b k : ℕ) → Takes b k (take-off hit b (below f k))
+  takes : (b k : ℕ) → Takes b k (readRest hit b (below f k))
   takes b zero = rw (below-nil f) (none-left b)
     where
-      none-left : (b : ℕ) → Takes b 0 (take-off hit b [])
-      none-left zero = unfold take-off in (below-nil hit, rw (below-nil f))
-      none-left (suc b) = unfold take-off in (below-nil hit, rw (below-nil f))
+      none-left : (b : ℕ) → Takes b 0 (readRest hit b [])
+      none-left zero = unfold readRest in (below-nil hit, rw (below-nil f))
+      none-left (suc b) = unfold readRest in (below-nil hit, rw (below-nil f))
   takes b (suc n) =
       decide (f n)
       (λ e. rw (below-yes f n e) (top b e (λ b. takes b n)))
       (λ e. rw (below-no f n e)
-      (takes-skip b n (take-off hit b (below f n)) (below-no hit n (off n e)) (below-no f n e) (takes b n)))
+      (takes-skip b n (readRest hit b (below f n)) (below-no hit n (off n e)) (below-no f n e) (takes b n)))
     where
-      top : (b : ℕ) → f n ≡ true → ((b : ℕ) → Takes b n (take-off hit b (below f n)))
-          → Takes b (suc n) (take-off hit b (suc n ∷ below f n))
+      top : (b : ℕ) → f n ≡ true → ((b : ℕ) → Takes b n (readRest hit b (below f n)))
+          → Takes b (suc n) (readRest hit b (suc n ∷ below f n))
       top zero e ih =
-          unfold take-off in
+          unfold readRest in
           (suc n, omega arith, sym (below-yes f n e), refl, omega arith, refl, rw (below-yes f n e) (omega arith))
       top (suc b) e ih =
           decide (hit n)
           (λ d. rw (take-hit hit b (suc n) (below f n) d)
           (n, omega arith, refl, below-yes hit n d, rw (below-yes f n e) (omega arith), omega arith))
           (λ d. rw (take-miss hit b (suc n) (below f n) d)
-          (takes-miss b n (take-off hit b (below f n)) (below-no hit n d) (below-yes f n e) (ih b)))
+          (takes-miss b n (readRest hit b (below f n)) (below-no hit n d) (below-yes f n e) (ih b)))
 
 module _ (c : Counters) (m : Tables) (S : Sound c m) (x : Triple) (known : within (c .resources) x ≡ true) where
   abbrev hit : ℕ → Bool
@@ -173,7 +173,7 @@ module _ (c : Counters) (m : Tables) (S : Sound c m) (x : Triple) (known : withi
     record-ok : (n : ℕ) → ((i : ℕ) → n ≡ suc i → F i ≡ true) → recordOk (m .statements) ch x n ≡ true
     unfolding recordOk
     record-ok zero h = refl
-    record-ok (suc i) h = chain-sits (m .statements) ch x i (h i refl)
+    record-ok (suc i) h = chain-holds-resource (m .statements) ch x i (h i refl)
 
     here-ok : (k : ℕ) → k ≤ c .statements → cursorOk c m (here k) ≡ true
     unfolding cursorOk
@@ -184,7 +184,7 @@ module _ (c : Counters) (m : Tables) (S : Sound c m) (x : Triple) (known : withi
         (record-ok (head0 (below F k)) (λ i e. head-passes F k i e))))
 
     next-is : (k b : ℕ) → k ≤ c .statements → 0 < b
-        → nextOf c m (here k) b ≡ scannedAs (here k) (some (asStep (take-off hit b (below F k))))
+        → nextOf c m (here k) b ≡ scannedAs (here k) (some (asStep (readRest hit b (below F k))))
     unfolding nextOf walkFrom
     next-is k b h g =
         let n : b ≢ 0 = omega arith in
@@ -230,7 +230,7 @@ module _ (c : Counters) (m : Tables) (S : Sound c m) (x : Triple) (known : withi
     }
 
     next-leaves : (k b : ℕ) → k ≤ c .statements → 0 < b → LeavesAt k (scanNext c m (here k) b)
-    next-leaves k b h g = rw (next-is k b h g) (leaves k b (take-off hit b (below F k)) h g (takes F hit hit-on b k))
+    next-leaves k b h g = rw (next-is k b h g) (leaves k b (readRest hit b (below F k)) h g (takes F hit hit-on b k))
 
     told-from : (bs : List ℕ) (k : ℕ) → k ≤ c .statements → AllPositive bs
         → Told (below hit k) (visitsAt k) (visitsAt k) bs (readOn (scanNext c m) (here k) bs)
@@ -274,7 +274,7 @@ module _ (c : Counters) (m : Tables) (S : Sound c m) (x : Triple) (known : withi
       )
     where
       one : (i : ℕ) (p : Position) → (at p x ≡ 0) ⊎ (at p (tripleAt (m .statements) i) ≡ at p x)
-          → (at p x ≡ 0) ⊎ (nameAt m (at p x) ≡ termAt p (named m (tripleAt (m .statements) i)))
+          → (at p x ≡ 0) ⊎ (nameAt m (at p x) ≡ partAt p (named m (tripleAt (m .statements) i)))
       one i p (inl d) = inl d
       one i p (inr d) = inr (ap (nameAt m) (sym d) ∙ sym (named-at m (tripleAt (m .statements) i) p))
 
@@ -285,7 +285,7 @@ module _ (c : Counters) (m : Tables) (S : Sound c m) (x : Triple) (known : withi
       let a : agrees x t ≡ true = agrees-of t (λ p. one p (M p)) in
       (suc i, below-in hit (c .statements) i (g .1 .0) (matches-of i (g .1 .1) a), g .2)
     where
-      one : (p : Position) → (at p x ≡ 0) ⊎ (nameAt m (at p x) ≡ termAt p y)
+      one : (p : Position) → (at p x ≡ 0) ⊎ (nameAt m (at p x) ≡ partAt p y)
           → (at p x ≡ 0) ⊎ (at p (tripleAt (m .statements) (g .0)) ≡ at p x)
       one p (inl d) = inl d
       one p (inr d) =
@@ -296,7 +296,7 @@ module _ (c : Counters) (m : Tables) (S : Sound c m) (x : Triple) (known : withi
           (within-high (c .resources) x known p)
           (rw (triple-at (m .statements) p (g .0)) (S .linked .low p (g .0) (g .1 .0)))
           (rw (triple-at (m .statements) p (g .0)) (S .linked .high p (g .0) (g .1 .0)))
-          (d ∙ ap (termAt p) (sym (g .2)) ∙ named-at m (tripleAt (m .statements) (g .0)) p))))
+          (d ∙ ap (partAt p) (sym (g .2)) ∙ named-at m (tripleAt (m .statements) (g .0)) p))))
 
   -- two positions that pass, of one triple, are one
   apart : (n k : ℕ) → List·Memᴰ n every → List·Memᴰ k every → namedAt m n ≡ namedAt m k → n ≡ k

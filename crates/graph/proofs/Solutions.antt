@@ -19,14 +19,14 @@ use Rattle.store.specs.declared.Triple.{Triple}
 use Rattle.store.specs.Shared.{at, Entry}
 use Rattle.store.specs.Tables.{Tables, tripleAt, flagAt}
 use Rattle.store.specs.Walk.{entryAt}
-use Rattle.store.specs.Dictionary.{nameAt}
+use Rattle.store.specs.Names.{nameAt}
 use Rattle.store.specs.Soundness.{Sound}
 use Rattle.store.proofs.Tests.{decide}
 use Rattle.store.proofs.Words.{triple-at}
 use Rattle.graph.specs.declared.QueryPattern.{QueryPattern}
 use Rattle.graph.specs.Words.{firstVariable, isVariable, variables, Bindings, resource, boundTo, unbound, valueOf, under}
 use Rattle.graph.specs.Order.{NoDuplicates}
-use Rattle.graph.specs.Meaning.{Term, RdfTriple, termAt, PatternTerm, term, var, TriplePattern, patternAt}
+use Rattle.graph.specs.Meaning.{Term, RdfTriple, partAt, PatternTerm, term, var, TriplePattern, patternAt}
 use Rattle.graph.specs.Meaning.{Mapping, Takes, Instance, Solves}
 use Rattle.graph.specs.Graph.{named, graphOf, termOf, patternOf, nameOr, mappingOf}
 use Rattle.graph.proofs.Bind.{wordAt, bound-ext, Fits3, Known3, isThe, occursIn, none≢some, some-eq}
@@ -234,7 +234,7 @@ module _ (m : Tables) where
 
   pub takes-at : (s : Bindings) {x : TriplePattern} (y : QueryPattern) (p : Position) → x ≡ patternOf m y
       → 0 < at p (under s y)
-      → Takes (mappingOf m s) (patternAt p x) (termAt p (named m (under s y)))
+      → Takes (mappingOf m s) (patternAt p x) (partAt p (named m (under s y)))
   takes-at s y p e h =
       rw (e, pattern-at p y, named-at m (under s y) p, under-at s y p)
       (takes-value s (wordAt p y) (rw (under-at s y p) at h))
@@ -401,7 +401,7 @@ module _ (c : Counters) (m : Tables) (S : Sound c m) where
         let i : isVariable (wordAt p y) ≡ true = rw k (le-leb firstVariable (firstVariable + v) (omega arith)) in
         let h = W .holds (o .0) (o .1) in
         let a = in-among (h .0) (h .2) in
-        let q : w ≡ nameAt m (at p (a .0)) = some-eq (sym e ∙ says (o .3) (h .1 p)) ∙ ap (termAt p) (sym (a .2))
+        let q : w ≡ nameAt m (at p (a .0)) = some-eq (sym e ∙ says (o .3) (h .1 p)) ∙ ap (partAt p) (sym (a .2))
         ∙ named-at m (a .0) p in
         let n : numberOfName c m S w ≡ at p (a .0) =
         ap (numberOfName c m S) q ∙ number-name c m S (at p (a .0)) (among-low (a .0) (a .1) p)

@@ -18,7 +18,7 @@ use Rattle.store.specs.declared.Chain.the-variants.{All, By}
 use Rattle.store.specs.declared.Triple.{Triple}
 use Rattle.store.specs.Shared.{at}
 use Rattle.store.specs.Tables.{Tables, fits, termAt}
-use Rattle.store.specs.Walk.{sits}
+use Rattle.store.specs.Walk.{holdsResource}
 use Rattle.store.specs.Scan.{chainOk, recordOk}
 use Rattle.store.proofs.Tests.{decide, all3-at, all3-of, known-low, known-high, known-of}
 use Rattle.graph.specs.declared.QueryPattern.{QueryPattern}
@@ -65,7 +65,7 @@ abbrev Next : List ℕ → Chain → Triple → ℕ → Type 0
 Next stm ch x n = (p : Position) (i : ℕ) → ch ≡ By p → n ≡ suc i → termAt stm p i ≡ at p x
 
 next-means : (stm : List ℕ) (ch : Chain) (x : Triple) (n : ℕ) → recordOk stm ch x n ≡ true ↔ Next stm ch x n
-unfolding recordOk sits
+unfolding recordOk holdsResource
 next-means stm ch x zero = (λ e p i d h. absurd (omega arith), λ S. refl)
 next-means stm All x (suc j) = (λ e p i d h. let z : _≡_ {A = ℕ} 0 1 = cc in absurd (omega arith), λ S. refl)
 next-means stm (By q) x (suc j) = (

@@ -7,11 +7,11 @@ use Prim.Native.Nat.{ℕ, zero, suc, _+_}
 use Rattle.store.specs.declared.Counters.{Counters}
 use Rattle.store.specs.Tables.{Tables}
 use Rattle.store.specs.Walk.{pickChain}
-use Rattle.store.specs.Claims.{SameButLive}
+use Rattle.store.specs.LiveClaims.{SameButLive}
 use Rattle.store.proofs.LiveCounts.{same-fits, same-pickable, same-pick, same-start}
 use Rattle.graph.specs.declared.QueryPattern.{QueryPattern}
 use Rattle.graph.specs.declared.Level.{Level}
-use Rattle.graph.specs.Query.{asked, settle, Turn, bad, go, whole, enter, hit, tried}
+use Rattle.graph.specs.Query.{asked, backtrack, Turn, bad, go, whole, enter, hit, tried}
 use Rattle.graph.specs.Place.{Place, start, inside, finish}
 use Rattle.graph.specs.Words.{Bindings}
 use Rattle.graph.specs.Query.{visit, walk, begun, resume, answerOf, openQueryOf, stale, nextQueryOf}
@@ -48,9 +48,9 @@ module _ (c : Counters) (m m′ : Tables) (s : SameButLive m m′) (stm : List �
 
   walk-same : (b : ℕ) (l : Level) (up : List Level) (v : ℕ) → walk r t res stm ps b l up v ≡ walk r t res′ stm ps b l up v
   walk-same zero l up v = unfold walk in refl
-  walk-same (suc b) l up v = from (settle stm l up) refl (walk-same b)
+  walk-same (suc b) l up v = from (backtrack stm l up) refl (walk-same b)
     where
-      from : (z : List Level) → settle stm l up ≡ z
+      from : (z : List Level) → backtrack stm l up ≡ z
           → ((l : Level) (up : List Level) (v : ℕ) → walk r t res stm ps b l up v ≡ walk r t res′ stm ps b l up v)
           → walk r t res stm ps (suc b) l up v ≡ walk r t res′ stm ps (suc b) l up v
       from [] e ih = walk-ended r t res stm ps l up v b e ∙ sym (walk-ended r t res′ stm ps l up v b e)

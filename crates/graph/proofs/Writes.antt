@@ -15,11 +15,11 @@ use Rattle.store.specs.declared.Triple.{Triple}
 use Rattle.store.specs.Shared.{known, Entry, nameOf}
 use Rattle.store.specs.Tables.{Tables, tripleAt, flagAt}
 use Rattle.store.specs.Values.{Values}
-use Rattle.store.specs.Model.{Model, Capacities, Form, byValue, lent, Call, intern, assert, retract, reclaim}
+use Rattle.store.specs.Model.{Model, Capacities, Form, byValue, updating, Call, intern, assert, retract, reclaim}
 use Rattle.store.specs.Model.{entry, assertModel, retractModel, callModel, modelAfter}
 use Rattle.store.specs.Walk.{entryAt}
-use Rattle.store.specs.Dictionary.{nameAt}
-use Rattle.store.specs.Statement.{assertLentOf, retractLentOf}
+use Rattle.store.specs.Names.{nameAt}
+use Rattle.store.specs.Statement.{assertUpdatingOf, retractUpdatingOf}
 use Rattle.store.specs.Soundness.{Sound}
 use Rattle.store.specs.History.{Store, store, capacitiesOf, callStore}
 use Rattle.store.specs.Claims.{Holds, listsOf}
@@ -281,7 +281,7 @@ module _ (c : Counters) (m : Tables) (S : Sound c m) where
 
 -- the cursors of open listings do not matter
 pub writes : WriteClaim
-unfolding callStore assertLentOf retractLentOf
+unfolding callStore assertUpdatingOf retractUpdatingOf
 writes s S = record {
   enters = λ w. let E = enters (s .counters) (s .tables) S w in
       record { sound = E .sound; graph = E .graph; kept = E .kept; answered = E .answered };
@@ -295,12 +295,12 @@ writes s S = record {
         ((callStore s (assert f x)) .1)
     one-assert byValue x = let E = asserts (s .counters) (s .tables) S byValue x in
         record { sound = E .sound; refused = E .refused; added = E .added; already = E .already }
-    one-assert lent x = let E = asserts (s .counters) (s .tables) S lent x in
+    one-assert updating x = let E = asserts (s .counters) (s .tables) S updating x in
         record { sound = E .sound; refused = E .refused; added = E .added; already = E .already }
 
     one-retract : (f : Form) (x : Triple) → Removed s ((callStore s (retract f x)) .0) (named (s .tables) x)
         ((callStore s (retract f x)) .1)
     one-retract byValue x = let E = retracts (s .counters) (s .tables) S byValue x in
         record { sound = E .sound; refused = E .refused; removed = E .removed; absent = E .absent }
-    one-retract lent x = let E = retracts (s .counters) (s .tables) S lent x in
+    one-retract updating x = let E = retracts (s .counters) (s .tables) S updating x in
         record { sound = E .sound; refused = E .refused; removed = E .removed; absent = E .absent }

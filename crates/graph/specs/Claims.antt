@@ -2,38 +2,29 @@
 -- any tables": the live statements are an RDF graph; a query read through gives exactly the solution mappings of SPARQL 1.1; a call from
 -- any accepted cursor answers from the solutions that hold; budgets add up; a pattern scan read through gives exactly the live triples that
 -- match, and a live count says how many; what each write does to the graph. A query does not look at live counts. Assumes nothing.
-use mathlib.Core.Path.{_≡_}
-use mathlib.Core.Logic.{_⊎_, _↔_, _≢_}
-use mathlib.Core.Bool.{Bool, true, false, cond, _&&_, _||_}
-use mathlib.Core.List.{List, [], _∷_, _++_, map, List·Memᴰ}
-use Prim.Native.Nat.{ℕ, _+_, _*_, _≤_, _<_}
-use lib.ListN.{length}
-use lib.Dec.{eqb}
+use Rattle.store.specs.Prelude.{_≡_, _⊎_, _↔_, _≢_, Bool, true, false, cond, _&&_, _||_, List, [], _∷_, _++_, map, List·Memᴰ, ℕ, _+_, _*_}
+use Rattle.store.specs.Prelude.{_≤_, _<_, length, eqb}
+use Rattle.graph.specs.Prelude.{Position, Subject, Predicate, Object, Counters, Triple, ScanCursor, QueryCursor}
 use Rattle.term.specs.Grammar.{nameLimit}
 use Rattle.term.specs.Scanner.{kindOf}
 use Rattle.term.specs.Canonical.{canonical}
-use Rattle.store.specs.declared.Position.{Position}
-use Rattle.store.specs.declared.Position.the-variants.{Subject, Predicate, Object}
-use Rattle.store.specs.declared.Counters.{Counters}
-use Rattle.store.specs.declared.Triple.{Triple}
-use Rattle.store.specs.declared.ScanCursor.{ScanCursor}
 use Rattle.store.specs.Shared.{unless, at, triple, within, prev, wellFormed}
 use Rattle.store.specs.Tables.{Tables, fits, tripleAt, liveAt}
 use Rattle.store.specs.Values.{Values, openedValues, scannedValues}
 use Rattle.store.specs.Model.{Capacities, Model, Call, Form, byValue, intern, assert, retract, reclaim, callModel}
-use Rattle.store.specs.Dictionary.{nameAt}
+use Rattle.store.specs.Names.{nameAt}
 use Rattle.store.specs.Scan.{openOf, nextOf}
 use Rattle.store.specs.Soundness.{Sound}
 use Rattle.store.specs.History.{Store, store, capacitiesOf, callStore, storeReplies, storeAfter}
-use Rattle.store.specs.Claims.{SameButLive, listsOf, reclaimsIn}
-use Rattle.graph.specs.declared.QueryCursor.{QueryCursor}
+use Rattle.store.specs.LiveClaims.{SameButLive}
+use Rattle.store.specs.Claims.{listsOf, reclaimsIn}
 use Rattle.graph.specs.Words.{maxPatterns, variables, firstVariable, wordsOk, patternsOf, Bindings, unbound}
 use Rattle.graph.specs.Place.{placeOf, startCursor}
 use Rattle.graph.specs.Work.{workOf, scanWorkOf}
 use Rattle.graph.specs.Query.{placeOk, openQueryOf, nextQueryOf}
 use Rattle.graph.specs.Values.{QueryValues, queryValues, queryOpenedValues}
 use Rattle.graph.specs.Order.{Descending, NoDuplicates, statementsOf, onwardsOf}
-use Rattle.graph.specs.Meaning.{Term, RdfTriple, termAt, Graph, IsGraph, Mapping, Solves}
+use Rattle.graph.specs.Meaning.{Term, RdfTriple, partAt, Graph, IsGraph, Mapping, Solves}
 use Rattle.graph.specs.Graph.{named, LiveAt, graphOf, queryOf, mappingOf}
 
 -- ---- 1. The live statements are a graph. That numbers and names go both ways is `RoundTrips` of crate `store`.
@@ -118,14 +109,14 @@ module _ {A Q : Type 0} where
 -- ---- 3. A query read through gives exactly the solution mappings, each once, in the paper's order.
 
 -- the statements of a solution, one a pattern
-abbrev pub statementsIn : Counters → Tables → List ℕ → Bindings → List ℕ
-statementsIn c m ws s = statementsOf (c .statements) (m .statements) (patternsOf ws) s
+abbrev pub statementNumbers : Counters → Tables → List ℕ → Bindings → List ℕ
+statementNumbers c m ws s = statementsOf (c .statements) (m .statements) (patternsOf ws) s
 
 -- all solutions, each once, in the paper's order
 pub record AllInOrder (c : Counters) (m : Tables) (ws : List ℕ) (ss : List Bindings) : Type 0 where
   pub exact : (μ : Mapping) → Solves (graphOf c m) (queryOf m ws) μ ↔ List·Memᴰ μ (map (mappingOf m) ss)
   pub once : NoDuplicates (map (mappingOf m) ss)
-  pub order : Descending (statementsIn c m ws) ss
+  pub order : Descending (statementNumbers c m ws) ss
 
 abbrev pub nextReply : Counters → Tables → List ℕ → QueryCursor → ℕ → Reply Bindings QueryCursor
 nextReply c m ws q b = queryReply (queryValues (nextQueryOf c m ws q b))
@@ -159,7 +150,7 @@ accepted c m ws q = eqb (q .generation) (c .generation)
 
 -- of these solutions, those at or after the cursor's place
 abbrev pub onwardsFrom : Counters → Tables → List ℕ → List Bindings → QueryCursor → List Bindings
-onwardsFrom c m ws ss q = onwardsOf (statementsIn c m ws) ss (placeOf q)
+onwardsFrom c m ws ss q = onwardsOf (statementNumbers c m ws) ss (placeOf q)
 
 -- found: the first of those at or after the place, the others from now on; ended: there are none; spent: the budget is visited and the same
 -- are left
@@ -233,7 +224,7 @@ namedAt m n = named m (tripleAt (m .statements) (prev n))
 
 -- a triple has the name of each number of the pattern, 0 standing for any
 abbrev pub Matches : Tables → Triple → RdfTriple → Type 0
-Matches m x y = (p : Position) → (at p x ≡ 0) ⊎ (nameAt m (at p x) ≡ termAt p y)
+Matches m x y = (p : Position) → (at p x ≡ 0) ⊎ (nameAt m (at p x) ≡ partAt p y)
 
 -- all statements whose triples are in the graph and match, each once, falling
 pub record AllMatches (c : Counters) (m : Tables) (x : Triple) (ns : List ℕ) : Type 0 where

@@ -1,15 +1,9 @@
 -- What the tables, a query's words and a solution stand for (paper 01, demand 2): the graph of the live statements, a basic graph pattern
 -- over names, a solution mapping to names. Assumes nothing.
-use mathlib.Core.Path.{_≡_}
-use mathlib.Core.Bool.{cond}
-use mathlib.Core.List.{List, map}
-use mathlib.Core.Option.{Option, none, some}
-use Prim.Native.Nat.{ℕ, zero, suc, _-_, _<_}
-use Rattle.store.specs.declared.Counters.{Counters}
-use Rattle.store.specs.declared.Triple.{Triple}
+use Rattle.store.specs.Prelude.{_≡_, cond, List, map, Option, none, some, ℕ, zero, suc, _-_, _<_}
+use Rattle.graph.specs.Prelude.{Counters, Triple, QueryPattern}
 use Rattle.store.specs.Tables.{Tables, tripleAt, flagAt}
-use Rattle.store.specs.Dictionary.{nameAt}
-use Rattle.graph.specs.declared.QueryPattern.{QueryPattern}
+use Rattle.store.specs.Names.{nameAt}
 use Rattle.graph.specs.Words.{firstVariable, isVariable, patternsOf, Bindings, boundTo}
 use Rattle.graph.specs.Meaning.{Term, RdfTriple, Graph, PatternTerm, term, var, TriplePattern}
 use Rattle.graph.specs.Meaning.{BasicGraphPattern, Mapping}

@@ -2,16 +2,10 @@
 -- and then told apart by their bytes, so that two of them are two terms of RDF 1.1 (`NumbersAreTerms`, crate `lines`), a language tag as it
 -- is written. A blank node in a pattern stands for itself (paper 01). Nothing here speaks of tables, chains, cursors or visits. Assumes
 -- nothing.
-use mathlib.Core.Path.{_≡_}
-use mathlib.Core.Logic.{_⊎_, _↔_}
-use mathlib.Core.Bool.{false}
-use mathlib.Core.List.{List, List·Memᴰ}
-use mathlib.Core.Option.{Option, some}
-use Prim.Native.Nat.{ℕ}
+use Rattle.store.specs.Prelude.{_≡_, _⊎_, _↔_, false, List, List·Memᴰ, Option, some, ℕ}
+use Rattle.graph.specs.Prelude.{Position, Subject, Predicate, Object}
 use Rattle.term.specs.Grammar.{Iri, Blank, Literal}
 use Rattle.term.specs.Canonical.{writesString}
-use Rattle.store.specs.declared.Position.{Position}
-use Rattle.store.specs.declared.Position.the-variants.{Subject, Predicate, Object}
 
 -- ---- RDF 1.1 Concepts, 3
 
@@ -40,10 +34,10 @@ Graph = RdfTriple → Type 0
 abbrev pub IsGraph : Graph → Type 0
 IsGraph G = (x : RdfTriple) → G x → IsTriple x
 
-abbrev pub termAt : Position → RdfTriple → Term
-termAt Subject x = x .subject
-termAt Predicate x = x .predicate
-termAt Object x = x .object
+abbrev pub partAt : Position → RdfTriple → Term
+partAt Subject x = x .subject
+partAt Predicate x = x .predicate
+partAt Object x = x .object
 
 -- ---- SPARQL 1.1, 18.1: variables, triple patterns, basic graph patterns, solution mappings
 
@@ -78,7 +72,7 @@ Takes μ (var v) w = μ v ≡ some w
 
 -- μ(p) is x
 abbrev pub Instance : Mapping → TriplePattern → RdfTriple → Type 0
-Instance μ p x = (i : Position) → Takes μ (patternAt i p) (termAt i x)
+Instance μ p x = (i : Position) → Takes μ (patternAt i p) (partAt i x)
 
 abbrev pub Occurs : ℕ → BasicGraphPattern → Type 0
 Occurs v q = (p : TriplePattern) × List·Memᴰ p q × (i : Position) × (patternAt i p ≡ var v)

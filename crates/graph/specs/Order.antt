@@ -1,16 +1,9 @@
 -- The order of solutions (paper 01, "A solution is ordered by its statements", "at or after the place"): one statement number a pattern,
 -- the first difference decides, higher numbers first. Assumes nothing.
-use mathlib.Core.Path.{_≡_}
-use mathlib.Core.Logic.{_⊎_}
-use mathlib.Core.Bool.{Bool, true, cond, _&&_, _||_}
-use mathlib.Core.List.{List, [], _∷_, List·Memᴰ}
-use Prim.Native.Nat.{ℕ, _<_}
-use lib.Dec.{eqb, ltb}
-use Rattle.store.specs.declared.Triple.{Triple}
+use Rattle.store.specs.Prelude.{_≡_, _⊎_, Bool, true, cond, _&&_, _||_, List, [], _∷_, List·Memᴰ, ℕ, _<_, eqb, ltb}
+use Rattle.graph.specs.Prelude.{Triple, QueryPattern, Level}
 use Rattle.store.specs.Shared.{same, below, head0}
 use Rattle.store.specs.Tables.{tripleAt}
-use Rattle.graph.specs.declared.QueryPattern.{QueryPattern}
-use Rattle.graph.specs.declared.Level.{Level}
 use Rattle.graph.specs.Place.{Place, start, inside, finish}
 use Rattle.graph.specs.Words.{Bindings, under}
 

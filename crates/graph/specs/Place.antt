@@ -1,13 +1,6 @@
 -- The place of a query (paper 01, "Next of a question"): its levels, and how a cursor's array holds them. Assumes nothing.
-use mathlib.Core.List.{List, [], _∷_}
-use Prim.Native.Nat.{ℕ, zero, suc}
-use lib.ListN.{length, getD, set, replicate}
-use Rattle.store.specs.declared.Chain.{Chain}
-use Rattle.store.specs.declared.Chain.the-variants.{All}
-use Rattle.graph.specs.declared.Level.{Level}
-use Rattle.graph.specs.declared.Progress.{Progress}
-use Rattle.graph.specs.declared.Progress.the-variants.{Start, Within, End}
-use Rattle.graph.specs.declared.QueryCursor.{QueryCursor}
+use Rattle.store.specs.Prelude.{List, [], _∷_, ℕ, zero, suc, length, getD, set, replicate}
+use Rattle.graph.specs.Prelude.{Chain, All, Level, Progress, Start, Within, End, QueryCursor}
 use Rattle.graph.specs.Words.{maxPatterns}
 
 -- ---- the place

@@ -1,42 +1,28 @@
 -- Open and next of a query, the paper's question (paper 01, "Open a question", "Next of a question"; 02, note 6), on tables, words and
 -- cursors that hold anything. Assumes nothing.
-use mathlib.Core.Bool.{Bool, true, false, cond, not, _&&_, _||_}
-use mathlib.Core.List.{List, [], _∷_}
-use mathlib.Core.Option.{Option, none, some}
-use Prim.Native.Nat.{ℕ, zero, suc, _+_, _-_}
-use lib.ListN.{length, getD, set}
-use lib.Dec.{eqb, leb, ltb}
-use Rattle.store.specs.declared.Counters.{Counters}
-use Rattle.store.specs.declared.Triple.{Triple}
-use Rattle.store.specs.declared.Refusal.{Refusal}
-use Rattle.store.specs.declared.Refusal.the-variants.{Capacity, BadCursor, NoBudget, BadQuery, Damaged, StaleCursor}
+use Rattle.store.specs.Prelude.{Bool, true, false, cond, not, _&&_, _||_, List, [], _∷_, Option, none, some, ℕ, zero, suc, _+_, _-_}
+use Rattle.store.specs.Prelude.{length, getD, set, eqb, leb, ltb}
+use Rattle.graph.specs.Prelude.{Counters, Triple, Refusal, Capacity, BadCursor, NoBudget, BadQuery, Damaged, StaleCursor}
+use Rattle.graph.specs.Prelude.{QueryPattern, Level, QueryCursor, QueryOpening, Opened, NotOpened, QueryOpened, QueryStep, Found}
+use Rattle.graph.specs.Prelude.{Ended, Spent, NotAnswered, QueryAnswer}
 use Rattle.store.specs.Shared.{unless, known, prev}
 use Rattle.store.specs.Tables.{Tables, fits, tripleAt, flagAt}
 use Rattle.store.specs.Walk.{pickChain, pickable, startOf, linkOf, visitable}
 use Rattle.store.specs.Scan.{chainOk, recordOk}
-use Rattle.graph.specs.declared.QueryPattern.{QueryPattern}
-use Rattle.graph.specs.declared.Level.{Level}
-use Rattle.graph.specs.declared.QueryCursor.{QueryCursor}
-use Rattle.graph.specs.declared.Opening.{Opening}
-use Rattle.graph.specs.declared.Opening.the-variants.{Opened, Refused as NotOpened}
-use Rattle.graph.specs.declared.QueryOpened.{QueryOpened}
-use Rattle.graph.specs.declared.QueryStep.{QueryStep}
-use Rattle.graph.specs.declared.QueryStep.the-variants.{Found, Ended, Spent, Refused as NotAnswered}
-use Rattle.graph.specs.declared.QueryAnswer.{QueryAnswer}
 use Rattle.graph.specs.Words.{firstVariable, pattern, patternsOf, wordsOk, Bindings, resource, unbound, valueOf, under}
 use Rattle.graph.specs.Place.{level, Place, start, inside, finish, placeOf, startCursor, cursorAt}
 
 -- ---- a record against a pattern
 
 -- one word of a pattern meets a resource: an open variable takes it, anything else must be it
-unfoldable pub bind : ℕ → ℕ → Bindings → Option Bindings
-bind w n b =
+unfoldable pub bindWord : ℕ → ℕ → Bindings → Option Bindings
+bindWord w n b =
     cond (eqb (valueOf b w) 0) (some (set b (w - firstVariable) (resource n)))
     (cond (eqb (valueOf b w) n) (some b) none)
 
-abbrev pub after : {A B : Type 0} → Option A → (A → Option B) → Option B
-after none f = none
-after (some a) f = f a
+abbrev pub andThen : {A B : Type 0} → Option A → (A → Option B) → Option B
+andThen none f = none
+andThen (some a) f = f a
 
 abbrev pub orElse : {A : Type 0} → Option A → A → A
 orElse none d = d
@@ -49,8 +35,8 @@ isSome (some a) = true
 -- a triple meets a pattern, subject, predicate, object in turn: what is then bound
 unfoldable pub match : QueryPattern → Triple → Bindings → Option Bindings
 match x t b =
-    after (bind (x .subject) (t .subject .0) b)
-    (λ b. after (bind (x .predicate) (t .predicate .0) b) (λ b. bind (x .object) (t .object .0) b))
+    andThen (bindWord (x .subject) (t .subject .0) b)
+    (λ b. andThen (bindWord (x .predicate) (t .predicate .0) b) (λ b. bindWord (x .object) (t .object .0) b))
 
 -- ---- levels of a place
 
@@ -63,8 +49,8 @@ module _ (stm : List ℕ) where
   unfoldable pub past : Level → Level
   past l = level (l .chain) (linkOf stm (l .chain) (prev (l .statement .0)))
 
-  unfoldable pub struck : Level → Bool
-  struck l = eqb (flagAt stm (prev (l .statement .0))) 1
+  unfoldable pub levelRetracted : Level → Bool
+  levelRetracted l = eqb (flagAt stm (prev (l .statement .0))) 1
 
   -- refusal 9 before any visit, exactly where this is false: flag and link of each entered record
   unfoldable pub intact : List Level → Bool
@@ -73,19 +59,19 @@ module _ (stm : List ℕ) where
       (leb (flagAt stm (prev (e .statement .0))) 1 && leb ((past e) .statement .0) (prev (e .statement .0)))
       && intact up
 
-  unfoldable pub anyStruck : List Level → Bool
-  anyStruck [] = false
-  anyStruck (e ∷ up) = struck e || anyStruck up
+  unfoldable pub anyRetracted : List Level → Bool
+  anyRetracted [] = false
+  anyRetracted (e ∷ up) = levelRetracted e || anyRetracted up
 
-  -- below a record struck out since, the levels are left without a visit
+  -- below a record retracted since, the levels are left without a visit
   unfoldable pub pruned : Level → List Level → Level × List Level
   pruned l [] = (l, [])
-  pruned l (e ∷ up) = cond (anyStruck (e ∷ up)) (pruned (past e) up) (l, e ∷ up)
+  pruned l (e ∷ up) = cond (anyRetracted (e ∷ up)) (pruned (past e) up) (l, e ∷ up)
 
   -- a further visit is sought: chains that have run out are left; [] if every chain has
-  unfoldable pub settle : Level → List Level → List Level
-  settle l [] = cond (eqb (l .statement .0) 0) [] (l ∷ [])
-  settle l (e ∷ up) = cond (eqb (l .statement .0) 0) (settle (past e) up) (l ∷ e ∷ up)
+  unfoldable pub backtrack : Level → List Level → List Level
+  backtrack l [] = cond (eqb (l .statement .0) 0) [] (l ∷ [])
+  backtrack l (e ∷ up) = cond (eqb (l .statement .0) 0) (backtrack (past e) up) (l ∷ e ∷ up)
 
   -- a record remains on an entered chain
   unfoldable pub remains : Level → List Level → Bool
@@ -151,7 +137,7 @@ module _ (r t : ℕ) (res stm : List ℕ) (ps : List QueryPattern) where
 
   -- what the record to visit binds, if it is live and matches
   unfoldable pub hit : Level → List Level → Option Bindings
-  hit l up = cond (struck stm l) none (match (nextPattern ps up) (recordAt stm (l .statement .0)) (binds stm ps up))
+  hit l up = cond (levelRetracted stm l) none (match (nextPattern ps up) (recordAt stm (l .statement .0)) (binds stm ps up))
 
   -- no match: on along the chain; a match of the last pattern: a whole solution; of an earlier one: the next is entered at once
   unfoldable pub tried : Level → List Level → Option Bindings → Turn
@@ -166,7 +152,7 @@ module _ (r t : ℕ) (res stm : List ℕ) (ps : List QueryPattern) where
   unfoldable pub walk : ℕ → Level → List Level → ℕ → Answer
   walk zero l up v = cond (remains stm l up) (spent v (inside l up)) (ended v)
   walk (suc left) l up v =
-      elim (settle stm l up) [
+      elim (backtrack stm l up) [
         | [] ↦ ended v
         | n ∷ top ↦
             elim (visit n top) [
@@ -200,7 +186,7 @@ answerOf c m ws q budget =
 
 -- ---- the two operations
 
-abbrev pub openedWith : Opening → ℕ → QueryOpened
+abbrev pub openedWith : QueryOpening → ℕ → QueryOpened
 openedWith o g = record { opening = o; cursor = startCursor g }
 
 -- Open: 1; 8; else the start, before the first solution, with the number of reclaims; zeros beside a refusal

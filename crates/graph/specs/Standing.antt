@@ -1,22 +1,9 @@
 -- Refusal 6 of a query in the paper's words (paper 01, "6 is exact"): the places that a next call accepts, a field for each clause. It goes
 -- by an assignment of resources to variables, not by what the definition binds level by level. Assumes nothing.
-use mathlib.Core.Path.{_≡_}
-use mathlib.Core.Logic.{_↔_}
-use mathlib.Core.Bool.{Bool, true, false, cond, _||_}
-use mathlib.Core.List.{List, [], _∷_}
-use Prim.Native.Nat.{ℕ, suc, _+_, _-_, _≤_, _<_}
-use lib.ListN.{length}
-use lib.Dec.{eqb}
-use Rattle.store.specs.declared.Counters.{Counters}
-use Rattle.store.specs.declared.Position.{Position}
-use Rattle.store.specs.declared.Chain.{Chain}
-use Rattle.store.specs.declared.Chain.the-variants.{All, By}
-use Rattle.store.specs.declared.Triple.{Triple}
+use Rattle.store.specs.Prelude.{_≡_, _↔_, Bool, true, false, cond, _||_, List, [], _∷_, ℕ, suc, _+_, _-_, _≤_, _<_, length, eqb}
+use Rattle.graph.specs.Prelude.{Counters, Position, Chain, All, By, Triple, QueryPattern, Level, QueryCursor}
 use Rattle.store.specs.Shared.{at, triple}
 use Rattle.store.specs.Tables.{Tables, fits, termAt}
-use Rattle.graph.specs.declared.QueryPattern.{QueryPattern}
-use Rattle.graph.specs.declared.Level.{Level}
-use Rattle.graph.specs.declared.QueryCursor.{QueryCursor}
 use Rattle.graph.specs.Words.{isVariable, firstVariable, patternsOf, wordsOk}
 use Rattle.graph.specs.Place.{Place, start, inside, finish, placeOf}
 use Rattle.graph.specs.Query.{recordAt, nextPattern, placeOk, nextQueryOf}

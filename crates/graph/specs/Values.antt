@@ -1,15 +1,9 @@
 -- The paper's number and values for each case of a query's two replies (paper 01, "Operations and refusals"): what a promise compares.
 -- Assumes nothing.
-use Prim.Native.Nat.{ℕ}
+use Rattle.store.specs.Prelude.{ℕ}
+use Rattle.graph.specs.Prelude.{Solution, QueryCursor, QueryOpening, Opened, NotOpened, QueryOpened, QueryStep, Found, Ended, Spent}
+use Rattle.graph.specs.Prelude.{NotAnswered, QueryAnswer}
 use Rattle.store.specs.Values.{refusalNumber}
-use Rattle.graph.specs.declared.Solution.{Solution}
-use Rattle.graph.specs.declared.QueryCursor.{QueryCursor}
-use Rattle.graph.specs.declared.Opening.{Opening}
-use Rattle.graph.specs.declared.Opening.the-variants.{Opened, Refused as NotOpened}
-use Rattle.graph.specs.declared.QueryOpened.{QueryOpened}
-use Rattle.graph.specs.declared.QueryStep.{QueryStep}
-use Rattle.graph.specs.declared.QueryStep.the-variants.{Found, Ended, Spent, Refused as NotAnswered}
-use Rattle.graph.specs.declared.QueryAnswer.{QueryAnswer}
 use Rattle.graph.specs.Words.{unbound}
 
 -- the refusal's number, or 0; 1 found, 2 ended, 3 spent, or 0; the visits; sixteen resources; the cursor
@@ -20,7 +14,7 @@ pub record QueryValues : Type 0 where
   pub solution : Solution
   pub cursor : QueryCursor
 
-abbrev pub openingRefusal : Opening → ℕ
+abbrev pub openingRefusal : QueryOpening → ℕ
 openingRefusal Opened = 0
 openingRefusal (NotOpened e) = refusalNumber e
 

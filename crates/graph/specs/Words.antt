@@ -1,14 +1,8 @@
 -- The words of a query, the paper's question (paper 01, "Open a question"): its limits, its patterns, refusal 8, what is bound to its
 -- variables, and a pattern under what is bound. Assumes nothing.
-use mathlib.Core.Bool.{Bool, true, cond, _&&_, _||_}
-use mathlib.Core.List.{List, [], _∷_}
-use Prim.Native.Nat.{ℕ, _+_, _*_, _-_}
-use lib.ListN.{length, getD, replicate}
-use lib.Dec.{eqb, leb, ltb}
-use Rattle.store.specs.declared.ResourceId.{ResourceId}
-use Rattle.store.specs.declared.Triple.{Triple}
+use Rattle.store.specs.Prelude.{Bool, true, cond, _&&_, _||_, List, [], _∷_, ℕ, _+_, _*_, _-_, length, getD, replicate, eqb, leb, ltb}
+use Rattle.graph.specs.Prelude.{ResourceId, Triple, QueryPattern}
 use Rattle.store.specs.Shared.{triple}
-use Rattle.graph.specs.declared.QueryPattern.{QueryPattern}
 
 -- ---- the words of a query
 

@@ -1,17 +1,10 @@
 -- How many records a query or a scan read through visits, by the statements alone: no link, cursor or budget. Assumes nothing.
-use mathlib.Core.Bool.{cond}
-use mathlib.Core.List.{List, [], _∷_}
-use mathlib.Core.Option.{Option, none, some}
-use Prim.Native.Nat.{ℕ, zero, suc, _+_}
-use lib.ListN.{length}
-use Rattle.store.specs.declared.Counters.{Counters}
-use Rattle.store.specs.declared.Chain.{Chain}
-use Rattle.store.specs.declared.Triple.{Triple}
+use Rattle.store.specs.Prelude.{cond, List, [], _∷_, Option, none, some, ℕ, zero, suc, _+_, length}
+use Rattle.graph.specs.Prelude.{Counters, Chain, Triple, QueryPattern}
 use Rattle.store.specs.Tables.{Tables, tripleAt}
 use Rattle.store.specs.Model.{onChain}
 use Rattle.store.specs.Shared.{Entry, below}
 use Rattle.store.specs.Walk.{entryAt, pickChain}
-use Rattle.graph.specs.declared.QueryPattern.{QueryPattern}
 use Rattle.graph.specs.Query.{match}
 use Rattle.graph.specs.Words.{Bindings, unbound, under, patternsOf}
 

@@ -55,14 +55,14 @@ pub struct QueryCursor {
 }
 
 // How an opening comes out.
-pub enum Opening {
+pub enum QueryOpening {
     Opened,
     Refused(Refusal),
 }
 
 // Open a query: the cursor at the start.
 pub struct QueryOpened {
-    pub opening: Opening,
+    pub opening: QueryOpening,
     pub cursor: QueryCursor,
 }
 

@@ -11,9 +11,9 @@ use lib.Dec.{eqb, leb}
 use borrow.Author.Tests.{eqb-true, eq-eqb, leb-true, le-leb}
 use Rattle.store.specs.declared.Counters.{Counters}
 use Rattle.store.specs.declared.Position.{Position}
-use Rattle.store.specs.Shared.{at, all3, known, permitted, freshCounters, nameOf}
+use Rattle.store.specs.Shared.{at, all3, known, kindsPermitted, freshCounters, nameOf}
 use Rattle.store.specs.Tables.{Tables, fits, resourceWords, statementWords, nextAt, flagAt, tripleAt, firstAt, countAt, kindAt, liveAt}
-use Rattle.store.specs.Dictionary.{Named, Indexed}
+use Rattle.store.specs.Names.{Named, Indexed}
 use Rattle.store.specs.Soundness.{holding, isLive, Linked, Sound}
 use Rattle.store.specs.History.{freshStore, storeAfter}
 use Rattle.store.proofs.Theorems.{fresh-is-sound, histories-stay-sound}
@@ -23,7 +23,7 @@ use Rattle.table.proofs.Capacity.{fits-room}
 use Rattle.integrity.specs.Tests.{allBelow, sumTo, chainLength, chainLive, isCount}
 use Rattle.integrity.specs.Names.{namesOk}
 use Rattle.integrity.specs.Index.{indexOk}
-use Rattle.integrity.specs.Records.{recordOk, chainCounts, chainOk, chainsOk, alone, recordsOk}
+use Rattle.integrity.specs.Records.{recordOk, chainCounts, chainSound, chainsSound, standsOnce, recordsOk}
 use Rattle.integrity.specs.Check.{checkOf}
 use Rattle.integrity.specs.Claims.{CheckDecides, FreshPasses, HistoriesPass}
 use Rattle.integrity.proofs.Ranges.{all-at, all-of}
@@ -89,13 +89,13 @@ module _ (r t : ℕ) (res stm : List ℕ) where
   unfolding recordOk
   record-known e i h = and-l (known r (tripleAt stm i)) _ (all-at _ t e i h)
 
-  record-rest : Each → (i : ℕ) → i < t → permitted (kindAt res) (tripleAt stm i) && leb (flagAt stm i) 1 ≡ true
+  record-rest : Each → (i : ℕ) → i < t → kindsPermitted (kindAt res) (tripleAt stm i) && leb (flagAt stm i) 1 ≡ true
   unfolding recordOk
   record-rest e i h =
-      and-r (known r (tripleAt stm i)) (permitted (kindAt res) (tripleAt stm i) && leb (flagAt stm i) 1) (all-at _ t e i h)
+      and-r (known r (tripleAt stm i)) (kindsPermitted (kindAt res) (tripleAt stm i) && leb (flagAt stm i) 1) (all-at _ t e i h)
 
-  record-permitted : Each → (i : ℕ) → i < t → permitted (kindAt res) (tripleAt stm i) ≡ true
-  record-permitted e i h = and-l (permitted (kindAt res) (tripleAt stm i)) _ (record-rest e i h)
+  record-permitted : Each → (i : ℕ) → i < t → kindsPermitted (kindAt res) (tripleAt stm i) ≡ true
+  record-permitted e i h = and-l (kindsPermitted (kindAt res) (tripleAt stm i)) _ (record-rest e i h)
 
   records-ranged : resourceWords * r ≤ length res → statementWords * t ≤ length stm → Each → Ranged r t res stm
   records-ranged a b e = record {
@@ -103,10 +103,10 @@ module _ (r t : ℕ) (res stm : List ℕ) where
     fit-statements = b;
     low = λ p i h. rw triple-at at (known-low r (tripleAt stm i) (record-known e i h) p);
     high = λ p i h. rw triple-at at (known-high r (tripleAt stm i) (record-known e i h) p);
-    flag = λ i h. leb-true (flagAt stm i) 1 (and-r (permitted (kindAt res) (tripleAt stm i)) _ (record-rest e i h));
+    flag = λ i h. leb-true (flagAt stm i) 1 (and-r (kindsPermitted (kindAt res) (tripleAt stm i)) _ (record-rest e i h));
   }
 
-  ranged-records : Ranged r t res stm → ((i : ℕ) → i < t → permitted (kindAt res) (tripleAt stm i) ≡ true) → Each
+  ranged-records : Ranged r t res stm → ((i : ℕ) → i < t → kindsPermitted (kindAt res) (tripleAt stm i) ≡ true) → Each
   unfolding recordOk
   ranged-records G k =
       all-of _ t (λ i h. and-of _ _
@@ -117,48 +117,48 @@ module _ (r t : ℕ) (res stm : List ℕ) where
   is-count none n e = absurd (false≢true e)
   is-count (some m) n e = ap some (eqb-true m n e)
 
-  chain-each : (p : Position) → chainsOk r t res stm p ≡ true → (y : ℕ) → 0 < y → y ≤ r → chainOk t res stm p y ≡ true
-  unfolding chainsOk
+  chain-each : (p : Position) → chainsSound r t res stm p ≡ true → (y : ℕ) → 0 < y → y ≤ r → chainSound t res stm p y ≡ true
+  unfolding chainsSound
   chain-each p e y lo hi =
       let q : suc (y - 1) ≡ y = omega arith in
-      let a = and-l (allBelow (λ i. chainOk t res stm p (suc i)) r) _ e in
-      rw q at (all-at (λ i. chainOk t res stm p (suc i)) r a (y - 1) (omega arith))
+      let a = and-l (allBelow (λ i. chainSound t res stm p (suc i)) r) _ e in
+      rw q at (all-at (λ i. chainSound t res stm p (suc i)) r a (y - 1) (omega arith))
 
-  chain-start : (p : Position) (y : ℕ) → chainOk t res stm p y ≡ true → firstAt res p y ≤ t
-  unfolding chainOk
+  chain-start : (p : Position) (y : ℕ) → chainSound t res stm p y ≡ true → firstAt res p y ≤ t
+  unfolding chainSound
   chain-start p y e = leb-true (firstAt res p y) t (and-l _ _ e)
 
-  chain-rest : (p : Position) (y : ℕ) → chainOk t res stm p y ≡ true
+  chain-rest : (p : Position) (y : ℕ) → chainSound t res stm p y ≡ true
       → isCount (chainLength (nextAt stm p) (holding stm p y) t (firstAt res p y)) (countAt res p y)
       && eqb (chainLive (nextAt stm p) (isLive stm) t (firstAt res p y)) (liveAt res p y)
       ≡ true
-  unfolding chainOk chainCounts
+  unfolding chainSound chainCounts
   chain-rest p y e = and-r (leb (firstAt res p y) t) _ e
 
-  chain-length : (p : Position) (y : ℕ) → chainOk t res stm p y ≡ true
+  chain-length : (p : Position) (y : ℕ) → chainSound t res stm p y ≡ true
       → chainLength (nextAt stm p) (holding stm p y) t (firstAt res p y) ≡ some (countAt res p y)
   chain-length p y e =
       is-count (chainLength (nextAt stm p) (holding stm p y) t (firstAt res p y)) (countAt res p y)
       (and-l _ _ (chain-rest p y e))
 
-  chain-lives : (p : Position) (y : ℕ) → chainOk t res stm p y ≡ true
+  chain-lives : (p : Position) (y : ℕ) → chainSound t res stm p y ≡ true
       → chainLive (nextAt stm p) (isLive stm) t (firstAt res p y) ≡ liveAt res p y
   chain-lives p y e =
       eqb-true (chainLive (nextAt stm p) (isLive stm) t (firstAt res p y)) (liveAt res p y)
       (and-r (isCount (chainLength (nextAt stm p) (holding stm p y) t (firstAt res p y)) (countAt res p y)) _
       (chain-rest p y e))
 
-  chains-cheap : (p : Position) → chainsOk r t res stm p ≡ true → Cheap r t res stm p
-  unfolding chainsOk
+  chains-cheap : (p : Position) → chainsSound r t res stm p ≡ true → Cheap r t res stm p
+  unfolding chainsSound
   chains-cheap p e = record {
     start = λ y a b. chain-start p y (chain-each p e y a b);
     chain = λ y a b. chain-length p y (chain-each p e y a b);
     lives = λ y a b. chain-lives p y (chain-each p e y a b);
-    total = eqb-true (sumTo (countAt res p) r) t (and-r (allBelow (λ i. chainOk t res stm p (suc i)) r) _ e);
+    total = eqb-true (sumTo (countAt res p) r) t (and-r (allBelow (λ i. chainSound t res stm p (suc i)) r) _ e);
   }
 
-  cheap-chains : (p : Position) → Cheap r t res stm p → chainsOk r t res stm p ≡ true
-  unfolding chainsOk chainOk chainCounts
+  cheap-chains : (p : Position) → Cheap r t res stm p → chainsSound r t res stm p ≡ true
+  unfolding chainsSound chainSound chainCounts
   cheap-chains p C =
       and-of _ _
       (all-of _ r (λ i h. and-of _ _
@@ -174,24 +174,24 @@ module _ (r t : ℕ) (res stm : List ℕ) where
   Once = (i j : ℕ) → i < j → j < t → tripleAt stm i ≡ tripleAt stm j → ⊥
 
   abbrev Permitted : Type 0
-  Permitted = (i : ℕ) → i < t → permitted (kindAt res) (tripleAt stm i) ≡ true
+  Permitted = (i : ℕ) → i < t → kindsPermitted (kindAt res) (tripleAt stm i) ≡ true
 
   records-sound : resourceWords * r ≤ length res → statementWords * t ≤ length stm → recordsOk r t res stm ≡ true
       → Linked r t res stm × Permitted × Once
   unfolding recordsOk
   records-sound a b e =
       let e1 = and-l (allBelow (recordOk r res stm) t) _ e in
-      let f = and-r (allBelow (recordOk r res stm) t) (all3 (chainsOk r t res stm) && allBelow (alone res stm) t) e in
-      let e2 = and-l (all3 (chainsOk r t res stm)) _ f in
-      let e3 = and-r (all3 (chainsOk r t res stm)) _ f in
-      let L = cheap-linked r t res stm (records-ranged a b e1) (λ p. chains-cheap p (all3-at (chainsOk r t res stm) e2 p)) in
+      let f = and-r (allBelow (recordOk r res stm) t) (all3 (chainsSound r t res stm) && allBelow (standsOnce res stm) t) e in
+      let e2 = and-l (all3 (chainsSound r t res stm)) _ f in
+      let e3 = and-r (all3 (chainsSound r t res stm)) _ f in
+      let L = cheap-linked r t res stm (records-ranged a b e1) (λ p. chains-cheap p (all3-at (chainsSound r t res stm) e2 p)) in
       (L, record-permitted e1, all-once r t res stm L e3)
 
   sound-records : Linked r t res stm → Permitted → Once → recordsOk r t res stm ≡ true
   unfolding recordsOk
   sound-records L k o =
       and-of _ _ (ranged-records (linked-ranged r t res stm L) k)
-      (and-of _ _ (all3-of (chainsOk r t res stm) (λ p. cheap-chains p (linked-cheap r t res stm L p))) (once-all r t res stm L o))
+      (and-of _ _ (all3-of (chainsSound r t res stm) (λ p. cheap-chains p (linked-cheap r t res stm L p))) (once-all r t res stm L o))
 
 -- ---- yes exactly then
 

@@ -18,7 +18,7 @@ use Rattle.store.proofs.Words.{triple-at}
 use Rattle.store.proofs.Falling.{head-le}
 use Rattle.store.proofs.Walks.{Links}
 use Rattle.integrity.specs.Tests.{allBelow, chainLength, oneMore, isSome}
-use Rattle.integrity.specs.Records.{shortest, differs, aloneOn, alone}
+use Rattle.integrity.specs.Records.{shortest, differs, standsOnceOn, standsOnce}
 use Rattle.integrity.proofs.Ranges.{all-at, all-of}
 use Rattle.integrity.proofs.Linking.{links-down, chain-zero, linked-links}
 
@@ -55,8 +55,8 @@ module _ (r t : ℕ) (res stm : List ℕ) (L : Linked r t res stm) (p : Position
   f = differs stm (tripleAt stm i)
 
   -- the test, as a test of every earlier entry that holds the resource
-  walk-is : aloneOn stm p i ≡ allBelow (λ j. cond (g j) (f j) true) i
-  unfolding aloneOn
+  walk-is : standsOnceOn stm p i ≡ allBelow (λ j. cond (g j) (f j) true) i
+  unfolding standsOnceOn
   walk-is =
       rw (L .next p i h, le-leb (head0 (below g i)) i (head-le g i))
       (through (nextAt stm p) f g i i (omega arith) (λ j q e. linked-links r t res stm L p (termAt stm p i) j (omega arith) e))
@@ -67,16 +67,16 @@ module _ (r t : ℕ) (res stm : List ℕ) (L : Linked r t res stm) (p : Position
       eq-eqb (termAt stm p j) (termAt stm p i)
       (sym (triple-at stm p j) ∙ ap (λ (x : Triple). at p x) e ∙ triple-at stm p i)
 
-  alone-once : aloneOn stm p i ≡ true → (j : ℕ) → j < i → tripleAt stm j ≢ tripleAt stm i
+  tested-once : standsOnceOn stm p i ≡ true → (j : ℕ) → j < i → tripleAt stm j ≢ tripleAt stm i
   unfolding differs
-  alone-once e j q d =
+  tested-once e j q d =
       let a : cond (g j) (f j) true ≡ true = all-at (λ j. cond (g j) (f j) true) i (sym walk-is ∙ e) j q in
       let b : not (same (tripleAt stm i) (tripleAt stm j)) ≡ true = rw (same-holds j d) at a in
       true≢false (sym (same-self (tripleAt stm i) (tripleAt stm j) d) ∙ not-true-false _ b)
 
-  once-alone : ((j : ℕ) → j < i → tripleAt stm j ≢ tripleAt stm i) → aloneOn stm p i ≡ true
+  once-tested : ((j : ℕ) → j < i → tripleAt stm j ≢ tripleAt stm i) → standsOnceOn stm p i ≡ true
   unfolding differs
-  once-alone o = walk-is ∙ all-of (λ j. cond (g j) (f j) true) i (λ j q. either (g j) (f j) (other j q))
+  once-tested o = walk-is ∙ all-of (λ j. cond (g j) (f j) true) i (λ j q. either (g j) (f j) (other j q))
     where
       other : (j : ℕ) → j < i → not (same (tripleAt stm i) (tripleAt stm j)) ≡ true
       other j q =
@@ -90,13 +90,13 @@ module _ (r t : ℕ) (res stm : List ℕ) (L : Linked r t res stm) (p : Position
 
 -- over all records, each on the chain that is shortest
 module _ (r t : ℕ) (res stm : List ℕ) (L : Linked r t res stm) where
-  pub all-once : allBelow (alone res stm) t ≡ true → (i j : ℕ) → i < j → j < t → tripleAt stm i ≢ tripleAt stm j
-  unfolding alone
+  pub all-once : allBelow (standsOnce res stm) t ≡ true → (i j : ℕ) → i < j → j < t → tripleAt stm i ≢ tripleAt stm j
+  unfolding standsOnce
   all-once e i j h q =
-      alone-once r t res stm L (shortest res (tripleAt stm j)) j q
-      (all-at (λ i. aloneOn stm (shortest res (tripleAt stm i)) i) t e j q) i h
+      tested-once r t res stm L (shortest res (tripleAt stm j)) j q
+      (all-at (λ i. standsOnceOn stm (shortest res (tripleAt stm i)) i) t e j q) i h
 
-  pub once-all : ((i j : ℕ) → i < j → j < t → tripleAt stm i ≢ tripleAt stm j) → allBelow (alone res stm) t ≡ true
-  unfolding alone
+  pub once-all : ((i j : ℕ) → i < j → j < t → tripleAt stm i ≢ tripleAt stm j) → allBelow (standsOnce res stm) t ≡ true
+  unfolding standsOnce
   once-all o =
-      all-of _ t (λ j q. once-alone r t res stm L (shortest res (tripleAt stm j)) j q (λ i h. o i j h q))
+      all-of _ t (λ j q. once-tested r t res stm L (shortest res (tripleAt stm j)) j q (λ i h. o i j h q))

@@ -10,7 +10,7 @@ use lib.Dec.{leb, ltb}
 use borrow.Author.Tests.{ltb-true, leb-true, lt-ltb, le-leb}
 use Rattle.store.specs.Tables.{word, offsetAt}
 use Rattle.store.specs.Reading.{inRange}
-use Rattle.store.specs.Dictionary.{less, compare, isLess, Indexed}
+use Rattle.store.specs.Names.{less, compareBytes, isLess, Indexed}
 use Rattle.store.proofs.Tests.{and-l, and-r, and-of}
 use Rattle.store.proofs.Order.{compare-trans, is-less}
 use Rattle.integrity.specs.Tests.{allBelow}
@@ -36,13 +36,13 @@ module _ (r : ℕ) (res idx used : List ℕ) where
   module _ (name : ℕ → List ℕ) (S : Standing r res used name) where
     -- neighbours in the text are neighbours by name
     stands : (i : ℕ) → 0 < word idx i → word idx i ≤ r → 0 < word idx (suc i) → word idx (suc i) ≤ r
-        → neighboursRise res idx used i ≡ isLess (compare (name (word idx i)) (name (word idx (suc i))))
+        → neighboursRise res idx used i ≡ isLess (compareBytes (name (word idx i)) (name (word idx (suc i))))
     unfolding neighboursRise nameLess
     stands i a b c d = rw (S (word idx i) a b, S (word idx (suc i)) c d)
 
     -- by transitivity
-    far : ((i : ℕ) → suc i < r → compare (name (word idx i)) (name (word idx (suc i))) ≡ less) → (d i : ℕ) → i + suc d < r
-        → compare (name (word idx i)) (name (word idx (i + suc d))) ≡ less
+    far : ((i : ℕ) → suc i < r → compareBytes (name (word idx i)) (name (word idx (suc i))) ≡ less) → (d i : ℕ) → i + suc d < r
+        → compareBytes (name (word idx i)) (name (word idx (i + suc d))) ≡ less
     far h zero i g = let e : i + 1 ≡ suc i = omega arith in rw e (h i (omega arith))
     far h (suc d) i g =
         let e : i + suc (suc d) ≡ suc (i + suc d) = omega arith in
@@ -56,8 +56,8 @@ module _ (r : ℕ) (res idx used : List ℕ) where
         let b = and-r (allBelow (entryOk r idx) r) (allBelow (neighboursRise res idx used) (r - 1)) e in
         let lo = entry-low a in
         let hi = entry-high a in
-        let near : (i : ℕ) → suc i < r → compare (name (word idx i)) (name (word idx (suc i))) ≡ less = λ i h.
-        is-less (compare (name (word idx i)) (name (word idx (suc i))))
+        let near : (i : ℕ) → suc i < r → compareBytes (name (word idx i)) (name (word idx (suc i))) ≡ less = λ i h.
+        is-less (compareBytes (name (word idx i)) (name (word idx (suc i))))
         (sym (stands i (lo i (omega arith)) (hi i (omega arith)) (lo (suc i) h) (hi (suc i) h))
         ∙ all-at (neighboursRise res idx used) (r - 1) b i (omega arith)) in
         record {

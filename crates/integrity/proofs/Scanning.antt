@@ -14,7 +14,7 @@ use Rattle.term.specs.Scanner.{kindOf}
 use Rattle.term.specs.Canonical.{writesString}
 use Rattle.store.specs.Tables.{offsetAt, kindAt}
 use Rattle.store.specs.Shared.{wellFormed}
-use Rattle.store.specs.Dictionary.{storable, upToZero, compare, isLess}
+use Rattle.store.specs.Names.{storable, upToZero, compareBytes, isLess}
 use Rattle.store.proofs.Tests.{and-l}
 use Rattle.store.proofs.Order.{compare-less, compare-more, compare-tail}
 use Rattle.integrity.specs.Names.{nameFrom, nameOk, namesOk}
@@ -150,8 +150,8 @@ module _ (used : List ℕ) (i j : ℕ) where
   unfolding nameLess
   less-here h = rw (name-step used j (λ e. omega arith)) (by (eqb (getD used i 0) 0) refl)
     where
-      by : (b : Bool) → eqb (getD used i 0) 0 ≡ b → isLess (compare (nameFrom used i) (getD used j 0 ∷ nameFrom used (j + 1))) ≡ true
-      by true e = unfold compare in rw (name-stop used i (eqb-true (getD used i 0) 0 e))
+      by : (b : Bool) → eqb (getD used i 0) 0 ≡ b → isLess (compareBytes (nameFrom used i) (getD used j 0 ∷ nameFrom used (j + 1))) ≡ true
+      by true e = unfold compareBytes in rw (name-stop used i (eqb-true (getD used i 0) 0 e))
       by false e =
           rw (
             name-step used i (eqb-false (getD used i 0) 0 e),
@@ -162,8 +162,8 @@ module _ (used : List ℕ) (i j : ℕ) where
   unfolding nameLess
   more-here h = rw (name-step used i (λ e. omega arith)) (by (eqb (getD used j 0) 0) refl)
     where
-      by : (b : Bool) → eqb (getD used j 0) 0 ≡ b → isLess (compare (getD used i 0 ∷ nameFrom used (i + 1)) (nameFrom used j)) ≡ false
-      by true e = unfold compare in rw (name-stop used j (eqb-true (getD used j 0) 0 e))
+      by : (b : Bool) → eqb (getD used j 0) 0 ≡ b → isLess (compareBytes (getD used i 0 ∷ nameFrom used (i + 1)) (nameFrom used j)) ≡ false
+      by true e = unfold compareBytes in rw (name-stop used j (eqb-true (getD used j 0) 0 e))
       by false e =
           rw (
             name-step used j (eqb-false (getD used j 0) 0 e),
@@ -172,7 +172,7 @@ module _ (used : List ℕ) (i j : ℕ) where
 
   -- both end
   pub same-end : getD used i 0 ≡ 0 → getD used j 0 ≡ 0 → nameLess used i j ≡ false
-  unfolding nameLess compare
+  unfolding nameLess compareBytes
   same-end e d = rw (name-stop used i e, name-stop used j d)
 
   pub same-here : getD used i 0 ≡ getD used j 0 → (getD used i 0 ≡ 0 → ⊥) → nameLess used i j ≡ nameLess used (i + 1) (j + 1)

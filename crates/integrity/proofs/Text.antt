@@ -13,8 +13,8 @@ use borrow.Author.Tests.{eqb-true, eq-eqb, ltb-true, lt-ltb}
 use Rattle.term.specs.Scanner.{firstKindOf, kindOf}
 use Rattle.term.specs.Grammar.{nameLimit}
 use Rattle.store.specs.Tables.{offsetAt, kindAt}
-use Rattle.store.specs.Shared.{bytesOf}
-use Rattle.store.specs.Dictionary.{storable, joined, upToZero}
+use Rattle.store.specs.Shared.{textBytes}
+use Rattle.store.specs.Names.{storable, joined, upToZero}
 use Rattle.store.proofs.Tests.{and-l, and-r, and-of}
 use Rattle.store.proofs.Form.{form-clean, form-kindOf, storable-formed}
 use Rattle.store.proofs.Text.{upToZero-stops}
@@ -34,10 +34,10 @@ past (x ∷ n) r = past n r
 -- the text from o on is exactly the names ns, of k resources from y on
 pub record Read (res used : List ℕ) (k y o : ℕ) (ns : List (List ℕ)) : Type 0 where
   pub size : length ns ≡ k
-  pub bytes : o + bytesOf ns ≡ length used
+  pub bytes : o + textBytes ns ≡ length used
   pub spelled : drop o used ≡ joined ns
   pub well : (i : ℕ) → i < k → storable (getD ns i []) ≡ true
-  pub offsets : (i : ℕ) → i < k → offsetAt res (y + i) ≡ o + bytesOf (take i ns)
+  pub offsets : (i : ℕ) → i < k → offsetAt res (y + i) ≡ o + textBytes (take i ns)
   pub kinds : (i : ℕ) → i < k → kindAt res (y + i) ≡ firstKindOf (getD ns i [])
 
 -- what holds at 0 and of every successor
@@ -95,7 +95,7 @@ module _ (res used : List ℕ) where
   -- one name more in front
   read-cons : (k y o : ℕ) (ns : List (List ℕ)) → Tested res used y o → Read res used k (suc y) (after o) ns
       → Read res used (suc k) y o (nameFrom used o ∷ ns)
-  unfolding joined bytesOf
+  unfolding joined textBytes
   read-cons k y o ns T R =
       let n = nameFrom used o in
       record {
@@ -103,7 +103,7 @@ module _ (res used : List ℕ) where
         bytes = omega (arith, R .bytes);
         spelled = split-name o (T .closed) ∙ ap (λ (z : List ℕ). n ++ 0 ∷ z) (R .spelled);
         well = each (λ i. storable (getD (n ∷ ns) i []) ≡ true) k (T .formed) (λ i h. R .well i h);
-        offsets = each (λ i. offsetAt res (y + i) ≡ o + bytesOf (take i (n ∷ ns))) k
+        offsets = each (λ i. offsetAt res (y + i) ≡ o + textBytes (take i (n ∷ ns))) k
             (rw (add-zero, T .offset) (omega arith))
             (λ i h. rw (add-suc, ← suc-add, R .offsets i h) (omega arith));
         kinds = each (λ i. kindAt res (y + i) ≡ firstKindOf (getD (n ∷ ns) i [])) k
@@ -117,7 +117,7 @@ module _ (res used : List ℕ) where
   namesFrom (suc k) o = nameFrom used o ∷ namesFrom k (after o)
 
   pub names-read : (k y o : ℕ) → namesOk res used k y o ≡ true → Read res used k y o (namesFrom k o)
-  unfolding namesOk namesFrom joined bytesOf
+  unfolding namesOk namesFrom joined textBytes
   names-read zero y o e =
       let h = eqb-true o (length used) e in
       record {
@@ -144,7 +144,7 @@ module _ (res used : List ℕ) where
     head-name = ap upToZero (R .spelled) ∙ upToZero-stops n (joined ns) (form-clean n (storable-formed n (R .well 0 (omega arith))))
 
     head-tested : Tested res used y o
-    unfolding bytesOf
+    unfolding textBytes
     head-tested =
         let h = head-name in
         record {
@@ -155,7 +155,7 @@ module _ (res used : List ℕ) where
         }
 
     tail-read : Read res used k (suc y) (o + length n + 1) ns
-    unfolding bytesOf joined
+    unfolding textBytes joined
     tail-read =
         let e : o + length n + 1 ≡ o + suc (length n) = omega arith in
         record {
@@ -168,7 +168,7 @@ module _ (res used : List ℕ) where
         }
 
   pub read-names : (k y o : ℕ) (ns : List (List ℕ)) → Read res used k y o ns → namesOk res used k y o ≡ true
-  unfolding namesOk bytesOf
+  unfolding namesOk textBytes
   read-names zero y o [] R = eq-eqb o (length used) (omega (arith, R .bytes))
   read-names zero y o (n ∷ ns) R = absurd (omega (arith, R .size))
   read-names (suc k) y o [] R = absurd (omega (arith, R .size))
@@ -178,11 +178,11 @@ module _ (res used : List ℕ) where
 
   -- each name stands in the text at its offset
   pub name-at : (k y o : ℕ) (ns : List (List ℕ)) → Read res used k y o ns → (i : ℕ) → i < k
-      → nameFrom used (o + bytesOf (take i ns)) ≡ getD ns i []
-  unfolding bytesOf
+      → nameFrom used (o + textBytes (take i ns)) ≡ getD ns i []
+  unfolding textBytes
   name-at zero y o ns R i h = absurd (omega arith)
   name-at (suc k) y o [] R i h = absurd (omega (arith, R .size))
   name-at (suc k) y o (n ∷ ns) R zero h = rw add-zero (head-name k y o n ns R)
   name-at (suc k) y o (n ∷ ns) R (suc i) h =
-      let e : o + (length n + 1 + bytesOf (take i ns)) ≡ o + length n + 1 + bytesOf (take i ns) = omega arith in
+      let e : o + (length n + 1 + textBytes (take i ns)) ≡ o + length n + 1 + textBytes (take i ns) = omega arith in
       rw e (name-at k (suc y) (o + length n + 1) ns (tail-read k y o n ns R) i (omega arith))

@@ -17,7 +17,7 @@ use Rattle.store.specs.Shared.{at, same}
 use Rattle.store.specs.Tables.{termAt, nextAt, tripleAt, firstAt, countAt, liveAt}
 use Rattle.store.specs.Soundness.{holding, isLive}
 use Rattle.integrity.specs.Tests.{allBelow, sumTo, chainLength, chainLive, oneMore, isSome}
-use Rattle.integrity.specs.Records.{chainCounts, chainOk, chainsOk, shorter, shortest, differs, aloneOn}
+use Rattle.integrity.specs.Records.{chainCounts, chainSound, chainsSound, shorter, shortest, differs, standsOnceOn}
 use Rattle.integrity.proofs.Linking.{chain-zero, live-zero}
 use Rattle.integrity.proofs.Ranges.{all-none, all-more, all-fails, sum-none, sum-more}
 
@@ -74,10 +74,10 @@ module _ (t : ℕ) (stm : List ℕ) (p : Position) (y first : ℕ) where
   pub along-begin : first ≤ t → Along 0 0 first
   along-begin h = (t, h, sym (plus-zero (chainLength (nextAt stm p) (holding stm p y) t first)), omega arith)
 
-  torn : (count live : ℕ) → chainLength (nextAt stm p) (holding stm p y) t first ≡ none
+  damaged : (count live : ℕ) → chainLength (nextAt stm p) (holding stm p y) t first ≡ none
       → chainCounts t stm p y first count live ≡ false
   unfolding chainCounts
-  torn count live e = rw e
+  damaged count live e = rw e
 
   module _ (met alive n : ℕ) (A : Along met alive n) where
     pub along-lacks : (count live : ℕ) → (n ≡ 0 → ⊥) → (termAt stm p (n - 1) ≡ y → ⊥)
@@ -85,14 +85,14 @@ module _ (t : ℕ) (stm : List ℕ) (p : Position) (y first : ℕ) where
     unfolding holding
     along-lacks count live z e =
         let h = here (nextAt stm p) (holding stm p y) (A .0) n (A .1) z in
-        torn count live (A .2 ∙ rw (h .2, ne-eqb (termAt stm p (n - 1)) y e))
+        damaged count live (A .2 ∙ rw (h .2, ne-eqb (termAt stm p (n - 1)) y e))
 
     pub along-climbs : (count live : ℕ) → (n ≡ 0 → ⊥) → termAt stm p (n - 1) ≡ y → n ≤ nextAt stm p (n - 1)
         → chainCounts t stm p y first count live ≡ false
     unfolding holding
     along-climbs count live z e l =
         let h = here (nextAt stm p) (holding stm p y) (A .0) n (A .1) z in
-        torn count live
+        damaged count live
         (A .2
         ∙ rw (h .2, eq-eqb (termAt stm p (n - 1)) y e, lt-leb (nextAt stm p (n - 1)) (n - 1) (omega arith)))
 
@@ -126,34 +126,34 @@ module _ (t : ℕ) (stm : List ℕ) (p : Position) (y first : ℕ) where
     along-off count live z q = rw (met-all z, ne-eqb met count q)
 
 module _ (t : ℕ) (res stm : List ℕ) (p : Position) (y : ℕ) where
-  pub chain-over : t < firstAt res p y → chainOk t res stm p y ≡ false
-  unfolding chainOk
+  pub chain-over : t < firstAt res p y → chainSound t res stm p y ≡ false
+  unfolding chainSound
   chain-over h = rw (lt-leb (firstAt res p y) t h)
 
   pub chain-within : firstAt res p y ≤ t
-      → chainOk t res stm p y ≡ chainCounts t stm p y (firstAt res p y) (countAt res p y) (liveAt res p y)
-  unfolding chainOk
+      → chainSound t res stm p y ≡ chainCounts t stm p y (firstAt res p y) (countAt res p y) (liveAt res p y)
+  unfolding chainSound
   chain-within h = rw (le-leb (firstAt res p y) t h)
 
 -- the first y resources pass, and their counts add up to the total
 abbrev pub Passed : ℕ → List ℕ → List ℕ → Position → ℕ → ℕ → Type 0
-Passed t res stm p y total = (allBelow (λ i. chainOk t res stm p (suc i)) y ≡ true) × (total ≡ sumTo (countAt res p) y)
+Passed t res stm p y total = (allBelow (λ i. chainSound t res stm p (suc i)) y ≡ true) × (total ≡ sumTo (countAt res p) y)
 
 module _ (r t : ℕ) (res stm : List ℕ) (p : Position) where
   pub passed-none : Passed t res stm p 0 0
-  passed-none = (all-none (λ i. chainOk t res stm p (suc i)), sym (sum-none (countAt res p)))
+  passed-none = (all-none (λ i. chainSound t res stm p (suc i)), sym (sum-none (countAt res p)))
 
-  pub passed-one : (y total n : ℕ) → Passed t res stm p y total → chainOk t res stm p (y + 1) ≡ true → n ≡ countAt res p (y + 1)
+  pub passed-one : (y total n : ℕ) → Passed t res stm p y total → chainSound t res stm p (y + 1) ≡ true → n ≡ countAt res p (y + 1)
       → Passed t res stm p (y + 1) (total + n)
   passed-one y total n P e q =
-      (all-more (λ i. chainOk t res stm p (suc i)) y (P .0) (rw (add-one y) at e), rw (sum-more (countAt res p) y, q, P .1))
+      (all-more (λ i. chainSound t res stm p (suc i)) y (P .0) (rw (add-one y) at e), rw (sum-more (countAt res p) y, q, P .1))
 
-  pub passed-fails : (y : ℕ) → y < r → chainOk t res stm p (y + 1) ≡ false → chainsOk r t res stm p ≡ false
-  unfolding chainsOk
-  passed-fails y h e = rw (all-fails (λ i. chainOk t res stm p (suc i)) r y h (rw (add-one y) at e))
+  pub passed-fails : (y : ℕ) → y < r → chainSound t res stm p (y + 1) ≡ false → chainsSound r t res stm p ≡ false
+  unfolding chainsSound
+  passed-fails y h e = rw (all-fails (λ i. chainSound t res stm p (suc i)) r y h (rw (add-one y) at e))
 
-  pub passed-all : (y total : ℕ) → Passed t res stm p y total → y ≡ r → chainsOk r t res stm p ≡ eqb total t
-  unfolding chainsOk
+  pub passed-all : (y total : ℕ) → Passed t res stm p y total → y ≡ r → chainsSound r t res stm p ≡ eqb total t
+  unfolding chainsSound
   passed-all y total P e = rw (← e, P .0, P .1)
 
 -- ---- the shortest chain
@@ -186,8 +186,8 @@ Below stm p x a n =
     (g : ℕ) × (n - 1 ≤ g)
     × (a ≡ leb (nextAt stm p (n - 1)) (n - 1) && isSome (chainLength (nextAt stm p) (differs stm x) g (nextAt stm p (n - 1))))
 
-pub below-begin : (stm : List ℕ) (p : Position) (n : ℕ) → Below stm p (tripleAt stm (n - 1)) (aloneOn stm p (n - 1)) n
-unfolding aloneOn
+pub below-begin : (stm : List ℕ) (p : Position) (n : ℕ) → Below stm p (tripleAt stm (n - 1)) (standsOnceOn stm p (n - 1)) n
+unfolding standsOnceOn
 below-begin stm p n = (n - 1, omega arith, refl)
 
 module _ (stm : List ℕ) (p : Position) (x : Triple) (a : Bool) (n : ℕ) (h : 1 ≤ n) (B : Below stm p x a n) where

@@ -7,7 +7,7 @@ use Prim.Native.Nat.{ℕ, suc, _-_, _≤_}
 use lib.ListN.{length}
 use Rattle.store.specs.Tables.{word, offsetAt}
 use Rattle.store.specs.Reading.{inRange}
-use Rattle.store.specs.Dictionary.{compare, isLess}
+use Rattle.store.specs.Names.{compareBytes, isLess}
 use Rattle.integrity.specs.Tests.{allBelow}
 use Rattle.integrity.specs.Names.{nameFrom}
 
@@ -21,7 +21,7 @@ pub record EntriesKnown (idx : List ℕ) (r : ℕ) : Type 0 where
 
 -- the name from a on is less than the name from b on
 unfoldable pub nameLess : List ℕ → ℕ → ℕ → Bool
-nameLess used a b = isLess (compare (nameFrom used a) (nameFrom used b))
+nameLess used a b = isLess (compareBytes (nameFrom used a) (nameFrom used b))
 
 -- entry i of the index and the entry after it
 unfoldable pub neighboursRise : List ℕ → List ℕ → List ℕ → ℕ → Bool

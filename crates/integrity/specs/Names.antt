@@ -8,7 +8,7 @@ use lib.Dec.{eqb, ltb}
 use Rattle.term.specs.Scanner.{kindOf}
 use Rattle.term.specs.Grammar.{nameLimit}
 use Rattle.store.specs.Tables.{offsetAt, kindAt}
-use Rattle.store.specs.Dictionary.{storable, upToZero}
+use Rattle.store.specs.Names.{storable, upToZero}
 
 -- the bytes from o on, up to the first zero byte or the end
 unfoldable pub nameFrom : List ℕ → ℕ → List ℕ

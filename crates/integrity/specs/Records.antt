@@ -7,7 +7,7 @@ use lib.Dec.{eqb, leb, ltb}
 use Rattle.store.specs.declared.Position.{Position}
 use Rattle.store.specs.declared.Position.the-variants.{Subject, Predicate, Object}
 use Rattle.store.specs.declared.Triple.{Triple}
-use Rattle.store.specs.Shared.{at, all3, known, same, permitted}
+use Rattle.store.specs.Shared.{at, all3, known, same, kindsPermitted}
 use Rattle.store.specs.Tables.{nextAt, flagAt, tripleAt, firstAt, countAt, kindAt, liveAt}
 use Rattle.store.specs.Soundness.{holding, isLive}
 use Rattle.integrity.specs.Tests.{allBelow, sumTo, chainLength, chainLive, isCount, isSome}
@@ -15,7 +15,7 @@ use Rattle.integrity.specs.Tests.{allBelow, sumTo, chainLength, chainLiv
 -- ---- each record by itself: resources in 1..R, permitted kinds, flag 0 or 1
 
 unfoldable pub recordOk : ℕ → List ℕ → List ℕ → ℕ → Bool
-recordOk r res stm i = known r (tripleAt stm i) && (permitted (kindAt res) (tripleAt stm i) && leb (flagAt stm i) 1)
+recordOk r res stm i = known r (tripleAt stm i) && (kindsPermitted (kindAt res) (tripleAt stm i) && leb (flagAt stm i) 1)
 
 -- ---- the chains at a position
 
@@ -26,13 +26,13 @@ chainCounts t stm p y first count live =
     && eqb (chainLive (nextAt stm p) (isLive stm) t first) live
 
 -- resource y: its first is a record or 0, and its chain is as its count and its live count say
-unfoldable pub chainOk : ℕ → List ℕ → List ℕ → Position → ℕ → Bool
-chainOk t res stm p y =
+unfoldable pub chainSound : ℕ → List ℕ → List ℕ → Position → ℕ → Bool
+chainSound t res stm p y =
     leb (firstAt res p y) t && chainCounts t stm p y (firstAt res p y) (countAt res p y) (liveAt res p y)
 
 -- every resource, and the counts add up to T: so every record is on the chain of its resource
-unfoldable pub chainsOk : ℕ → ℕ → List ℕ → List ℕ → Position → Bool
-chainsOk r t res stm p = allBelow (λ i. chainOk t res stm p (suc i)) r && eqb (sumTo (countAt res p) r) t
+unfoldable pub chainsSound : ℕ → ℕ → List ℕ → List ℕ → Position → Bool
+chainsSound r t res stm p = allBelow (λ i. chainSound t res stm p (suc i)) r && eqb (sumTo (countAt res p) r) t
 
 -- ---- no triple twice
 
@@ -48,13 +48,13 @@ unfoldable pub differs : List ℕ → Triple → ℕ → Bool
 differs stm x j = not (same x (tripleAt stm j))
 
 -- no record below entry i on its chain at p has its triple, live or not
-unfoldable pub aloneOn : List ℕ → Position → ℕ → Bool
-aloneOn stm p i =
+unfoldable pub standsOnceOn : List ℕ → Position → ℕ → Bool
+standsOnceOn stm p i =
     leb (nextAt stm p i) i && isSome (chainLength (nextAt stm p) (differs stm (tripleAt stm i)) i (nextAt stm p i))
 
-unfoldable pub alone : List ℕ → List ℕ → ℕ → Bool
-alone res stm i = aloneOn stm (shortest res (tripleAt stm i)) i
+unfoldable pub standsOnce : List ℕ → List ℕ → ℕ → Bool
+standsOnce res stm i = standsOnceOn stm (shortest res (tripleAt stm i)) i
 
 unfoldable pub recordsOk : ℕ → ℕ → List ℕ → List ℕ → Bool
 recordsOk r t res stm =
-    allBelow (recordOk r res stm) t && (all3 (chainsOk r t res stm) && allBelow (alone res stm) t)
+    allBelow (recordOk r res stm) t && (all3 (chainsSound r t res stm) && allBelow (standsOnce res stm) t)

@@ -8,7 +8,7 @@ ghost use mathlib.Core.Path.{_≡_};
 ghost use Prim.Native.Nat.{_≤_};
 ghost use Rattle.store.specs.Shared.{all3};
 ghost use Rattle.integrity.specs.Held.{ResourcesHeld, StatementsHeld};
-ghost use Rattle.integrity.specs.Records.{chainCounts, chainOk, chainsOk};
+ghost use Rattle.integrity.specs.Records.{chainCounts, chainSound, chainsSound};
 
 // Whether the chain from record `first` on falls, holds y in every record, and has `count` records, `live` of them live.
 fn chain_counts(
@@ -44,7 +44,7 @@ fn chain_counts(
 }
 
 // Whether the chain of resource y is right.
-fn chain_ok(
+fn chain_sound(
     resources: &[u32],
     statements: &[u32],
     r: u32,
@@ -55,7 +55,7 @@ fn chain_ok(
     requires { ⌜ ResourcesHeld (now resources) r ⌝ }
     requires { ⌜ StatementsHeld (now statements) t ⌝ }
     requires { ⌜ (1 ≤ y .0) × (y .0 ≤ r) ⌝ }
-    ensures { λ b. ⌜ b ≡ chainOk t (now (resources .entry)) (now (statements .entry)) p (y .0) ⌝ }
+    ensures { λ b. ⌜ b ≡ chainSound t (now (resources .entry)) (now (statements .entry)) p (y .0) ⌝ }
 {
     let first = table::inner::first_at(resources, y, p);
     if first.0 > t {
@@ -67,17 +67,17 @@ fn chain_ok(
 }
 
 // Whether the chains at a position are right, and hold every record between them.
-fn chains_ok(resources: &[u32], statements: &[u32], r: u32, t: u32, p: Position) -> bool
+fn chains_sound(resources: &[u32], statements: &[u32], r: u32, t: u32, p: Position) -> bool
     requires { ⌜ ResourcesHeld (now resources) r ⌝ }
     requires { ⌜ StatementsHeld (now statements) t ⌝ }
-    ensures { λ b. ⌜ b ≡ chainsOk r t (now (resources .entry)) (now (statements .entry)) p ⌝ }
+    ensures { λ b. ⌜ b ≡ chainsSound r t (now (resources .entry)) (now (statements .entry)) p ⌝ }
 {
     let mut done: u32 = 0;
     let mut total: usize = 0;
     // The chains of the first `done` resources are right, and their counts add up to `total`.
     while done < r {
         let y = ResourceId(done + 1);
-        if !chain_ok(resources, statements, r, t, p, y) {
+        if !chain_sound(resources, statements, r, t, p, y) {
             return false;
         }
         total += crate::wide(table::inner::count_at(resources, y, p));
@@ -87,16 +87,16 @@ fn chains_ok(resources: &[u32], statements: &[u32], r: u32, t: u32, p: Position)
 }
 
 // Whether the chains at all three positions are right.
-pub fn all_chains_ok(resources: &[u32], statements: &[u32], r: u32, t: u32) -> bool
+pub fn all_chains_sound(resources: &[u32], statements: &[u32], r: u32, t: u32) -> bool
     requires { ⌜ ResourcesHeld (now resources) r ⌝ }
     requires { ⌜ StatementsHeld (now statements) t ⌝ }
-    ensures { λ b. ⌜ b ≡ all3 (chainsOk r t (now (resources .entry)) (now (statements .entry))) ⌝ }
+    ensures { λ b. ⌜ b ≡ all3 (chainsSound r t (now (resources .entry)) (now (statements .entry))) ⌝ }
 {
-    if !chains_ok(resources, statements, r, t, Position::Subject) {
+    if !chains_sound(resources, statements, r, t, Position::Subject) {
         return false;
     }
-    if !chains_ok(resources, statements, r, t, Position::Predicate) {
+    if !chains_sound(resources, statements, r, t, Position::Predicate) {
         return false;
     }
-    chains_ok(resources, statements, r, t, Position::Object)
+    chains_sound(resources, statements, r, t, Position::Object)
 }

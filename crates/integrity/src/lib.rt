@@ -22,11 +22,11 @@ ghost use Rattle.integrity.specs.Held.{ResourcesHeld, StatementsHeld};
 ghost use Rattle.integrity.specs.Records.{recordsOk};
 ghost use Rattle.integrity.specs.Check.{checkOf};
 
-mod alone;
 mod chains;
 mod index;
 mod names;
 mod records;
+mod unique;
 
 // A word as an offset.
 fn wide(x: u32) -> usize
@@ -44,10 +44,10 @@ fn records_ok(resources: &[u32], statements: &[u32], r: u32, t: u32) -> bool
     if !records::each_ok(resources, statements, r, t) {
         return false;
     }
-    if !chains::all_chains_ok(resources, statements, r, t) {
+    if !chains::all_chains_sound(resources, statements, r, t) {
         return false;
     }
-    alone::all_alone(resources, statements, r, t)
+    unique::all_stand_once(resources, statements, r, t)
 }
 
 // All tests, in order.

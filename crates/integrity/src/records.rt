@@ -4,17 +4,17 @@ use store::Triple;
 ghost use mathlib.Core.Path.{_≡_};
 ghost use mathlib.Core.Bool.{true};
 ghost use Prim.Native.Nat.{_-_, _≤_, _<_};
-ghost use Rattle.store.specs.Shared.{known, permitted};
+ghost use Rattle.store.specs.Shared.{known, kindsPermitted};
 ghost use Rattle.store.specs.Tables.{kindAt};
 ghost use Rattle.integrity.specs.Held.{ResourcesHeld, StatementsHeld};
 ghost use Rattle.integrity.specs.Tests.{allBelow};
 ghost use Rattle.integrity.specs.Records.{recordOk};
 
 // Whether the subject is no literal and the predicate is an IRI.
-fn permitted(resources: &[u32], r: u32, x: Triple) -> bool
+fn kinds_permitted(resources: &[u32], r: u32, x: Triple) -> bool
     requires { ⌜ ResourcesHeld (now resources) r ⌝ }
     requires { ⌜ known r x ≡ true ⌝ }
-    ensures { λ b. ⌜ b ≡ permitted (kindAt (now (resources .entry))) x ⌝ }
+    ensures { λ b. ⌜ b ≡ kindsPermitted (kindAt (now (resources .entry))) x ⌝ }
 {
     if table::inner::kind_at(resources, x.subject) == 3 {
         return false;
@@ -33,7 +33,7 @@ fn record_ok(resources: &[u32], statements: &[u32], r: u32, n: StatementId) -> b
     if !table::known(r, x) {
         return false;
     }
-    if !permitted(resources, r, x) {
+    if !kinds_permitted(resources, r, x) {
         return false;
     }
     table::inner::flag_at(statements, n) <= 1

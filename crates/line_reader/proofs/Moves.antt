@@ -3,13 +3,12 @@
 use Prim.Native.Nat.{ℕ, suc, _+_, _-_, _≤_, _<_}
 use mathlib.Core.Path.{_≡_, refl}
 use mathlib.Core.List.{List, [], _∷_}
-use mathlib.Core.Bool.{Bool, true, false}
+use mathlib.Core.Bool.{Bool, true, false, cond}
 use lib.Dec.{eqb, leb}
 use lib.ListN.{length, drop, length-drop}
 use borrow.Author.Tests.{lt-leb, leb-false}
 use native.Mathlib.Omega.{arith}
 use Rattle.term.proofs.Booleans.{decide}
-use Rattle.term.specs.Bytes.{pick}
 use Rattle.ntriples.specs.declared.Line.the-variants.{End}
 use Rattle.ntriples.specs.Reader.{readOf, readSpelled, shortLine, takenOf, untilLf, hasLf}
 

@@ -14,7 +14,8 @@ use Rattle.term.proofs.Shortened.{canonical-name}
 use Rattle.store.specs.Shared.{at, wellFormed}
 use Rattle.store.specs.Tables.{tripleAt}
 use Rattle.store.specs.Model.{intern}
-use Rattle.store.specs.Dictionary.{nameAt, internOf}
+use Rattle.store.specs.Dictionary.{internOf}
+use Rattle.store.specs.Names.{nameAt}
 use Rattle.store.specs.History.{Store, callStore}
 use Rattle.store.proofs.Tests.{decide}
 use Rattle.store.proofs.RoundTrips.{number-is, named-is}

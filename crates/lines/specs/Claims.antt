@@ -8,7 +8,8 @@ use Rattle.store.specs.declared.ResourceId.{ResourceId}
 use Rattle.store.specs.declared.Lookup.the-variants.{Number}
 use Rattle.store.specs.Tables.{Tables, tripleAt}
 use Rattle.store.specs.Model.{intern}
-use Rattle.store.specs.Dictionary.{nameAt, findOf}
+use Rattle.store.specs.Dictionary.{findOf}
+use Rattle.store.specs.Names.{nameAt}
 use Rattle.store.specs.Soundness.{Sound}
 use Rattle.store.specs.History.{Store, callStore, capacitiesOf}
 use Rattle.store.specs.Claims.{listsOf}
@@ -16,7 +17,7 @@ use Rattle.ntriples.specs.declared.Span.{Span}
 use Rattle.ntriples.specs.Grammar.{FirstLine, bytesOf, values}
 use Rattle.ntriples.specs.TermOf.{termOf}
 use Rattle.ntriples.specs.Claims.{Meant, Enterable, answerAt}
-use Rattle.graph.specs.Meaning.{RdfTriple, termAt}
+use Rattle.graph.specs.Meaning.{RdfTriple, partAt}
 use Rattle.graph.specs.Graph.{named, LiveAt}
 use Rattle.graph.specs.Claims.{SoundStore, Loaded, loadOf, loadModel, canonicalTriple}
 
@@ -52,7 +53,7 @@ NumbersAreTerms = (c : Counters) (m : Tables) → Sound c m
 -- and two live statements two triples.
 abbrev pub StatementsAreTriples : Type 0
 StatementsAreTriples = (c : Counters) (m : Tables) → Sound c m → (i j : ℕ) → LiveAt c m i → LiveAt c m j
-    → ((p : Position) → termOf (termAt p (named m (tripleAt (m .statements) i))) ≡ termOf (termAt p (named m (tripleAt (m .statements) j))))
+    → ((p : Position) → termOf (partAt p (named m (tripleAt (m .statements) i))) ≡ termOf (partAt p (named m (tripleAt (m .statements) j))))
     → i ≡ j
 
 -- Two names found have one number exactly if RDF 1.1 gives them one term,

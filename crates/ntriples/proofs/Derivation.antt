@@ -29,7 +29,7 @@ use Rattle.ntriples.specs.Grammar.{
   Within,
   Viable,
 }
-use Rattle.ntriples.specs.Reader.{Outcome, Empty, Terms, Fails, permitted}
+use Rattle.ntriples.specs.Reader.{Outcome, Empty, Terms, Fails, kindAllowed}
 use Rattle.ntriples.proofs.Rest.{Rest, Derives, ShortParts, ShortOutcome, Continued}
 use Rattle.ntriples.proofs.Residual.{shift, plus-zero}
 use Rattle.ntriples.proofs.Forth.{Fit}
@@ -39,36 +39,36 @@ use Rattle.ntriples.proofs.Reading.{fit-short}
 pub record Permitted (n : ℕ) (t : List ℕ) : Type 0 where
   pub kind : ℕ
   pub name : Name kind t
-  pub fits : permitted n kind ≡ true
+  pub fits : kindAllowed n kind ≡ true
 
 pub subject-forth : {t : List ℕ} → Subject t → Permitted 2 t
-unfolding permitted
+unfolding kindAllowed
 subject-forth (Subject.iri h) = record { kind = 1; name = names.Name.iri h; fits = refl }
 subject-forth (Subject.blank h) = record { kind = 2; name = names.Name.blank h; fits = refl }
 
 pub predicate-forth : {t : List ℕ} → Predicate t → Permitted 1 t
-unfolding permitted
+unfolding kindAllowed
 predicate-forth (Predicate.iri h) = record { kind = 1; name = names.Name.iri h; fits = refl }
 
 pub object-forth : {t : List ℕ} → Object t → Permitted 0 t
-unfolding permitted
+unfolding kindAllowed
 object-forth (Object.iri h) = record { kind = 1; name = names.Name.iri h; fits = refl }
 object-forth (Object.blank h) = record { kind = 2; name = names.Name.blank h; fits = refl }
 object-forth (Object.literal h) = record { kind = 3; name = names.Name.literal h; fits = refl }
 
-subject-back : {k : ℕ} {t : List ℕ} → Name k t → permitted 2 k ≡ true → Subject t
-unfolding permitted
+subject-back : {k : ℕ} {t : List ℕ} → Name k t → kindAllowed 2 k ≡ true → Subject t
+unfolding kindAllowed
 subject-back (names.Name.iri h) e = Subject.iri h
 subject-back (names.Name.blank h) e = Subject.blank h
 subject-back (names.Name.literal h) e = never e
 
-predicate-back : {k : ℕ} {t : List ℕ} → Name k t → permitted 1 k ≡ true → Predicate t
-unfolding permitted
+predicate-back : {k : ℕ} {t : List ℕ} → Name k t → kindAllowed 1 k ≡ true → Predicate t
+unfolding kindAllowed
 predicate-back (names.Name.iri h) e = Predicate.iri h
 predicate-back (names.Name.blank h) e = never e
 predicate-back (names.Name.literal h) e = never e
 
-object-back : {k : ℕ} {t : List ℕ} → Name k t → permitted 0 k ≡ true → Object t
+object-back : {k : ℕ} {t : List ℕ} → Name k t → kindAllowed 0 k ≡ true → Object t
 object-back (names.Name.iri h) e = Object.iri h
 object-back (names.Name.blank h) e = Object.blank h
 object-back (names.Name.literal h) e = Object.literal h
@@ -105,7 +105,7 @@ record NextTerm (n i : ℕ) (l : List ℕ) (ms : List Span) : Type 0 where
   blank : All white gap
   kind : ℕ
   named : Name kind name
-  fits : permitted n kind ≡ true
+  fits : kindAllowed n kind ≡ true
   later : List Span
   rest : Rest n (i + length gap + length name) tail later
   parts : ms ≡ span (i + length gap) (i + length gap + length name) ∷ later

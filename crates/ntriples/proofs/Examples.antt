@@ -12,7 +12,7 @@ use Rattle.ntriples.specs.declared.Line.the-variants.{End, Nothing, Trip
 use Rattle.ntriples.specs.declared.LineRead.{LineRead}
 use Rattle.ntriples.specs.Grammar.{span, white, commentByte}
 use Rattle.ntriples.specs.Reader.{
-  permitted,
+  kindAllowed,
   isDot,
   opens,
   dotted,
@@ -22,7 +22,7 @@ use Rattle.ntriples.specs.Reader.{
   goesOnOf,
   leaveOf,
   advanceOf,
-  placeOf,
+  stateOf,
   endOf,
   lineOf,
 }
@@ -94,7 +94,7 @@ rows =
 
 rows-hold : map (λ (r : Row). readOf 255 (r .text) (r .at)) rows ≡ map (λ (r : Row). r .reads) rows
 unfolding readOf readSpelled shortLine eqBytes writesString canonical answerOf firstLineOf takenOf untilLf hasLf
-    dropCr lineOf placeOf endOf advanceOf leaveOf goesOnOf gapOf enterOf afterOf dotted opens isDot isBad permitted
+    dropCr lineOf stateOf endOf advanceOf leaveOf goesOnOf gapOf enterOf afterOf dotted opens isDot isBad kindAllowed
     commentByte white stepOf wholeOf firstKindOf among iriByte textByte pairByte firstByte labelByte letter alnum
 rows-hold = refl
 

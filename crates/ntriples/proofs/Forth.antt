@@ -3,13 +3,13 @@
 use Prim.Native.Nat.{ℕ, zero, suc, _+_, _-_, _≤_, _<_, min}
 use mathlib.Core.Path.{_≡_, refl, sym, _∙_, ap}
 use mathlib.Core.List.{List, [], _∷_, _++_, append-nil, append-assoc}
-use mathlib.Core.Bool.{Bool, true, false}
+use mathlib.Core.Bool.{Bool, true, false, cond}
 use mathlib.Core.Logic.{_⊎_, ⊎-elim, inl, inr}
 use lib.Dec.{leb, ltb, eqb}
 use lib.ListN.{length}
 use native.Mathlib.Omega.{arith}
 use borrow.Author.Tests.{eqb-true, eq-eqb, ltb-true, ltb-false, lt-ltb, le-ltb}
-use Rattle.term.specs.Bytes.{pick, among, iriByte, textByte, pairByte, firstByte, labelByte, letter, alnum, All}
+use Rattle.term.specs.Bytes.{among, iriByte, textByte, pairByte, firstByte, labelByte, letter, alnum, All}
 use Rattle.term.specs.Scanner.{stepOf, runOf, wholeOf, isBad, firstKindOf}
 use Rattle.term.specs.Grammar.{Name}
 use Rattle.term.specs.Grammar as names
@@ -44,14 +44,14 @@ use Rattle.ntriples.specs.Reader.{
   Empty,
   Terms,
   Fails,
-  permitted,
-  Place,
+  kindAllowed,
+  State,
   Begin,
   Gap,
   Inside,
   After,
-  Noted,
-  Remark,
+  CommentAfterDot,
+  CommentLine,
   Broken,
   isDot,
   opens,
@@ -106,13 +106,13 @@ abbrev pub Fit : ℕ → List Span → Type 0
 Fit m [] = Unit
 Fit m (p ∷ ms) = (p .end ≤ p .start + m) × Fit m ms
 
-abbrev pub Good : ℕ → ℕ → Place → Type 0
+abbrev pub Good : ℕ → ℕ → State → Type 0
 Good m i Begin = Unit
 Good m i (Gap ms n) = Fit m ms × (n ≤ 2)
 Good m i (Inside ms n q a) = Fit m ms × (i ≤ a + m) × Sane n q
 Good m i (After ms) = Fit m ms
-Good m i (Noted ms) = Fit m ms
-Good m i Remark = Unit
+Good m i (CommentAfterDot ms) = Fit m ms
+Good m i CommentLine = Unit
 Good m i (Broken k) = Unit
 
 -- facts on bytes
@@ -122,39 +122,39 @@ white-byte b f g h =
     cases (λ x. x ≡ true) (eqb b 32) true _ (λ e _. f (eqb-true b 32 e))
     (λ _ k. cases (λ x. x ≡ true) (eqb b 9) true false (λ e _. g (eqb-true b 9 e)) (λ _ z. never z) k) h
 
-pub opening : {C : Type 0} (n b : ℕ) → (b ≡ 60 → C) → (b ≡ 95 → permitted n 2 ≡ true → C)
-    → (b ≡ 34 → permitted n 3 ≡ true → C) → opens n b ≡ true → C
+pub opening : {C : Type 0} (n b : ℕ) → (b ≡ 60 → C) → (b ≡ 95 → kindAllowed n 2 ≡ true → C)
+    → (b ≡ 34 → kindAllowed n 3 ≡ true → C) → opens n b ≡ true → C
 unfolding opens firstKindOf
 opening n b f g k h =
-    let P : ℕ → Type 0 = λ x. pick (eqb x 0) false (permitted n x) ≡ true in
+    let P : ℕ → Type 0 = λ x. cond (eqb x 0) false (kindAllowed n x) ≡ true in
     cases P (eqb b 60) 1 _ (λ e _. f (eqb-true b 60 e))
     (λ _ j. cases P (eqb b 95) 2 _ (λ e z. g (eqb-true b 95 e) z)
     (λ _ o. cases P (eqb b 34) 3 0 (λ e z. k (eqb-true b 34 e) z) (λ _ z. never z) o) j) h
 
-pub opens-dark : (n b : ℕ) → opens n b ≡ true → white b ≡ false
+pub opens-not-white : (n b : ℕ) → opens n b ≡ true → white b ≡ false
 unfolding white among
-opens-dark n b h = opening n b (λ e. rw e) (λ e _. rw e) (λ e _. rw e) h
+opens-not-white n b h = opening n b (λ e. rw e) (λ e _. rw e) (λ e _. rw e) h
 
 -- the object's place permits what any permits
 pub opens-any : (n b : ℕ) → opens n b ≡ true → opens 0 b ≡ true
-unfolding opens firstKindOf permitted
+unfolding opens firstKindOf kindAllowed
 opens-any n b h = opening n b (λ e. rw e) (λ e _. rw e) (λ e _. rw e) h
 
 pub opens-one : (b : ℕ) → opens 1 b ≡ true → b ≡ 60
-unfolding permitted
+unfolding kindAllowed
 opens-one b h = opening 1 b (λ e. e) (λ e z. never z) (λ e z. never z) h
 
 pub opens-alive : (n b : ℕ) → opens n b ≡ true → isBad (stepOf Start b) ≡ false
 unfolding stepOf isBad
 opens-alive n b h = opening n b (λ e. rw e) (λ e _. rw e) (λ e _. rw e) h
 
-dark-hash : white 35 ≡ false
+not-white-hash : white 35 ≡ false
 unfolding white among
-dark-hash = refl
+not-white-hash = refl
 
-dark-dot : white 46 ≡ false
+not-white-dot : white 46 ≡ false
 unfolding white among
-dark-dot = refl
+not-white-dot = refl
 
 -- a whole name does not go on with a space, a tab or `<`, nor with a dot if it is no label
 whole-ends : (q : Scan) → wholeOf q ≡ true
@@ -256,7 +256,7 @@ after-forth : (i : ℕ) (ms : List Span) (b : ℕ) (l : List ℕ) (r : Outcome) 
     → Residual (i + 1) (afterOf i ms b) l r
 unfolding afterOf
 after-forth i ms b l r (Trail.space e t) g = rw e (t, g)
-after-forth i ms b l r (Trail.comment t) g = rw dark-hash (t, g)
+after-forth i ms b l r (Trail.comment t) g = rw not-white-hash (t, g)
 
 pub gap-space : (i : ℕ) (ms : List Span) (n b : ℕ) → white b ≡ true → gapOf i ms n b ≡ Gap ms n
 unfolding gapOf
@@ -270,7 +270,7 @@ enter-eq i ms n b e = rw e
 pub gap-enter : (i : ℕ) (ms : List Span) (n b : ℕ) → opens n b ≡ true
     → gapOf i ms (suc n) b ≡ Inside ms n (stepOf Start b) i
 unfolding gapOf
-gap-enter i ms n b e = rw (opens-dark n b e, enter-eq i ms n b e)
+gap-enter i ms n b e = rw (opens-not-white n b e, enter-eq i ms n b e)
 
 pub no-empty : {C : Type 0} {k : ℕ} → Name k [] → C
 unfolding runOf wholeOf
@@ -285,13 +285,13 @@ same-kind : (b : ℕ) (s : List ℕ) → firstKindOf (b ∷ []) ≡ firstKindOf 
 unfolding firstKindOf
 same-kind b s = refl
 
-name-opens : (n k b : ℕ) (s : List ℕ) → Name k (b ∷ s) → permitted n k ≡ true → opens n b ≡ true
+name-opens : (n k b : ℕ) (s : List ℕ) → Name k (b ∷ s) → kindAllowed n k ≡ true → opens n b ≡ true
 unfolding opens
 name-opens n k b s h e = let q : firstKindOf (b ∷ []) ≡ k = same-kind b s ∙ name-kind h in rw (q, kind-some h) e
 
 -- a term's first byte, in a list that begins with b
 term-forth : (i : ℕ) (ms parts : List Span) (n k b : ℕ) (l t s : List ℕ) (r : Outcome) → b ∷ l ≡ t ++ s → Name k t
-    → permitted n k ≡ true
+    → kindAllowed n k ≡ true
     → Rest n (i + length t) s parts → r ≡ Terms (ms ++ (span i (i + length t) ∷ parts))
     → Residual (i + 1) (gapOf i ms (suc n) b) l r
 unfolding runOf
@@ -325,9 +325,9 @@ unfolding gapOf
 gap-forth i ms parts n b l r (Rest.space e t) g = rw (gap-space i ms n b e) record { parts = parts; rest = t; gives = g }
 gap-forth i ms parts n b l r (Rest.term {n =
     n′} {k = k} {ms = ps} t s e h p rest) g = term-forth i ms ps n′ k b l t s r e h p rest g
-gap-forth i ms parts n b l r (Rest.dot t) g = rw dark-dot (t, rw append-nil at g)
+gap-forth i ms parts n b l r (Rest.dot t) g = rw not-white-dot (t, rw append-nil at g)
 
-first-opens : (n k b : ℕ) (l t s : List ℕ) → b ∷ l ≡ t ++ s → Name k t → permitted n k ≡ true → opens n b ≡ true
+first-opens : (n k b : ℕ) (l t s : List ℕ) → b ∷ l ≡ t ++ s → Name k t → kindAllowed n k ≡ true → opens n b ≡ true
 first-opens n k b l [] s e h p = no-empty h
 first-opens n k b l (c ∷ t) s e h p = let eb : c ≡ b = cc in rw eb at (name-opens n k c t h p)
 
@@ -356,7 +356,7 @@ unfolding advanceOf goesOnOf
 on-go m i ms n q a b e h = rw (e, lt-ltb i (a + m) h)
 
 pub on-dot : (m i : ℕ) (ms : List Span) (a : ℕ)
-    → advanceOf m i (Inside ms 0 Label a) 46 ≡ pick (ltb i (a + m)) (Inside ms 0 Dot a) (After (ms ++ (span a i ∷ [])))
+    → advanceOf m i (Inside ms 0 Label a) 46 ≡ cond (ltb i (a + m)) (Inside ms 0 Dot a) (After (ms ++ (span a i ∷ [])))
 unfolding advanceOf goesOnOf stepOf isBad dotted isDot labelByte firstByte alnum letter
 on-dot m i ms a = refl
 
@@ -371,7 +371,7 @@ dot-lone = refl
 
 dot-case : (c : Bool) (i : ℕ) (ms : List Span) (a : ℕ) (l : List ℕ) (r : Outcome) → Trail l
     → r ≡ Terms (ms ++ (span a i ∷ []))
-    → Residual (i + 1) (pick c (Inside ms 0 Dot a) (After (ms ++ (span a i ∷ [])))) l r
+    → Residual (i + 1) (cond c (Inside ms 0 Dot a) (After (ms ++ (span a i ∷ [])))) l r
 dot-case true i ms a l r t g = inr record { lone = dot-lone; trail = t; gives = rw (back-one i) g }
 dot-case false i ms a l r t g = (t, g)
 
@@ -424,12 +424,12 @@ opens-hash n b h = opening n b (λ e. rw e) (λ e _. rw e) (λ e _. rw e) h
 
 begin-enter : (m i b : ℕ) → opens 2 b ≡ true → gapOf i [] 3 b ≡ advanceOf m i Begin b
 unfolding advanceOf
-begin-enter m i b o = gap-enter i [] 2 b o ∙ rw (opens-dark 2 b o, opens-hash 2 b o, enter-eq i [] 2 b o)
+begin-enter m i b o = gap-enter i [] 2 b o ∙ rw (opens-not-white 2 b o, opens-hash 2 b o, enter-eq i [] 2 b o)
 
 begin-trail : (m i b : ℕ) (l : List ℕ) → Trail (b ∷ l) → Residual (i + 1) (advanceOf m i Begin b) l Empty
 unfolding advanceOf
 begin-trail m i b l (Trail.space e t) = rw e (Derives.nothing t)
-begin-trail m i b l (Trail.comment t) = rw dark-hash (t, refl)
+begin-trail m i b l (Trail.comment t) = rw not-white-hash (t, refl)
 
 begin-rest : (m i b : ℕ) (l : List ℕ) (parts : List Span) → Rest 3 i (b ∷ l) parts
     → Residual (i + 1) (advanceOf m i Begin b) l (Terms parts)
@@ -445,17 +445,17 @@ begin-forth m i b l r (Derives.nothing t) = begin-trail m i b l t
 begin-forth m i b l r (Derives.triple {ms = parts} t) = begin-rest m i b l parts t
 
 note-forth : (m i : ℕ) (ms : List Span) (b : ℕ) (l : List ℕ) (r : Outcome) → All commentByte (b ∷ l) → r ≡ Terms ms
-    → Residual (i + 1) (advanceOf m i (Noted ms) b) l r
+    → Residual (i + 1) (advanceOf m i (CommentAfterDot ms) b) l r
 unfolding advanceOf
 note-forth m i ms b l r c g = rw (c .0) (c .1, g)
 
-remark-forth : (m i : ℕ) (b : ℕ) (l : List ℕ) (r : Outcome) → All commentByte (b ∷ l) → r ≡ Empty
-    → Residual (i + 1) (advanceOf m i Remark b) l r
+comment-line-forth : (m i : ℕ) (b : ℕ) (l : List ℕ) (r : Outcome) → All commentByte (b ∷ l) → r ≡ Empty
+    → Residual (i + 1) (advanceOf m i CommentLine b) l r
 unfolding advanceOf
-remark-forth m i b l r c g = rw (c .0) (c .1, g)
+comment-line-forth m i b l r c g = rw (c .0) (c .1, g)
 
 -- What may follow b may follow after b, if no term is too long so far.
-pub advance-forth : (m c i : ℕ) (p : Place) (b : ℕ) (l : List ℕ) (r : Outcome) → Good m i p → ShortOutcome m c r
+pub advance-forth : (m c i : ℕ) (p : State) (b : ℕ) (l : List ℕ) (r : Outcome) → Good m i p → ShortOutcome m c r
     → i < c → Residual i p (b ∷ l) r
     → Residual (i + 1) (advanceOf m i p b) l r
 unfolding advanceOf
@@ -465,6 +465,6 @@ advance-forth m c i (Inside ms n q a) b l r g s h d =
     ⊎-elim (λ v. going-forth m c i ms n q a b l r (g .2) s h (v .word) (v .tail) (v .splits) (v .whole) (v .follows))
     (λ v. dotting-forth m i ms n q a b l r v) d
 advance-forth m c i (After ms) b l r g s h d = after-forth i ms b l r (d .0) (d .1)
-advance-forth m c i (Noted ms) b l r g s h d = note-forth m i ms b l r (d .0) (d .1)
-advance-forth m c i Remark b l r g s h d = remark-forth m i b l r (d .0) (d .1)
+advance-forth m c i (CommentAfterDot ms) b l r g s h d = note-forth m i ms b l r (d .0) (d .1)
+advance-forth m c i CommentLine b l r g s h d = comment-line-forth m i b l r (d .0) (d .1)
 advance-forth m c i (Broken k) b l r g s h d = d

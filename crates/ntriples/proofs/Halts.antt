@@ -3,7 +3,7 @@
 use Prim.Native.Nat.{ℕ, zero, suc, _+_, _-_, _≤_, _<_}
 use mathlib.Core.Path.{_≡_, refl, sym, _∙_, ap}
 use mathlib.Core.List.{List, [], _∷_, _++_}
-use mathlib.Core.Bool.{Bool, true, false}
+use mathlib.Core.Bool.{Bool, true, false, cond}
 use mathlib.Core.Logic.{_⊎_, ⊎-elim, inl, inr}
 use lib.Dec.{leb, ltb, eqb}
 use lib.ListN.{length, getD}
@@ -11,7 +11,6 @@ use lib.Seq.{slice}
 use native.Mathlib.Omega.{arith}
 use native.Mathlib.Numerals.{add-one}
 use borrow.Author.Tests.{ltb-true, ltb-false, eqb-true, eqb-false, eq-eqb, lt-ltb, le-ltb}
-use Rattle.term.specs.Bytes.{pick}
 use Rattle.term.specs.Scanner.{stepOf, wholeOf, isBad, haltOf}
 use Rattle.term.specs.declared.Scan.{Scan}
 use Rattle.term.specs.declared.Scan.the-variants.{
@@ -46,13 +45,13 @@ use Rattle.ntriples.specs.Reader.{
   Empty,
   Terms,
   Fails,
-  Place,
+  State,
   Begin,
   Gap,
   Inside,
   After,
-  Noted,
-  Remark,
+  CommentAfterDot,
+  CommentLine,
   Broken,
   isDot,
   opens,
@@ -63,7 +62,7 @@ use Rattle.ntriples.specs.Reader.{
   goesOnOf,
   leaveOf,
   advanceOf,
-  placeOf,
+  stateOf,
   endOf,
 }
 use Rattle.ntriples.specs.Productions.{TermAt, onward, cutOf, TermEnds, ObjectEnds}
@@ -160,7 +159,7 @@ gap-inside text stop a ms n h k o =
 
 -- where the scan would stop if it might take 255 bytes only
 nearCut : ℕ → ℕ → ℕ
-nearCut a stop = pick (ltb (a + 255) stop) (a + 255) stop
+nearCut a stop = cond (ltb (a + 255) stop) (a + 255) stop
 
 cut-facts : (a stop : ℕ) → (nearCut a stop ≤ stop) × (nearCut a stop ≤ a + 255) × (a < stop → a < nearCut a stop)
     × ((i : ℕ) → i < stop → i < a + 255 → i < nearCut a stop)
@@ -233,7 +232,7 @@ unfolding onward endOf
 onward-broken text stop i k = rw (stays 255 i k (slice i stop text))
 
 -- the reading after the byte at i, if it comes to the place p there
-pub step-to : (text : List ℕ) (stop i : ℕ) (p r : Place) → i < stop → stop ≤ length text
+pub step-to : (text : List ℕ) (stop i : ℕ) (p r : State) → i < stop → stop ≤ length text
     → advanceOf 255 i p (getD text i 0) ≡ r
     → onward text stop i p ≡ onward text stop (i + 1) r
 step-to text stop i p r h k e = onward-next text stop i p h k ∙ ap (onward text stop (i + 1)) e
@@ -254,7 +253,7 @@ lone-dot : (q : Scan) → isDot q ≡ true → dotted 0 q ≡ true
 unfolding dotted
 lone-dot q h = h
 
-pub at-end : (text : List ℕ) (stop i : ℕ) (p : Place) (r : Outcome) → stop ≤ i → endOf stop p ≡ r
+pub at-end : (text : List ℕ) (stop i : ℕ) (p : State) (r : Outcome) → stop ≤ i → endOf stop p ≡ r
     → onward text stop i p ≡ r
 at-end text stop i p r h e = onward-end text stop i p h ∙ e
 
@@ -322,7 +321,7 @@ end-dot text stop a i ms q l k d b =
 -- A scan over one byte more: it takes that byte, or halts where it halted.
 more : List ℕ → ℕ → Halt → Halt
 more text c h =
-    pick (eqb (h .at) c) (pick (isBad (stepOf (h .state) (getD text c 0))) h record {
+    cond (eqb (h .at) c) (cond (isBad (stepOf (h .state) (getD text c 0))) h record {
       state = stepOf (h .state)
           (getD text c 0);
       at = c + 1;

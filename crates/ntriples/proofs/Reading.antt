@@ -3,13 +3,13 @@
 use Prim.Native.Nat.{ℕ, zero, suc, _+_, _-_, _≤_, _<_, min}
 use mathlib.Core.Path.{_≡_, refl, sym, _∙_, ap}
 use mathlib.Core.List.{List, [], _∷_, _++_, append-nil, append-assoc}
-use mathlib.Core.Bool.{Bool, true, false}
+use mathlib.Core.Bool.{Bool, true, false, cond}
 use mathlib.Core.Logic.{_⊎_, ⊎-elim, inl, inr, _↔_}
 use lib.Dec.{leb, ltb, eqb}
 use lib.ListN.{length}
 use native.Mathlib.Omega.{arith}
 use borrow.Author.Tests.{eqb-true, eq-eqb, ltb-true, ltb-false, lt-ltb, le-ltb}
-use Rattle.term.specs.Bytes.{pick, among, iriByte, textByte, pairByte, firstByte, labelByte, letter, alnum}
+use Rattle.term.specs.Bytes.{among, iriByte, textByte, pairByte, firstByte, labelByte, letter, alnum}
 use Rattle.term.specs.Scanner.{stepOf, runOf, wholeOf, isBad, firstKindOf}
 use Rattle.term.specs.Grammar.{Name}
 use Rattle.term.specs.Grammar as names
@@ -44,14 +44,14 @@ use Rattle.ntriples.specs.Reader.{
   Empty,
   Terms,
   Fails,
-  permitted,
-  Place,
+  kindAllowed,
+  State,
   Begin,
   Gap,
   Inside,
   After,
-  Noted,
-  Remark,
+  CommentAfterDot,
+  CommentLine,
   Broken,
   isDot,
   opens,
@@ -62,7 +62,7 @@ use Rattle.ntriples.specs.Reader.{
   goesOnOf,
   leaveOf,
   advanceOf,
-  placeOf,
+  stateOf,
   endOf,
   lineOf,
 }
@@ -92,7 +92,7 @@ use Rattle.ntriples.proofs.Forth.{
 }
 
 -- a fact of a place by a test
-both : {A : Type 0} (P : A → Type 0) (c : Bool) (x y : A) → (c ≡ true → P x) → (c ≡ false → P y) → P (pick c x y)
+both : {A : Type 0} (P : A → Type 0) (c : Bool) (x y : A) → (c ≡ true → P x) → (c ≡ false → P y) → P (cond c x y)
 both P true x y f g = f refl
 both P false x y f g = g refl
 
@@ -147,14 +147,14 @@ gap-good m i ms (suc n) b h f k =
 after-good : (m i : ℕ) (ms : List Span) (b : ℕ) → Fit m ms → Good m (i + 1) (afterOf i ms b)
 unfolding afterOf
 after-good m i ms b f =
-    both (Good m (i + 1)) (white b) (After ms) _ (λ _. f) (λ _. both (Good m (i + 1)) (eqb b 35) (Noted ms) (Broken i)
+    both (Good m (i + 1)) (white b) (After ms) _ (λ _. f) (λ _. both (Good m (i + 1)) (eqb b 35) (CommentAfterDot ms) (Broken i)
     (λ _. f) (λ _. tt))
 
 inside-good : (m i : ℕ) (ms : List Span) (n : ℕ) (q : Scan) (a b : ℕ) → 1 ≤ m → Fit m ms → i ≤ a + m → Sane n q
     → Good m (i + 1) (advanceOf m i (Inside ms n q a) b)
 unfolding advanceOf leaveOf goesOnOf
 inside-good m i ms n q a b h f k s =
-    let P : Place → Type 0 = Good m (i + 1) in
+    let P : State → Type 0 = Good m (i + 1) in
     both P (isBad (stepOf q b)) (leaveOf i ms n q a b) (goesOnOf m i ms n (stepOf q b) a)
     (λ _. both P (wholeOf q) (gapOf i (ms ++ (span a i ∷ [])) n b) _
     (λ _. gap-good m i (ms ++ (span a i ∷ [])) n b h (fit-snoc m ms (span a i) f k) (s .few))
@@ -174,17 +174,17 @@ inside-good m i ms n q a b h f k s =
     (λ _. both P (dotted n (stepOf q b)) (After (ms ++ (span a i ∷ []))) (Broken i) (λ _. fit-snoc m ms
     (span a i) f k) (λ _. tt)))
 
-good-step : (m i : ℕ) (p : Place) (b : ℕ) → 1 ≤ m → Good m i p → Good m (i + 1) (advanceOf m i p b)
+good-step : (m i : ℕ) (p : State) (b : ℕ) → 1 ≤ m → Good m i p → Good m (i + 1) (advanceOf m i p b)
 unfolding advanceOf
 good-step m i Begin b h g =
     both (Good m (i + 1)) (white b) Begin _ (λ _. tt)
-    (λ _. both (Good m (i + 1)) (eqb b 35) Remark (enterOf i [] 2 b) (λ _. tt) (λ _. enter-good m i [] 2 b h tt
+    (λ _. both (Good m (i + 1)) (eqb b 35) CommentLine (enterOf i [] 2 b) (λ _. tt) (λ _. enter-good m i [] 2 b h tt
     (omega arith)))
 good-step m i (Gap ms n) b h g = gap-good m i ms n b h (g .0) (g .1)
 good-step m i (Inside ms n q a) b h g = inside-good m i ms n q a b h (g .0) (g .1) (g .2)
 good-step m i (After ms) b h g = after-good m i ms b g
-good-step m i (Noted ms) b h g = both (Good m (i + 1)) (commentByte b) (Noted ms) (Broken i) (λ _. g) (λ _. tt)
-good-step m i Remark b h g = both (Good m (i + 1)) (commentByte b) Remark (Broken i) (λ _. tt) (λ _. tt)
+good-step m i (CommentAfterDot ms) b h g = both (Good m (i + 1)) (commentByte b) (CommentAfterDot ms) (Broken i) (λ _. g) (λ _. tt)
+good-step m i CommentLine b h g = both (Good m (i + 1)) (commentByte b) CommentLine (Broken i) (λ _. tt) (λ _. tt)
 good-step m i (Broken k) b h g = tt
 
 -- Each place that is not broken is completed to a line.
@@ -235,11 +235,11 @@ an-iri : Name 1 (60 ∷ (97 ∷ (62 ∷ [])))
 unfolding iriByte among
 an-iri = names.Name.iri (names.Iri.open′ refl names.IriRest.close)
 
-permitted-iri : (n : ℕ) → permitted n 1 ≡ true
-unfolding permitted
-permitted-iri zero = refl
-permitted-iri (suc zero) = refl
-permitted-iri (suc (suc n)) = refl
+allowed-iri : (n : ℕ) → kindAllowed n 1 ≡ true
+unfolding kindAllowed
+allowed-iri zero = refl
+allowed-iri (suc zero) = refl
+allowed-iri (suc (suc n)) = refl
 
 complete-rest : (n i : ℕ) → (l : List ℕ) × (ms : List Span) × Rest n i l ms
 complete-rest zero i = (46 ∷ [], [], Rest.dot Trail.end)
@@ -248,7 +248,7 @@ complete-rest (suc n) i =
       60 ∷ (97 ∷ (62 ∷ r .0)),
       span i (i + 3) ∷ r .1,
       Rest.term (60 ∷ (97 ∷ (62 ∷ []))) (r .0) refl an-iri
-          (permitted-iri n) (r .2),
+          (allowed-iri n) (r .2),
     )
 
 -- parts that begin at or after c have no byte among the first c
@@ -265,16 +265,16 @@ short-append : (m c : ℕ) (xs ys : List Span) → ShortParts m c xs → ShortPa
 short-append m c [] ys h k = k
 short-append m c (x ∷ xs) ys h k = (h .0, short-append m c xs ys (h .1) k)
 
-unfoldable pub broken : Place → Bool
+unfoldable pub broken : State → Bool
 broken Begin = false
 broken (Gap ms n) = false
 broken (Inside ms n q a) = false
 broken (After ms) = false
-broken (Noted ms) = false
-broken Remark = false
+broken (CommentAfterDot ms) = false
+broken CommentLine = false
 broken (Broken k) = true
 
-complete : (m i : ℕ) (p : Place) → broken p ≡ false → Good m i p
+complete : (m i : ℕ) (p : State) → broken p ≡ false → Good m i p
     → (l : List ℕ) × (r : Outcome) × Residual i p l r × ShortOutcome m i r
 unfolding broken
 complete m i Begin h g = ([], Empty, Derives.nothing Trail.end, tt)
@@ -304,8 +304,8 @@ complete m i (Inside ms n q a) h g =
           (rest-later m i (r .2) (omega arith)),
     )
 complete m i (After ms) h g = ([], Terms ms, (Trail.end, refl), fit-short m i ms g)
-complete m i (Noted ms) h g = ([], Terms ms, (tt, refl), fit-short m i ms g)
-complete m i Remark h g = ([], Empty, (tt, refl), tt)
+complete m i (CommentAfterDot ms) h g = ([], Terms ms, (tt, refl), fit-short m i ms g)
+complete m i CommentLine h g = ([], Empty, (tt, refl), tt)
 complete m i (Broken k) h g = never (sym h)
 
 -- the offset after the bytes s
@@ -317,21 +317,21 @@ reach-is : (i : ℕ) (s : List ℕ) → reach i s ≡ i + length s
 reach-is i [] = omega arith
 reach-is i (b ∷ s) = let e = reach-is (i + 1) s in omega arith
 
-run-good : (m i : ℕ) (p : Place) (s : List ℕ) → 1 ≤ m → Good m i p → Good m (reach i s) (placeOf m i p s)
-unfolding placeOf
+run-good : (m i : ℕ) (p : State) (s : List ℕ) → 1 ≤ m → Good m i p → Good m (reach i s) (stateOf m i p s)
+unfolding stateOf
 run-good m i p [] h g = g
 run-good m i p (b ∷ s) h g = run-good m (i + 1) (advanceOf m i p b) s h (good-step m i p b h g)
 
-run-back : (m i : ℕ) (p : Place) (s l : List ℕ) (r : Outcome) → Residual (reach i s) (placeOf m i p s) l r
+run-back : (m i : ℕ) (p : State) (s l : List ℕ) (r : Outcome) → Residual (reach i s) (stateOf m i p s) l r
     → Residual i p (s ++ l) r
-unfolding placeOf
+unfolding stateOf
 run-back m i p [] l r h = h
 run-back m i p (b ∷ s) l r h = advance-back m i p b (s ++ l) r (run-back m (i + 1) (advanceOf m i p b) s l r h)
 
-run-forth : (m c i : ℕ) (p : Place) (s l : List ℕ) (r : Outcome) → 1 ≤ m → Good m i p → ShortOutcome m c r
+run-forth : (m c i : ℕ) (p : State) (s l : List ℕ) (r : Outcome) → 1 ≤ m → Good m i p → ShortOutcome m c r
     → reach i s ≤ c → Residual i p (s ++ l) r
-    → Residual (reach i s) (placeOf m i p s) l r
-unfolding placeOf
+    → Residual (reach i s) (stateOf m i p s) l r
+unfolding stateOf
 run-forth m c i p [] l r h g k e d = d
 run-forth m c i p (b ∷ s) l r h g k e d =
     let z = reach-is (i + 1) s in
@@ -339,29 +339,29 @@ run-forth m c i p (b ∷ s) l r h g k e d =
     run-forth m c (i + 1) (advanceOf m i p b) s l r h (good-step m i p b h g) k e (advance-forth m c i p b
     (s ++ l) r g k lt d)
 
-residual-whole : (i : ℕ) (p : Place) (l : List ℕ) (r : Outcome) → Residual i p l r → broken p ≡ false
+residual-whole : (i : ℕ) (p : State) (l : List ℕ) (r : Outcome) → Residual i p l r → broken p ≡ false
 unfolding broken
 residual-whole i Begin l r d = refl
 residual-whole i (Gap ms n) l r d = refl
 residual-whole i (Inside ms n q a) l r d = refl
 residual-whole i (After ms) l r d = refl
-residual-whole i (Noted ms) l r d = refl
-residual-whole i Remark l r d = refl
+residual-whole i (CommentAfterDot ms) l r d = refl
+residual-whole i CommentLine l r d = refl
 residual-whole i (Broken k) l r d = absurd d
 
-completed : (m i : ℕ) (p l : List ℕ) (r : Outcome) → Residual (reach i p) (placeOf m i Begin p) l r
+completed : (m i : ℕ) (p l : List ℕ) (r : Outcome) → Residual (reach i p) (stateOf m i Begin p) l r
     → ShortOutcome m (reach i p) r
     → Continued m i p
 completed m i p l r d s =
     record { rest = l; gives = r; line = run-back m i Begin p l r d; short = rw (reach-is i p) at s }
 
 -- a prefix is continued by some line exactly if the reading does not break
-pub continued : (m i : ℕ) (p : List ℕ) → 1 ≤ m → Continued m i p ↔ (broken (placeOf m i Begin p) ≡ false)
+pub continued : (m i : ℕ) (p : List ℕ) → 1 ≤ m → Continued m i p ↔ (broken (stateOf m i Begin p) ≡ false)
 continued m i p h = (
-  λ v. residual-whole (reach i p) (placeOf m i Begin p) (v .rest) (v .gives)
+  λ v. residual-whole (reach i p) (stateOf m i Begin p) (v .rest) (v .gives)
       (run-forth m (i + length p) i Begin p (v .rest) (v .gives) h tt (v .short) (let e = reach-is i p in omega arith)
       (v .line)),
-  λ e. let c = complete m (reach i p) (placeOf m i Begin p) e (run-good m i Begin p h tt) in
+  λ e. let c = complete m (reach i p) (stateOf m i Begin p) e (run-good m i Begin p h tt) in
       completed m i p (c .0) (c .1) (c .2) (c .3),
 )
 
@@ -389,7 +389,7 @@ line-end i r (Derives.nothing t) = refl
 line-end i r (Derives.triple t) = rest-no-end refl t
 
 -- the end of the line
-end-forth : (i : ℕ) (p : Place) (r : Outcome) → Residual i p [] r → endOf i p ≡ r
+end-forth : (i : ℕ) (p : State) (r : Outcome) → Residual i p [] r → endOf i p ≡ r
 unfolding endOf
 end-forth i Begin r d = line-end i r d
 end-forth i (Gap ms n) r d = rest-no-end refl (d .rest)
@@ -397,8 +397,8 @@ end-forth i (Inside ms n q a) r d =
     ⊎-elim (λ v. rest-no-end (append-end (v .word) (v .tail) (v .splits)) (v .follows .rest)) (λ v. rw (v .lone) (sym
     (v .gives))) d
 end-forth i (After ms) r d = sym (d .1)
-end-forth i (Noted ms) r d = sym (d .1)
-end-forth i Remark r d = sym (d .1)
+end-forth i (CommentAfterDot ms) r d = sym (d .1)
+end-forth i CommentLine r d = sym (d .1)
 end-forth i (Broken k) r d = absurd d
 
 refused-no : {C : Type 0} (k : ℕ) (r : Outcome) → Fails k ≡ r → answered r ≡ true → C
@@ -407,7 +407,7 @@ refused-no k Empty e h = let z : _≡_ {A = ℕ} 0 1 = cc in absurd (omega arith
 refused-no k (Terms ms) e h = let z : _≡_ {A = ℕ} 0 1 = cc in absurd (omega arith)
 refused-no k (Fails j) e h = never h
 
-end-back : (i : ℕ) (p : Place) (r : Outcome) → answered r ≡ true → endOf i p ≡ r → Residual i p [] r
+end-back : (i : ℕ) (p : State) (r : Outcome) → answered r ≡ true → endOf i p ≡ r → Residual i p [] r
 unfolding endOf
 end-back i Begin r h e = rw (sym e) (Derives.nothing Trail.end)
 end-back i (Gap ms n) r h e = refused-no i r e h
@@ -415,11 +415,11 @@ end-back i (Inside ms n q a) r h e =
     cases (λ x. x ≡ r) (dotted n q) (Terms (ms ++ (span a (i - 1) ∷ []))) (Fails i)
     (λ z w. inr record { lone = z; trail = Trail.end; gives = sym w }) (λ _ w. refused-no i r w h) e
 end-back i (After ms) r h e = (Trail.end, sym e)
-end-back i (Noted ms) r h e = (tt, sym e)
-end-back i Remark r h e = (tt, sym e)
+end-back i (CommentAfterDot ms) r h e = (tt, sym e)
+end-back i CommentLine r h e = (tt, sym e)
 end-back i (Broken k) r h e = refused-no k r e h
 
-end-short : (m c i : ℕ) (p : Place) → Good m i p → ShortOutcome m c (endOf i p)
+end-short : (m c i : ℕ) (p : State) → Good m i p → ShortOutcome m c (endOf i p)
 unfolding endOf
 end-short m c i Begin g = tt
 end-short m c i (Gap ms n) g = tt
@@ -428,8 +428,8 @@ end-short m c i (Inside ms n q a) g =
     both (ShortOutcome m c) (dotted n q) (Terms (ms ++ (span a (i - 1) ∷ []))) (Fails i)
     (λ _. fit-short m c (ms ++ (span a (i - 1) ∷ [])) (fit-snoc m ms (span a (i - 1)) (g .0) (omega arith))) (λ _. tt)
 end-short m c i (After ms) g = fit-short m c ms g
-end-short m c i (Noted ms) g = fit-short m c ms g
-end-short m c i Remark g = tt
+end-short m c i (CommentAfterDot ms) g = fit-short m c ms g
+end-short m c i CommentLine g = tt
 end-short m c i (Broken k) g = tt
 
 -- a line gives its parts, or nothing, exactly if the grammar derives that, with terms of at most m bytes
@@ -438,11 +438,11 @@ pub reads : (m i : ℕ) (l : List ℕ) (r : Outcome) → 1 ≤ m → answered r 
 unfolding lineOf
 reads m i l r h a = (
   λ e. (
-    rw append-nil at (run-back m i Begin l [] r (end-back (reach i l) (placeOf m i Begin l) r a (rw (reach-is i l) e))),
-    rw e at (end-short m (i + length l) (i + length l) (placeOf m i Begin l) (rw (reach-is i l) at
+    rw append-nil at (run-back m i Begin l [] r (end-back (reach i l) (stateOf m i Begin l) r a (rw (reach-is i l) e))),
+    rw e at (end-short m (i + length l) (i + length l) (stateOf m i Begin l) (rw (reach-is i l) at
         (run-good m i Begin l h tt))),
   ),
-  λ d. rw (reach-is i l) at (end-forth (reach i l) (placeOf m i Begin l) r
+  λ d. rw (reach-is i l) at (end-forth (reach i l) (stateOf m i Begin l) r
       (run-forth m (i + length l) i Begin l [] r h tt (d .1) (let e = reach-is i l in omega arith) (rw append-nil
       (d .0)))),
 )
@@ -469,10 +469,10 @@ unique i l r r′ d d′ =
     ∙ reads (suc c) i l r′ (omega arith) (line-answered i l r′ d′) .1 (d′, wide-outcome c r′)
 
 -- where a reading breaks
-abbrev BreaksAt : ℕ → Place → Type 0
+abbrev BreaksAt : ℕ → State → Type 0
 BreaksAt i p = (k : ℕ) → p ≡ Broken k → k ≡ i
 
-sound : (i : ℕ) (p : Place) → broken p ≡ false → BreaksAt i p
+sound : (i : ℕ) (p : State) → broken p ≡ false → BreaksAt i p
 unfolding broken
 sound i p h k e = never (sym h ∙ rw e)
 
@@ -493,13 +493,13 @@ after-breaks : (i : ℕ) (ms : List Span) (b : ℕ) → BreaksAt i (afterOf i ms
 unfolding afterOf broken
 after-breaks i ms b =
     both (BreaksAt i) (white b) (After ms) _ (λ _. sound i (After ms) refl)
-    (λ _. both (BreaksAt i) (eqb b 35) (Noted ms) (Broken i) (λ _. sound i (Noted ms) refl) (λ _. here i))
+    (λ _. both (BreaksAt i) (eqb b 35) (CommentAfterDot ms) (Broken i) (λ _. sound i (CommentAfterDot ms) refl) (λ _. here i))
 
-breaks-here : (m i : ℕ) (p : Place) (b : ℕ) → broken p ≡ false → BreaksAt i (advanceOf m i p b)
+breaks-here : (m i : ℕ) (p : State) (b : ℕ) → broken p ≡ false → BreaksAt i (advanceOf m i p b)
 unfolding advanceOf leaveOf goesOnOf enterOf broken
 breaks-here m i Begin b h =
     both (BreaksAt i) (white b) Begin _ (λ _. sound i Begin refl)
-    (λ _. both (BreaksAt i) (eqb b 35) Remark _ (λ _. sound i Remark refl)
+    (λ _. both (BreaksAt i) (eqb b 35) CommentLine _ (λ _. sound i CommentLine refl)
     (λ _. both (BreaksAt i) (opens 2 b) (Inside [] 2 (stepOf Start b) i) (Broken i) (λ _. sound i (Inside [] 2
     (stepOf Start b) i) refl) (λ _. here i)))
 breaks-here m i (Gap ms n) b h = gap-breaks i ms n b
@@ -514,42 +514,42 @@ breaks-here m i (Inside ms n q a) b h =
     (λ _. both (BreaksAt i) (dotted n (stepOf q b)) (After (ms ++ (span a i ∷ []))) (Broken i) (λ _. sound i (After
     (ms ++ (span a i ∷ []))) refl) (λ _. here i)))
 breaks-here m i (After ms) b h = after-breaks i ms b
-breaks-here m i (Noted ms) b h =
-    both (BreaksAt i) (commentByte b) (Noted ms) (Broken i) (λ _. sound i (Noted ms) refl) (λ _. here i)
-breaks-here m i Remark b h = both (BreaksAt i) (commentByte b) Remark (Broken i) (λ _. sound i Remark refl) (λ _. here i)
+breaks-here m i (CommentAfterDot ms) b h =
+    both (BreaksAt i) (commentByte b) (CommentAfterDot ms) (Broken i) (λ _. sound i (CommentAfterDot ms) refl) (λ _. here i)
+breaks-here m i CommentLine b h = both (BreaksAt i) (commentByte b) CommentLine (Broken i) (λ _. sound i CommentLine refl) (λ _. here i)
 breaks-here m i (Broken k) b h = never (sym h)
 
-pub stays : (m i k : ℕ) (s : List ℕ) → placeOf m i (Broken k) s ≡ Broken k
-unfolding placeOf advanceOf
+pub stays : (m i k : ℕ) (s : List ℕ) → stateOf m i (Broken k) s ≡ Broken k
+unfolding stateOf advanceOf
 stays m i k [] = refl
 stays m i k (b ∷ s) = stays m (i + 1) k s
 
-is-broken : (p : Place) → broken p ≡ true → (k : ℕ) × (p ≡ Broken k)
+is-broken : (p : State) → broken p ≡ true → (k : ℕ) × (p ≡ Broken k)
 unfolding broken
 is-broken Begin h = never h
 is-broken (Gap ms n) h = never h
 is-broken (Inside ms n q a) h = never h
 is-broken (After ms) h = never h
-is-broken (Noted ms) h = never h
-is-broken Remark h = never h
+is-broken (CommentAfterDot ms) h = never h
+is-broken CommentLine h = never h
 is-broken (Broken k) h = (k, refl)
 
 -- the break, found
-record Break (m i : ℕ) (p : Place) (s : List ℕ) (k : ℕ) : Type 0 where
+record Break (m i : ℕ) (p : State) (s : List ℕ) (k : ℕ) : Type 0 where
   front : List ℕ
   byte : ℕ
   back : List ℕ
   splits : s ≡ front ++ (byte ∷ back)
   at : reach i front ≡ k
-  whole : broken (placeOf m i p front) ≡ false
-  breaks : broken (placeOf m i p (front ++ (byte ∷ []))) ≡ true
+  whole : broken (stateOf m i p front) ≡ false
+  breaks : broken (stateOf m i p (front ++ (byte ∷ []))) ≡ true
 
 decide : (x : Bool) → (x ≡ true) ⊎ (x ≡ false)
 decide true = inl refl
 decide false = inr refl
 
-find : (m i : ℕ) (p : Place) (s : List ℕ) (k : ℕ) → broken p ≡ false → placeOf m i p s ≡ Broken k → Break m i p s k
-unfolding placeOf broken
+find : (m i : ℕ) (p : State) (s : List ℕ) (k : ℕ) → broken p ≡ false → stateOf m i p s ≡ Broken k → Break m i p s k
+unfolding stateOf broken
 find m i p [] k h e = never (sym h ∙ rw e)
 find m i p (b ∷ s) k h e =
     ⊎-elim
@@ -572,18 +572,18 @@ find m i p (b ∷ s) k h e =
     })
     (decide (broken (advanceOf m i p b)))
 
-end-refused : (i : ℕ) (p : Place) (k : ℕ) → broken p ≡ false → endOf i p ≡ Fails k → i ≡ k
+end-refused : (i : ℕ) (p : State) (k : ℕ) → broken p ≡ false → endOf i p ≡ Fails k → i ≡ k
 unfolding endOf broken
 end-refused i Begin k h e = cc
 end-refused i (Gap ms n) k h e = cc
 end-refused i (Inside ms n q a) k h e =
     cases (λ x. x ≡ Fails k) (dotted n q) (Terms (ms ++ (span a (i - 1) ∷ []))) (Fails i) (λ _ w. cc) (λ _ w. cc) e
 end-refused i (After ms) k h e = cc
-end-refused i (Noted ms) k h e = cc
-end-refused i Remark k h e = cc
+end-refused i (CommentAfterDot ms) k h e = cc
+end-refused i CommentLine k h e = cc
 end-refused i (Broken j) k h e = never (sym h)
 
-broken-end : (i : ℕ) (p : Place) (k : ℕ) → broken p ≡ true → endOf i p ≡ Fails k → p ≡ Broken k
+broken-end : (i : ℕ) (p : State) (k : ℕ) → broken p ≡ true → endOf i p ≡ Fails k → p ≡ Broken k
 unfolding endOf
 broken-end i p k h e =
     let w = is-broken p h in
@@ -597,14 +597,14 @@ pub record Stopped (m i : ℕ) (l : List ℕ) (k : ℕ) : Type 0 where
   pub back : List ℕ
   pub splits : l ≡ front ++ back
   pub at : i + length front ≡ k
-  pub whole : broken (placeOf m i Begin front) ≡ false
-  pub breaks : (b : ℕ) (s : List ℕ) → back ≡ b ∷ s → broken (placeOf m i Begin (front ++ (b ∷ []))) ≡ true
+  pub whole : broken (stateOf m i Begin front) ≡ false
+  pub breaks : (b : ℕ) (s : List ℕ) → back ≡ b ∷ s → broken (stateOf m i Begin (front ++ (b ∷ []))) ≡ true
 
 pub stopped : (m i : ℕ) (l : List ℕ) (k : ℕ) → lineOf m i l ≡ Fails k → Stopped m i l k
 unfolding lineOf broken
 stopped m i l k e =
     ⊎-elim
-    (λ z. let f = find m i Begin l k refl (broken-end (i + length l) (placeOf m i Begin l) k z e) in
+    (λ z. let f = find m i Begin l k refl (broken-end (i + length l) (stateOf m i Begin l) k z e) in
     record {
       front = f .front;
       back = f .byte ∷ f .back;
@@ -617,8 +617,8 @@ stopped m i l k e =
       front = l;
       back = [];
       splits = sym (append-nil l);
-      at = end-refused (i + length l) (placeOf m i Begin l) k z e;
+      at = end-refused (i + length l) (stateOf m i Begin l) k z e;
       whole = z;
       breaks = λ b s q. let x : _≡_ {A = ℕ} 0 1 = cc in absurd (omega arith);
     })
-    (decide (broken (placeOf m i Begin l)))
+    (decide (broken (stateOf m i Begin l)))

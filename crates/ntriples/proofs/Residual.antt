@@ -3,13 +3,13 @@
 use Prim.Native.Nat.{ℕ, zero, suc, _+_, _-_, _≤_, _<_, min}
 use mathlib.Core.Path.{_≡_, refl, sym, _∙_, ap}
 use mathlib.Core.List.{List, [], _∷_, _++_, append-nil, append-assoc}
-use mathlib.Core.Bool.{Bool, true, false}
+use mathlib.Core.Bool.{Bool, true, false, cond}
 use mathlib.Core.Logic.{_⊎_, ⊎-elim, inl, inr}
 use lib.Dec.{leb, ltb, eqb}
 use lib.ListN.{length}
 use native.Mathlib.Omega.{arith}
 use borrow.Author.Tests.{eqb-true, eq-eqb, ltb-true, ltb-false, lt-ltb, le-ltb}
-use Rattle.term.specs.Bytes.{pick, among, iriByte, textByte, pairByte, firstByte, labelByte, letter, alnum, All}
+use Rattle.term.specs.Bytes.{among, iriByte, textByte, pairByte, firstByte, labelByte, letter, alnum, All}
 use Rattle.term.specs.Scanner.{stepOf, runOf, wholeOf, isBad, firstKindOf}
 use Rattle.term.specs.Grammar.{Name}
 use Rattle.term.specs.declared.Scan.{Scan}
@@ -43,14 +43,14 @@ use Rattle.ntriples.specs.Reader.{
   Empty,
   Terms,
   Fails,
-  permitted,
-  Place,
+  kindAllowed,
+  State,
   Begin,
   Gap,
   Inside,
   After,
-  Noted,
-  Remark,
+  CommentAfterDot,
+  CommentLine,
   Broken,
   isDot,
   opens,
@@ -83,23 +83,23 @@ pub record Dotting (i : ℕ) (ms : List Span) (n : ℕ) (q : Scan) (a : ℕ) (l 
   pub trail : Trail l
   pub gives : r ≡ Terms (ms ++ (span a (i - 1) ∷ []))
 
-abbrev pub Residual : ℕ → Place → List ℕ → Outcome → Type 0
+abbrev pub Residual : ℕ → State → List ℕ → Outcome → Type 0
 Residual i Begin l r = Derives i l r
 Residual i (Gap ms n) l r = Following i ms n l r
 Residual i (Inside ms n q a) l r = Going i ms n q a l r ⊎ Dotting i ms n q a l r
 Residual i (After ms) l r = Trail l × (r ≡ Terms ms)
-Residual i (Noted ms) l r = All commentByte l × (r ≡ Terms ms)
-Residual i Remark l r = All commentByte l × (r ≡ Empty)
+Residual i (CommentAfterDot ms) l r = All commentByte l × (r ≡ Terms ms)
+Residual i CommentLine l r = All commentByte l × (r ≡ Empty)
 Residual i (Broken k) l r = ⊥
 
 -- the two cases of a value by a test
 pub cases : {A C : Type 0} (P : A → Type 0) (c : Bool) (x y : A) → (c ≡ true → P x → C) → (c ≡ false → P y → C)
-    → P (pick c x y) → C
+    → P (cond c x y) → C
 cases P true x y f g h = f refl h
 cases P false x y f g h = g refl h
 
 -- a dot is met after a label's byte only
-dotless : (c : Bool) (x y : Scan) → isDot x ≡ false → isDot y ≡ false → isDot (pick c x y) ≡ false
+dotless : (c : Bool) (x y : Scan) → isDot x ≡ false → isDot y ≡ false → isDot (cond c x y) ≡ false
 dotless true x y p q = p
 dotless false x y p q = q
 
@@ -109,43 +109,43 @@ no-dot q e h = never (sym e ∙ h)
 pub to-dot : (q : Scan) (b : ℕ) → isDot (stepOf q b) ≡ true → (q ≡ Label) × (b ≡ 46)
 unfolding stepOf isDot
 to-dot Start b h =
-    no-dot (pick (eqb b 60) IriOpen (pick (eqb b 95) Under (pick (eqb b 34) Text Bad))) (dotless (eqb b 60) IriOpen
-    (pick (eqb b 95) Under (pick (eqb b 34) Text Bad)) refl (dotless (eqb b 95) Under (pick
+    no-dot (cond (eqb b 60) IriOpen (cond (eqb b 95) Under (cond (eqb b 34) Text Bad))) (dotless (eqb b 60) IriOpen
+    (cond (eqb b 95) Under (cond (eqb b 34) Text Bad)) refl (dotless (eqb b 95) Under (cond
     (eqb b 34) Text Bad) refl (dotless (eqb b 34) Text Bad refl refl))) h
-to-dot IriOpen b h = no-dot (pick (iriByte b) Iri Bad) (dotless (iriByte b) Iri Bad refl refl) h
+to-dot IriOpen b h = no-dot (cond (iriByte b) Iri Bad) (dotless (iriByte b) Iri Bad refl refl) h
 to-dot Iri b h =
-    no-dot (pick (iriByte b) Iri (pick (eqb b 62) Closed Bad)) (dotless (iriByte b) Iri (pick
+    no-dot (cond (iriByte b) Iri (cond (eqb b 62) Closed Bad)) (dotless (iriByte b) Iri (cond
     (eqb b 62) Closed Bad) refl (dotless (eqb b 62) Closed Bad refl refl)) h
 to-dot Closed b h = no-dot Bad refl h
-to-dot Under b h = no-dot (pick (eqb b 58) Colon Bad) (dotless (eqb b 58) Colon Bad refl refl) h
-to-dot Colon b h = no-dot (pick (firstByte b) Label Bad) (dotless (firstByte b) Label Bad refl refl) h
+to-dot Under b h = no-dot (cond (eqb b 58) Colon Bad) (dotless (eqb b 58) Colon Bad refl refl) h
+to-dot Colon b h = no-dot (cond (firstByte b) Label Bad) (dotless (firstByte b) Label Bad refl refl) h
 to-dot Label b h =
     cases (λ q. isDot q ≡ true) (labelByte b) Label _ (λ _ w. never w)
     (λ _ k. cases (λ q. isDot q ≡ true) (eqb b 46) Dot Bad (λ e w. (refl, eqb-true b 46 e)) (λ _ w. never w) k) h
 to-dot Dot b h =
-    no-dot (pick (labelByte b) Label (pick (eqb b 46) Dots Bad)) (dotless (labelByte b) Label (pick
+    no-dot (cond (labelByte b) Label (cond (eqb b 46) Dots Bad)) (dotless (labelByte b) Label (cond
     (eqb b 46) Dots Bad) refl (dotless (eqb b 46) Dots Bad refl refl)) h
 to-dot Dots b h =
-    no-dot (pick (labelByte b) Label (pick (eqb b 46) Dots Bad)) (dotless (labelByte b) Label (pick
+    no-dot (cond (labelByte b) Label (cond (eqb b 46) Dots Bad)) (dotless (labelByte b) Label (cond
     (eqb b 46) Dots Bad) refl (dotless (eqb b 46) Dots Bad refl refl)) h
 to-dot Text b h =
-    no-dot (pick (textByte b) Text (pick (eqb b 34) Quote (pick (eqb b 92) Escape Bad))) (dotless (textByte b) Text
-    (pick (eqb b 34) Quote (pick (eqb b 92) Escape Bad)) refl (dotless (eqb b 34) Quote (pick
+    no-dot (cond (textByte b) Text (cond (eqb b 34) Quote (cond (eqb b 92) Escape Bad))) (dotless (textByte b) Text
+    (cond (eqb b 34) Quote (cond (eqb b 92) Escape Bad)) refl (dotless (eqb b 34) Quote (cond
     (eqb b 92) Escape Bad) refl (dotless (eqb b 92) Escape Bad refl refl))) h
-to-dot Escape b h = no-dot (pick (pairByte b) Text Bad) (dotless (pairByte b) Text Bad refl refl) h
+to-dot Escape b h = no-dot (cond (pairByte b) Text Bad) (dotless (pairByte b) Text Bad refl refl) h
 to-dot Quote b h =
-    no-dot (pick (eqb b 64) At (pick (eqb b 94) Caret Bad)) (dotless (eqb b 64) At (pick (eqb b 94) Caret Bad) refl
+    no-dot (cond (eqb b 64) At (cond (eqb b 94) Caret Bad)) (dotless (eqb b 64) At (cond (eqb b 94) Caret Bad) refl
     (dotless (eqb b 94) Caret Bad refl refl)) h
-to-dot At b h = no-dot (pick (letter b) Tag Bad) (dotless (letter b) Tag Bad refl refl) h
+to-dot At b h = no-dot (cond (letter b) Tag Bad) (dotless (letter b) Tag Bad refl refl) h
 to-dot Tag b h =
-    no-dot (pick (letter b) Tag (pick (eqb b 45) Hyphen Bad)) (dotless (letter b) Tag (pick
+    no-dot (cond (letter b) Tag (cond (eqb b 45) Hyphen Bad)) (dotless (letter b) Tag (cond
     (eqb b 45) Hyphen Bad) refl (dotless (eqb b 45) Hyphen Bad refl refl)) h
-to-dot Hyphen b h = no-dot (pick (alnum b) Group Bad) (dotless (alnum b) Group Bad refl refl) h
+to-dot Hyphen b h = no-dot (cond (alnum b) Group Bad) (dotless (alnum b) Group Bad refl refl) h
 to-dot Group b h =
-    no-dot (pick (alnum b) Group (pick (eqb b 45) Hyphen Bad)) (dotless (alnum b) Group (pick
+    no-dot (cond (alnum b) Group (cond (eqb b 45) Hyphen Bad)) (dotless (alnum b) Group (cond
     (eqb b 45) Hyphen Bad) refl (dotless (eqb b 45) Hyphen Bad refl refl)) h
-to-dot Caret b h = no-dot (pick (eqb b 94) Carets Bad) (dotless (eqb b 94) Carets Bad refl refl) h
-to-dot Carets b h = no-dot (pick (eqb b 60) IriOpen Bad) (dotless (eqb b 60) IriOpen Bad refl refl) h
+to-dot Caret b h = no-dot (cond (eqb b 94) Carets Bad) (dotless (eqb b 94) Carets Bad refl refl) h
+to-dot Carets b h = no-dot (cond (eqb b 60) IriOpen Bad) (dotless (eqb b 60) IriOpen Bad refl refl) h
 to-dot Bad b h = no-dot Bad refl h
 
 after-back : (i : ℕ) (ms : List Span) (b : ℕ) (l : List ℕ) (r : Outcome) → Residual (i + 1) (afterOf i ms b) l r
@@ -153,13 +153,13 @@ after-back : (i : ℕ) (ms : List Span) (b : ℕ) (l : List ℕ) (r : Outcome) �
 unfolding afterOf
 after-back i ms b l r h =
     cases (λ p. Residual (i + 1) p l r) (white b) (After ms) _ (λ e w. (Trail.space e (w .0), w .1))
-    (λ _ k. cases (λ p. Residual (i + 1) p l r) (eqb b 35) (Noted ms) _
+    (λ _ k. cases (λ p. Residual (i + 1) p l r) (eqb b 35) (CommentAfterDot ms) _
     (λ e w. (rw (eqb-true b 35 e) (Trail.comment (w .0)), w .1)) (λ _ w. absurd w) k) h
 
-opens-permitted : (n b : ℕ) (w : List ℕ) → opens n b ≡ true → permitted n (firstKindOf (b ∷ w)) ≡ true
+opens-allowed : (n b : ℕ) (w : List ℕ) → opens n b ≡ true → kindAllowed n (firstKindOf (b ∷ w)) ≡ true
 unfolding opens firstKindOf
-opens-permitted n b w h =
-    cases (λ x. x ≡ true) (eqb (firstKindOf (b ∷ [])) 0) false (permitted n (firstKindOf (b ∷ []))) (λ _ z. never z)
+opens-allowed n b w h =
+    cases (λ x. x ≡ true) (eqb (firstKindOf (b ∷ [])) 0) false (kindAllowed n (firstKindOf (b ∷ []))) (λ _ z. never z)
     (λ _ z. z) h
 
 start-no-dot : (n b : ℕ) → dotted n (stepOf Start b) ≡ true → ⊥
@@ -183,7 +183,7 @@ enter-back i ms n b l r h =
       parts = span i (i + length (b ∷ v .word)) ∷ v .follows .parts;
       rest = Rest.term (b ∷ v .word) (v .tail) (ap (λ (k : List ℕ). b ∷ k) (v .splits)) (name-back (b ∷ v .word)
           (v .whole))
-          (opens-permitted n b (v .word) e) (rw (shift i (length (v .word))) at (v .follows .rest));
+          (opens-allowed n b (v .word) e) (rw (shift i (length (v .word))) at (v .follows .rest));
       gives = v .follows .gives ∙ rw (append-assoc, shift i (length (v .word)));
     })
     (λ v. absurd (start-no-dot n b (v .lone))) w)
@@ -237,7 +237,7 @@ inside-back : (m i : ℕ) (ms : List Span) (n : ℕ) (q : Scan) (a b : ℕ) (l :
     → Going i ms n q a (b ∷ l) r ⊎ Dotting i ms n q a (b ∷ l) r
 unfolding advanceOf leaveOf goesOnOf runOf
 inside-back m i ms n q a b l r h =
-    let P : Place → Type 0 = λ p. Residual (i + 1) p l r in
+    let P : State → Type 0 = λ p. Residual (i + 1) p l r in
     cases P (isBad (stepOf q b)) (leaveOf i ms n q a b) (goesOnOf m i ms n (stepOf q b) a)
     (λ _ k. cases P (wholeOf q) (gapOf i (ms ++ (span a i ∷ [])) n b) _
     (λ e w. inl (ended i ms n q a (b ∷ l) r e (gap-back i (ms ++ (span a i ∷ [])) n b l r w)))
@@ -263,22 +263,22 @@ line-space i b l r e (Derives.nothing t) = Derives.nothing (Trail.space e t)
 line-space i b l r e (Derives.triple t) = Derives.triple (Rest.space e t)
 
 -- What may follow after b may follow b.
-pub advance-back : (m i : ℕ) (p : Place) (b : ℕ) (l : List ℕ) (r : Outcome)
+pub advance-back : (m i : ℕ) (p : State) (b : ℕ) (l : List ℕ) (r : Outcome)
     → Residual (i + 1) (advanceOf m i p b) l r → Residual i p (b ∷ l) r
 unfolding advanceOf
 advance-back m i Begin b l r h =
-    let P : Place → Type 0 = λ p. Residual (i + 1) p l r in
+    let P : State → Type 0 = λ p. Residual (i + 1) p l r in
     cases P (white b) Begin _ (λ e w. line-space i b l r e w)
-    (λ _ k. cases P (eqb b 35) Remark (enterOf i [] 2 b) (λ e w. rw (w .1, eqb-true b 35 e) (Derives.nothing
+    (λ _ k. cases P (eqb b 35) CommentLine (enterOf i [] 2 b) (λ e w. rw (w .1, eqb-true b 35 e) (Derives.nothing
     (Trail.comment (w .0))))
     (λ _ w. let f = enter-back i [] 2 b l r w in rw (f .gives) (Derives.triple (f .rest))) k) h
 advance-back m i (Gap ms n) b l r h = gap-back i ms n b l r h
 advance-back m i (Inside ms n q a) b l r h = inside-back m i ms n q a b l r h
 advance-back m i (After ms) b l r h = after-back i ms b l r h
-advance-back m i (Noted ms) b l r h =
-    cases (λ p. Residual (i + 1) p l r) (commentByte b) (Noted ms) (Broken i) (λ e w. ((e, w .0), w .1))
+advance-back m i (CommentAfterDot ms) b l r h =
+    cases (λ p. Residual (i + 1) p l r) (commentByte b) (CommentAfterDot ms) (Broken i) (λ e w. ((e, w .0), w .1))
     (λ _ w. absurd w) h
-advance-back m i Remark b l r h =
-    cases (λ p. Residual (i + 1) p l r) (commentByte b) Remark (Broken i) (λ e w. ((e, w .0), w .1))
+advance-back m i CommentLine b l r h =
+    cases (λ p. Residual (i + 1) p l r) (commentByte b) CommentLine (Broken i) (λ e w. ((e, w .0), w .1))
     (λ _ w. absurd w) h
 advance-back m i (Broken k) b l r h = h

@@ -8,12 +8,12 @@ use lib.ListN.{length}
 use Rattle.term.specs.Grammar.{Name}
 use Rattle.ntriples.specs.declared.Span.{Span}
 use Rattle.ntriples.specs.Grammar.{span, white, Trail, Short}
-use Rattle.ntriples.specs.Reader.{Outcome, Empty, Terms, Fails, permitted}
+use Rattle.ntriples.specs.Reader.{Outcome, Empty, Terms, Fails, kindAllowed}
 
 -- l, whose first byte has position i, is the rest of a line in which n terms are still to come; ms are their parts
 pub data Rest : ℕ → ℕ → List ℕ → List Span → Type 0 where
   space : {n i b : ℕ} {s : List ℕ} {ms : List Span} → white b ≡ true → Rest n (i + 1) s ms → Rest n i (b ∷ s) ms
-  term : {n i k : ℕ} {l : List ℕ} {ms : List Span} (t s : List ℕ) → l ≡ t ++ s → Name k t → permitted n k ≡ true
+  term : {n i k : ℕ} {l : List ℕ} {ms : List Span} (t s : List ℕ) → l ≡ t ++ s → Name k t → kindAllowed n k ≡ true
       → Rest n (i + length t) s ms → Rest (suc n) i l (span i (i + length t) ∷ ms)
   dot : {i : ℕ} {s : List ℕ} → Trail s → Rest 0 i (46 ∷ s) []
 

@@ -8,7 +8,7 @@ use lib.ListN.{length, getD, take, drop, drop-of-length-le, length-take}
 use lib.Seq.{slice, slice-cons, slice-empty}
 use native.Mathlib.Omega.{arith}
 use native.Mathlib.Numerals.{add-one}
-use Rattle.ntriples.specs.Reader.{Outcome, Place, advanceOf, placeOf, endOf}
+use Rattle.ntriples.specs.Reader.{Outcome, State, advanceOf, stateOf, endOf}
 use Rattle.ntriples.specs.Productions.{Inline, RunEnd, runEnd, onward}
 
 -- the bytes from i up to `stop`, one at a time
@@ -37,11 +37,11 @@ unfolding runEnd
 run-end f text i stop h = rw (slice-none text i stop h)
 
 -- reading on by one byte, and at the line's end
-pub onward-next : (text : List ℕ) (stop i : ℕ) (p : Place) → i < stop → stop ≤ length text
+pub onward-next : (text : List ℕ) (stop i : ℕ) (p : State) → i < stop → stop ≤ length text
     → onward text stop i p ≡ onward text stop (i + 1) (advanceOf 255 i p (getD text i 0))
-unfolding onward placeOf
+unfolding onward stateOf
 onward-next text stop i p h k = rw (slice-next text i stop h k)
 
-pub onward-end : (text : List ℕ) (stop i : ℕ) (p : Place) → stop ≤ i → onward text stop i p ≡ endOf stop p
-unfolding onward placeOf
+pub onward-end : (text : List ℕ) (stop i : ℕ) (p : State) → stop ≤ i → onward text stop i p ≡ endOf stop p
+unfolding onward stateOf
 onward-end text stop i p h = rw (slice-none text i stop h)

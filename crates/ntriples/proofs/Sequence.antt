@@ -2,7 +2,7 @@
 use Prim.Native.Nat.{ℕ, zero, suc, _+_, _-_, _≤_, _<_}
 use mathlib.Core.Path.{_≡_, refl, sym, _∙_, ap}
 use mathlib.Core.List.{List, [], _∷_, _++_}
-use mathlib.Core.Bool.{Bool, true, false}
+use mathlib.Core.Bool.{Bool, true, false, cond}
 use mathlib.Core.Logic.{_⊎_, ⊎-elim, inl, inr}
 use lib.Dec.{leb, ltb, eqb}
 use lib.ListN.{length, getD, take, drop, take-append-drop}
@@ -10,7 +10,6 @@ use lib.Seq.{slice, slice-empty, length-slice, length-take-le, take-all, take-su
 use native.Mathlib.Omega.{arith}
 use native.Mathlib.Numerals.{add-one}
 use borrow.Author.Tests.{ltb-true, ltb-false, eqb-true, eqb-false, eq-eqb, ne-eqb}
-use Rattle.term.specs.Bytes.{pick}
 use Rattle.ntriples.specs.declared.Span.{Span}
 use Rattle.ntriples.specs.declared.TermEnd.{TermEnd}
 use Rattle.ntriples.specs.declared.TermEnd.the-variants as term
@@ -22,26 +21,26 @@ use Rattle.ntriples.specs.Reader.{
   Empty,
   Terms,
   Fails,
-  Place,
+  State,
   Begin,
   Gap,
   Inside,
   After,
-  Noted,
-  Remark,
+  CommentAfterDot,
+  CommentLine,
   Broken,
   opens,
   afterOf,
   enterOf,
   gapOf,
   advanceOf,
-  placeOf,
+  stateOf,
   endOf,
   lineOf,
 }
 use Rattle.ntriples.specs.Grammar.{Unbroken, FirstLine}
 use Rattle.ntriples.specs.Reader.{answerOf, readSpelled}
-use Rattle.ntriples.specs.Productions.{Inline, Dark, RunEnd, runEnd, onward, TermEnds, ObjectEnds, crDropped, EolAt}
+use Rattle.ntriples.specs.Productions.{Inline, NotWhite, RunEnd, runEnd, onward, TermEnds, ObjectEnds, crDropped, EolAt}
 use Rattle.ntriples.proofs.Forth.{gap-space}
 use Rattle.ntriples.proofs.Halts.{decide, strictly, step-to, at-end, onward-broken}
 use Rattle.ntriples.proofs.Runs.{slice-next, slice-none, run-turn, run-out, run-end, onward-next, onward-end}
@@ -49,10 +48,10 @@ use Rattle.ntriples.proofs.Lines.{endsInCr, ends-snoc, no-cr}
 use Rattle.ntriples.proofs.Claims.{read-at}
 
 -- A run of bytes that do not leave a place is read over.
-abbrev Stays : (ℕ → Bool) → Place → Type 0
+abbrev Stays : (ℕ → Bool) → State → Type 0
 Stays f p = (i b : ℕ) → f b ≡ true → advanceOf 255 i p b ≡ p
 
-over-run : (k : ℕ) (f : ℕ → Bool) (text : List ℕ) (stop i : ℕ) (p : Place) → Stays f p → i + k ≡ stop
+over-run : (k : ℕ) (f : ℕ → Bool) (text : List ℕ) (stop i : ℕ) (p : State) → Stays f p → i + k ≡ stop
     → stop ≤ length text
     → onward text stop i p ≡ onward text stop (runEnd f i (slice i stop text)) p
 over-run zero f text stop i p s e t =
@@ -66,7 +65,7 @@ over-run (suc k) f text stop i p s e t =
     (λ z. rw (run-out f text i stop h t z))
     (decide (f (getD text i 0)))
 
-skipped : (f : ℕ → Bool) (text : List ℕ) (stop i r : ℕ) (p : Place) → Stays f p → i ≤ stop → stop ≤ length text
+skipped : (f : ℕ → Bool) (text : List ℕ) (stop i r : ℕ) (p : State) → Stays f p → i ≤ stop → stop ≤ length text
     → RunEnd f text i stop r
     → onward text stop i p ≡ onward text stop r p
 skipped f text stop i r p s h t e =
@@ -84,48 +83,50 @@ after-stays : (ms : List Span) → Stays white (After ms)
 unfolding advanceOf afterOf
 after-stays ms i b e = rw e
 
-noted-stays : (ms : List Span) → Stays commentByte (Noted ms)
+comment-after-dot-stays : (ms : List Span) → Stays commentByte (CommentAfterDot ms)
 unfolding advanceOf
-noted-stays ms i b e = rw e
+comment-after-dot-stays ms i b e = rw e
 
-remark-stays : Stays commentByte Remark
+comment-line-stays : Stays commentByte CommentLine
 unfolding advanceOf
-remark-stays i b e = rw e
+comment-line-stays i b e = rw e
 
 -- a byte at which the reading breaks
-breaks : (text : List ℕ) (stop i : ℕ) (p : Place) → i < stop → stop ≤ length text
+breaks : (text : List ℕ) (stop i : ℕ) (p : State) → i < stop → stop ≤ length text
     → advanceOf 255 i p (getD text i 0) ≡ Broken i
     → onward text stop i p ≡ Fails i
 breaks text stop i p h t e = step-to text stop i p (Broken i) h t e ∙ onward-broken text stop (i + 1) i
 
 -- A comment, on its own and after the dot.
-pub remark-end : (text : List ℕ) (stop i r : ℕ) → i ≤ stop → stop ≤ length text → RunEnd commentByte text i stop r
+pub comment-line-end : (text : List ℕ) (stop i r : ℕ) → i ≤ stop → stop ≤ length text → RunEnd commentByte text i stop r
     → stop ≤ r
-    → onward text stop i Remark ≡ Empty
+    → onward text stop i CommentLine ≡ Empty
 unfolding endOf
-remark-end text stop i r h t e k =
-    skipped commentByte text stop i r Remark remark-stays h t e ∙ at-end text stop r Remark Empty k refl
+comment-line-end text stop i r h t e k =
+    skipped commentByte text stop i r CommentLine comment-line-stays h t e ∙ at-end text stop r CommentLine Empty k refl
 
-pub remark-odd : (text : List ℕ) (stop i r : ℕ) → i ≤ stop → stop ≤ length text → RunEnd commentByte text i stop r
+pub comment-line-odd : (text : List ℕ) (stop i r : ℕ) → i ≤ stop → stop ≤ length text → RunEnd commentByte text i stop r
     → r < stop
-    → onward text stop i Remark ≡ Fails r
+    → onward text stop i CommentLine ≡ Fails r
 unfolding advanceOf
-remark-odd text stop i r h t e k =
-    skipped commentByte text stop i r Remark remark-stays h t e ∙ breaks text stop r Remark k t (rw (e .out k))
+comment-line-odd text stop i r h t e k =
+    skipped commentByte text stop i r CommentLine comment-line-stays h t e ∙ breaks text stop r CommentLine k t (rw (e .out k))
 
-pub noted-end : (text : List ℕ) (stop i r : ℕ) (ms : List Span) → i ≤ stop → stop ≤ length text
+pub comment-after-dot-end : (text : List ℕ) (stop i r : ℕ) (ms : List Span) → i ≤ stop → stop ≤ length text
     → RunEnd commentByte text i stop r
-    → stop ≤ r → onward text stop i (Noted ms) ≡ Terms ms
+    → stop ≤ r → onward text stop i (CommentAfterDot ms) ≡ Terms ms
 unfolding endOf
-noted-end text stop i r ms h t e k =
-    skipped commentByte text stop i r (Noted ms) (noted-stays ms) h t e ∙ at-end text stop r (Noted ms) (Terms ms) k refl
+comment-after-dot-end text stop i r ms h t e k =
+    skipped commentByte text stop i r (CommentAfterDot ms) (comment-after-dot-stays ms) h t e
+    ∙ at-end text stop r (CommentAfterDot ms) (Terms ms) k refl
 
-pub noted-odd : (text : List ℕ) (stop i r : ℕ) (ms : List Span) → i ≤ stop → stop ≤ length text
+pub comment-after-dot-odd : (text : List ℕ) (stop i r : ℕ) (ms : List Span) → i ≤ stop → stop ≤ length text
     → RunEnd commentByte text i stop r
-    → r < stop → onward text stop i (Noted ms) ≡ Fails r
+    → r < stop → onward text stop i (CommentAfterDot ms) ≡ Fails r
 unfolding advanceOf
-noted-odd text stop i r ms h t e k =
-    skipped commentByte text stop i r (Noted ms) (noted-stays ms) h t e ∙ breaks text stop r (Noted ms) k t (rw
+comment-after-dot-odd text stop i r ms h t e k =
+    skipped commentByte text stop i r (CommentAfterDot ms) (comment-after-dot-stays ms) h t e
+    ∙ breaks text stop r (CommentAfterDot ms) k t (rw
     (e .out k))
 
 -- After the dot.
@@ -148,12 +149,12 @@ after-odd text stop i r ms h t e n b =
 
 pub after-note : (text : List ℕ) (stop i r : ℕ) (ms : List Span) → i ≤ stop → stop ≤ length text
     → RunEnd white text i stop r
-    → (r ≡ stop → ⊥) → getD text r 0 ≡ 35 → onward text stop i (After ms) ≡ onward text stop (r + 1) (Noted ms)
+    → (r ≡ stop → ⊥) → getD text r 0 ≡ 35 → onward text stop i (After ms) ≡ onward text stop (r + 1) (CommentAfterDot ms)
 unfolding advanceOf afterOf
 after-note text stop i r ms h t e n b =
     let k = strictly r stop (e .before) n in
     skipped white text stop i r (After ms) (after-stays ms) h t e
-    ∙ step-to text stop r (After ms) (Noted ms) k t (rw (e .out k, eq-eqb (getD text r 0) 35 b))
+    ∙ step-to text stop r (After ms) (CommentAfterDot ms) k t (rw (e .out k, eq-eqb (getD text r 0) 35 b))
 
 -- Between terms.
 pub gap-skipped : (text : List ℕ) (stop i r : ℕ) (ms : List Span) (n : ℕ) → i ≤ stop → stop ≤ length text
@@ -161,8 +162,8 @@ pub gap-skipped : (text : List ℕ) (stop i r : ℕ) (ms : List Span) (n : ℕ) 
     → onward text stop i (Gap ms n) ≡ onward text stop r (Gap ms n)
 gap-skipped text stop i r ms n h t e = skipped white text stop i r (Gap ms n) (gap-stays ms n) h t e
 
-pub run-dark : (text : List ℕ) (stop i r : ℕ) → stop ≤ length text → RunEnd white text i stop r → Dark text r stop
-run-dark text stop i r t e = record { before = e .before; inText = t; dark = e .out }
+pub run-not-white : (text : List ℕ) (stop i r : ℕ) → stop ≤ length text → RunEnd white text i stop r → NotWhite text r stop
+run-not-white text stop i r t e = record { before = e .before; inText = t; notWhite = e .out }
 
 pub dot-none : (text : List ℕ) (stop i r : ℕ) (ms : List Span) → i ≤ stop → stop ≤ length text
     → RunEnd white text i stop r → r ≡ stop
@@ -194,17 +195,17 @@ unfolding endOf
 term-none text stop a n h =
     (omega arith, λ ms. at-end text stop a (Gap ms (suc n)) (Fails a) (omega arith) (ap Fails (sym h)))
 
-pub term-closed : (text : List ℕ) (stop a n : ℕ) → Dark text a stop → (a ≡ stop → ⊥) → opens n (getD text a 0) ≡ false
+pub term-closed : (text : List ℕ) (stop a n : ℕ) → NotWhite text a stop → (a ≡ stop → ⊥) → opens n (getD text a 0) ≡ false
     → TermEnds text stop n a (term.Broken a)
 unfolding advanceOf gapOf enterOf
 term-closed text stop a n d h o =
     let k = strictly a stop (d .before) h in
-    (omega arith, λ ms. breaks text stop a (Gap ms (suc n)) k (d .inText) (rw (d .dark k, o)))
+    (omega arith, λ ms. breaks text stop a (Gap ms (suc n)) k (d .inText) (rw (d .notWhite k, o)))
 
 pub object-none : (text : List ℕ) (stop a : ℕ) → a ≡ stop → ObjectEnds text stop a (object.Broken a)
 object-none text stop a h = term-none text stop a 0 h
 
-pub object-closed : (text : List ℕ) (stop a : ℕ) → Dark text a stop → (a ≡ stop → ⊥) → opens 0 (getD text a 0) ≡ false
+pub object-closed : (text : List ℕ) (stop a : ℕ) → NotWhite text a stop → (a ≡ stop → ⊥) → opens 0 (getD text a 0) ≡ false
     → ObjectEnds text stop a (object.Broken a)
 object-closed text stop a d h o = term-closed text stop a 0 d h o
 
@@ -226,12 +227,12 @@ begin-end text stop i r h t e k =
 
 pub begin-note : (text : List ℕ) (stop i r : ℕ) → i ≤ stop → stop ≤ length text → RunEnd white text i stop r
     → (r ≡ stop → ⊥)
-    → getD text r 0 ≡ 35 → onward text stop i Begin ≡ onward text stop (r + 1) Remark
+    → getD text r 0 ≡ 35 → onward text stop i Begin ≡ onward text stop (r + 1) CommentLine
 unfolding advanceOf
 begin-note text stop i r h t e n b =
     let k = strictly r stop (e .before) n in
     skipped white text stop i r Begin begin-stays h t e
-    ∙ step-to text stop r Begin Remark k t (rw (e .out k, eq-eqb (getD text r 0) 35 b))
+    ∙ step-to text stop r Begin CommentLine k t (rw (e .out k, eq-eqb (getD text r 0) 35 b))
 
 pub begin-term : (text : List ℕ) (stop i r : ℕ) → i ≤ stop → stop ≤ length text → RunEnd white text i stop r
     → (r ≡ stop → ⊥)

@@ -2,12 +2,12 @@
 use Prim.Native.Nat.{ℕ, _≤_}
 use mathlib.Core.Path.{_≡_, refl, sym, _∙_, ap}
 use mathlib.Core.List.{List, [], _∷_, _++_, append-assoc}
-use mathlib.Core.Bool.{Bool, true, false}
+use mathlib.Core.Bool.{Bool, true, false, cond}
 use lib.Dec.{leb, eqb}
 use native.Mathlib.Omega.{arith}
 use borrow.Author.Tests.{eqb-true, leb-true, le-leb}
 use Rattle.term.specs.Bytes as b
-use Rattle.term.specs.Bytes.{pick, between, among, All}
+use Rattle.term.specs.Bytes.{between, among, All}
 use Rattle.term.specs.Scanner.{firstKindOf}
 use Rattle.term.specs.Grammar as g
 use Rattle.term.proofs.Names.{never, name-kind}
@@ -333,9 +333,9 @@ unfolding white
 white-back many.none = tt
 white-back (many.more (one.char h) r) = (h, white-back r)
 
-noted : {s : List ℕ} → maybe std.COMMENT s → All commentByte s → Trail s
-noted maybe.none f = Trail.end
-noted (maybe.some (_▸_.pair the.char r)) f = Trail.comment (f .1)
+comment-after-dot : {s : List ℕ} → maybe std.COMMENT s → All commentByte s → Trail s
+comment-after-dot maybe.none f = Trail.end
+comment-after-dot (maybe.some (_▸_.pair the.char r)) f = Trail.comment (f .1)
 
 spaced : {s : List ℕ} (t : List ℕ) → std.WS s → (All commentByte t → Trail t) → All commentByte (s ++ t) → Trail (s ++ t)
 unfolding white
@@ -343,7 +343,7 @@ spaced t many.none g f = g f
 spaced t (many.more (one.char h) r) g f = Trail.space h (spaced t r g (f .1))
 
 trail-back : {s : List ℕ} → (std.WS ▸ maybe std.COMMENT) s → All commentByte s → Trail s
-trail-back (_▸_.pair {t = t} w c) f = spaced t w (λ h. noted c h) f
+trail-back (_▸_.pair {t = t} w c) f = spaced t w (λ h. comment-after-dot c h) f
 
 back : {l : List ℕ} (e : std.Triple l) → InSubset e → Triple l
 back e h =

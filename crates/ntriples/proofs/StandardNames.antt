@@ -2,13 +2,13 @@
 use Prim.Native.Nat.{ℕ, _≤_}
 use mathlib.Core.Path.{_≡_, refl, sym, _∙_, ap}
 use mathlib.Core.List.{List, [], _∷_, _++_}
-use mathlib.Core.Bool.{Bool, true, false}
+use mathlib.Core.Bool.{Bool, true, false, cond}
 use lib.Dec.{T, leb, eqb}
 use lib.ListN.{drop}
 use native.Mathlib.Omega.{arith}
 use borrow.Author.Tests.{eqb-true, leb-true, le-leb}
 use Rattle.term.specs.Bytes as b
-use Rattle.term.specs.Bytes.{pick, between, among, All}
+use Rattle.term.specs.Bytes.{between, among, All}
 use Rattle.term.specs.Grammar as g
 use Rattle.term.proofs.Names.{never}
 use Rattle.term.proofs.Table.{spans, at-range, eqBool, same-bool}
@@ -22,10 +22,10 @@ use Rattle.ntriples.proofs.Standard.{within, split, iri, blank, literal
 use Rattle.ntriples.proofs.Unambiguous.{skip-char, skip-escape, skip-close}
 
 -- a class in another, by computing both up to 126
-implied : (f h : ℕ → Bool) → T (spans eqBool same-bool (λ i. pick (f i) (h i) true) true [] 0 126)
+implied : (f h : ℕ → Bool) → T (spans eqBool same-bool (λ i. cond (f i) (h i) true) true [] 0 126)
     → (c : ℕ) → c ≤ 126 → f c ≡ true → h c ≡ true
 implied f h t c k e =
-    rw e at (at-range eqBool same-bool (λ i. pick (f i) (h i) true) true 0 126 [] c t (omega arith) (omega arith) tt)
+    rw e at (at-range eqBool same-bool (λ i. cond (f i) (h i) true) true 0 126 [] c t (omega arith) (omega arith) tt)
 
 bare-cases : (c : ℕ) → bare c ≡ true → (eqb c 92 ≡ false) × (c ≤ 126)
 bare-cases c h =
@@ -125,13 +125,13 @@ blank-unmarked : {s : List ℕ} → g.Blank s → All unmarked (drop 2 s)
 blank-unmarked (g.Blank.single {b = c} e) = (first-unmarked c e, tt)
 blank-unmarked (g.Blank.longer {b = c} e r) = (first-unmarked c e, labels r)
 
-both : (a x : Bool) → a ≡ true → x ≡ true → pick a x false ≡ true
+both : (a x : Bool) → a ≡ true → x ≡ true → cond a x false ≡ true
 both a x e f = rw (e, f)
 
 under-char : (c : ℕ) → std.PN-CHARS-U c ≡ true → unmarked c ≡ true → b.firstByte c ≡ true
 unfolding std.PN-CHARS-U std.PN-CHARS-BASE b.firstByte b.alnum b.letter
 under-char c h k =
-    implied (λ i. pick (unmarked i) (std.PN-CHARS-U i) false) b.firstByte tt c (unmarked-bound c k)
+    implied (λ i. cond (unmarked i) (std.PN-CHARS-U i) false) b.firstByte tt c (unmarked-bound c k)
     (both (unmarked c) (std.PN-CHARS-U c) k h)
 
 digit-char : (c : ℕ) → between 48 57 c ≡ true → unmarked c ≡ true → b.firstByte c ≡ true
@@ -141,7 +141,7 @@ digit-char c h k = implied (between 48 57) b.firstByte tt c (unmarked-bound c k)
 label-char : (c : ℕ) → std.PN-CHARS c ≡ true → unmarked c ≡ true → b.labelByte c ≡ true
 unfolding std.PN-CHARS std.PN-CHARS-U std.PN-CHARS-BASE b.labelByte b.firstByte b.alnum b.letter
 label-char c h k =
-    implied (λ i. pick (unmarked i) (std.PN-CHARS i) false) b.labelByte tt c (unmarked-bound c k)
+    implied (λ i. cond (unmarked i) (std.PN-CHARS i) false) b.labelByte tt c (unmarked-bound c k)
     (both (unmarked c) (std.PN-CHARS c) k h)
 
 label-rest-back : {s : List ℕ} (t : List ℕ) → many (one std.PN-CHARS ∣ the 46) s → All unmarked (s ++ t) → (All unmarked t → g.LabelRest t)
@@ -219,14 +219,14 @@ pub visibles : (s : List ℕ) → All visible s → All bare s
 visibles [] f = tt
 visibles (c ∷ s) f = (visible-bare c (f .0), visibles s (f .1))
 
-clash : {C : Type 0} (t : Bool) → t ≡ true → pick t false true ≡ true → C
+clash : {C : Type 0} (t : Bool) → t ≡ true → cond t false true ≡ true → C
 clash true e h = never h
 clash false e h = never e
 
 pub no-white : {C : Type 0} (c : ℕ) → among (32 ∷ 9 ∷ []) c ≡ true → visible c ≡ true → C
 unfolding among
 no-white c e h =
-    clash (visible c) h (implied (among (32 ∷ 9 ∷ [])) (λ i. pick (visible i) false true) tt c (visible-bound c h) e)
+    clash (visible c) h (implied (among (32 ∷ 9 ∷ [])) (λ i. cond (visible i) false true) tt c (visible-bound c h) e)
 
 suffix-back : {s : List ℕ} → std.Suffix s → All visible s → (s ≡ 94 ∷ 94 ∷ 60 ∷ 62 ∷ [] → ⊥) → g.Suffix s
 suffix-back maybe.none f n = g.Suffix.none
@@ -360,7 +360,7 @@ text-fit (g.TextRest.close {s = s} r) =
 pub string-char : (c : ℕ) → std.stringChar c ≡ true → between 32 126 c ≡ true → b.textByte c ≡ true
 unfolding std.stringChar b.textByte among
 string-char c h k =
-    implied (λ i. pick (between 32 126 i) (std.stringChar i) false) b.textByte tt c (within 32 126 c k .1)
+    implied (λ i. cond (between 32 126 i) (std.stringChar i) false) b.textByte tt c (within 32 126 c k .1)
     (both (between 32 126 c) (std.stringChar c) k h)
 
 pub after-byte : (c : ℕ) (s : List ℕ) → b.textByte c ≡ true → Fit (c ∷ s) → Fit s

@@ -3,12 +3,12 @@
 use Prim.Native.Nat.{ℕ, _+_, _≤_}
 use mathlib.Core.Path.{_≡_, refl, sym, _∙_, ap}
 use mathlib.Core.List.{List, [], _∷_, _++_, append-nil}
-use mathlib.Core.Bool.{Bool, true, false}
+use mathlib.Core.Bool.{Bool, true, false, cond}
 use lib.Dec.{eqb}
 use lib.ListN.{length}
 use native.Mathlib.Omega.{arith}
 use borrow.Author.Tests.{eqb-true}
-use Rattle.term.specs.Bytes.{pick, among, textByte, pairByte}
+use Rattle.term.specs.Bytes.{among, textByte, pairByte}
 use Rattle.term.specs.Grammar as g
 use Rattle.term.specs.Scanner.{stepOf, runOf, wholeOf, kindOf}
 use Rattle.term.specs.Canonical.{xsdString, stringEnding, writesString, canonical}
@@ -18,7 +18,7 @@ use Rattle.term.proofs.Names.{never, kinds, name-forth}
 use Rattle.term.proofs.Booleans.{decide}
 use Rattle.term.proofs.WellFormed.{name-positive}
 use Rattle.term.proofs.Shortened.{kept, rejoined, writes-joined, at-quote, isQuote, past-quote, quote-last, canonical-name}
-use Rattle.ntriples.specs.Standard.{Term, iri, blank, literal, tagged, unescaped}
+use Rattle.ntriples.specs.Standard.{RdfTerm, iri, blank, literal, tagged, unescaped}
 use Rattle.ntriples.specs.TermOf.{inner, lexicalFrom, suffixFrom, literalWith, termOf}
 use Rattle.ntriples.specs.Claims.{DistinctTerms}
 use Rattle.ntriples.proofs.Residual.{cases}
@@ -39,7 +39,7 @@ labelOf (g.Blank.single {b = b} e) = b ∷ []
 labelOf (g.Blank.longer {b = b} {s = s} e r) = b ∷ s
 
 -- a literal is the bytes between the quotes with the pairs unescaped, and its tag or datatype
-abbrev suffixed : {s : List ℕ} → List ℕ → g.Suffix s → Term
+abbrev suffixed : {s : List ℕ} → List ℕ → g.Suffix s → RdfTerm
 suffixed x g.Suffix.none = literal x xsdString
 suffixed x (g.Suffix.tag {b = b} {s = s} e r) = tagged x (b ∷ s)
 suffixed x (g.Suffix.datatype i) = literal x (iriOf i)
@@ -49,15 +49,15 @@ lexicalOf (g.TextRest.byte {b = b} e r) = b ∷ lexicalOf r
 lexicalOf (g.TextRest.pair {b = b} e r) = unescaped b ∷ lexicalOf r
 lexicalOf (g.TextRest.close r) = []
 
-abbrev textOf : {s : List ℕ} → List ℕ → g.TextRest s → Term
+abbrev textOf : {s : List ℕ} → List ℕ → g.TextRest s → RdfTerm
 textOf x (g.TextRest.byte e r) = textOf x r
 textOf x (g.TextRest.pair e r) = textOf x r
 textOf x (g.TextRest.close r) = suffixed x r
 
-abbrev literalOf : {s : List ℕ} → g.Literal s → Term
+abbrev literalOf : {s : List ℕ} → g.Literal s → RdfTerm
 literalOf (g.Literal.open′ r) = textOf (lexicalOf r) r
 
-abbrev nameTerm : {k : ℕ} {s : List ℕ} → g.Name k s → Term
+abbrev nameTerm : {k : ℕ} {s : List ℕ} → g.Name k s → RdfTerm
 nameTerm (g.Name.iri h) = iri (iriOf h)
 nameTerm (g.Name.blank h) = blank (labelOf h)
 nameTerm (g.Name.literal h) = literalOf h
@@ -143,7 +143,7 @@ pair-cases b f₁ f₂ f₃ f₄ h =
     (λ _ i. cases P (eqb b 114) true false (λ e _. f₄ (eqb-true b 114 e)) (λ _ z. never z) i) j) k) h
 
 escaped : ℕ → ℕ
-escaped v = pick (eqb v 10) 110 (pick (eqb v 13) 114 v)
+escaped v = cond (eqb v 10) 110 (cond (eqb v 13) 114 v)
 
 escaped-back : (b : ℕ) → pairByte b ≡ true → escaped (unescaped b) ≡ b
 unfolding escaped
@@ -231,7 +231,7 @@ same-text x y (g.TextRest.close {s = s} h) (g.TextRest.close {s = t} k) u v e f 
     ap (λ (z : List ℕ). 34 ∷ z) (same-suffix x y h k (writes-later 34 s u) (writes-later 34 t v) f)
 
 -- the lexical form of a literal's term
-lexicalIn : Term → List ℕ
+lexicalIn : RdfTerm → List ℕ
 lexicalIn (iri x) = []
 lexicalIn (blank x) = []
 lexicalIn (literal x d) = x
@@ -256,7 +256,7 @@ same-literal (g.Literal.open′ {s = s} h) (g.Literal.open′ {s = t} k) u v e =
     (writes-later 34 t v) x e)
 
 -- the kind of a term
-sortOf : Term → ℕ
+sortOf : RdfTerm → ℕ
 sortOf (iri x) = 1
 sortOf (blank x) = 2
 sortOf (literal x d) = 3
@@ -282,7 +282,7 @@ iri-of x y e = cc
 blank-of : (x y : List ℕ) → blank x ≡ blank y → x ≡ y
 blank-of x y e = cc
 
-unlike : {C : Type 0} (a b : Term) (n m : ℕ) → sortOf a ≡ n → sortOf b ≡ m → (n ≡ m → ⊥) → a ≡ b → C
+unlike : {C : Type 0} (a b : RdfTerm) (n m : ℕ) → sortOf a ≡ n → sortOf b ≡ m → (n ≡ m → ⊥) → a ≡ b → C
 unlike a b n m p q d e = absurd (d (sym p ∙ (ap sortOf e ∙ q)))
 
 same-name : {k j : ℕ} {s t : List ℕ} (h : g.Name k s) (i : g.Name j t) → (HasEnding s → ⊥) → (HasEnding t → ⊥)

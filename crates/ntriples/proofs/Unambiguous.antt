@@ -4,12 +4,12 @@
 use Prim.Native.Nat.{ℕ, _≤_}
 use mathlib.Core.Path.{_≡_, refl, sym, _∙_, ap}
 use mathlib.Core.List.{List, [], _∷_, _++_, append-assoc}
-use mathlib.Core.Bool.{Bool, true, false}
+use mathlib.Core.Bool.{Bool, true, false, cond}
 use lib.Dec.{eqb}
 use lib.ListN.{length, length-append}
 use native.Mathlib.Omega.{arith}
 use borrow.Author.Tests.{eqb-true}
-use Rattle.term.specs.Bytes.{pick, between, among, All}
+use Rattle.term.specs.Bytes.{between, among, All}
 use Rattle.term.proofs.Names.{never}
 use Rattle.ntriples.specs.Standard as std
 use Rattle.ntriples.specs.Standard.{one, the, _▸_, _∣_, maybe, many}
@@ -132,7 +132,7 @@ uchar-all f a b c h (_∣_.right (_▸_.pair the.char (_▸_.pair the.char x))) 
 -- ---- IRIs
 
 abbrev inside : ℕ → Bool
-inside c = pick (eqb c 62) false true
+inside c = cond (eqb c 62) false true
 
 hex-inside : (c : ℕ) → std.HEX c ≡ true → inside c ≡ true
 unfolding std.HEX
@@ -160,7 +160,7 @@ iri-ends f r h (_▸_.pair the.char x) = h
 -- ---- blank nodes
 
 abbrev labelled : ℕ → Bool
-labelled c = pick (eqb c 46) true (std.PN-CHARS c)
+labelled c = cond (eqb c 46) true (std.PN-CHARS c)
 
 label-part : (c : ℕ) → std.PN-CHARS c ≡ true → labelled c ≡ true
 label-part c h = split (eqb c 46) (λ e. rw e) (λ e. rw (e, h))
@@ -266,7 +266,7 @@ label-one {s} {t} x y (many.more (one.char {c = d} i) w) (many.more (one.char {c
 -- ---- literals
 
 abbrev unquoted : ℕ → Bool
-unquoted c = pick (eqb c 34) false (pick (eqb c 92) false true)
+unquoted c = cond (eqb c 34) false (cond (eqb c 92) false true)
 
 hex-unquoted : (c : ℕ) → std.HEX c ≡ true → unquoted c ≡ true
 unfolding std.HEX
@@ -312,7 +312,7 @@ string-rest z (many.more {t = t} (_∣_.right (_∣_.right (_∣_.right (_▸_.p
 
 -- language tags
 abbrev tagged : ℕ → Bool
-tagged c = pick (eqb c 64) true (pick (eqb c 45) true (std.letterOrDigit c))
+tagged c = cond (eqb c 64) true (cond (eqb c 45) true (std.letterOrDigit c))
 
 alnum-tagged : (c : ℕ) → std.letterOrDigit c ≡ true → tagged c ≡ true
 alnum-tagged c h = split (eqb c 64) (λ p. rw p) (λ p. split (eqb c 45) (λ q. rw (p, q)) (λ q. rw (p, q, h)))
@@ -345,14 +345,14 @@ unfolding std.letterOrDigit
 tag-out = (refl, refl, refl)
 
 -- the first character that is no white space
-dark : List ℕ → ℕ
-dark [] = 0
-dark (c ∷ s) = pick (white c) (dark s) c
+not-white : List ℕ → ℕ
+not-white [] = 0
+not-white (c ∷ s) = cond (white c) (not-white s) c
 
-dark-is : {w : List ℕ} (c : ℕ) (s : List ℕ) → white c ≡ false → std.WS w → dark (w ++ (c ∷ s)) ≡ c
-unfolding dark
-dark-is c s h many.none = rw h
-dark-is c s h (many.more (one.char i) r) = rw i (dark-is c s h r)
+not-white-is : {w : List ℕ} (c : ℕ) (s : List ℕ) → white c ≡ false → std.WS w → not-white (w ++ (c ∷ s)) ≡ c
+unfolding not-white
+not-white-is c s h many.none = rw h
+not-white-is c s h (many.more (one.char i) r) = rw i (not-white-is c s h r)
 
 mark-out : (white 94 ≡ false) × (white 64 ≡ false) × (white 60 ≡ false) × (white 95 ≡ false) × (white 34 ≡ false)
 unfolding among
@@ -361,16 +361,16 @@ mark-out = (refl, refl, refl, refl, refl)
 abbrev Typed : List ℕ → Type 0
 Typed = std.WS ▸ the 94 ▸ the 94 ▸ std.WS ▸ std.IRIREF
 
-typed-dark : {s : List ℕ} (u : List ℕ) → Typed s → dark (s ++ u) ≡ 94
-typed-dark u (_▸_.pair {s = w} {t = t} h (_▸_.pair the.char x)) =
-    ap dark (append-assoc w t u) ∙ dark-is 94 _ (mark-out .0) h
+typed-not-white : {s : List ℕ} (u : List ℕ) → Typed s → not-white (s ++ u) ≡ 94
+typed-not-white u (_▸_.pair {s = w} {t = t} h (_▸_.pair the.char x)) =
+    ap not-white (append-assoc w t u) ∙ not-white-is 94 _ (mark-out .0) h
 
-tag-dark : {s : List ℕ} (u : List ℕ) → (std.WS ▸ std.LANGTAG) s → dark (s ++ u) ≡ 64
-tag-dark u (_▸_.pair {s = w} {t = t} h (_▸_.pair the.char x)) =
-    ap dark (append-assoc w t u) ∙ dark-is 64 _ (mark-out .1) h
+tag-not-white : {s : List ℕ} (u : List ℕ) → (std.WS ▸ std.LANGTAG) s → not-white (s ++ u) ≡ 64
+tag-not-white u (_▸_.pair {s = w} {t = t} h (_▸_.pair the.char x)) =
+    ap not-white (append-assoc w t u) ∙ not-white-is 64 _ (mark-out .1) h
 
-differ : {C : Type 0} (s t : List ℕ) (a b : ℕ) → dark s ≡ a → dark t ≡ b → (a ≡ b → ⊥) → s ≡ t → C
-differ s t a b p q n e = absurd (n (sym p ∙ (ap dark e ∙ q)))
+differ : {C : Type 0} (s t : List ℕ) (a b : ℕ) → not-white s ≡ a → not-white t ≡ b → (a ≡ b → ⊥) → s ≡ t → C
+differ s t a b p q n e = absurd (n (sym p ∙ (ap not-white e ∙ q)))
 
 typed-one : {s t : List ℕ} (u v : List ℕ) → Typed s → Typed t → s ++ u ≡ t ++ v → s ≡ t
 typed-one u v (_▸_.pair {s = w} {t = a} h (_▸_.pair the.char (_▸_.pair the.char (_▸_.pair {s = x} {t = i} j m)))) (_▸_.pair {s =
@@ -400,18 +400,18 @@ suffix-one : {s t w v : List ℕ} (p q : List ℕ) → std.Suffix s → std.Suff
     → s ++ (w ++ (46 ∷ p)) ≡ t ++ (v ++ (46 ∷ q)) → s ≡ t
 suffix-one p q maybe.none maybe.none h k e = refl
 suffix-one p q maybe.none (maybe.some (_∣_.left y)) h k e =
-    differ _ _ 46 94 (dark-is 46 p dot-white h) (typed-dark _ y) (λ z. omega arith) e
+    differ _ _ 46 94 (not-white-is 46 p dot-white h) (typed-not-white _ y) (λ z. omega arith) e
 suffix-one p q maybe.none (maybe.some (_∣_.right y)) h k e =
-    differ _ _ 46 64 (dark-is 46 p dot-white h) (tag-dark _ y) (λ z. omega arith) e
+    differ _ _ 46 64 (not-white-is 46 p dot-white h) (tag-not-white _ y) (λ z. omega arith) e
 suffix-one p q (maybe.some (_∣_.left x)) maybe.none h k e =
-    differ _ _ 94 46 (typed-dark _ x) (dark-is 46 q dot-white k) (λ z. omega arith) e
+    differ _ _ 94 46 (typed-not-white _ x) (not-white-is 46 q dot-white k) (λ z. omega arith) e
 suffix-one p q (maybe.some (_∣_.left x)) (maybe.some (_∣_.left y)) h k e = typed-one _ _ x y e
 suffix-one p q (maybe.some (_∣_.left x)) (maybe.some (_∣_.right y)) h k e =
-    differ _ _ 94 64 (typed-dark _ x) (tag-dark _ y) (λ z. omega arith) e
+    differ _ _ 94 64 (typed-not-white _ x) (tag-not-white _ y) (λ z. omega arith) e
 suffix-one p q (maybe.some (_∣_.right x)) maybe.none h k e =
-    differ _ _ 64 46 (tag-dark _ x) (dark-is 46 q dot-white k) (λ z. omega arith) e
+    differ _ _ 64 46 (tag-not-white _ x) (not-white-is 46 q dot-white k) (λ z. omega arith) e
 suffix-one p q (maybe.some (_∣_.right x)) (maybe.some (_∣_.left y)) h k e =
-    differ _ _ 64 94 (tag-dark _ x) (typed-dark _ y) (λ z. omega arith) e
+    differ _ _ 64 94 (tag-not-white _ x) (typed-not-white _ y) (λ z. omega arith) e
 suffix-one p q (maybe.some (_∣_.right x)) (maybe.some (_∣_.right y)) h k e = tag-one p q x y h k e
 
 -- the string and the suffix of a literal, with what follows

@@ -1,8 +1,8 @@
 -- The grammar of a line (paper 01, "Names", last paragraph): the productions of RDF 1.1 N-Triples, by their names there (triple,
 -- subject, predicate, object), with white space and comments as the paper has them, over the terms that it permits; lines of a text; and
 -- the paper's number and values for each answer ("Read a line"). Assumes nothing.
-use Rattle.term.specs.Prelude.{ℕ, _+_, _-_, _≤_, min, _≡_, List, [], _∷_, _++_, Bool, true, false, _⊎_, eqb, length, take, drop}
-use Rattle.term.specs.Bytes.{pick, between, among, All}
+use Rattle.term.specs.Prelude.{ℕ, _+_, _-_, _≤_, min, _≡_, List, [], _∷_, _++_, Bool, true, false, cond, _⊎_, eqb, length, take, drop}
+use Rattle.term.specs.Bytes.{between, among, All}
 use Rattle.term.specs.Grammar.{Iri, Blank, Literal}
 use Rattle.ntriples.specs.declared.Span.{Span}
 use Rattle.ntriples.specs.declared.Line.{Line}
@@ -15,7 +15,7 @@ white b = among (32 ∷ 9 ∷ []) b
 
 -- a comment's bytes: tabs and 32..126
 unfoldable pub commentByte : ℕ → Bool
-commentByte b = pick (eqb b 9) true (between 32 126 b)
+commentByte b = cond (eqb b 9) true (between 32 126 b)
 
 -- spaces and tabs, and possibly a comment: a line that gives nothing, and what may follow a triple's dot
 pub data Trail : List ℕ → Type 0 where

@@ -4,11 +4,10 @@
 use Prim.Native.Nat.{ℕ, zero, suc, _+_, _-_, _≤_, _<_}
 use mathlib.Core.Path.{_≡_}
 use mathlib.Core.List.{List, [], _∷_, _++_}
-use mathlib.Core.Bool.{Bool, true, false}
+use mathlib.Core.Bool.{Bool, true, false, cond}
 use lib.Dec.{leb, ltb, eqb}
 use lib.ListN.{length, getD}
 use lib.Seq.{slice}
-use Rattle.term.specs.Bytes.{pick}
 use Rattle.term.specs.Grammar.{nameLimit}
 use Rattle.ntriples.specs.declared.Span.{Span}
 use Rattle.ntriples.specs.declared.TermEnd.{TermEnd}
@@ -16,7 +15,7 @@ use Rattle.ntriples.specs.declared.TermEnd.the-variants as term
 use Rattle.ntriples.specs.declared.ObjectEnd.{ObjectEnd}
 use Rattle.ntriples.specs.declared.ObjectEnd.the-variants as object
 use Rattle.ntriples.specs.Grammar.{span, white}
-use Rattle.ntriples.specs.Reader.{Outcome, Fails, Place, Gap, After, opens, placeOf, endOf}
+use Rattle.ntriples.specs.Reader.{Outcome, Fails, State, Gap, After, opens, stateOf, endOf}
 use Rattle.ntriples.specs.Grammar.{Unbroken}
 
 -- i is a position of the line that ends at `stop`, or its end
@@ -37,17 +36,17 @@ pub record TermAt (text : List ℕ) (i stop : ℕ) : Type 0 where
   pub opening : opens 0 (getD text i 0) ≡ true
 
 -- the byte there, if the line has one, is no space or tab
-pub record Dark (text : List ℕ) (i stop : ℕ) : Type 0 where
+pub record NotWhite (text : List ℕ) (i stop : ℕ) : Type 0 where
   pub before : i ≤ stop
   pub inText : stop ≤ length text
-  pub dark : i < stop → white (getD text i 0) ≡ false
+  pub notWhite : i < stop → white (getD text i 0) ≡ false
 
 -- the line began at `at`, and i is such a position of it
 pub record Reached (text : List ℕ) (at i stop : ℕ) : Type 0 where
   pub begun : at ≤ i
   pub before : i ≤ stop
   pub inText : stop ≤ length text
-  pub dark : i < stop → white (getD text i 0) ≡ false
+  pub notWhite : i < stop → white (getD text i 0) ≡ false
 
 -- where the run of bytes of the class f that s begins with ends, its first byte having position i
 unfoldable pub runEnd : (ℕ → Bool) → ℕ → List ℕ → ℕ
@@ -61,9 +60,9 @@ pub record RunEnd (f : ℕ → Bool) (text : List ℕ) (i stop r : ℕ) : Type 0
   pub before : r ≤ stop
   pub out : r < stop → f (getD text r 0) ≡ false
 
--- what the line gives if the reading stands at the position i in the place p
-unfoldable pub onward : List ℕ → ℕ → ℕ → Place → Outcome
-onward text stop i p = endOf stop (placeOf nameLimit i p (slice i stop text))
+-- what the line gives if the reading stands at the position i in the state p
+unfoldable pub onward : List ℕ → ℕ → ℕ → State → Outcome
+onward text stop i p = endOf stop (stateOf nameLimit i p (slice i stop text))
 
 -- The subject or the predicate that begins at a, after which n more terms follow, ends before e: the reading is between terms
 -- there. Or no line goes on at k.
@@ -89,11 +88,11 @@ ObjectEnds text stop a (object.Broken k) = (a ≤ k) × ((ms : List Span) → on
 
 -- how far the scan of the term that begins at a goes: to the line's end, and over 256 bytes at most
 unfoldable pub cutOf : ℕ → ℕ → ℕ
-cutOf a stop = pick (ltb (a + 256) stop) (a + 256) stop
+cutOf a stop = cond (ltb (a + 256) stop) (a + 256) stop
 
 -- where the line that begins at i ends, if its LF stands at e: one CR before the LF is dropped
 unfoldable pub crDropped : List ℕ → ℕ → ℕ → ℕ
-crDropped text i e = pick (eqb e i) e (pick (eqb (getD text (e - 1) 0) 13) (e - 1) e)
+crDropped text i e = cond (eqb e i) e (cond (eqb (getD text (e - 1) 0) 13) (e - 1) e)
 
 -- r is false only if b is no LF, and none was seen before
 pub record Seen (b : ℕ) (before r : Bool) : Type 0 where

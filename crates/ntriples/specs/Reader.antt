@@ -2,10 +2,9 @@
 -- contracts cite. The limit of a term's bytes is a parameter throughout. Assumes nothing.
 use Prim.Native.Nat.{ℕ, zero, suc, _+_, _-_}
 use mathlib.Core.List.{List, [], _∷_, _++_}
-use mathlib.Core.Bool.{Bool, true, false}
+use mathlib.Core.Bool.{Bool, true, false, cond}
 use lib.Dec.{leb, ltb, eqb}
 use lib.ListN.{length, drop}
-use Rattle.term.specs.Bytes.{pick}
 use Rattle.term.specs.Canonical.{canonical}
 use Rattle.term.specs.Scanner.{stepOf, wholeOf, isBad, firstKindOf}
 use Rattle.term.specs.declared.Scan.{Scan}
@@ -44,27 +43,27 @@ pub data Outcome : Type 0 where
   Fails : ℕ → Outcome
 
 -- the kinds of the term that n more follow: subject (2) 1 or 2, predicate (1) 1, object (0) 1 to 3
-unfoldable pub permitted : ℕ → ℕ → Bool
-permitted zero k = true
-permitted (suc zero) k = eqb k 1
-permitted (suc (suc n)) k = ltb k 3
+unfoldable pub kindAllowed : ℕ → ℕ → Bool
+kindAllowed zero k = true
+kindAllowed (suc zero) k = eqb k 1
+kindAllowed (suc (suc n)) k = ltb k 3
 
 -- Where a reading stands in a line; ms are the parts already read.
---   Begin            nothing but spaces and tabs so far
---   Gap ms n         between terms: n terms are still to come
---   Inside ms n q a  in a term that began at position a, n more follow it; q is the scan of its bytes
---   After ms         after the dot
---   Noted ms         in a comment after the dot
---   Remark           in a comment with no triple before it
---   Broken k         the byte at position k continues no line
-pub data Place : Type 0 where
-  Begin : Place
-  Gap : List Span → ℕ → Place
-  Inside : List Span → ℕ → Scan → ℕ → Place
-  After : List Span → Place
-  Noted : List Span → Place
-  Remark : Place
-  Broken : ℕ → Place
+--   Begin               nothing but spaces and tabs so far
+--   Gap ms n            between terms: n terms are still to come
+--   Inside ms n q a     in a term that began at position a, n more follow it; q is the scan of its bytes
+--   After ms            after the dot
+--   CommentAfterDot ms  in a comment after the dot
+--   CommentLine         in a comment with no triple before it
+--   Broken k            the byte at position k continues no line
+pub data State : Type 0 where
+  Begin : State
+  Gap : List Span → ℕ → State
+  Inside : List Span → ℕ → Scan → ℕ → State
+  After : List Span → State
+  CommentAfterDot : List Span → State
+  CommentLine : State
+  Broken : ℕ → State
 
 -- whether the last byte read is a lone dot of a label
 unfoldable pub isDot : Scan → Bool
@@ -90,81 +89,81 @@ isDot Bad = false
 
 -- whether a term that n more follow may begin with b
 unfoldable pub opens : ℕ → ℕ → Bool
-opens n b = pick (eqb (firstKindOf (b ∷ [])) 0) false (permitted n (firstKindOf (b ∷ [])))
+opens n b = cond (eqb (firstKindOf (b ∷ [])) 0) false (kindAllowed n (firstKindOf (b ∷ [])))
 
 -- an object's scan whose last byte is a lone dot, which may be the line's
 unfoldable pub dotted : ℕ → Scan → Bool
-dotted n q = pick (eqb n 0) (isDot q) false
+dotted n q = cond (eqb n 0) (isDot q) false
 
-unfoldable pub afterOf : ℕ → List Span → ℕ → Place
-afterOf i ms b = pick (white b) (After ms) (pick (eqb b 35) (Noted ms) (Broken i))
+unfoldable pub afterOf : ℕ → List Span → ℕ → State
+afterOf i ms b = cond (white b) (After ms) (cond (eqb b 35) (CommentAfterDot ms) (Broken i))
 
-unfoldable pub enterOf : ℕ → List Span → ℕ → ℕ → Place
-enterOf i ms n b = pick (opens n b) (Inside ms n (stepOf Start b) i) (Broken i)
+unfoldable pub enterOf : ℕ → List Span → ℕ → ℕ → State
+enterOf i ms n b = cond (opens n b) (Inside ms n (stepOf Start b) i) (Broken i)
 
-unfoldable pub gapOf : ℕ → List Span → ℕ → ℕ → Place
-gapOf i ms zero b = pick (white b) (Gap ms zero) (pick (eqb b 46) (After ms) (Broken i))
-gapOf i ms (suc n) b = pick (white b) (Gap ms (suc n)) (enterOf i ms n b)
+unfoldable pub gapOf : ℕ → List Span → ℕ → ℕ → State
+gapOf i ms zero b = cond (white b) (Gap ms zero) (cond (eqb b 46) (After ms) (Broken i))
+gapOf i ms (suc n) b = cond (white b) (Gap ms (suc n)) (enterOf i ms n b)
 
 -- the term goes on with b: byte limit + 1 of it breaks the line, unless it is a dot that can end the line
-unfoldable pub goesOnOf : ℕ → ℕ → List Span → ℕ → Scan → ℕ → Place
+unfoldable pub goesOnOf : ℕ → ℕ → List Span → ℕ → Scan → ℕ → State
 goesOnOf limit i ms n q a =
-    pick (ltb i (a + limit)) (Inside ms n q a) (pick (dotted n q) (After (ms ++ (span a i ∷ []))) (Broken i))
+    cond (ltb i (a + limit)) (Inside ms n q a) (cond (dotted n q) (After (ms ++ (span a i ∷ []))) (Broken i))
 
 -- the term does not go on with b
-unfoldable pub leaveOf : ℕ → List Span → ℕ → Scan → ℕ → ℕ → Place
+unfoldable pub leaveOf : ℕ → List Span → ℕ → Scan → ℕ → ℕ → State
 leaveOf i ms n q a b =
-    pick (wholeOf q) (gapOf i (ms ++ (span a i ∷ [])) n b)
-    (pick (dotted n q) (afterOf i (ms ++ (span a (i - 1) ∷ [])) b) (Broken i))
+    cond (wholeOf q) (gapOf i (ms ++ (span a i ∷ [])) n b)
+    (cond (dotted n q) (afterOf i (ms ++ (span a (i - 1) ∷ [])) b) (Broken i))
 
--- the place after the byte b at position i
-unfoldable pub advanceOf : ℕ → ℕ → Place → ℕ → Place
-advanceOf limit i Begin b = pick (white b) Begin (pick (eqb b 35) Remark (enterOf i [] 2 b))
+-- the state after the byte b at position i
+unfoldable pub advanceOf : ℕ → ℕ → State → ℕ → State
+advanceOf limit i Begin b = cond (white b) Begin (cond (eqb b 35) CommentLine (enterOf i [] 2 b))
 advanceOf limit i (Gap ms n) b = gapOf i ms n b
 advanceOf limit i (Inside ms n q a) b =
-    pick (isBad (stepOf q b)) (leaveOf i ms n q a b) (goesOnOf limit i ms n (stepOf q b) a)
+    cond (isBad (stepOf q b)) (leaveOf i ms n q a b) (goesOnOf limit i ms n (stepOf q b) a)
 advanceOf limit i (After ms) b = afterOf i ms b
-advanceOf limit i (Noted ms) b = pick (commentByte b) (Noted ms) (Broken i)
-advanceOf limit i Remark b = pick (commentByte b) Remark (Broken i)
+advanceOf limit i (CommentAfterDot ms) b = cond (commentByte b) (CommentAfterDot ms) (Broken i)
+advanceOf limit i CommentLine b = cond (commentByte b) CommentLine (Broken i)
 advanceOf limit i (Broken k) b = Broken k
 
-unfoldable pub placeOf : ℕ → ℕ → Place → List ℕ → Place
-placeOf limit i p [] = p
-placeOf limit i p (b ∷ s) = placeOf limit (i + 1) (advanceOf limit i p b) s
+unfoldable pub stateOf : ℕ → ℕ → State → List ℕ → State
+stateOf limit i p [] = p
+stateOf limit i p (b ∷ s) = stateOf limit (i + 1) (advanceOf limit i p b) s
 
 -- what the line gives if it ends at position i
-unfoldable pub endOf : ℕ → Place → Outcome
+unfoldable pub endOf : ℕ → State → Outcome
 endOf i Begin = Empty
 endOf i (Gap ms n) = Fails i
-endOf i (Inside ms n q a) = pick (dotted n q) (Terms (ms ++ (span a (i - 1) ∷ []))) (Fails i)
+endOf i (Inside ms n q a) = cond (dotted n q) (Terms (ms ++ (span a (i - 1) ∷ []))) (Fails i)
 endOf i (After ms) = Terms ms
-endOf i (Noted ms) = Terms ms
-endOf i Remark = Empty
+endOf i (CommentAfterDot ms) = Terms ms
+endOf i CommentLine = Empty
 endOf i (Broken k) = Fails k
 
 -- what the line l, its ending apart, gives, where its first byte has position i
 unfoldable pub lineOf : ℕ → ℕ → List ℕ → Outcome
-lineOf limit i l = endOf (i + length l) (placeOf limit i Begin l)
+lineOf limit i l = endOf (i + length l) (stateOf limit i Begin l)
 
 -- the first line of a text
 unfoldable pub untilLf : List ℕ → List ℕ
 untilLf [] = []
-untilLf (b ∷ s) = pick (eqb b 10) [] (b ∷ untilLf s)
+untilLf (b ∷ s) = cond (eqb b 10) [] (b ∷ untilLf s)
 
 unfoldable pub hasLf : List ℕ → Bool
 hasLf [] = false
-hasLf (b ∷ s) = pick (eqb b 10) true (hasLf s)
+hasLf (b ∷ s) = cond (eqb b 10) true (hasLf s)
 
 unfoldable pub dropCr : List ℕ → List ℕ
 dropCr [] = []
-dropCr (b ∷ []) = pick (eqb b 13) [] (b ∷ [])
+dropCr (b ∷ []) = cond (eqb b 13) [] (b ∷ [])
 dropCr (b ∷ (c ∷ s)) = b ∷ dropCr (c ∷ s)
 
 unfoldable pub firstLineOf : List ℕ → List ℕ
-firstLineOf s = pick (hasLf s) (dropCr (untilLf s)) (untilLf s)
+firstLineOf s = cond (hasLf s) (dropCr (untilLf s)) (untilLf s)
 
 unfoldable pub takenOf : List ℕ → ℕ
-takenOf s = length (untilLf s) + pick (hasLf s) 1 0
+takenOf s = length (untilLf s) + cond (hasLf s) 1 0
 
 -- the answer for a line that begins at position i: a refusal's offset counts from there
 unfoldable pub answerOf : ℕ → Outcome → Line
@@ -179,7 +178,7 @@ answerOf i (Fails k) = Refused (k - i)
 -- reading a line as it is spelled: the answer, and the position after
 unfoldable pub readSpelled : ℕ → List ℕ → ℕ → LineRead
 readSpelled limit text at =
-    pick (leb (length text) at) record { line = End; next = at }
+    cond (leb (length text) at) record { line = End; next = at }
     record { line = answerOf at (lineOf limit at (firstLineOf (drop at text))); next = at + takenOf (drop at text) }
 
 -- a part of the text without the string ending

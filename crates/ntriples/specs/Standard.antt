@@ -1,7 +1,7 @@
 -- RDF 1.1 N-Triples (W3C Recommendation of 25 February 2014): its grammar over lists of code points, a definition for each production,
 -- under its name (with `-` for `_`) and below its number and text there, and the terms. Nothing in it is paper 01's. Assumes nothing.
-use Rattle.term.specs.Prelude.{ℕ, _+_, _-_, _*_, _≡_, List, [], _∷_, _++_, Bool, true, false, _||_, leb, eqb, drop}
-use Rattle.term.specs.Bytes.{pick, between, among}
+use Rattle.term.specs.Prelude.{ℕ, _+_, _-_, _*_, _≡_, List, [], _∷_, _++_, Bool, true, false, cond, _||_, leb, eqb, drop}
+use Rattle.term.specs.Bytes.{between, among}
 use Rattle.term.specs.Canonical.{xsdString}
 
 -- ---- the recommendation's notation
@@ -37,7 +37,7 @@ pub data many (A : List ℕ → Type 0) : List ℕ → Type 0 where
 
 -- [^ .. ]: every code point from `lo` up to U+10FFFF, these excepted
 abbrev pub except : List ℕ → ℕ → ℕ → Bool
-except cs lo c = pick (among cs c) false (between lo 0x10FFFF c)
+except cs lo c = cond (among cs c) false (between lo 0x10FFFF c)
 
 -- [a-zA-Z], [a-zA-Z0-9]
 unfoldable pub letter : ℕ → Bool
@@ -161,20 +161,20 @@ Triple = TripleOf Subject Predicate Object WS (WS ▸ maybe COMMENT)
 -- ---- terms as RDF 1.1 Concepts has them, and the term of a derivation ("Parsing", "RDF Term Constructors")
 
 -- A literal has a lexical form and a datatype; one with a language tag has the datatype rdf:langString, which is not written.
-pub data Term : Type 0 where
-  iri : List ℕ → Term
-  blank : List ℕ → Term
-  literal : List ℕ → List ℕ → Term
-  tagged : List ℕ → List ℕ → Term
+pub data RdfTerm : Type 0 where
+  iri : List ℕ → RdfTerm
+  blank : List ℕ → RdfTerm
+  literal : List ℕ → List ℕ → RdfTerm
+  tagged : List ℕ → List ℕ → RdfTerm
 
 -- the character of an ECHAR: for `\` and t, b, n, r, f a control character, otherwise the second one itself
 abbrev pub unescaped : ℕ → ℕ
-unescaped c = pick (eqb c 116) 9 (pick (eqb c 98) 8 (pick (eqb c 110) 10 (pick (eqb c 114) 13 (pick (eqb c 102) 12 c))))
+unescaped c = cond (eqb c 116) 9 (cond (eqb c 98) 8 (cond (eqb c 110) 10 (cond (eqb c 114) 13 (cond (eqb c 102) 12 c))))
 
 -- the character of an UCHAR: the number that its digits write, where n is that of the digits before
 abbrev pub hex : ℕ → List ℕ → ℕ
 hex n [] = n
-hex n (c ∷ s) = hex (16 * n + (c - pick (leb c 57) 48 (pick (leb c 70) 55 87))) s
+hex n (c ∷ s) = hex (16 * n + (c - cond (leb c 57) 48 (cond (leb c 70) 55 87))) s
 
 -- IRIREF: the characters between `<` and `>`, each UCHAR as its character
 abbrev pub iriChars : {s : List ℕ} → many (one iriChar ∣ UCHAR) s → List ℕ
@@ -193,20 +193,20 @@ stringChars (many.more (_∣_.right (_∣_.left (_▸_.pair the.char (one.char {
 stringChars (many.more {s = s} (_∣_.right (_∣_.right u)) r) = hex 0 (drop 2 s) ∷ stringChars r
 
 -- literal: that lexical form, and the datatype, xsd:string where none is written, or the tag, which is what follows `@`
-abbrev pub suffixed : {s : List ℕ} → List ℕ → Suffix s → Term
+abbrev pub suffixed : {s : List ℕ} → List ℕ → Suffix s → RdfTerm
 suffixed x maybe.none = literal x xsdString
 suffixed x (maybe.some (_∣_.left (_▸_.pair w (_▸_.pair the.char (_▸_.pair the.char (_▸_.pair v i)))))) = literal x (iriOf i)
 suffixed x (maybe.some (_∣_.right (_▸_.pair {t = t} w r))) = tagged x (drop 1 t)
 
-abbrev pub literalOf : {s : List ℕ} → Literal s → Term
+abbrev pub literalOf : {s : List ℕ} → Literal s → RdfTerm
 literalOf (_▸_.pair (_▸_.pair the.char (_▸_.pair r the.char)) x) = suffixed (stringChars r) x
 
 -- a blank node is its label, what follows `_:`
-abbrev pub subjectTerm : {s : List ℕ} → Subject s → Term
+abbrev pub subjectTerm : {s : List ℕ} → Subject s → RdfTerm
 subjectTerm (_∣_.left i) = iri (iriOf i)
 subjectTerm {s} (_∣_.right b) = blank (drop 2 s)
 
-abbrev pub objectTerm : {s : List ℕ} → Object s → Term
+abbrev pub objectTerm : {s : List ℕ} → Object s → RdfTerm
 objectTerm (_∣_.left i) = iri (iriOf i)
 objectTerm {s} (_∣_.right (_∣_.left b)) = blank (drop 2 s)
 objectTerm (_∣_.right (_∣_.right x)) = literalOf x

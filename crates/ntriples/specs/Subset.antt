@@ -1,21 +1,21 @@
 -- What the paper leaves out of the standard's terms, said of bytes alone, both ways: so a grammar of the standard that were too wide
 -- within ASCII would be refused. Proved in `proofs/StandardNames.antt`. Assumes nothing.
-use Rattle.term.specs.Prelude.{ℕ, _≡_, List, [], _∷_, Bool, true, false, _↔_, leb, eqb, drop}
-use Rattle.term.specs.Bytes.{pick, between, pairByte, All}
+use Rattle.term.specs.Prelude.{ℕ, _≡_, List, [], _∷_, Bool, true, false, cond, _↔_, leb, eqb, drop}
+use Rattle.term.specs.Bytes.{between, pairByte, All}
 use Rattle.term.specs.Grammar.{Iri, Blank, Literal}
 use Rattle.ntriples.specs.Standard as standard
 use Rattle.ntriples.specs.TermOf.{suffixFrom}
 
 -- Of IRIs: the empty one, `\` (UCHAR begins with it), and all over 126.
 abbrev pub bare : ℕ → Bool
-bare c = pick (eqb c 92) false (leb c 126)
+bare c = cond (eqb c 92) false (leb c 126)
 
 abbrev pub IrisOfStandard : Type 0
 IrisOfStandard = (s : List ℕ) → Iri s ↔ (standard.IRIREF s × All bare s × (s ≡ 60 ∷ 62 ∷ [] → ⊥))
 
 -- Of labels: `:`, and all over 126.
 abbrev pub unmarked : ℕ → Bool
-unmarked c = pick (eqb c 58) false (leb c 126)
+unmarked c = cond (eqb c 58) false (leb c 126)
 
 abbrev pub BlanksOfStandard : Type 0
 BlanksOfStandard = (s : List ℕ) → Blank s ↔ (standard.BLANK-NODE-LABEL s × All unmarked (drop 2 s))
@@ -24,11 +24,11 @@ BlanksOfStandard = (s : List ℕ) → Blank s ↔ (standard.BLANK-NODE-LABEL s �
 -- space, `\`, and the empty datatype.
 unfoldable pub fourPairs : Bool → List ℕ → Bool
 fourPairs escaped [] = true
-fourPairs true (c ∷ s) = pick (pairByte c) (fourPairs false s) false
+fourPairs true (c ∷ s) = cond (pairByte c) (fourPairs false s) false
 fourPairs false (c ∷ s) = fourPairs (eqb c 92) s
 
 abbrev pub visible : ℕ → Bool
-visible c = pick (eqb c 92) false (between 33 126 c)
+visible c = cond (eqb c 92) false (between 33 126 c)
 
 pub record Plain (s : List ℕ) : Type 0 where
   pub bytes : All (λ c. between 32 126 c) s

@@ -12,8 +12,8 @@ ghost use mathlib.Core.List.{[], _∷_};
 ghost use lib.ListN.{length};
 ghost use Rattle.term.specs.Grammar.{nameLimit};
 ghost use Rattle.ntriples.specs.Grammar.{white, commentByte};
-ghost use Rattle.ntriples.specs.Reader.{isDot, opens, Begin, Gap, After, Remark, answerOf, readSpelled, readOf};
-ghost use Rattle.ntriples.specs.Productions.{Inline, OnLine, TermAt, Dark, Reached, RunEnd, onward, TermEnds, EarlierEnds};
+ghost use Rattle.ntriples.specs.Reader.{isDot, opens, Begin, Gap, After, CommentLine, answerOf, readSpelled, readOf};
+ghost use Rattle.ntriples.specs.Productions.{Inline, OnLine, TermAt, NotWhite, Reached, RunEnd, onward, TermEnds, EarlierEnds};
 ghost use Rattle.ntriples.specs.Productions.{ObjectEnds, cutOf, crDropped, Seen, BlockSeen, Passed, EolAt};
 use term::Scan;
 
@@ -214,7 +214,7 @@ fn opens_object(b: u8) -> bool
 }
 
 fn subject(text: &[u8], a: usize, stop: usize) -> TermEnd
-    requires { ⌜ Dark (now text) a stop ⌝ }
+    requires { ⌜ NotWhite (now text) a stop ⌝ }
     ensures { λ r. ⌜ TermEnds (now (text .entry)) stop 2 a r ⌝ }
 {
     if a == stop {
@@ -227,7 +227,7 @@ fn subject(text: &[u8], a: usize, stop: usize) -> TermEnd
 }
 
 fn predicate(text: &[u8], a: usize, stop: usize) -> TermEnd
-    requires { ⌜ Dark (now text) a stop ⌝ }
+    requires { ⌜ NotWhite (now text) a stop ⌝ }
     ensures { λ r. ⌜ TermEnds (now (text .entry)) stop 1 a r ⌝ }
 {
     if a == stop {
@@ -240,7 +240,7 @@ fn predicate(text: &[u8], a: usize, stop: usize) -> TermEnd
 }
 
 fn object(text: &[u8], a: usize, stop: usize) -> ObjectEnd
-    requires { ⌜ Dark (now text) a stop ⌝ }
+    requires { ⌜ NotWhite (now text) a stop ⌝ }
     ensures { λ r. ⌜ ObjectEnds (now (text .entry)) stop a r ⌝ }
 {
     if a == stop {
@@ -340,7 +340,7 @@ fn triple(text: &[u8], at: usize, from: usize, stop: usize) -> Line
 // A comment with no triple before it, after its `#`.
 fn comment_line(text: &[u8], at: usize, from: usize, stop: usize) -> Line
     requires { ⌜ OnLine (now text) at from stop ⌝ }
-    ensures { λ r. ⌜ r ≡ answerOf at (onward (now (text .entry)) stop from Remark) ⌝ }
+    ensures { λ r. ⌜ r ≡ answerOf at (onward (now (text .entry)) stop from CommentLine) ⌝ }
 {
     let end = comment(text, from, stop);
     if end < stop {

@@ -9,7 +9,7 @@ use lib.Dec.{eqb}
 use borrow.Author.Tests.{eq-eqb, ne-eqb, le-leb, lt-leb}
 use Rattle.store.specs.declared.Triple.{Triple}
 use Rattle.graph.specs.declared.QueryPattern.{QueryPattern}
-use Rattle.graph.specs.Query.{bind, match, after}
+use Rattle.graph.specs.Query.{bindWord, match, andThen}
 use Rattle.graph.specs.Words.{Bindings, resource, boundTo, firstVariable, valueOf}
 use Rattle.pattern.specs.Matching.{patternWords, WordFits, wordAt, numberAt}
 
@@ -27,12 +27,12 @@ module _ (b : Bindings) (w : ℕ) where
 -- ---- one word
 
 module _ (b : Bindings) (w n : ℕ) where
-  pub bind-open : valueOf b w ≡ 0 → bind w n b ≡ some (set b (w - firstVariable) (resource n))
-  unfolding bind
+  pub bind-open : valueOf b w ≡ 0 → bindWord w n b ≡ some (set b (w - firstVariable) (resource n))
+  unfolding bindWord
   bind-open e = rw (eq-eqb (valueOf b w) 0 e)
 
-  pub bind-bound : (valueOf b w ≡ 0 → ⊥) → bind w n b ≡ cond (eqb (valueOf b w) n) (some b) none
-  unfolding bind
+  pub bind-bound : (valueOf b w ≡ 0 → ⊥) → bindWord w n b ≡ cond (eqb (valueOf b w) n) (some b) none
+  unfolding bindWord
   bind-bound e = rw (ne-eqb (valueOf b w) 0 e)
 
 -- ---- a triple against a pattern, word by word
@@ -41,8 +41,8 @@ module _ (b : Bindings) (w n : ℕ) where
 unfoldable pub matchFrom : QueryPattern → Triple → ℕ → Bindings → Option Bindings
 matchFrom x t zero b = match x t b
 matchFrom x t (suc zero) b =
-    after (bind (x .predicate) (t .predicate .0) b) (λ b. bind (x .object) (t .object .0) b)
-matchFrom x t (suc (suc zero)) b = bind (x .object) (t .object .0) b
+    andThen (bindWord (x .predicate) (t .predicate .0) b) (λ b. bindWord (x .object) (t .object .0) b)
+matchFrom x t (suc (suc zero)) b = bindWord (x .object) (t .object .0) b
 matchFrom x t (suc (suc (suc k))) b = some b
 
 module _ (x : QueryPattern) (t : Triple) where
@@ -57,7 +57,7 @@ module _ (x : QueryPattern) (t : Triple) where
   from-end (suc (suc zero)) b h = absurd (omega arith)
   from-end (suc (suc (suc k))) b h = refl
 
-  from-none : (k : ℕ) (b : Bindings) → k < patternWords → bind (wordAt x k) (numberAt t k) b ≡ none
+  from-none : (k : ℕ) (b : Bindings) → k < patternWords → bindWord (wordAt x k) (numberAt t k) b ≡ none
       → matchFrom x t k b ≡ none
   unfolding matchFrom match
   from-none zero b h e = rw e
@@ -65,7 +65,7 @@ module _ (x : QueryPattern) (t : Triple) where
   from-none (suc (suc zero)) b h e = e
   from-none (suc (suc (suc k))) b h e = absurd (omega arith)
 
-  from-some : (k : ℕ) (b b′ : Bindings) → k < patternWords → bind (wordAt x k) (numberAt t k) b ≡ some b′
+  from-some : (k : ℕ) (b b′ : Bindings) → k < patternWords → bindWord (wordAt x k) (numberAt t k) b ≡ some b′
       → matchFrom x t k b ≡ matchFrom x t (k + 1) b′
   unfolding matchFrom match
   from-some zero b b′ h e = rw e
@@ -76,10 +76,10 @@ module _ (x : QueryPattern) (t : Triple) where
   -- the word w and the resource n at place k: a number, an open variable, a bound one
   module _ (k w n : ℕ) (b : Bindings) (h : k < patternWords) (e : w ≡ wordAt x k) (f : n ≡ numberAt t k)
       (o : WordFits w) where
-    none-of : bind w n b ≡ none → matchFrom x t k b ≡ none
+    none-of : bindWord w n b ≡ none → matchFrom x t k b ≡ none
     none-of d = from-none k b h (rw (e, f) at d)
 
-    some-of : (b′ : Bindings) → bind w n b ≡ some b′ → matchFrom x t k b ≡ matchFrom x t (k + 1) b′
+    some-of : (b′ : Bindings) → bindWord w n b ≡ some b′ → matchFrom x t k b ≡ matchFrom x t (k + 1) b′
     some-of b′ d = from-some k b b′ h (rw (e, f) at d)
 
     other : (valueOf b w ≡ 0 → ⊥) → (valueOf b w ≡ n → ⊥) → matchFrom x t k b ≡ none

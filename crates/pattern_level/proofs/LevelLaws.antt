@@ -1,4 +1,4 @@
--- Laws of levels: a record by its number, what levels in an array bind, refusal 9 before any visit, struck-out
+-- Laws of levels: a record by its number, what levels in an array bind, refusal 9 before any visit, retracted
 -- records, whether a record remains, levels written. Assumes nothing.
 use mathlib.Core.Path.{_≡_, refl, sym, ap, _∙_}
 use mathlib.Core.Bool.{Bool, true, false, _&&_, _||_, and-false, or-false}
@@ -16,7 +16,7 @@ use Rattle.store.specs.Walk.{linkOf}
 use Rattle.graph.specs.declared.QueryPattern.{QueryPattern}
 use Rattle.graph.specs.declared.Solution.{Solution}
 use Rattle.graph.specs.declared.Level.{Level}
-use Rattle.graph.specs.Query.{match, orElse, recordAt, past, struck, intact, anyStruck, remains, nextPattern, binds, asked}
+use Rattle.graph.specs.Query.{match, orElse, recordAt, past, levelRetracted, intact, anyRetracted, remains, nextPattern, binds, asked}
 use Rattle.graph.specs.Place.{level, noLevel, levelsOf, written}
 use Rattle.graph.specs.Words.{pattern, maxPatterns, Bindings, unbound, under}
 use Rattle.pattern.specs.declared.binding.Matched.{Matched}
@@ -35,9 +35,9 @@ pub past-at : (stm : List ℕ) (l : Level) → past stm l ≡ level (l .chain) (
 unfolding past
 past-at stm l = rw (prev-minus (l .statement .0))
 
-pub struck-at : (stm : List ℕ) (l : Level) → struck stm l ≡ eqb (flagAt stm (l .statement .0 - 1)) 1
-unfolding struck
-struck-at stm l = rw (prev-minus (l .statement .0))
+pub retracted-at : (stm : List ℕ) (l : Level) → levelRetracted stm l ≡ eqb (flagAt stm (l .statement .0 - 1)) 1
+unfolding levelRetracted
+retracted-at stm l = rw (prev-minus (l .statement .0))
 
 below-prev : (m n : ℕ) → 1 ≤ n → leb m (prev n) ≡ ltb m n
 below-prev m zero h = absurd (omega arith)
@@ -122,16 +122,16 @@ module _ (stm : List ℕ) (ls : List Level) where
       → intact stm (levelsOf ls (i + 1)) ≡ true
   intact-hit i e f = intact-step i ∙ rw (e, f)
 
-  -- ---- struck-out records
+  -- ---- retracted records
 
-  pub struck-none : anyStruck stm (levelsOf ls 0) ≡ false
-  unfolding anyStruck levelsOf
-  struck-none = refl
+  pub retracted-none : anyRetracted stm (levelsOf ls 0) ≡ false
+  unfolding anyRetracted levelsOf
+  retracted-none = refl
 
-  pub struck-step : (i : ℕ) → struck stm (getD ls i noLevel) ≡ false → anyStruck stm (levelsOf ls i) ≡ false
-      → anyStruck stm (levelsOf ls (i + 1)) ≡ false
-  unfolding anyStruck levelsOf
-  struck-step i e f = let q : i + 1 ≡ suc i = omega arith in rw (q, anyStruck, levelsOf, e, f)
+  pub retracted-step : (i : ℕ) → levelRetracted stm (getD ls i noLevel) ≡ false → anyRetracted stm (levelsOf ls i) ≡ false
+      → anyRetracted stm (levelsOf ls (i + 1)) ≡ false
+  unfolding anyRetracted levelsOf
+  retracted-step i e f = let q : i + 1 ≡ suc i = omega arith in rw (q, anyRetracted, levelsOf, e, f)
 
 -- ---- a record remains
 

@@ -9,7 +9,7 @@ use Rattle.store.specs.Shared.{prev}
 use Rattle.store.specs.Tables.{flagAt}
 use Rattle.table.specs.Held.{StatementHeld}
 use Rattle.graph.specs.declared.Level.{Level}
-use Rattle.graph.specs.Query.{past, struck, anyStruck}
+use Rattle.graph.specs.Query.{past, levelRetracted, anyRetracted}
 use Rattle.graph.specs.Place.{noLevel, levelsOf}
 use Rattle.graph.specs.Words.{maxPatterns, patternsOf, pattern}
 use Rattle.pattern.specs.Matching.{PatternOk}
@@ -29,8 +29,8 @@ unfoldable pub levelIntact : List ℕ → Level → Bool
 levelIntact stm e =
     leb (flagAt stm (prev (e .statement .0))) 1 && leb ((past stm e) .statement .0) (prev (e .statement .0))
 
--- the first of d levels whose record is struck out, or d
-pub record FirstStruck (stm : List ℕ) (ls : List Level) (d i : ℕ) : Type 0 where
+-- the first of d levels whose record is retracted, or d
+pub record FirstRetracted (stm : List ℕ) (ls : List Level) (d i : ℕ) : Type 0 where
   pub among : i ≤ d
-  pub none-before : anyStruck stm (levelsOf ls i) ≡ false
-  pub here : i < d → struck stm (getD ls i noLevel) ≡ true
+  pub none-before : anyRetracted stm (levelsOf ls i) ≡ false
+  pub here : i < d → levelRetracted stm (getD ls i noLevel) ≡ true

@@ -19,10 +19,10 @@ ghost use mathlib.Core.Path.{_≡_};
 ghost use Prim.Native.Nat.{_<_, _≤_};
 ghost use lib.ListN.{length, getD};
 ghost use Rattle.table.specs.Held.{StatementHeld};
-ghost use Rattle.graph.specs.Query.{past, struck, intact, remains, binds};
+ghost use Rattle.graph.specs.Query.{past, levelRetracted, intact, remains, binds};
 ghost use Rattle.graph.specs.Place.{noLevel, levelsOf, written, cursorWith};
 ghost use Rattle.graph.specs.Words.{maxPatterns, patternsOf};
-ghost use Rattle.pattern_level.specs.Levels.{QueryOk, LevelsHeld, levelIntact, FirstStruck};
+ghost use Rattle.pattern_level.specs.Levels.{QueryOk, LevelsHeld, levelIntact, FirstRetracted};
 
 // A level after its record, on its chain.
 pub fn past(statements: &[u32], l: Level) -> Level
@@ -37,10 +37,10 @@ pub fn past(statements: &[u32], l: Level) -> Level
     }
 }
 
-// Whether a level's record is struck out.
-pub fn struck(statements: &[u32], l: Level) -> bool
+// Whether a level's record is retracted.
+pub fn level_retracted(statements: &[u32], l: Level) -> bool
     requires { ⌜ StatementHeld (now statements) (l .statement .0) ⌝ }
-    ensures { λ b. ⌜ b ≡ struck (now (statements .entry)) l ⌝ }
+    ensures { λ b. ⌜ b ≡ levelRetracted (now (statements .entry)) l ⌝ }
 {
     let n = l.statement;
     flag_at(statements, n) == 1
@@ -100,15 +100,15 @@ pub fn intact(statements: &[u32], levels: [Level; MAX_PATTERNS], d: u32) -> bool
     true
 }
 
-// The first of d levels whose record was struck out since, or d.
-pub fn first_struck(statements: &[u32], levels: [Level; MAX_PATTERNS], d: u32) -> u32
+// The first of d levels whose record was retracted since, or d.
+pub fn first_retracted(statements: &[u32], levels: [Level; MAX_PATTERNS], d: u32) -> u32
     requires { ⌜ LevelsHeld (now statements) levels d ⌝ }
-    ensures { λ i. ⌜ FirstStruck (now (statements .entry)) levels d i ⌝ }
+    ensures { λ i. ⌜ FirstRetracted (now (statements .entry)) levels d i ⌝ }
 {
     let mut i: u32 = 0;
     while i < d {
         let l = levels[i as usize];
-        if struck(statements, l) {
+        if level_retracted(statements, l) {
             break;
         }
         i += 1;

@@ -1,4 +1,4 @@
--- Laws of a place that is gone on from: what refusals 6 and 9 have tested, the levels below a struck-out record, the
+-- Laws of a place that is gone on from: what refusals 6 and 9 have tested, the levels below a retracted record, the
 -- first pattern. Assumes nothing.
 use mathlib.Core.Path.{_≡_, refl, sym, ap, _∙_}
 use mathlib.Core.Logic.{_≢_}
@@ -19,11 +19,11 @@ use Rattle.store.specs.Scan.{chainOk, recordOk}
 use Rattle.graph.specs.declared.QueryPattern.{QueryPattern}
 use Rattle.graph.specs.declared.Solution.{Solution}
 use Rattle.graph.specs.declared.Level.{Level}
-use Rattle.graph.specs.Query.{match, isSome, recordAt, past, struck, intact, anyStruck, pruned, binds, asked}
+use Rattle.graph.specs.Query.{match, isSome, recordAt, past, levelRetracted, intact, anyRetracted, pruned, binds, asked}
 use Rattle.graph.specs.Words.{patternsOf, pattern, maxPatterns, wordsOk, Bindings, unbound, under}
 use Rattle.graph.specs.Place.{noLevel, start, inside, levelsOf, insideOf, written, finish}
 use Rattle.graph.specs.Query.{enteredOk, placeOk, refused, found, enter, begun, walk, resume}
-use Rattle.pattern_level.specs.Levels.{LevelsHeld, levelIntact, FirstStruck}
+use Rattle.pattern_level.specs.Levels.{LevelsHeld, levelIntact, FirstRetracted}
 use Rattle.pattern_place.specs.Tested.{levelOk}
 use Rattle.query_stack.specs.declared.stack.Stack.{Stack}
 use Rattle.query_stack.specs.declared.stack.Outcome.{Outcome}
@@ -168,40 +168,40 @@ module _ (r t : ℕ) (stm : List ℕ) (ps : List QueryPattern) (ls : List Level)
             };
       }
 
--- ---- the levels below a struck-out record
+-- ---- the levels below a retracted record
 
 module _ (stm : List ℕ) (ls : List Level) where
-  any-struck : (i d : ℕ) → i < d → struck stm (getD ls i noLevel) ≡ true → anyStruck stm (levelsOf ls d) ≡ true
-  unfolding anyStruck levelsOf
-  any-struck i zero h e = absurd (omega arith)
-  any-struck i (suc d) h e =
+  any-retracted : (i d : ℕ) → i < d → levelRetracted stm (getD ls i noLevel) ≡ true → anyRetracted stm (levelsOf ls d) ≡ true
+  unfolding anyRetracted levelsOf
+  any-retracted i zero h e = absurd (omega arith)
+  any-retracted i (suc d) h e =
       decide (eqb i d)
-      (λ z. let f : struck stm (getD ls d noLevel) ≡ true = rw (eqb-true i d z) at e in rw (anyStruck, levelsOf, f))
+      (λ z. let f : levelRetracted stm (getD ls d noLevel) ≡ true = rw (eqb-true i d z) at e in rw (anyRetracted, levelsOf, f))
       (λ z. let n = eqb-false i d z in
-      ap (λ (b : Bool). struck stm (getD ls d noLevel) || b) (any-struck i d (omega arith) e)
-      ∙ or-true (struck stm (getD ls d noLevel)))
+      ap (λ (b : Bool). levelRetracted stm (getD ls d noLevel) || b) (any-retracted i d (omega arith) e)
+      ∙ or-true (levelRetracted stm (getD ls d noLevel)))
 
-  pruned-none : (l : Level) (up : List Level) → anyStruck stm up ≡ false → pruned stm l up ≡ (l, up)
+  pruned-none : (l : Level) (up : List Level) → anyRetracted stm up ≡ false → pruned stm l up ≡ (l, up)
   unfolding pruned
   pruned-none l [] e = refl
   pruned-none l (x ∷ up) e = rw (pruned, e)
 
-  pruned-step : (l : Level) (d : ℕ) → anyStruck stm (levelsOf ls (suc d)) ≡ true
+  pruned-step : (l : Level) (d : ℕ) → anyRetracted stm (levelsOf ls (suc d)) ≡ true
       → pruned stm l (levelsOf ls (suc d)) ≡ pruned stm (past stm (getD ls d noLevel)) (levelsOf ls d)
   unfolding pruned levelsOf
   pruned-step l d e = rw (pruned, e)
 
-  pruned-down : (i d : ℕ) (l : Level) → i < d → struck stm (getD ls i noLevel) ≡ true
-      → anyStruck stm (levelsOf ls i) ≡ false
+  pruned-down : (i d : ℕ) (l : Level) → i < d → levelRetracted stm (getD ls i noLevel) ≡ true
+      → anyRetracted stm (levelsOf ls i) ≡ false
       → pruned stm l (levelsOf ls d) ≡ (past stm (getD ls i noLevel), levelsOf ls i)
   pruned-down i zero l h e f = absurd (omega arith)
   pruned-down i (suc d) l h e f =
-      pruned-step l d (any-struck i (suc d) h e)
+      pruned-step l d (any-retracted i (suc d) h e)
       ∙ decide (eqb i d)
       (λ z. rw (← eqb-true i d z) (pruned-none (past stm (getD ls i noLevel)) (levelsOf ls i) f))
       (λ z. let n = eqb-false i d z in pruned-down i d (past stm (getD ls d noLevel)) (omega arith) e f)
 
-  pub pruned-at : (top i : ℕ) → FirstStruck stm ls top i → pruned stm (getD ls top noLevel) (levelsOf ls top)
+  pub pruned-at : (top i : ℕ) → FirstRetracted stm ls top i → pruned stm (getD ls top noLevel) (levelsOf ls top)
       ≡ (onwardAs stm ls top i, levelsOf ls i)
   pruned-at top i k =
       decide (ltb i top)
@@ -250,11 +250,11 @@ written-held stm ls top i l h k =
     }
 
 pub pruned-made : (stm : List ℕ) (ps : List QueryPattern) (ls : List Level) (top i : ℕ) (s : Stack)
-    → FirstStruck stm ls top i
+    → FirstRetracted stm ls top i
     → s ≡ standAs stm ps (set (written (levelsOf ls i)) i (onwardAs stm ls top i)) i → Pruned stm ps ls top s
 pruned-made stm ps ls top i s f e = rw e (record { first = f; made = refl })
 
--- no record is struck out: what refusal 6 has found bound is handed on
+-- no record is retracted: what refusal 6 has found bound is handed on
 pub written-levels : (ls : List Level) (i : ℕ) (l : Level) → i ≤ maxPatterns
     → levelsOf (set (written (levelsOf ls i)) i l) i ≡ levelsOf ls i
 written-levels ls i l h =
@@ -263,7 +263,7 @@ written-levels ls i l h =
 
 pub pruned-kept : (stm : List ℕ) (ps : List QueryPattern) (ls : List Level) (top i : ℕ) (b : Solution) (x : Triple)
     (p : QueryPattern)
-    → i ≤ maxPatterns → i ≡ top → FirstStruck stm ls top i → b .values ≡ binds stm ps (levelsOf ls top)
+    → i ≤ maxPatterns → i ≡ top → FirstRetracted stm ls top i → b .values ≡ binds stm ps (levelsOf ls top)
     → x ≡ under (b .values) p
     → p ≡ getD ps i (pattern 0 0 0)
     → Pruned stm ps ls top

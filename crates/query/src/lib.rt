@@ -3,11 +3,11 @@
 // The words are passed at each call, and the cursor holds none of them: a cursor of another query, or of another store, is judged by
 // refusals 13 and 6 alone. Refusals, in the order tested: open 1, 8; next 1, 8, 13, 6, 7, 9.
 use crate::resume::resume;
-use graph::Opening;
 use graph::Progress;
 use graph::QueryAnswer;
 use graph::QueryCursor;
 use graph::QueryOpened;
+use graph::QueryOpening;
 use pattern::words::words_ok;
 use pattern_place::place::place_ok;
 use query_stack::stack::no_levels;
@@ -36,18 +36,18 @@ pub fn query_open(
 {
     if !fits(c, resources, statements, index, text) {
         return QueryOpened {
-            opening: Opening::Refused(Refusal::Capacity),
+            opening: QueryOpening::Refused(Refusal::Capacity),
             cursor: no_levels(0, Progress::Start),
         };
     }
     if !words_ok(c.resources, words) {
         return QueryOpened {
-            opening: Opening::Refused(Refusal::BadQuery),
+            opening: QueryOpening::Refused(Refusal::BadQuery),
             cursor: no_levels(0, Progress::Start),
         };
     }
     QueryOpened {
-        opening: Opening::Opened,
+        opening: QueryOpening::Opened,
         cursor: no_levels(c.generation, Progress::Start),
     }
 }

@@ -10,7 +10,7 @@ use pattern::binding::none_bound;
 use pattern::binding::under;
 use pattern::words::pattern_at;
 use pattern::words::patterns;
-use pattern_level::level::first_struck;
+use pattern_level::level::first_retracted;
 use pattern_level::level::intact;
 use pattern_level::level::past;
 use pattern_level::level::written;
@@ -77,7 +77,7 @@ pub fn begin(
     }
 }
 
-// The level to go on from: the deepest, level `top`, or level i after its record, which was struck out since.
+// The level to go on from: the deepest, level `top`, or level i after its record, which was retracted since.
 pub fn onward(statements: &[u32], levels: [Level; MAX_PATTERNS], top: u32, i: u32) -> Level
     requires { ⌜ (top < maxPatterns) × (i ≤ top) × LevelsHeld (now statements) levels top ⌝ }
     ensures { λ l. ⌜ l ≡ onwardAs (now (statements .entry)) levels top i ⌝ }
@@ -89,7 +89,7 @@ pub fn onward(statements: &[u32], levels: [Level; MAX_PATTERNS], top: u32, i: u3
     l
 }
 
-// Below a record struck out since, the levels are left without a visit. What the levels before the deepest bind is b.
+// Below a record retracted since, the levels are left without a visit. What the levels before the deepest bind is b.
 pub fn pruned(
     statements: &[u32],
     words: &[u32],
@@ -101,7 +101,7 @@ pub fn pruned(
         × (b .values ≡ binds (now statements) (patternsOf (now words)) (levelsOf levels top)) ⌝ }
     ensures { λ s. ⌜ Pruned (now (statements .entry)) (patternsOf (now (words .entry))) levels top s ⌝ }
 {
-    let i = first_struck(statements, levels, top);
+    let i = first_retracted(statements, levels, top);
     let l = onward(statements, levels, top, i);
     let mut own = written(levels, i);
     own[i as usize] = l;

@@ -18,7 +18,7 @@ use Rattle.store.specs.declared.Triple.{Triple}
 use Rattle.store.specs.Shared.{at, agrees}
 use Rattle.graph.specs.declared.QueryPattern.{QueryPattern}
 use Rattle.graph.specs.Words.{patternsOf, pattern, wordOk, allOk, wordsOk, firstVariable, variables, maxPatterns}
-use Rattle.graph.specs.Query.{bind, match, after}
+use Rattle.graph.specs.Query.{bindWord, match, andThen}
 use Rattle.graph.specs.Words.{Bindings, resource, valueOf, under}
 use Rattle.pattern.specs.Matching.{patternWords, WordFits, PatternOk}
 use Rattle.store.proofs.Tests.{and-l, and-r}
@@ -108,9 +108,9 @@ open-variable b w f e = decide (leb firstVariable w) refl
 
 module _ (b b′ : Bindings) (w n : ℕ) where
   -- how a word is met
-  bound-by : bind w n b ≡ some b′ → ((valueOf b w ≡ 0) × (b′ ≡ set b (w - firstVariable) (resource n))) ⊎
+  bound-by : bindWord w n b ≡ some b′ → ((valueOf b w ≡ 0) × (b′ ≡ set b (w - firstVariable) (resource n))) ⊎
       ((valueOf b w ≡ n) × (b′ ≡ b))
-  unfolding bind
+  unfolding bindWord
   bound-by e = decide (eqb (valueOf b w) 0) (eqb (valueOf b w) n) refl refl e
     where
       decide : (a c : Bool) → eqb (valueOf b w) 0 ≡ a → eqb (valueOf b w) n ≡ c
@@ -121,7 +121,7 @@ module _ (b b′ : Bindings) (w n : ℕ) where
       decide false false p q d = let z : _≡_ {A = ℕ} 0 1 = cc in absurd (omega arith)
 
   -- the word admits the resource
-  bind-admits : bind w n b ≡ some b′ → eqb (valueOf b w) 0 || eqb n (valueOf b w) ≡ true
+  bind-admits : bindWord w n b ≡ some b′ → eqb (valueOf b w) 0 || eqb n (valueOf b w) ≡ true
   bind-admits e = ⊎-elim (λ q. rw (eq-eqb (valueOf b w) 0 (q .0)))
       (λ q. last (eqb (valueOf b w) 0) (eq-eqb n (valueOf b w) (sym (q .0)))) (bound-by e)
     where
@@ -130,7 +130,7 @@ module _ (b b′ : Bindings) (w n : ℕ) where
       last false d = d
 
   -- a word that stood for something stands for it still
-  bind-keeps : (u : ℕ) → WordFits w → bind w n b ≡ some b′ → (valueOf b u ≡ 0 → ⊥) → valueOf b′ u ≡ valueOf b u
+  bind-keeps : (u : ℕ) → WordFits w → bindWord w n b ≡ some b′ → (valueOf b u ≡ 0 → ⊥) → valueOf b′ u ≡ valueOf b u
   bind-keeps u f e h = ⊎-elim (λ q. rw (q .1) (kept (q .0))) (λ q. rw (q .1)) (bound-by e)
     where
       kept : valueOf b w ≡ 0 → valueOf (set b (w - firstVariable) (resource n)) u ≡ valueOf b u
@@ -159,29 +159,29 @@ admits y z = eqb y 0 || eqb z y
 module _ (x : QueryPattern) (t : Triple) (b b′ : Bindings) where
   -- the three bindings of a match
   steps : match x t b ≡ some b′
-      → (b₁ : Bindings) × (b₂ : Bindings) × (bind (x .subject) (t .subject .0) b ≡ some b₁)
-      × (bind (x .predicate) (t .predicate .0) b₁ ≡ some b₂)
-      × (bind (x .object) (t .object .0) b₂ ≡ some b′)
+      → (b₁ : Bindings) × (b₂ : Bindings) × (bindWord (x .subject) (t .subject .0) b ≡ some b₁)
+      × (bindWord (x .predicate) (t .predicate .0) b₁ ≡ some b₂)
+      × (bindWord (x .object) (t .object .0) b₂ ≡ some b′)
   unfolding match
-  steps e = first (bind (x .subject) (t .subject .0) b) refl e
+  steps e = first (bindWord (x .subject) (t .subject .0) b) refl e
     where
-      second : (b₁ : Bindings) (o : Option Bindings) → bind (x .predicate) (t .predicate .0) b₁ ≡ o
-          → bind (x .subject) (t .subject .0) b ≡ some b₁
-          → after o (λ b. bind (x .object) (t .object .0) b) ≡ some b′
-          → (b₁ : Bindings) × (b₂ : Bindings) × (bind (x .subject) (t .subject .0) b ≡ some b₁)
-          × (bind (x .predicate) (t .predicate .0) b₁ ≡ some b₂)
-          × (bind (x .object) (t .object .0) b₂ ≡ some b′)
+      second : (b₁ : Bindings) (o : Option Bindings) → bindWord (x .predicate) (t .predicate .0) b₁ ≡ o
+          → bindWord (x .subject) (t .subject .0) b ≡ some b₁
+          → andThen o (λ b. bindWord (x .object) (t .object .0) b) ≡ some b′
+          → (b₁ : Bindings) × (b₂ : Bindings) × (bindWord (x .subject) (t .subject .0) b ≡ some b₁)
+          × (bindWord (x .predicate) (t .predicate .0) b₁ ≡ some b₂)
+          × (bindWord (x .object) (t .object .0) b₂ ≡ some b′)
       second b₁ none p q d = let z : _≡_ {A = ℕ} 0 1 = cc in absurd (omega arith)
       second b₁ (some b₂) p q d = (b₁, b₂, q, p, d)
 
-      first : (o : Option Bindings) → bind (x .subject) (t .subject .0) b ≡ o
-          → after o (λ b. after (bind (x .predicate) (t .predicate .0) b) (λ b. bind (x .object) (t .object .0) b))
+      first : (o : Option Bindings) → bindWord (x .subject) (t .subject .0) b ≡ o
+          → andThen o (λ b. andThen (bindWord (x .predicate) (t .predicate .0) b) (λ b. bindWord (x .object) (t .object .0) b))
           ≡ some b′
-          → (b₁ : Bindings) × (b₂ : Bindings) × (bind (x .subject) (t .subject .0) b ≡ some b₁)
-          × (bind (x .predicate) (t .predicate .0) b₁ ≡ some b₂)
-          × (bind (x .object) (t .object .0) b₂ ≡ some b′)
+          → (b₁ : Bindings) × (b₂ : Bindings) × (bindWord (x .subject) (t .subject .0) b ≡ some b₁)
+          × (bindWord (x .predicate) (t .predicate .0) b₁ ≡ some b₂)
+          × (bindWord (x .object) (t .object .0) b₂ ≡ some b′)
       first none p d = let z : _≡_ {A = ℕ} 0 1 = cc in absurd (omega arith)
-      first (some b₁) p d = second b₁ (bind (x .predicate) (t .predicate .0) b₁) refl p d
+      first (some b₁) p d = second b₁ (bindWord (x .predicate) (t .predicate .0) b₁) refl p d
 
   -- what holds under later bindings held under the earlier
   earlier : (b₁ : Bindings) (u n : ℕ) → ((valueOf b u ≡ 0 → ⊥) → valueOf b₁ u ≡ valueOf b u)

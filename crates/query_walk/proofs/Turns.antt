@@ -19,12 +19,12 @@ use Rattle.store.specs.Tables.{statementWords, tripleAt}
 use Rattle.store.specs.Walk.{entryAt, pickChain, pickable, startOf, linkOf, visitable}
 use Rattle.chain_walk.specs.declared.walk.Sought.the-variants.{LiveMatch}
 use Rattle.chain_walk.specs.declared.walk.Visited.{Visited}
-use Rattle.chain_walk.specs.declared.walk.Visited.the-variants.{Damaged as Torn, Hit, Miss}
+use Rattle.chain_walk.specs.declared.walk.Visited.the-variants.{Damaged as BadRecord, Hit, Miss}
 use Rattle.chain_walk.specs.Walks.{hits, visitOf}
 use Rattle.graph.specs.declared.QueryPattern.{QueryPattern}
 use Rattle.graph.specs.declared.Solution.{Solution}
 use Rattle.graph.specs.declared.Level.{Level}
-use Rattle.graph.specs.Query.{match, recordAt, past, struck, settle, nextPattern, binds, asked, Turn, bad, go, whole}
+use Rattle.graph.specs.Query.{match, recordAt, past, levelRetracted, backtrack, nextPattern, binds, asked, Turn, bad, go, whole}
 use Rattle.graph.specs.Place.{level, noLevel, inside, levelsOf}
 use Rattle.graph.specs.Words.{patternsOf, pattern, maxPatterns, Bindings, under}
 use Rattle.graph.specs.Query.{Answer, refused, found, ended, enter, hit, tried, visit, walk}
@@ -37,11 +37,11 @@ use Rattle.query_stack.specs.Stack.{deepest, entered, poppedAs, enteredAs, metA
 use Rattle.query_walk.specs.Turn.{Ready, LevelSure, Stands, Visitable, onto, turnAs, TurnIs, triedAt}
 use Rattle.store.proofs.Tests.{decide, and-l}
 use Rattle.chain.proofs.Chains.{pick-bound, start-within}
-use Rattle.chain_walk.proofs.Walks.{falling, was-torn, was-hit, was-miss}
-use Rattle.graph.proofs.Laws.{prev-minus, settle-stop, settle-pop, settle-none, turn-ended, turn-bad, turn-go}
+use Rattle.chain_walk.proofs.Walks.{falling, was-damaged, was-hit, was-miss}
+use Rattle.graph.proofs.Laws.{prev-minus, backtrack-stop, backtrack-pop, backtrack-none, turn-ended, turn-bad, turn-go}
 use Rattle.graph.proofs.Laws.{turn-whole, levels-length, levels-set}
 use Rattle.graph.proofs.Levels.{Low}
-use Rattle.pattern_level.proofs.LevelLaws.{record-at, past-at, struck-at, next-at, asked-at, binds-step}
+use Rattle.pattern_level.proofs.LevelLaws.{record-at, past-at, retracted-at, next-at, asked-at, binds-step}
 use Rattle.query_stack.proofs.Stacks.{levels-step}
 use Rattle.query_walk.proofs.Patterns.{match-none}
 use Rattle.query_walk.proofs.Stands.{ready-query, asked-held, Sure, sure-less, sure-more, sure-held}
@@ -58,13 +58,13 @@ levels-down ls d h = let q : d ≡ (d - 1) + 1 = omega arith in ap (levelsOf ls)
 
 module _ (stm : List ℕ) where
   -- where a stack has run out
-  pub settled : (q : Stack) → ((deepest q) .statement .0 ≡ 0 → ⊥) → settle stm (deepest q) (entered q)
+  pub backtracked : (q : Stack) → ((deepest q) .statement .0 ≡ 0 → ⊥) → backtrack stm (deepest q) (entered q)
       ≡ deepest q ∷ entered q
-  settled q h = settle-stop stm (deepest q) (entered q) h
+  backtracked q h = backtrack-stop stm (deepest q) (entered q) h
 
-  pub settled-none : (q : Stack) → q .top ≡ 0 → (deepest q) .statement .0 ≡ 0 → settle stm (deepest q) (entered q) ≡ []
-  settled-none q e h = ap (settle stm (deepest q)) (ap (levelsOf (q .levels)) e ∙ levels-none (q .levels))
-      ∙ settle-none stm (deepest q) h
+  pub backtracked-none : (q : Stack) → q .top ≡ 0 → (deepest q) .statement .0 ≡ 0 → backtrack stm (deepest q) (entered q) ≡ []
+  backtracked-none q e h = ap (backtrack stm (deepest q)) (ap (levelsOf (q .levels)) e ∙ levels-none (q .levels))
+      ∙ backtrack-none stm (deepest q) h
 
 -- the stack popped: what holds of it, and nothing is lost
 module _ (r t : ℕ) (stm ws : List ℕ) (q : Stack) (s : Stands r t stm ws q) (h : 1 ≤ q .top)
@@ -83,17 +83,17 @@ module _ (r t : ℕ) (stm ws : List ℕ) (q : Stack) (s : Stands r t stm ws q) (
       (record { values = binds stm (patternsOf ws) (levelsOf ls d) }) (asked stm (patternsOf ws) (levelsOf ls d))
       (sure-less r t stm ls (q .top) d (omega arith) (sure-of r t stm ws q s)) (omega arith) refl refl)
 
-  pub popped-settles : (deepest q) .statement .0 ≡ 0
-      → settle stm (deepest q) (entered q) ≡ settle stm (deepest (onto (q .levels) m)) (entered (onto (q .levels) m))
-  popped-settles z =
+  pub popped-backtracks : (deepest q) .statement .0 ≡ 0
+      → backtrack stm (deepest q) (entered q) ≡ backtrack stm (deepest (onto (q .levels) m)) (entered (onto (q .levels) m))
+  popped-backtracks z =
       let n = s .few in
       let ls = q .levels in
       let d = q .top - 1 in
       let l = past stm (getD ls d noLevel) in
       rw made
-      (ap (settle stm (deepest q)) (levels-down ls (q .top) h)
-      ∙ settle-pop stm (deepest q) (getD ls d noLevel) (levelsOf ls d) z
-      ∙ ap₂ (settle stm) (sym (top-is r t stm ws ls d l (omega arith) (omega arith) (s .slots)))
+      (ap (backtrack stm (deepest q)) (levels-down ls (q .top) h)
+      ∙ backtrack-pop stm (deepest q) (getD ls d noLevel) (levelsOf ls d) z
+      ∙ ap₂ (backtrack stm) (sym (top-is r t stm ws ls d l (omega arith) (omega arith) (s .slots)))
       (sym (levels-set ls d d l (omega arith))))
 
 -- ---- a pattern entered
@@ -126,14 +126,14 @@ module _ (r t : ℕ) (res stm ws : List ℕ) (ls : List Level) (d : ℕ) (b : So
   abbrev goes : Turned
   goes = record { bound = b; asked = entry; level = first-level; top = d; outcome = Onward }
 
-  abbrev torn-entry : Turned
-  torn-entry = record { bound = b; asked = entry; level = level All 0; top = d; outcome = Damaged }
+  abbrev damaged-entry : Turned
+  damaged-entry = record { bound = b; asked = entry; level = level All 0; top = d; outcome = Damaged }
 
   entered-yes : pickable t res entry ≡ true → enteredAs t res entry d b ≡ goes
   unfolding enteredAs
   entered-yes e = rw e
 
-  entered-no : pickable t res entry ≡ false → enteredAs t res entry d b ≡ torn-entry
+  entered-no : pickable t res entry ≡ false → enteredAs t res entry d b ≡ damaged-entry
   unfolding enteredAs
   entered-no e = rw e
 
@@ -183,14 +183,14 @@ module _ (r t : ℕ) (res stm ws : List ℕ) (k : Ready r t res stm ws) (q : Sta
   meeting-is x y e f = rw (e, f, s .bound-is, ← next-at (patternsOf ws) (q .levels) (q .top), ← record-at stm num)
 
   -- a live match of the pattern under the bindings is what may match; nothing else does
-  live : hits LiveMatch stm (q .asked) (num - 1) ≡ not (struck stm (deepest q)) && agrees (q .asked) (recordAt stm num)
+  live : hits LiveMatch stm (q .asked) (num - 1) ≡ not (levelRetracted stm (deepest q)) && agrees (q .asked) (recordAt stm num)
   unfolding hits matches entryAt
-  live = rw (struck-at stm (deepest q), record-at stm num)
+  live = rw (retracted-at stm (deepest q), record-at stm num)
 
   hit-none : hits LiveMatch stm (q .asked) (num - 1) ≡ false
       → hit r t res stm (patternsOf ws) (deepest q) (entered q) ≡ none
   unfolding hit
-  hit-none e = go-on (struck stm (deepest q)) (agrees (q .asked) (recordAt stm num)) refl (sym live ∙ e)
+  hit-none e = go-on (levelRetracted stm (deepest q)) (agrees (q .asked) (recordAt stm num)) refl (sym live ∙ e)
     where
       go-on : (f a : Bool) → a ≡ agrees (q .asked) (recordAt stm num) → not f && a ≡ false → cond f none meeting ≡ none
       go-on true a d z = refl
@@ -206,7 +206,7 @@ module _ (r t : ℕ) (res stm ws : List ℕ) (k : Ready r t res stm ws) (q : Sta
   hit-live : hits LiveMatch stm (q .asked) (num - 1) ≡ true
       → hit r t res stm (patternsOf ws) (deepest q) (entered q) ≡ meeting
   unfolding hit
-  hit-live e = go-on (struck stm (deepest q)) (agrees (q .asked) (recordAt stm num)) (sym live ∙ e)
+  hit-live e = go-on (levelRetracted stm (deepest q)) (agrees (q .asked) (recordAt stm num)) (sym live ∙ e)
     where
       go-on : (f a : Bool) → not f && a ≡ true → cond f none meeting ≡ meeting
       go-on true a z = absurd (false≢true z)
@@ -215,10 +215,10 @@ module _ (r t : ℕ) (res stm ws : List ℕ) (k : Ready r t res stm ws) (q : Sta
   abbrev visited : Visited
   visited = visitOf LiveMatch r stm chainOf (q .asked) (num - 1)
 
-  pub visit-torn : visited ≡ Torn → visit r t res stm (patternsOf ws) (deepest q) (entered q) ≡ bad
+  pub visit-damaged : visited ≡ BadRecord → visit r t res stm (patternsOf ws) (deepest q) (entered q) ≡ bad
   unfolding visit visitOf
-  visit-torn e =
-      let a = was-torn (visitable r stm chainOf (q .asked) (num - 1)) (hits LiveMatch stm (q .asked) (num - 1))
+  visit-damaged e =
+      let a = was-damaged (visitable r stm chainOf (q .asked) (num - 1)) (hits LiveMatch stm (q .asked) (num - 1))
       (record { 0 = linkOf stm chainOf (num - 1) }) e in
       rw (prev-minus num, ← s .asked-is, a)
 
@@ -395,12 +395,12 @@ module _ (r t : ℕ) (res stm ws : List ℕ) (k : Ready r t res stm ws) (q : Sta
 -- ---- the loops
 
 -- once a further visit may be made, the walk goes by where chains that have run out are left
-walk-settles : (r t : ℕ) (res stm : List ℕ) (ps : List QueryPattern) (left v : ℕ) (l l′ : Level) (up up′ : List Level)
-    → (left ≡ 0 → ⊥) → settle stm l up ≡ settle stm l′ up′
+walk-backtracks : (r t : ℕ) (res stm : List ℕ) (ps : List QueryPattern) (left v : ℕ) (l l′ : Level) (up up′ : List Level)
+    → (left ≡ 0 → ⊥) → backtrack stm l up ≡ backtrack stm l′ up′
     → walk r t res stm ps left l up v ≡ walk r t res stm ps left l′ up′ v
 unfolding walk
-walk-settles r t res stm ps zero v l l′ up up′ h e = absurd (h refl)
-walk-settles r t res stm ps (suc b) v l l′ up up′ h e = rw (walk, e)
+walk-backtracks r t res stm ps zero v l l′ up up′ h e = absurd (h refl)
+walk-backtracks r t res stm ps (suc b) v l l′ up up′ h e = rw (walk, e)
 
 -- from stack q₀ with v₀ visits made to q with v: the walk from the one is the walk from the other, which has no more to do
 pub record Walking (r t : ℕ) (res stm ws : List ℕ) (budget : ℕ) (q₀ : Stack) (v₀ : ℕ) (q : Stack) (v : ℕ) : Type 0 where
@@ -459,7 +459,7 @@ module _ (h : Here) where
 
   pub runs-out : h .q .top ≡ 0 → last .statement .0 ≡ 0 → fromHere ≡ ended (h .v)
   runs-out z e = turn-ended (h .r) (h .t) (h .res) (h .stm) ps last up (h .v) (h .budget - h .v) some-left
-      (settled-none (h .stm) (h .q) z e)
+      (backtracked-none (h .stm) (h .q) z e)
 
   pub pop-needs : 1 ≤ h .q .top
       → QueryOk (h .ws) × (h .q .top < length ps) × (1 ≤ h .q .top) × LevelsHeld (h .stm) (h .q .levels) (h .q .top)
@@ -479,9 +479,9 @@ module _ (h : Here) where
         within = omega arith;
         stands = popped-stands (h .r) (h .t) (h .stm) (h .ws) (h .q) (h .stands) o slot-here m made;
         same =
-            walk-settles (h .r) (h .t) (h .res) (h .stm) ps (h .budget - h .v) (h .v) last (deepest (onto (h .q .levels) m))
+            walk-backtracks (h .r) (h .t) (h .res) (h .stm) ps (h .budget - h .v) (h .v) last (deepest (onto (h .q .levels) m))
             up (entered (onto (h .q .levels) m)) some-left
-            (popped-settles (h .r) (h .t) (h .stm) (h .ws) (h .q) (h .stands) o slot-here m made e);
+            (popped-backtracks (h .r) (h .t) (h .stm) (h .ws) (h .q) (h .stands) o slot-here m made e);
         less = omega arith;
       }
 
@@ -492,8 +492,8 @@ module _ (h : Here) where
     abbrev turnHere : Turn
     turnHere = visit (h .r) (h .t) (h .res) (h .stm) ps last up
 
-    settled-here : settle (h .stm) last up ≡ last ∷ up
-    settled-here = settled (h .stm) (h .q) some-record
+    backtracked-here : backtrack (h .stm) last up ≡ last ∷ up
+    backtracked-here = backtracked (h .stm) (h .q) some-record
 
     -- the record lies in the table
     pub visit-needs : (1 ≤ last .statement .0) × (statementWords * last .statement .0 ≤ length (h .stm))
@@ -504,7 +504,7 @@ module _ (h : Here) where
 
     bad-here : turnHere ≡ bad → fromHere ≡ refused Nine
     bad-here d =
-        turn-bad (h .r) (h .t) (h .res) (h .stm) ps last up (h .v) (h .budget - h .v) last up some-left settled-here d
+        turn-bad (h .r) (h .t) (h .res) (h .stm) ps last up (h .v) (h .budget - h .v) last up some-left backtracked-here d
 
     go-here : (l : Level) (ls : List Level) (p : Stack) → turnHere ≡ go l ls → l ≡ deepest p → ls ≡ entered p
         → Stands (h .r) (h .t) (h .stm) (h .ws) p → p .top < maxPatterns + h .q .top → Onward-to p (h .v + 1)
@@ -516,14 +516,14 @@ module _ (h : Here) where
           stands = s;
           same =
               turn-go (h .r) (h .t) (h .res) (h .stm) ps last up (h .v) (h .budget - h .v) last up l ls some-left
-              settled-here d
+              backtracked-here d
               ∙ rw (a, f, g);
           less = omega arith;
         }
 
-    pub sees-torn : seen ≡ Torn → fromHere ≡ refused Nine
-    sees-torn d =
-        bad-here (visit-torn (h .r) (h .t) (h .res) (h .stm) (h .ws) (h .ready) (h .q) (h .stands) d)
+    pub sees-damaged : seen ≡ BadRecord → fromHere ≡ refused Nine
+    sees-damaged d =
+        bad-here (visit-damaged (h .r) (h .t) (h .res) (h .stm) (h .ws) (h .ready) (h .q) (h .stands) d)
 
     pub sees-miss : (n : StatementId) (l : Level) → seen ≡ Miss n → l ≡ level (last .chain) (n .0)
         → Onward-to
@@ -599,5 +599,5 @@ module _ (x : Tried) where
       (inside (deepest after) (entered after))
   tried-whole f =
       turn-whole (h .r) (h .t) (h .res) (h .stm) (ps h) (last h) (up h) (h .v) (h .budget - h .v) (last h) (up h)
-      (x .m .bound .values) (deepest after) (entered after) (some-left h) (settled-here h (x .some-record))
+      (x .m .bound .values) (deepest after) (entered after) (some-left h) (backtracked-here h (x .some-record))
       (outcome-is Whole f)

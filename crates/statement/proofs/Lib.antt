@@ -1,2 +1,2 @@
 pub mod Operations
-pub mod Lent
+pub mod Updating

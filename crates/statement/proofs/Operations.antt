@@ -15,9 +15,9 @@ use Rattle.store.specs.declared.Asserted.{Asserted}
 use Rattle.store.specs.declared.Asserted.the-variants.{Refused as NotAsserted}
 use Rattle.store.specs.declared.Retracted.{Retracted}
 use Rattle.store.specs.declared.Retracted.the-variants.{Refused as NotRetracted}
-use Rattle.store.specs.Shared.{known, permitted}
+use Rattle.store.specs.Shared.{known, kindsPermitted}
 use Rattle.store.specs.Tables.{Tables, fits, statementWords, kindAt}
-use Rattle.store.specs.Statement.{locate, kinded, asserting, assertOf, retracting, retractOf}
+use Rattle.store.specs.Statement.{locate, kindsOk, asserting, assertOf, retracting, retractOf}
 use Rattle.table.proofs.Capacity.{fits-room}
 use Rattle.statement_record.specs.Records.{Appendable}
 use Rattle.statement_target.specs.declared.target.Located.{Located}
@@ -59,7 +59,7 @@ module _ (c : Counters) (m : Tables) (x : Triple) where
 
   assert-by : assertOf c m x ≡ assertBy (assertTarget c m x)
   unfolding assertOf assertTarget
-  assert-by = by (fits c m) (known (c .resources) x) (kinded (m .resources) x) (permitted (kindAt (m .resources)) x) (locate c m x)
+  assert-by = by (fits c m) (known (c .resources) x) (kindsOk (m .resources) x) (kindsPermitted (kindAt (m .resources)) x) (locate c m x)
     where
       by : (a b d f : Bool) (o : Option ℕ)
           → cond a (cond b (cond d (cond f (elim o [ none ↦ (m, NotAsserted Damaged) | some n ↦ asserting c m x n ]) (m, NotAsserted KindNotPermitted)) (m, NotAsserted Damaged)) (m, NotAsserted UnknownNumber)) (m, NotAsserted Capacity)
@@ -79,7 +79,7 @@ module _ (c : Counters) (m : Tables) (x : Triple) where
 
   pub assert-found : (n : StatementId) → assertTarget c m x ≡ At n → (fits c m ≡ true) × (known (c .resources) x ≡ true) × (locate c m x ≡ some (n .0))
   unfolding assertTarget
-  assert-found n e = shape (fits c m) (known (c .resources) x) (kinded (m .resources) x) (permitted (kindAt (m .resources)) x) (locate c m x) e
+  assert-found n e = shape (fits c m) (known (c .resources) x) (kindsOk (m .resources) x) (kindsPermitted (kindAt (m .resources)) x) (locate c m x) e
     where
       shape : (a b d f : Bool) (o : Option ℕ) → cond a (cond b (cond d (cond f (locatedAs o) (Refused KindNotPermitted)) (Refused Damaged)) (Refused UnknownNumber)) (Refused Capacity) ≡ At n
           → (a ≡ true) × (b ≡ true) × (o ≡ some (n .0))

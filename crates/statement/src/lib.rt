@@ -5,8 +5,8 @@
 // tested in the paper's order, and beside a refusal nothing is written. Assert and retract come by value and on counters
 // that the caller keeps and lends.
 use statement_record::record::append;
+use statement_record::record::retract_record;
 use statement_record::record::revive;
-use statement_record::record::strike;
 use statement_target::target::Located;
 use statement_target::target::assert_target;
 use statement_target::target::retract_target;
@@ -17,7 +17,7 @@ use store::Triple;
 ghost use mathlib.Core.Path.{_≡_};
 ghost use Rattle.store.specs.Tables.{after, tables};
 ghost use Rattle.store.specs.Statement.{assertOf, retractOf, countersAfter};
-ghost use Rattle.statement.specs.Lent.{AssertedLent, RetractedLent};
+ghost use Rattle.statement.specs.Updating.{AssertedUpdating, RetractedUpdating};
 
 // Assert: new, already or revived, with the statement's number and the counters from now on.
 pub fn assert(
@@ -56,7 +56,7 @@ pub fn retract(
 {
     match retract_target(c, resources, statements, index, text, x) {
         Located::Refused(e) => Retracted::Refused(e),
-        Located::At(n) => strike(resources, statements, n, x),
+        Located::At(n) => retract_record(resources, statements, n, x),
     }
 }
 
@@ -86,7 +86,7 @@ fn assert_kept(
     text: &[u8],
     x: Triple,
 ) -> AssertKept
-    ensures { λ r. ⌜ AssertedLent c (r .counters) (now (resources .entry)) (now (resources .exit))
+    ensures { λ r. ⌜ AssertedUpdating c (r .counters) (now (resources .entry)) (now (resources .exit))
         (now (statements .entry)) (now (statements .exit)) (now (index .entry)) (now (text .entry)) x (r .reply) ⌝ }
 {
     let reply = assert(c, resources, statements, index, text, x);
@@ -97,7 +97,7 @@ fn assert_kept(
 }
 
 // Assert on counters that the caller keeps and lends for updating.
-pub fn assert_lent(
+pub fn assert_updating(
     c: &mut Counters,
     resources: &mut [u32],
     statements: &mut [u32],
@@ -105,7 +105,7 @@ pub fn assert_lent(
     text: &[u8],
     x: Triple,
 ) -> Asserted
-    ensures { λ r. ⌜ AssertedLent (now (c .entry)) (now (c .exit)) (now (resources .entry)) (now (resources .exit))
+    ensures { λ r. ⌜ AssertedUpdating (now (c .entry)) (now (c .exit)) (now (resources .entry)) (now (resources .exit))
         (now (statements .entry)) (now (statements .exit)) (now (index .entry)) (now (text .entry)) x r ⌝ }
 {
     let k = *c;
@@ -128,7 +128,7 @@ fn retract_kept(
     text: &[u8],
     x: Triple,
 ) -> RetractKept
-    ensures { λ r. ⌜ RetractedLent c (r .counters) (now (resources .entry)) (now (resources .exit))
+    ensures { λ r. ⌜ RetractedUpdating c (r .counters) (now (resources .entry)) (now (resources .exit))
         (now (statements .entry)) (now (statements .exit)) (now (index .entry)) (now (text .entry)) x (r .reply) ⌝ }
 {
     let reply = retract(c, resources, statements, index, text, x);
@@ -139,7 +139,7 @@ fn retract_kept(
 }
 
 // Retract on counters that the caller keeps and lends.
-pub fn retract_lent(
+pub fn retract_updating(
     c: &mut Counters,
     resources: &mut [u32],
     statements: &mut [u32],
@@ -147,7 +147,7 @@ pub fn retract_lent(
     text: &[u8],
     x: Triple,
 ) -> Retracted
-    ensures { λ r. ⌜ RetractedLent (now (c .entry)) (now (c .exit)) (now (resources .entry)) (now (resources .exit))
+    ensures { λ r. ⌜ RetractedUpdating (now (c .entry)) (now (c .exit)) (now (resources .entry)) (now (resources .exit))
         (now (statements .entry)) (now (statements .exit)) (now (index .entry)) (now (text .entry)) x r ⌝ }
 {
     let k = *c;

@@ -14,7 +14,7 @@ use Rattle.store.specs.declared.Counters.{Counters}
 use Rattle.store.specs.declared.Triple.{Triple}
 use Rattle.store.specs.declared.Refusal.the-variants.{Full, Damaged}
 use Rattle.store.specs.declared.Asserted.the-variants.{New, Already, Revived, Refused as NotAsserted}
-use Rattle.store.specs.declared.Retracted.the-variants.{Number as Struck, Absent as NotLive, Refused as NotRetracted}
+use Rattle.store.specs.declared.Retracted.the-variants.{Number as WasLive, Absent as NotLive, Refused as NotRetracted}
 use Rattle.store.specs.Tables.{Tables, tables, after, statementCapacity, statementWords, flagAt, off, liveAt}
 use Rattle.store.specs.Statement.{linkFirst, linkRecord, appendRecord, oneStatementMore, asserting, tallyAt, tally, counting, retracting}
 use Rattle.store.proofs.LiveCounts.{counting-at}
@@ -105,28 +105,28 @@ module _ (res stm index text : List ℕ) where
   already c x zero h f = absurd (omega arith)
   already c x (suc i) h f = let d : suc i - 1 ≡ i = omega arith in rw (ne-eqb (flagAt stm i) 1 (λ e. f (rw d e)))
 
-  pub struck-none : (x : Triple) (n : ℕ) → n ≡ 0 → after m NotLive ≡ retracting m x n
+  pub retracted-none : (x : Triple) (n : ℕ) → n ≡ 0 → after m NotLive ≡ retracting m x n
   unfolding retracting
-  struck-none x zero e = refl
-  struck-none x (suc i) e = absurd (omega arith)
+  retracted-none x zero e = refl
+  retracted-none x (suc i) e = absurd (omega arith)
 
-  pub struck-before : (x : Triple) (n : ℕ) → (n ≡ 0 → ⊥) → flagAt stm (n - 1) ≡ 1 → after m NotLive ≡ retracting m x n
+  pub retracted-before : (x : Triple) (n : ℕ) → (n ≡ 0 → ⊥) → flagAt stm (n - 1) ≡ 1 → after m NotLive ≡ retracting m x n
   unfolding retracting
-  struck-before x zero h e = absurd (h refl)
-  struck-before x (suc i) h e = let d : suc i - 1 ≡ i = omega arith in rw (eq-eqb (flagAt stm i) 1 (rw d at e))
+  retracted-before x zero h e = absurd (h refl)
+  retracted-before x (suc i) h e = let d : suc i - 1 ≡ i = omega arith in rw (eq-eqb (flagAt stm i) 1 (rw d at e))
 
   -- live, and one of the live counts is 0
-  pub struck-torn : (x : Triple) (n : ℕ) → (n ≡ 0 → ⊥) → (flagAt stm (n - 1) ≡ 1 → ⊥) → counting res x ≡ false
+  pub retracted-damaged : (x : Triple) (n : ℕ) → (n ≡ 0 → ⊥) → (flagAt stm (n - 1) ≡ 1 → ⊥) → counting res x ≡ false
       → after m (NotRetracted Damaged) ≡ retracting m x n
   unfolding retracting
-  struck-torn x zero h f g = absurd (h refl)
-  struck-torn x (suc i) h f g = let d : suc i - 1 ≡ i = omega arith in rw (ne-eqb (flagAt stm i) 1 (λ e. f (rw d e)), g)
+  retracted-damaged x zero h f g = absurd (h refl)
+  retracted-damaged x (suc i) h f g = let d : suc i - 1 ≡ i = omega arith in rw (ne-eqb (flagAt stm i) 1 (λ e. f (rw d e)), g)
 
-  pub struck-now : (x : Triple) (n : ℕ) → (n ≡ 0 → ⊥) → (flagAt stm (n - 1) ≡ 1 → ⊥) → counting res x ≡ true
-      → after (reflagged false 1 x n) (Struck (record { 0 = n })) ≡ retracting m x n
+  pub retracted-now : (x : Triple) (n : ℕ) → (n ≡ 0 → ⊥) → (flagAt stm (n - 1) ≡ 1 → ⊥) → counting res x ≡ true
+      → after (reflagged false 1 x n) (WasLive (record { 0 = n })) ≡ retracting m x n
   unfolding retracting
-  struck-now x zero h f g = absurd (h refl)
-  struck-now x (suc i) h f g = let d : suc i - 1 ≡ i = omega arith in rw (d, ne-eqb (flagAt stm i) 1 (λ e. f (rw d e)), g)
+  retracted-now x zero h f g = absurd (h refl)
+  retracted-now x (suc i) h f g = let d : suc i - 1 ≡ i = omega arith in rw (d, ne-eqb (flagAt stm i) 1 (λ e. f (rw d e)), g)
 
   -- no room for one more
   pub full : (c : Counters) (x : Triple) → ltb (c .statements) (statementCapacity m) ≡ false → after m (NotAsserted Full) ≡ asserting c m x 0

@@ -62,5 +62,5 @@ pub record Revived (c : Counters) (x : Triple) (n : ℕ) (res res′ stm stm′ 
   pub leaves : (index text : List ℕ) → after (tables res′ stm′ index text) r ≡ asserting c (tables res stm index text) x n
 
 -- the triple's own record n, retracted, or 9: the index and the text stay
-pub record Struck (x : Triple) (n : ℕ) (res res′ stm stm′ : List ℕ) (r : Retracted) : Type 0 where
+pub record RecordRetracted (x : Triple) (n : ℕ) (res res′ stm stm′ : List ℕ) (r : Retracted) : Type 0 where
   pub leaves : (index text : List ℕ) → after (tables res′ stm′ index text) r ≡ retracting (tables res stm index text) x n

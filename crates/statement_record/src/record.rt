@@ -32,7 +32,7 @@ ghost use Rattle.store.specs.Shared.{maxStatements};
 ghost use Rattle.store.specs.Statement.{appendRecord, linkFirst, linkRecord, tallyAt, tally, counting};
 ghost use Rattle.table.specs.Held.{StatementHeld, TripleHeld};
 ghost use Rattle.statement_record.specs.Records.{flagged, moved, Movable, Tallyable, AllTallyable};
-ghost use Rattle.statement_record.specs.Records.{Linkable, AllLinkable, Appendable, Appended, Revived, Struck};
+ghost use Rattle.statement_record.specs.Records.{Linkable, AllLinkable, Appendable, Appended, Revived, RecordRetracted};
 
 // The flag of record n.
 pub fn set_flag(statements: &mut [u32], n: StatementId, flag: u32)
@@ -181,9 +181,14 @@ pub fn revive(
 
 // The triple's own record n is retracted if it is live, and no longer counted as such; 0 stands for no record. 9 where a
 // live count of its resources is 0.
-pub fn strike(resources: &mut [u32], statements: &mut [u32], n: StatementId, x: Triple) -> Retracted
+pub fn retract_record(
+    resources: &mut [u32],
+    statements: &mut [u32],
+    n: StatementId,
+    x: Triple,
+) -> Retracted
     requires { ⌜ TripleHeld (now resources) x × (statementWords * n .0 ≤ length (now statements)) ⌝ }
-    ensures { λ r. ⌜ Struck x (n .0) (now (resources .entry)) (now (resources .exit))
+    ensures { λ r. ⌜ RecordRetracted x (n .0) (now (resources .entry)) (now (resources .exit))
         (now (statements .entry)) (now (statements .exit)) r ⌝ }
 {
     if n.0 == 0 {

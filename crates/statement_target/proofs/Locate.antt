@@ -49,9 +49,9 @@ abbrev pub ready : ℕ → List ℕ → Triple → Bool
 ready t res x = pickable t res x && countable res x
 
 module _ (c : Counters) (m : Tables) (x : Triple) where
-  pub locate-torn : ready (c .statements) (m .resources) x ≡ false → locate c m x ≡ none
+  pub locate-damaged : ready (c .statements) (m .resources) x ≡ false → locate c m x ≡ none
   unfolding locate
-  locate-torn e = rw e
+  locate-damaged e = rw e
 
   opened : (s : Option Step) → elim s [ none ↦ none | some s ↦ some (foundIn s) ] ≡ located s
   opened none = refl

@@ -5,9 +5,9 @@ use Prim.Native.Nat.{ℕ}
 use Rattle.store.specs.declared.Counters.{Counters}
 use Rattle.store.specs.declared.Triple.{Triple}
 use Rattle.store.specs.declared.Refusal.the-variants.{Capacity, UnknownNumber, KindNotPermitted, Damaged}
-use Rattle.store.specs.Shared.{known, permitted}
+use Rattle.store.specs.Shared.{known, kindsPermitted}
 use Rattle.store.specs.Tables.{Tables, fits, kindAt}
-use Rattle.store.specs.Statement.{locate, kinded}
+use Rattle.store.specs.Statement.{locate, kindsOk}
 use Rattle.statement_target.specs.declared.target.Located.{Located}
 use Rattle.statement_target.specs.declared.target.Located.the-variants.{Refused, At}
 
@@ -21,8 +21,8 @@ unfoldable pub assertTarget : Counters → Tables → Triple → Located
 assertTarget c m x =
     cond (fits c m)
     (cond (known (c .resources) x)
-    (cond (kinded (m .resources) x)
-    (cond (permitted (kindAt (m .resources)) x)
+    (cond (kindsOk (m .resources) x)
+    (cond (kindsPermitted (kindAt (m .resources)) x)
     (locatedAs (locate c m x))
     (Refused KindNotPermitted))
     (Refused Damaged))

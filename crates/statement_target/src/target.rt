@@ -24,10 +24,10 @@ ghost use mathlib.Core.List.{[]};
 ghost use Prim.Native.Nat.{ℕ, _*_, _≤_};
 ghost use lib.ListN.{length};
 ghost use lib.Dec.{leb};
-ghost use Rattle.store.specs.Shared.{permitted};
+ghost use Rattle.store.specs.Shared.{kindsPermitted};
 ghost use Rattle.store.specs.Tables.{tables, statementWords, countAt, kindAt, liveAt};
 ghost use Rattle.store.specs.Walk.{pickable};
-ghost use Rattle.store.specs.Statement.{countable, locate, kinded};
+ghost use Rattle.store.specs.Statement.{countable, locate, kindsOk};
 ghost use Rattle.table.specs.Held.{ResourceHeld, TripleHeld};
 ghost use Rattle.statement_target.specs.Targets.{locatedAs, assertTarget, retractTarget};
 
@@ -105,9 +105,9 @@ pub fn locate(c: Counters, resources: &[u32], statements: &[u32], x: Triple) -> 
 }
 
 // Whether the kinds of all three resources are in 1..=3.
-pub fn kinded(resources: &[u32], x: Triple) -> bool
+pub fn kinds_ok(resources: &[u32], x: Triple) -> bool
     requires { ⌜ TripleHeld (now resources) x ⌝ }
-    ensures { λ b. ⌜ b ≡ kinded (now (resources .entry)) x ⌝ }
+    ensures { λ b. ⌜ b ≡ kindsOk (now (resources .entry)) x ⌝ }
 {
     let s = kind_at(resources, x.subject);
     if !in_range(LITERAL, s) {
@@ -122,9 +122,9 @@ pub fn kinded(resources: &[u32], x: Triple) -> bool
 }
 
 // Whether the subject is no literal and the predicate is an IRI.
-pub fn permitted(resources: &[u32], x: Triple) -> bool
+pub fn kinds_permitted(resources: &[u32], x: Triple) -> bool
     requires { ⌜ TripleHeld (now resources) x ⌝ }
-    ensures { λ b. ⌜ b ≡ permitted (kindAt (now (resources .entry))) x ⌝ }
+    ensures { λ b. ⌜ b ≡ kindsPermitted (kindAt (now (resources .entry))) x ⌝ }
 {
     let s = kind_at(resources, x.subject);
     if s == LITERAL {
@@ -152,10 +152,10 @@ pub fn assert_target(
     if !known(c.resources, x) {
         return Located::Refused(Refusal::UnknownNumber);
     }
-    if !kinded(resources, x) {
+    if !kinds_ok(resources, x) {
         return Located::Refused(Refusal::Damaged);
     }
-    if !permitted(resources, x) {
+    if !kinds_permitted(resources, x) {
         return Located::Refused(Refusal::KindNotPermitted);
     }
     locate(c, resources, statements, x)

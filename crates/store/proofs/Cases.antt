@@ -12,12 +12,12 @@ use Rattle.store.specs.declared.Refusal.the-variants.{Capacity, Full, Un
 use Rattle.store.specs.declared.Asserted.{Asserted}
 use Rattle.store.specs.declared.Asserted.the-variants.{New, Already, Revived, Refused as NotAsserted}
 use Rattle.store.specs.declared.Retracted.{Retracted}
-use Rattle.store.specs.declared.Retracted.the-variants.{Number as Struck, Absent as NotLive}
+use Rattle.store.specs.declared.Retracted.the-variants.{Number as WasLive, Absent as NotLive}
 use Rattle.store.specs.declared.Retracted.the-variants.{Refused as NotRetracted}
 use Rattle.store.specs.declared.Reclaimed.the-variants.{Done, Refused as NotReclaimed}
-use Rattle.store.specs.Shared.{known, permitted, maxReclaims}
+use Rattle.store.specs.Shared.{known, kindsPermitted, maxReclaims}
 use Rattle.store.specs.Tables.{Tables, fits, statementCapacity, flagAt, kindAt}
-use Rattle.store.specs.Statement.{locate, kinded, asserting, assertOf, counting, retracting, retractOf}
+use Rattle.store.specs.Statement.{locate, kindsOk, asserting, assertOf, counting, retracting, retractOf}
 use Rattle.store.specs.Reclaim.{reclaimOf}
 use Rattle.store.proofs.Tests.{decide}
 
@@ -44,9 +44,9 @@ module _ (c : Counters) (m : Tables) (x : Triple) where
     retract-unknown b = rw (retractOf, a, b)
 
     module _ (b : known (c .resources) x ≡ true) where
-      pub assert-unkinded : kinded (m .resources) x ≡ false → assertOf c m x ≡ (m, NotAsserted Damaged)
+      pub assert-bad-kinds : kindsOk (m .resources) x ≡ false → assertOf c m x ≡ (m, NotAsserted Damaged)
       unfolding assertOf
-      assert-unkinded d = rw (assertOf, a, b, d)
+      assert-bad-kinds d = rw (assertOf, a, b, d)
 
       pub retract-damaged : locate c m x ≡ none → retractOf c m x ≡ (m, NotRetracted Damaged)
       unfolding retractOf
@@ -56,13 +56,13 @@ module _ (c : Counters) (m : Tables) (x : Triple) where
       unfolding retractOf
       retract-located n f = rw (retractOf, a, b, f)
 
-      module _ (d : kinded (m .resources) x ≡ true) where
-        pub assert-unpermitted : permitted (kindAt (m .resources)) x ≡ false
+      module _ (d : kindsOk (m .resources) x ≡ true) where
+        pub assert-unpermitted : kindsPermitted (kindAt (m .resources)) x ≡ false
             → assertOf c m x ≡ (m, NotAsserted KindNotPermitted)
         unfolding assertOf
         assert-unpermitted e = rw (assertOf, a, b, d, e)
 
-        module _ (e : permitted (kindAt (m .resources)) x ≡ true) where
+        module _ (e : kindsPermitted (kindAt (m .resources)) x ≡ true) where
           pub assert-damaged : locate c m x ≡ none → assertOf c m x ≡ (m, NotAsserted Damaged)
           unfolding assertOf
           assert-damaged f = rw (assertOf, a, b, d, e, f)
@@ -99,13 +99,13 @@ pub assert-refused : (c : Counters) (m : Tables) (x : Triple) (q : Refusal) → 
 assert-refused c m x =
     decide (fits c m)
     (λ a. decide (known (c .resources) x)
-    (λ b. decide (kinded (m .resources) x)
-    (λ d. decide (permitted (kindAt (m .resources)) x)
+    (λ b. decide (kindsOk (m .resources) x)
+    (λ d. decide (kindsPermitted (kindAt (m .resources)) x)
     (λ e. option-cases (locate c m x)
     (λ f. rw (assert-damaged c m x a b d e f) (λ q h. refl))
     (λ n f. rw (assert-located c m x a b d e n f) (asserting-quiet c m x n)))
     (λ e. rw (assert-unpermitted c m x a b d e) (λ q h. refl)))
-    (λ d. rw (assert-unkinded c m x a b d) (λ q h. refl)))
+    (λ d. rw (assert-bad-kinds c m x a b d) (λ q h. refl)))
     (λ b. rw (assert-unknown c m x a b) (λ q h. refl)))
     (λ a. rw (assert-capacity c m x a) (λ q h. refl))
 

@@ -16,8 +16,8 @@ use Rattle.store.specs.declared.Chain.the-variants.{All, By}
 use Rattle.store.specs.declared.Triple.{Triple}
 use Rattle.store.specs.Shared.{at, all3, known, below, head0}
 use Rattle.store.specs.Tables.{termAt, nextAt, flagAt, tripleAt, firstAt, countAt, liveAt}
-use Rattle.store.specs.Model.{onChain, take-off}
-use Rattle.store.specs.Walk.{pickChain, pickable, startOf, linkOf, sits, visitable, walk}
+use Rattle.store.specs.Model.{onChain, readRest}
+use Rattle.store.specs.Walk.{pickChain, pickable, startOf, linkOf, holdsResource, visitable, walk}
 use Rattle.store.specs.Statement.{countable}
 use Rattle.store.specs.Soundness.{holding, living, Linked}
 use Rattle.store.proofs.Tests.{decide, and-r, and-of, all3-of, known-low, known-high, known-of}
@@ -48,10 +48,10 @@ words-term : (stm : List ℕ) (p : Position) (x : Triple) (i : ℕ) → onWords 
 unfolding onChain
 words-term stm p x i e = sym (triple-at stm p i) ∙ eqb-true _ _ e
 
-pub chain-sits : (stm : List ℕ) (ch : Chain) (x : Triple) (i : ℕ) → onWords stm ch x i ≡ true → sits stm ch x i ≡ true
-unfolding sits
-chain-sits stm All x i e = refl
-chain-sits stm (By p) x i e = eq-eqb (termAt stm p i) (at p x) (words-term stm p x i e)
+pub chain-holds-resource : (stm : List ℕ) (ch : Chain) (x : Triple) (i : ℕ) → onWords stm ch x i ≡ true → holdsResource stm ch x i ≡ true
+unfolding holdsResource
+chain-holds-resource stm All x i e = refl
+chain-holds-resource stm (By p) x i e = eq-eqb (termAt stm p i) (at p x) (words-term stm p x i e)
 
 module _ (r t : ℕ) (res stm : List ℕ) (L : Linked r t res stm) where
   pub entry-known : (i : ℕ) → i < t → known r (tripleAt stm i) ≡ true
@@ -74,7 +74,7 @@ module _ (r t : ℕ) (res stm : List ℕ) (L : Linked r t res stm) where
   unfolding visitable
   chain-fine ch x i h e =
       and-of _ _ (entry-known i h)
-      (and-of _ _ (chain-sits stm ch x i e)
+      (and-of _ _ (chain-holds-resource stm ch x i e)
       (and-of _ _ (le-leb (linkOf stm ch i) i (rw (chain-links ch x i h e) (head-le (onWords stm ch x) i)))
       (le-leb (flagAt stm i) 1 (L .flag i h))))
 
@@ -91,7 +91,7 @@ module _ (r t : ℕ) (res stm : List ℕ) (L : Linked r t res stm) where
   -- a walk with a budget along any chain, from any record on it
   pub walk-linked : (ch : Chain) (x : Triple) (hit : ℕ → Bool) (n b : ℕ) → n ≤ t
       → walk (linkOf stm ch) (visitable r stm ch x) hit b (head0 (below (onWords stm ch x) n))
-      ≡ some (asStep (take-off hit b (below (onWords stm ch x) n)))
+      ≡ some (asStep (readRest hit b (below (onWords stm ch x) n)))
   walk-linked ch x hit n b h =
       walk-chain (onWords stm ch x) (linkOf stm ch) (visitable r stm ch x) hit n b
       (λ i q. chain-links ch x i (omega arith)) (λ i q. chain-fine ch x i (omega arith))

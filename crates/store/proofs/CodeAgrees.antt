@@ -21,9 +21,9 @@ use Rattle.store.specs.Shared.{maxReclaims}
 use Rattle.store.specs.Tables.{Tables, after, fits}
 use Rattle.store.specs.Values.{Values, noCursor, internedValues, assertedValues, retractedValues, openedValues, scannedValues}
 use Rattle.store.specs.Values.{reclaimedValues}
-use Rattle.store.specs.Model.{Model, Capacities, Call, byValue, lent, intern, assert, retract, open′, next, reclaim, freshModel}
+use Rattle.store.specs.Model.{Model, Capacities, Call, byValue, updating, intern, assert, retract, open′, next, reclaim, freshModel}
 use Rattle.store.specs.Model.{callModel, modelAfter}
-use Rattle.store.specs.Statement.{Lent, countersAfter}
+use Rattle.store.specs.Statement.{Updated, countersAfter}
 use Rattle.store.specs.Reclaim.{reclaimOf, ReclaimAnswer}
 use Rattle.store.specs.Soundness.{Sound}
 use Rattle.store.specs.History.{Store, store, freshStore, capacitiesOf, internedCounters, afterReclaim, openedCursors, movedCursors}
@@ -60,17 +60,17 @@ module _ (k : Capacities) (s : Store) (l : Model) (R : Agreeing k s l) (D : Tidy
     h .2 ∙ ap (λ (z : Tables × Asserted). store (countersAfter c (z .1)) (z .0) (s .cursors)) (h .1),
     h .3 ∙ ap (λ (z : Tables × Asserted). assertedValues (z .1)) (h .1),
   )
-  ran-is (assert lent x) t v h = (
-    h .2 ∙ ap (λ (z : Lent Asserted). store (z .counters) (z .lent) (s .cursors)) (h .1),
-    h .3 ∙ ap (λ (z : Lent Asserted). assertedValues (z .reply)) (h .1),
+  ran-is (assert updating x) t v h = (
+    h .2 ∙ ap (λ (z : Updated Asserted). store (z .counters) (z .tables) (s .cursors)) (h .1),
+    h .3 ∙ ap (λ (z : Updated Asserted). assertedValues (z .reply)) (h .1),
   )
   ran-is (retract byValue x) t v h = (
     h .2 ∙ ap (λ (z : Tables × Retracted). store c (z .0) (s .cursors)) (h .1),
     h .3 ∙ ap (λ (z : Tables × Retracted). retractedValues (z .1)) (h .1),
   )
-  ran-is (retract lent x) t v h = (
-    h .2 ∙ ap (λ (z : Lent Retracted). store (z .counters) (z .lent) (s .cursors)) (h .1),
-    h .3 ∙ ap (λ (z : Lent Retracted). retractedValues (z .reply)) (h .1),
+  ran-is (retract updating x) t v h = (
+    h .2 ∙ ap (λ (z : Updated Retracted). store (z .counters) (z .tables) (s .cursors)) (h .1),
+    h .3 ∙ ap (λ (z : Updated Retracted). retractedValues (z .reply)) (h .1),
   )
   ran-is (open′ x) t v h = (
     h .2 ∙ ap (λ (z : ScanOpened). store c (s .tables) (openedCursors (s .cursors) z)) (h .1),

@@ -9,10 +9,10 @@ use lib.Dec.{eqb, leb, ltb}
 use Rattle.term.specs.Scanner.{firstKindOf}
 use Rattle.term.specs.Canonical.{canonical}
 use Rattle.store.specs.declared.Triple.{Triple}
-use Rattle.store.specs.Shared.{known, within, permitted, Entry, wellFormed, nameOf, bytesOf, maxReclaims, lookupName}
+use Rattle.store.specs.Shared.{known, within, kindsPermitted, Entry, wellFormed, nameOf, textBytes, maxReclaims, lookupName}
 use Rattle.store.specs.Model.{Model, Capacities, Call, intern, assert, retract, open′, next, reclaim}
 use Rattle.store.specs.Model.{internName, internModel, entry, lookup, mark, put}
-use Rattle.store.specs.Model.{assertModel, strike, retractModel, openModel, turn, nextModel, callModel}
+use Rattle.store.specs.Model.{assertModel, retractEntry, retractModel, openModel, turn, nextModel, callModel}
 use Rattle.store.specs.Model.{noListing, reclaimModel, modelReplies, modelAfter}
 use Rattle.store.specs.Claims.{reclaims, reclaimsIn}
 use Rattle.store.proofs.Tests.{decide}
@@ -45,7 +45,7 @@ module _ (k : Capacities) (s : Model) where
       go : (t : ℕ) → ((internName k s (canonical w) t) .0) .entries ≡ s .entries
       go zero =
           unfold internName in
-          (decide (ltb (length (s .names)) (k .resources) && leb (bytesOf (s .names ++ canonical w ∷ [])) (k .text))
+          (decide (ltb (length (s .names)) (k .resources) && leb (textBytes (s .names ++ canonical w ∷ [])) (k .text))
           (λ e. rw e) (λ e. rw e))
       go (suc i) = unfold internName in refl
 
@@ -62,7 +62,7 @@ module _ (k : Capacities) (s : Model) where
   grown-call (intern w) h = rw (intern-keeps w) (grown-same (s .entries))
   grown-call (assert f x) h =
       decide (known (length (s .names)) x)
-      (λ e. rw e (decide (permitted (λ y. firstKindOf (nameOf (s .names) y)) x)
+      (λ e. rw e (decide (kindsPermitted (λ y. firstKindOf (nameOf (s .names) y)) x)
       (λ d. rw d (go (lookup x (s .entries))))
       (λ d. rw d (grown-same (s .entries)))))
       (λ e. rw e (grown-same (s .entries)))
@@ -81,10 +81,10 @@ module _ (k : Capacities) (s : Model) where
       (λ e. rw e (go (lookup x (s .entries))))
       (λ e. rw e (grown-same (s .entries)))
     where
-      go : (t : ℕ) → Grown (s .entries) (((strike s t) .0) .entries)
-      go zero = unfold strike in (grown-same (s .entries))
+      go : (t : ℕ) → Grown (s .entries) (((retractEntry s t) .0) .entries)
+      go zero = unfold retractEntry in (grown-same (s .entries))
       go (suc i) =
-          unfold strike in
+          unfold retractEntry in
           (decide ((entry (s .entries) i) .retracted)
           (λ e. rw e (grown-same (s .entries))) (λ e. rw e (grown-mark (s .entries) i true)))
   grown-call (open′ x) h =

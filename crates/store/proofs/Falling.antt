@@ -11,7 +11,7 @@ use Prim.Native.Nat.{ℕ, zero, suc, _+_, _≤_, _<_}
 use native.Mathlib.Omega.{arith}
 use lib.ListN.{length}
 use Rattle.store.specs.Shared.{below, head0}
-use Rattle.store.specs.Claims.{BelowFalls}
+use Rattle.store.specs.Pins.{BelowFalls}
 use Rattle.store.proofs.Tests.{decide}
 
 pub below-yes : (f : ℕ → Bool) (n : ℕ) → f n ≡ true → below f (suc n) ≡ suc n ∷ below f n

@@ -1,14 +1,14 @@
 -- What the store needs of well-formed names: no zero byte, a kind from 1 to 3 by the first byte, at most 255 bytes; and what is left of
 -- them without the string ending. Assumes nothing.
 use mathlib.Core.Path.{_≡_, refl, sym, ap, _∙_}
-use mathlib.Core.Bool.{Bool, true, false, not}
+use mathlib.Core.Bool.{Bool, true, false, cond, not}
 use mathlib.Core.List.{List, [], _∷_}
 use Prim.Native.Nat.{ℕ, zero, suc, _≤_, _<_}
 use native.Mathlib.Omega.{arith}
 use lib.ListN.{length}
 use lib.Dec.{eqb, leb, ltb}
 use borrow.Author.Tests.{leb-true, ltb-true, not-true}
-use Rattle.term.specs.Bytes.{pick, among, letter, alnum, iriByte, textByte, pairByte, firstByte, labelByte}
+use Rattle.term.specs.Bytes.{among, letter, alnum, iriByte, textByte, pairByte, firstByte, labelByte}
 use Rattle.term.specs.Scanner.{stepOf, runOf, wholeOf, firstKindOf, kindOf}
 use Rattle.term.specs.declared.Scan.{Scan}
 use Rattle.term.specs.declared.Scan.the-variants.{Start, IriOpen, Iri, Closed, Under, Colon, Label, Dot, Dots, Text}
@@ -16,7 +16,7 @@ use Rattle.term.specs.declared.Scan.the-variants.{Escape, Quote, At, Tag, Hyphe
 use Rattle.term.specs.Canonical.{writesString, canonical}
 use Rattle.term.proofs.Shortened.{canonical-name, kept}
 use Rattle.store.specs.Shared.{wellFormed}
-use Rattle.store.specs.Dictionary.{storable}
+use Rattle.store.specs.Names.{storable}
 use Rattle.store.proofs.Tests.{decide, and-l, and-r, and-of}
 
 -- no zero byte

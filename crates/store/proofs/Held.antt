@@ -13,7 +13,7 @@ use Rattle.store.specs.Tables.{Tables, resourceCapacity, statementCapaci
 use Rattle.store.specs.Values.{noTriple}
 use Rattle.store.specs.Model.{Model, Capacities, entry}
 use Rattle.store.specs.Walk.{entryAt}
-use Rattle.store.specs.Dictionary.{Named, nameAt, namesUpTo}
+use Rattle.store.specs.Names.{Named, nameAt, namesUpTo}
 use Rattle.store.specs.Soundness.{Sound}
 use Rattle.store.specs.History.{Store, store, capacitiesOf}
 use Rattle.store.specs.Claims.{entriesUpTo, statementsIn, namesIn, listsOf, Holds}

@@ -4,12 +4,12 @@ use mathlib.Core.Path.{_≡_, refl, sym, ap, ap₂, _∙_}
 use mathlib.Core.List.{List, [], _∷_}
 use Prim.Native.Nat.{ℕ, zero, suc, _≤_, _<_}
 use native.Mathlib.Omega.{arith}
-use Rattle.store.specs.Shared.{below, bytesOf}
+use Rattle.store.specs.Shared.{below, textBytes}
 use Rattle.store.specs.Tables.{Tables}
-use Rattle.store.specs.Model.{Model, Capacities, Form, byValue, lent, Call, intern, assert, retract, open′, next, reclaim}
+use Rattle.store.specs.Model.{Model, Capacities, Form, byValue, updating, Call, intern, assert, retract, open′, next, reclaim}
 use Rattle.store.specs.Model.{freshModel, callModel, modelReplies, modelAfter}
-use Rattle.store.specs.Statement.{assertLentOf, retractLentOf}
-use Rattle.store.specs.Dictionary.{joined}
+use Rattle.store.specs.Statement.{assertUpdatingOf, retractUpdatingOf}
+use Rattle.store.specs.Names.{joined}
 use Rattle.store.specs.History.{Store, freshStore, capacitiesOf, callStore, storeReplies, storeAfter}
 use Rattle.store.proofs.Represented.{Agreeing, Same, standing-none}
 use Rattle.store.proofs.StatementsAgree.{assert-agrees, retract-agrees}
@@ -19,12 +19,12 @@ use Rattle.store.proofs.ReclaimAgrees.{reclaim-agrees}
 
 pub call-agrees : (k : Capacities) (c : Store) (s : Model) → Agreeing k c s → (a : Call)
     → Same k (callStore c a) (callModel k s a)
-unfolding callStore callModel assertLentOf retractLentOf
+unfolding callStore callModel assertUpdatingOf retractUpdatingOf
 call-agrees k c s R (intern w) = intern-agrees k c s R w
 call-agrees k c s R (assert byValue x) = assert-agrees k c s R x
-call-agrees k c s R (assert lent x) = assert-agrees k c s R x
+call-agrees k c s R (assert updating x) = assert-agrees k c s R x
 call-agrees k c s R (retract byValue x) = retract-agrees k c s R x
-call-agrees k c s R (retract lent x) = retract-agrees k c s R x
+call-agrees k c s R (retract updating x) = retract-agrees k c s R x
 call-agrees k c s R (open′ x) = open-agrees k c s R x
 call-agrees k c s R (next j b) = next-agrees k c s R j b
 call-agrees k c s R reclaim = reclaim-agrees k c s R
@@ -39,7 +39,7 @@ history-agrees k c s R (a ∷ r) =
     (ap₂ _∷_ (h .0) (z .0), z .1)
 
 pub fresh-agrees : (m : Tables) → Agreeing (capacitiesOf m) (freshStore m) freshModel
-unfolding below joined bytesOf
+unfolding below joined textBytes
 fresh-agrees m = record {
   named = record {
     size = refl;

@@ -8,7 +8,8 @@ use native.Mathlib.Omega.{arith}
 use lib.ListN.{length, getD}
 use Rattle.store.specs.Shared.{below}
 use Rattle.store.specs.Tables.{word}
-use Rattle.store.specs.Dictionary.{Ordering, less, equal, more, compare, isLess, Indexed, rank, bring, insertAt}
+use Rattle.store.specs.Dictionary.{rank, bring, insertAt}
+use Rattle.store.specs.Names.{ByteOrdering, less, equal, more, compareBytes, isLess, Indexed}
 use Rattle.store.proofs.Tests.{decide, three}
 use Rattle.store.proofs.Falling.{length-le, Closed, rank-below, rank-above, rank-unique}
 use Rattle.store.proofs.Order.{flip, compare-refl, compare-flip, compare-equal, compare-trans, is-less}
@@ -87,8 +88,8 @@ rank-le name idx r w = length-le _ r
 
 -- what a binary search ends with is the rank
 pub rank-is : (name : ℕ → List ℕ) (idx : List ℕ) (r : ℕ) (w : List ℕ) (k : ℕ) → k ≤ r
-    → ((i : ℕ) → i < k → compare (name (word idx i)) w ≡ less)
-    → ((i : ℕ) → k ≤ i → i < r → isLess (compare (name (word idx i)) w) ≡ false) → rank name idx r w ≡ k
+    → ((i : ℕ) → i < k → compareBytes (name (word idx i)) w ≡ less)
+    → ((i : ℕ) → k ≤ i → i < r → isLess (compareBytes (name (word idx i)) w) ≡ false) → rank name idx r w ≡ k
 unfolding rank
 rank-is name idx r w k h a b = rank-unique _ r k h (λ i q. ap isLess (a i q)) b
 
@@ -121,34 +122,34 @@ module _ (name : ℕ → List ℕ) (idx : List ℕ) (r : ℕ) (X : Indexed name 
     abbrev k : ℕ
     k = rank name idx r w
 
-    closed : Closed (λ i. isLess (compare (name (word idx i)) w)) r
+    closed : Closed (λ i. isLess (compareBytes (name (word idx i)) w)) r
     closed i j h g e =
         ap isLess (compare-trans (name (word idx i)) (name (word idx j)) w (X .rise i j h g) (is-less _ e))
 
-    pub rank-before : (i : ℕ) → i < k → compare (name (word idx i)) w ≡ less
+    pub rank-before : (i : ℕ) → i < k → compareBytes (name (word idx i)) w ≡ less
     unfolding rank
     rank-before i h = is-less _ (rank-below _ r closed i h)
 
-    pub rank-not-before : (i : ℕ) → k ≤ i → i < r → isLess (compare (name (word idx i)) w) ≡ false
+    pub rank-not-before : (i : ℕ) → k ≤ i → i < r → isLess (compareBytes (name (word idx i)) w) ≡ false
     unfolding rank
     rank-not-before i h g = rank-above _ r closed i h g
 
     -- after a miss at the rank: the rest are greater
-    pub rank-after : (i : ℕ) → k ≤ i → i < r → (k < r → compare (name (word idx k)) w ≢ equal)
-        → compare w (name (word idx i)) ≡ less
+    pub rank-after : (i : ℕ) → k ≤ i → i < r → (k < r → compareBytes (name (word idx k)) w ≢ equal)
+        → compareBytes w (name (word idx i)) ≡ less
     rank-after i h g ne =
         three k i
         (λ q. compare-trans w (name (word idx k)) (name (word idx i)) (at-rank (omega arith)) (X .rise k i q g))
         (λ q. rw q at (at-rank (omega arith)))
         (λ q. absurd (omega arith))
       where
-        go : (o : Ordering) → compare (name (word idx k)) w ≡ o → isLess o ≡ false
-            → compare w (name (word idx k)) ≡ less
+        go : (o : ByteOrdering) → compareBytes (name (word idx k)) w ≡ o → isLess o ≡ false
+            → compareBytes w (name (word idx k)) ≡ less
         go less e l = cc
         go equal e l = absurd (ne (omega arith) e)
         go more e l = compare-flip (name (word idx k)) w ∙ ap flip e
 
-        at-rank : k < r → compare w (name (word idx k)) ≡ less
+        at-rank : k < r → compareBytes w (name (word idx k)) ≡ less
         at-rank l = go _ refl (rank-not-before k (omega arith) l)
 
     -- a name that is there stands at its rank
@@ -166,7 +167,7 @@ module _ (name : ℕ → List ℕ) (idx : List ℕ) (r : ℕ) (X : Indexed name 
         j : ℕ
         j = hit .0
 
-        same-j : compare (name (word idx j)) w ≡ equal
+        same-j : compareBytes (name (word idx j)) w ≡ equal
         same-j = rw (hit .2, e) (compare-refl w)
 
 -- ---- a number put into the index at its name's rank
@@ -191,7 +192,7 @@ from idx k r i a b h =
 
 module _ (name name′ : ℕ → List ℕ) (idx : List ℕ) (r : ℕ) (w : List ℕ) (X : Indexed name idx r) (room : r < length idx)
     (old : (y : ℕ) → 0 < y → y ≤ r → name′ y ≡ name y) (new : name′ (suc r) ≡ w)
-    (miss : rank name idx r w < r → compare (name (word idx (rank name idx r w))) w ≢ equal) where
+    (miss : rank name idx r w < r → compareBytes (name (word idx (rank name idx r w))) w ≢ equal) where
   abbrev kk : ℕ
   kk = rank name idx r w
 
@@ -205,7 +206,7 @@ module _ (name name′ : ℕ → List ℕ) (idx : List ℕ) (r : ℕ) (w : List 
   old-at i h = old (word idx i) (X .low i h) (X .high i h)
 
   rise′ : (i j : ℕ) → i < j → j < suc r → From idx grown kk r i → From idx grown kk r j
-      → compare (name′ (word grown i)) (name′ (word grown j)) ≡ less
+      → compareBytes (name′ (word grown i)) (name′ (word grown j)) ≡ less
   rise′ i j h g (lower a e) (lower b f) =
       rw (e, f, old-at i (omega (arith, rank-le name idx r w)), old-at j (omega (arith, rank-le name idx r w)))
       (X .rise i j h (omega (arith, rank-le name idx r w)))

@@ -13,13 +13,14 @@ use Rattle.store.specs.declared.Counters.{Counters}
 use Rattle.store.specs.declared.Refusal.{Refusal}
 use Rattle.store.specs.declared.Refusal.the-variants.{Capacity, Malformed, Full, Damaged}
 use Rattle.store.specs.declared.IndexPlace.{IndexPlace}
-use Rattle.store.specs.declared.IndexPlace.the-variants.{At, Before, Torn}
+use Rattle.store.specs.declared.IndexPlace.the-variants.{At, Before, OutOfRange}
 use Rattle.store.specs.declared.Interned.{Interned}
 use Rattle.store.specs.declared.Interned.the-variants.{Number as Id, Refused as NotInterned}
 use Rattle.store.specs.Tables.{Tables, fits, word, resourceWords}
 use Rattle.store.specs.Shared.{wellFormed}
 use Rattle.store.specs.Dictionary.{roomFor, withName, internAs, internOf, InternWrites, indexPlaceOf, freshRecord}
-use Rattle.store.specs.Dictionary.{PlaceWithin, rank, placeAt, nameAt}
+use Rattle.store.specs.Dictionary.{PlaceWithin, rank, placeAt}
+use Rattle.store.specs.Names.{nameAt}
 use Rattle.store.proofs.Tests.{decide}
 use Rattle.store.proofs.Words.{grow-length, grow-before, grow-after, getD-sets-before}
 use Rattle.store.proofs.Index.{insert-length}
@@ -53,7 +54,7 @@ unfolding internAs
 intern-as-writes c m w (At n k) = writes-nothing c m
 intern-as-writes c m w (Before k) =
     decide (roomFor c m w) (λ e. rw e (name-writes c m w k)) (λ e. rw e (writes-nothing c m))
-intern-as-writes c m w Torn = writes-nothing c m
+intern-as-writes c m w OutOfRange = writes-nothing c m
 
 pub intern-as-refused : (c : Counters) (m : Tables) (w : List ℕ) (x : IndexPlace) (q : Refusal)
     → (internAs c m w x) .1 ≡ NotInterned q
@@ -61,7 +62,7 @@ pub intern-as-refused : (c : Counters) (m : Tables) (w : List ℕ) (x : IndexPla
 unfolding internAs
 intern-as-refused c m w (At n k) q = λ e. refl
 intern-as-refused c m w (Before k) q = decide (roomFor c m w) (λ d. rw d (λ e. cc)) (λ d. rw d (λ e. refl))
-intern-as-refused c m w Torn q = λ e. refl
+intern-as-refused c m w OutOfRange q = λ e. refl
 
 pub intern-writes : (c : Counters) (m : Tables) (w : List ℕ) → InternWrites c m ((internOf c m w) .0)
 unfolding internOf

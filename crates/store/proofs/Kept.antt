@@ -15,21 +15,21 @@ use Rattle.term.specs.Canonical.{canonical}
 use Rattle.store.specs.declared.Counters.{Counters}
 use Rattle.store.specs.declared.Position.the-variants.{Subject, Predicate, Object}
 use Rattle.store.specs.declared.Triple.{Triple}
-use Rattle.store.specs.Shared.{at, known, within, same, permitted, below, head0, maxReclaims, Entry, wellFormed, nameOf, bytesOf}
+use Rattle.store.specs.Shared.{at, known, within, same, kindsPermitted, below, head0, maxReclaims, Entry, wellFormed, nameOf}
 use Rattle.store.specs.Tables.{Tables, fits, resourceCapacity, statementCapacity, textCapacity, tripleAt, kindAt}
 use Rattle.store.specs.Model.{Listing, Model, Capacities, Call, intern, assert, retract, open′, next, reclaim}
 use Rattle.store.specs.Model.{internName, internModel, entry, lookup}
-use Rattle.store.specs.Shared.{lookupName}
-use Rattle.store.specs.Model.{mark, put, assertModel, strike, retractModel, openModel, turn, nextModel}
-use Rattle.store.specs.Model.{freshModel, callModel, modelAfter, withNames, withEntries, withListings, noListing, unstruck, reclaimed}
-use Rattle.store.specs.Model.{reclaimModel}
+use Rattle.store.specs.Shared.{textBytes, lookupName}
+use Rattle.store.specs.Model.{mark, put, assertModel, retractEntry, retractModel, openModel, turn, nextModel}
+use Rattle.store.specs.Model.{freshModel, callModel, modelAfter, withNames, withEntries, withListings, noListing, unretracted}
+use Rattle.store.specs.Model.{reclaimed, reclaimModel}
 use Rattle.store.specs.Soundness.{Sound}
 use Rattle.store.specs.History.{Store}
 use Rattle.store.proofs.Tests.{decide, upto, known-low, known-high, known-more, same-self}
 use Rattle.store.proofs.Falling.{head-pos}
 use Rattle.store.proofs.Text.{name-old, length-snoc}
 use Rattle.store.proofs.Represented.{Agreeing, fits-agrees, spo-agrees, mark-length, mark-spo}
-use Rattle.store.proofs.Unstruck.{origin, origin-in, origin-reads, origin-rises}
+use Rattle.store.proofs.Unretracted.{origin, origin-in, origin-reads, origin-rises}
 use Rattle.store.proofs.StatementsAgree.{permitted-agrees}
 
 abbrev pub kindIn : Model → ℕ → ℕ
@@ -37,7 +37,7 @@ kindIn s y = firstKindOf (nameOf (s .names) y)
 
 pub record Tidy (s : Model) : Type 0 where
   pub inside : (i : ℕ) → i < length (s .entries) → known (length (s .names)) ((entry (s .entries) i) .spo) ≡ true
-  pub kinds : (i : ℕ) → i < length (s .entries) → permitted (kindIn s) ((entry (s .entries) i) .spo) ≡ true
+  pub kinds : (i : ℕ) → i < length (s .entries) → kindsPermitted (kindIn s) ((entry (s .entries) i) .spo) ≡ true
   pub once : (i j : ℕ) → i < j → j < length (s .entries) → (entry (s .entries) i) .spo ≢ (entry (s .entries) j) .spo
 
 -- a triple that is not found is not there
@@ -50,13 +50,13 @@ abbrev more : Model → Triple → List Entry
 more s x = s .entries ++ record { spo = x; retracted = false } ∷ []
 
 module _ (s : Model) (D : Tidy s) where
-  tidy-append : (x : Triple) → known (length (s .names)) x ≡ true → permitted (kindIn s) x ≡ true
+  tidy-append : (x : Triple) → known (length (s .names)) x ≡ true → kindsPermitted (kindIn s) x ≡ true
       → lookup x (s .entries) ≡ 0
       → Tidy (withEntries s (more s x))
   tidy-append x k a e = record {
     inside = λ i h. upto (λ i. known (length (s .names)) ((entry (more s x) i) .spo) ≡ true) (length (s .entries))
         (λ i q. rw List·getD-append (D .inside i q)) (rw getD-append-seam k) i (omega (arith, simp length-append at h));
-    kinds = λ i h. upto (λ i. permitted (kindIn s) ((entry (more s x) i) .spo) ≡ true) (length (s .entries))
+    kinds = λ i h. upto (λ i. kindsPermitted (kindIn s) ((entry (more s x) i) .spo) ≡ true) (length (s .entries))
         (λ i q. rw List·getD-append (D .kinds i q)) (rw getD-append-seam a) i (omega (arith, simp length-append at h));
     once = λ i j h g. upto (λ j. (i : ℕ) → i < j → (entry (more s x) i) .spo ≢ (entry (more s x) j) .spo)
         (length (s .entries))
@@ -82,7 +82,7 @@ module _ (s : Model) (D : Tidy s) where
       }
 
   tidy-name : (w : List ℕ) → Tidy (withNames s (s .names ++ w ∷ []))
-  unfolding permitted
+  unfolding kindsPermitted
   tidy-name w = record {
     inside = λ i h. known-more (length (s .names)) _ _ (omega (arith, length-snoc (s .names) w)) (D .inside i h);
     kinds = λ i h.
@@ -107,7 +107,7 @@ module _ (s : Model) (D : Tidy s) where
         inside = λ i h. rw (origin-reads l i h) (D .inside (origin l i) (origin-in l i h));
         kinds = λ i h. rw (origin-reads l i h) (D .kinds (origin l i) (origin-in l i h));
         once = λ i j h g.
-            let q : i < length (unstruck l) = omega arith in
+            let q : i < length (unretracted l) = omega arith in
             rw (origin-reads l i q, origin-reads l j g)
             (D .once (origin l i) (origin l j) (origin-rises l i j h g) (origin-in l j g));
       }
@@ -118,15 +118,15 @@ module _ (s : Model) (D : Tidy s) where
     where
       go : (t : ℕ) → Tidy ((internName k s (canonical w) t) .0)
       go zero = unfold internName in
-          (decide (ltb (length (s .names)) (k .resources) && leb (bytesOf (s .names ++ canonical w ∷ [])) (k .text))
+          (decide (ltb (length (s .names)) (k .resources) && leb (textBytes (s .names ++ canonical w ∷ [])) (k .text))
           (λ e. rw e (tidy-name (canonical w))) (λ e. rw e D))
       go (suc i) = unfold internName in D
   tidy-call k (assert f x) =
       decide (known (length (s .names)) x)
-      (λ e. rw e (decide (permitted (kindIn s) x) (λ d. rw d (go e d (lookup x (s .entries)) refl)) (λ d. rw d D)))
+      (λ e. rw e (decide (kindsPermitted (kindIn s) x) (λ d. rw d (go e d (lookup x (s .entries)) refl)) (λ d. rw d D)))
       (λ e. rw e D)
     where
-      go : known (length (s .names)) x ≡ true → permitted (kindIn s) x ≡ true → (t : ℕ) → lookup x (s .entries) ≡ t
+      go : known (length (s .names)) x ≡ true → kindsPermitted (kindIn s) x ≡ true → (t : ℕ) → lookup x (s .entries) ≡ t
           → Tidy ((put k s x t) .0)
       go e d zero q = unfold put in (decide (ltb (length (s .entries)) (k .statements))
           (λ f. rw f (tidy-append x e d q)) (λ f. rw f D))
@@ -135,10 +135,10 @@ module _ (s : Model) (D : Tidy s) where
   tidy-call k (retract f x) =
       decide (known (length (s .names)) x) (λ e. rw e (go (lookup x (s .entries)))) (λ e. rw e D)
     where
-      go : (t : ℕ) → Tidy ((strike s t) .0)
-      go zero = unfold strike in D
+      go : (t : ℕ) → Tidy ((retractEntry s t) .0)
+      go zero = unfold retractEntry in D
       go (suc i) =
-          unfold strike in (decide ((entry (s .entries) i) .retracted) (λ f. rw f D) (λ f. rw f (tidy-mark i true)))
+          unfold retractEntry in (decide ((entry (s .entries) i) .retracted) (λ f. rw f D) (λ f. rw f (tidy-mark i true)))
   tidy-call k (open′ x) = decide (within (length (s .names)) x) (λ e. rw e (tidy-listings _)) (λ e. rw e D)
   tidy-call k (next j b) =
       decide (eqb ((getD (s .listings) j noListing) .generation) (s .generation))

@@ -22,16 +22,17 @@ use Rattle.store.specs.declared.Reclaimed.the-variants.{Refused as NotRe
 use Rattle.store.specs.Tables.{Tables, after, fits, termAt}
 use Rattle.store.specs.Shared.{maxReclaims, Entry, at, within}
 use Rattle.store.specs.Values.{Values, refusalNumber, scannedValues, reclaimedValues}
-use Rattle.store.specs.Model.{intern, assert, retract, open′, next, reclaim, byValue, lent, freshModel, unstruck}
+use Rattle.store.specs.Model.{intern, assert, retract, open′, next, reclaim, byValue, updating, freshModel, unretracted}
 use Rattle.store.specs.Dictionary.{internOf}
-use Rattle.store.specs.Walk.{Step, found, ended, spent, sits}
-use Rattle.store.specs.Statement.{assertOf, retractOf, assertLentOf, retractLentOf}
+use Rattle.store.specs.Walk.{Step, found, ended, spent, holdsResource}
+use Rattle.store.specs.Statement.{assertOf, retractOf, assertUpdatingOf, retractUpdatingOf}
 use Rattle.store.specs.Scan.{openOf, chainOk, recordOk, cursorOk, walkFrom, scannedAs, nextOf}
 use Rattle.store.specs.Reclaim.{reclaimOf}
 use Rattle.store.specs.Soundness.{Sound}
 use Rattle.store.specs.History.{freshStore, capacitiesOf, callStore}
-use Rattle.store.specs.Claims.{FitsMeans, CapacityFirst, StaleRefused, Stands, BadRefused, NumberCounts, UnstruckMeans}
-use Rattle.store.specs.Claims.{ReclaimRefuses}
+use Rattle.store.specs.RefusalClaims.{FitsMeans, CapacityFirst, StaleRefused, Stands, BadRefused}
+use Rattle.store.specs.ReclaimClaims.{NumberCounts, UnretractedMeans}
+use Rattle.store.specs.RefusalClaims.{ReclaimRefuses}
 use Rattle.store.proofs.Tests.{decide, and-l, and-r, and-of, all3-at, all3-of, within-high, within-of, fits-parts, fits-of}
 use Rattle.store.proofs.Histories.{history-agrees, fresh-agrees}
 use Rattle.store.proofs.Visits.{generation-after}
@@ -42,12 +43,12 @@ pub fits-means : FitsMeans
 fits-means c m = (fits-parts c m, λ h. fits-of c m (h .0) (h .1) (h .2) (h .3))
 
 pub capacity-first : CapacityFirst
-unfolding callStore internOf assertOf retractOf assertLentOf retractLentOf openOf nextOf reclaimOf
+unfolding callStore internOf assertOf retractOf assertUpdatingOf retractUpdatingOf openOf nextOf reclaimOf
 capacity-first s (intern w) e = rw e
 capacity-first s (assert byValue x) e = rw e
-capacity-first s (assert lent x) e = rw e
+capacity-first s (assert updating x) e = rw e
 capacity-first s (retract byValue x) e = rw e
-capacity-first s (retract lent x) e = rw e
+capacity-first s (retract updating x) e = rw e
 capacity-first s (open′ x) e = rw e
 capacity-first s (next j b) e = rw e
 capacity-first s reclaim e = rw e
@@ -61,14 +62,14 @@ number-counts m calls =
 
 -- ---- the entries kept
 
-append-kept : (l r : List Entry) → unstruck (l ++ r) ≡ unstruck l ++ unstruck r
-unfolding unstruck
+append-kept : (l r : List Entry) → unretracted (l ++ r) ≡ unretracted l ++ unretracted r
+unfolding unretracted
 append-kept [] r = refl
 append-kept (e ∷ l) r = decide (e .retracted) (λ d. rw (d, append-kept l r)) (λ d. rw (d, append-kept l r))
 
-pub unstruck-means : UnstruckMeans
-unfolding unstruck
-unstruck-means = (λ e. refl, append-kept)
+pub unretracted-means : UnretractedMeans
+unfolding unretracted
+unretracted-means = (λ e. refl, append-kept)
 
 -- ---- refusals 13 and 6 of a listing
 
@@ -128,12 +129,12 @@ chain-of (By p) x b u = lt-ltb 0 (at p x) (b p refl)
 
 record-holds : (stm : List ℕ) (ch : Chain) (x : Triple) (n : ℕ) → recordOk stm ch x n ≡ true → (p : Position) (i : ℕ)
     → ch ≡ By p → n ≡ suc i → termAt stm p i ≡ at p x
-unfolding recordOk sits
+unfolding recordOk holdsResource
 record-holds stm ch x n e p i d z = eqb-true (termAt stm p i) (at p x) (rw (d, z) at e)
 
 record-of : (stm : List ℕ) (ch : Chain) (x : Triple) (n : ℕ)
     → ((p : Position) (i : ℕ) → ch ≡ By p → n ≡ suc i → termAt stm p i ≡ at p x) → recordOk stm ch x n ≡ true
-unfolding recordOk sits
+unfolding recordOk holdsResource
 record-of stm ch x zero h = refl
 record-of stm All x (suc i) h = refl
 record-of stm (By p) x (suc i) h = eq-eqb (termAt stm p i) (at p x) (h p i refl refl)

@@ -1,4 +1,4 @@
--- The chains stay as said: a new statement record, a record revived or struck out, a new resource record. Assumes nothing.
+-- The chains stay as said: a new statement record, a record revived or retracted, a new resource record. Assumes nothing.
 use mathlib.Core.Path.{_≡_, refl, sym, ap, _∙_}
 use mathlib.Core.Logic.{_≢_}
 use mathlib.Core.Bool.{Bool, true, false, cond, _&&_}
@@ -138,7 +138,7 @@ module _ (stm : List ℕ) (i v : ℕ) where
       live = λ p y q z. tally-live f x res low-x room-x p y q ∙ lives p y q z;
     }
 
--- a struck-out record made live, and a live one struck out: one live record more, or less, at each position
+-- a retracted record made live, and a live one retracted: one live record more, or less, at each position
 module _ (r t : ℕ) (x : Triple) (res stm : List ℕ) (i : ℕ) (h : i < t) (L : Linked r t res stm)
     (terms : (p : Position) → termAt stm p i ≡ at p x) where
   set-same : (v : ℕ) → flagAt (flagged stm i v) i ≡ v
@@ -179,8 +179,8 @@ module _ (r t : ℕ) (x : Triple) (res stm : List ℕ) (i : ℕ) (h : i < t) (L 
       flag-linked stm i 0 r t suc x res h L terms (omega arith)
       (λ p y a b. rw (L .live p y a b) (sym (one-more-live e p y)))
 
-  pub struck-linked : flagAt stm i ≡ 0 → Linked r t (tally (λ n. n - 1) x res) (flagged stm i 1)
-  struck-linked e =
+  pub retracted-linked : flagAt stm i ≡ 0 → Linked r t (tally (λ n. n - 1) x res) (flagged stm i 1)
+  retracted-linked e =
       flag-linked stm i 1 r t (λ n. n - 1) x res h L terms (omega arith)
       (λ p y a b. rw (L .live p y a b, one-less-live e p y)
       (less-one (eqb (at p x) y) (length (below (living (flagged stm i 1) p y) t))))

@@ -22,8 +22,10 @@ use Rattle.store.specs.Walk.{entryAt, pickChain, pickable, startOf}
 use Rattle.store.specs.Statement.{countable, locate, counting, retracting}
 use Rattle.store.specs.Scan.{openOf, cursorOk, walkFrom, nextOf}
 use Rattle.store.specs.Soundness.{holding, living}
-use Rattle.store.specs.Claims.{entriesUpTo, liveIn, LiveCountsShown, LiveAboveCount, LiveCountOfZero}
-use Rattle.store.specs.Claims.{SameButLive, ScansDoNotLook}
+use Rattle.store.specs.Claims.{entriesUpTo}
+use Rattle.store.specs.LiveClaims.{liveIn, LiveCountsShown}
+use Rattle.store.specs.RefusalClaims.{LiveAboveCount, LiveCountOfZero}
+use Rattle.store.specs.LiveClaims.{SameButLive, ScansDoNotLook}
 use Rattle.store.proofs.Tests.{decide, and-r, all3-at, off-lt}
 use Rattle.store.proofs.Falling.{length-suc}
 use Rattle.store.proofs.Words.{triple-at}
@@ -83,10 +85,10 @@ module _ (res : List ℕ) (x : Triple) where
 
 -- ---- on any tables: assert and retract
 
-torn : (c : Counters) (m : Tables) (x : Triple) (p : Position)
+damaged : (c : Counters) (m : Tables) (x : Triple) (p : Position)
     → countAt (m .resources) p (at p x) < liveAt (m .resources) p (at p x) → locate c m x ≡ none
 unfolding locate
-torn c m x p h =
+damaged c m x p h =
     decide (pickable (c .statements) (m .resources) x && countable (m .resources) x)
     (λ e. absurd (omega (
       arith,
@@ -96,7 +98,7 @@ torn c m x p h =
 
 pub live-above-count : LiveAboveCount
 live-above-count c m x p a b h =
-    (retract-damaged c m x a b (torn c m x p h), λ d f. assert-damaged c m x a b d f (torn c m x p h))
+    (retract-damaged c m x a b (damaged c m x p h), λ d f. assert-damaged c m x a b d f (damaged c m x p h))
 
 pub live-count-of-zero : LiveCountOfZero
 unfolding retracting

@@ -17,13 +17,13 @@ use Rattle.term.proofs.Booleans.{eqBytes-is, eqBytes-refl}
 use Rattle.store.specs.declared.Counters.{Counters}
 use Rattle.store.specs.declared.Interned.{Interned}
 use Rattle.store.specs.declared.IndexPlace.{IndexPlace}
-use Rattle.store.specs.declared.IndexPlace.the-variants.{At, Before, Torn}
-use Rattle.store.specs.Shared.{wellFormed, nameOf, bytesOf, lookupName}
+use Rattle.store.specs.declared.IndexPlace.the-variants.{At, Before, OutOfRange}
+use Rattle.store.specs.Shared.{wellFormed, nameOf, textBytes, lookupName}
 use Rattle.store.specs.Tables.{Tables, word, resourceWords, resourceCapacity, textCapacity, offsetAt, kindAt}
 use Rattle.store.specs.Values.{Values, counted, internedValues}
 use Rattle.store.specs.Model.{Model, Capacities, totals, withNames, internName, internModel}
-use Rattle.store.specs.Dictionary.{storable, PlaceWithin}
-use Rattle.store.specs.Dictionary.{compare, equal, isLess, Indexed, Named, nameAt, rank, placeAt, indexPlaceOf}
+use Rattle.store.specs.Dictionary.{PlaceWithin, rank, placeAt, indexPlaceOf}
+use Rattle.store.specs.Names.{storable, compareBytes, equal, isLess, Indexed, Named, nameAt}
 use Rattle.store.specs.Dictionary.{roomFor, oneNameMore, freshRecord, insertAt, withName, internAs, internOf}
 use Rattle.store.specs.History.{Store, store, internedCounters}
 use Rattle.store.proofs.Tests.{decide, upto-one, and-l, and-r, and-of}
@@ -54,7 +54,7 @@ module _ (ns : List (List ℕ)) (c : Counters) (m : Tables) (N : Named ns c m) w
       → rank (nameAt m) (m .index) (c .resources) w ≡ rank (nameOf ns) (m .index) (c .resources) w
   unfolding rank
   rank-at w = ap length (below-cong _ _ (c .resources)
-      (λ i h. ap (λ (z : List ℕ). isLess (compare z w)) (name-indexed i h)))
+      (λ i h. ap (λ (z : List ℕ). isLess (compareBytes z w)) (name-indexed i h)))
 
   module _ (w : List ℕ) where
     abbrev kk : ℕ
@@ -75,7 +75,7 @@ module _ (ns : List (List ℕ)) (c : Counters) (m : Tables) (N : Named ns c m) w
     unfolding nameOf
     unlisted e y h q d = omega (arith, not-missed w ns (y - 1) (omega (arith, N .size)) d, e)
 
-    pub missed : lookupName w ns ≡ 0 → kk < c .resources → compare (nameOf ns (word (m .index) kk)) w ≢ equal
+    pub missed : lookupName w ns ≡ 0 → kk < c .resources → compareBytes (nameOf ns (word (m .index) kk)) w ≢ equal
     missed e h d = unlisted e (word (m .index) kk) (N .index .low kk h) (N .index .high kk h) (compare-equal _ w d)
 
     hit-test : (i : ℕ) → lookupName w ns ≡ suc i → ltb kk (c .resources) && eqBytes (nameAt m (word (m .index) kk)) w
@@ -135,8 +135,8 @@ module _ (ns : List (List ℕ)) (c : Counters) (m : Tables) (N : Named ns c m) (
         well = snoc-all (λ n. storable n ≡ true) ns w (N .well) wf;
         offsets = upto-one _ (c .resources)
             (λ y h q. gw 6 y (omega arith) h q ∙ N .offsets y h q
-            ∙ ap bytesOf (sym (take-append-le (y - 1) ns (w ∷ []) (omega (arith, N .size)))))
-            (gn 6 (omega arith) ∙ N .bytes ∙ ap bytesOf (sym
+            ∙ ap textBytes (sym (take-append-le (y - 1) ns (w ∷ []) (omega (arith, N .size)))))
+            (gn 6 (omega arith) ∙ N .bytes ∙ ap textBytes (sym
             (take-at ns (w ∷ []) (suc (c .resources) - 1) (omega (arith, N .size)))));
         kinds = upto-one _ (c .resources)
             (λ y h q. gw 7 y (omega arith) h q ∙ N .kinds y h q
@@ -193,7 +193,7 @@ module _ (k : Capacities) (c : Store) (s : Model) (R : Agreeing k c s) (w : List
       ≡ counted 0 (length (s .names ++ w ∷ [])) (totals (withNames s (s .names ++ w ∷ [])))
   new-values z = ap₂ (counted 0) (z .named .size) (totals-agree k _ _ z)
 
-  room-agrees : roomFor n m w ≡ ltb (length (s .names)) (k .resources) && leb (bytesOf (s .names ++ w ∷ [])) (k .text)
+  room-agrees : roomFor n m w ≡ ltb (length (s .names)) (k .resources) && leb (textBytes (s .names ++ w ∷ [])) (k .text)
   unfolding roomFor
   room-agrees =
       ap₂ _&&_ (ap₂ ltb (R .named .size) (sym (R .room-resources)))

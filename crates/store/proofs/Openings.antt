@@ -19,11 +19,12 @@ use Rattle.store.specs.Shared.{at, within, agrees, below, prev, Entry, m
 use Rattle.store.specs.Values.{Values, placed, refusedWith, stepped}
 use Rattle.store.specs.Model.{Listing, Model, Capacities, Taken, found as took, ended as emptied}
 use Rattle.store.specs.Model.{spent as stopped, Call, open′, next, freshModel, entry, onChain, holders}
-use Rattle.store.specs.Model.{pickModel, listing, cursorOf, noListing, leaving, take-off, takenValues}
+use Rattle.store.specs.Model.{pickModel, listing, cursorOf, noListing, leaving, readRest, takenValues}
 use Rattle.store.specs.Model.{takeFrom, turn, openModel, nextModel, callModel, modelReplies, modelAfter}
 use Rattle.store.specs.History.{Store, freshStore, capacitiesOf, callStore, storeReplies, storeAfter}
 use Rattle.store.specs.Claims.{Opening, storeThen, opened, Accepted, openingNumber, chainThen, storeNow, visitsOf}
-use Rattle.store.specs.Claims.{visitsSoFar, restNow, reached, liveNow, nextNow, Latest, NoneOf, Exhausts, Falling}
+use Rattle.store.specs.Claims.{visitsSoFar, restNow, reached, liveNow, nextNow, Latest, NoneOf, Exhausts}
+use Rattle.store.specs.Pins.{Falling}
 use Rattle.store.specs.Claims.{Shortest, unbound, bound, statementsIn, Finds, EndsOrSpends, VisitsAddUp}
 use Rattle.store.specs.Claims.{takenSoFar, reclaimsIn, reclaimsSince, Unreclaimed, NoneIsMissed, ReadsOnWithBudget, StaleAfterReclaim}
 use Rattle.store.proofs.Tests.{decide, off-lt, and-r}
@@ -96,7 +97,7 @@ unfolding listing
 chain-of n x l = refl
 
 take-from : (n : ℕ) (l : List Entry) (x : Triple) (h : List Entry) (r : List ℕ) (b : ℕ)
-    → takeFrom l (leaving (listing n x h) r) b ≡ take-off (λ i. matches x (entry l i)) b r
+    → takeFrom l (leaving (listing n x h) r) b ≡ readRest (λ i. matches x (entry l i)) b r
 unfolding takeFrom listing
 take-from n l x h r b = refl
 
@@ -227,7 +228,7 @@ module _ (o : Opening) (acc : Accepted o) where
 
   -- what a next answers
   next-is : (b : ℕ) → (nextNow o b) .refusal ≡ 0
-      → nextNow o b ≡ takenValues (openingOf s2 j) (take-off liveAt b (restNow o))
+      → nextNow o b ≡ takenValues (openingOf s2 j) (readRest liveAt b (restNow o))
   next-is b h =
       next-same b
       ∙ next-values s2 j b (sym (ap (λ (v : Values). v .refusal) (next-same b)) ∙ h)
@@ -244,7 +245,7 @@ module _ (o : Opening) (acc : Accepted o) where
   -- ---- Finds
 
   module _ (b : ℕ) (h : (nextNow o b) .refusal ≡ 0) where
-    answer : (z : Taken) → take-off liveAt b (restNow o) ≡ z → nextNow o b ≡ takenValues (openingOf s2 j) z
+    answer : (z : Taken) → readRest liveAt b (restNow o) ≡ z → nextNow o b ≡ takenValues (openingOf s2 j) z
     answer z q = next-is b h ∙ ap (takenValues (openingOf s2 j)) q
 
     finds-by : (n : ℕ) → Outcome liveAt b (restNow o) → ((nextNow o b) .status ≡ 1) × ((nextNow o b) .number ≡ n)

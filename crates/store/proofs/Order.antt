@@ -1,4 +1,4 @@
--- The byte order of names (`compare`): reflexive, total, antisymmetric, transitive; equal names are equal lists.
+-- The byte order of names (`compareBytes`): reflexive, total, antisymmetric, transitive; equal names are equal lists.
 -- Assumes nothing.
 use mathlib.Core.Path.{_≡_, refl, sym, ap, ap₂, _∙_}
 use mathlib.Core.Logic.{_≢_}
@@ -10,35 +10,35 @@ use lib.Dec.{leb, ltb}
 use borrow.Author.Tests.{ltb-true, ltb-false, lt-ltb, le-ltb}
 use Rattle.term.specs.Bytes.{eqBytes}
 use Rattle.term.proofs.Booleans.{eqBytes-refl}
-use Rattle.store.specs.Dictionary.{Ordering, less, equal, more, compare, isLess}
+use Rattle.store.specs.Names.{ByteOrdering, less, equal, more, compareBytes, isLess}
 use Rattle.store.proofs.Tests.{three}
 
-abbrev pub flip : Ordering → Ordering
+abbrev pub flip : ByteOrdering → ByteOrdering
 flip less = more
 flip equal = equal
 flip more = less
 
 -- by the first bytes
-pub compare-less : (x y : ℕ) (xs ys : List ℕ) → x < y → compare (x ∷ xs) (y ∷ ys) ≡ less
-unfolding compare
+pub compare-less : (x y : ℕ) (xs ys : List ℕ) → x < y → compareBytes (x ∷ xs) (y ∷ ys) ≡ less
+unfolding compareBytes
 compare-less x y xs ys h = rw (lt-ltb x y h)
 
-pub compare-more : (x y : ℕ) (xs ys : List ℕ) → y < x → compare (x ∷ xs) (y ∷ ys) ≡ more
-unfolding compare
+pub compare-more : (x y : ℕ) (xs ys : List ℕ) → y < x → compareBytes (x ∷ xs) (y ∷ ys) ≡ more
+unfolding compareBytes
 compare-more x y xs ys h = rw (le-ltb x y (omega arith), lt-ltb y x h)
 
-pub compare-tail : (x y : ℕ) (xs ys : List ℕ) → x ≡ y → compare (x ∷ xs) (y ∷ ys) ≡ compare xs ys
-unfolding compare
+pub compare-tail : (x y : ℕ) (xs ys : List ℕ) → x ≡ y → compareBytes (x ∷ xs) (y ∷ ys) ≡ compareBytes xs ys
+unfolding compareBytes
 compare-tail x y xs ys h = rw (le-ltb x y (omega arith), le-ltb y x (omega arith))
 
-pub compare-refl : (a : List ℕ) → compare a a ≡ equal
-unfolding compare
+pub compare-refl : (a : List ℕ) → compareBytes a a ≡ equal
+unfolding compareBytes
 compare-refl [] = refl
 compare-refl (x ∷ xs) = compare-tail x x xs xs refl ∙ compare-refl xs
 
 -- total and antisymmetric
-pub compare-flip : (a b : List ℕ) → compare b a ≡ flip (compare a b)
-unfolding compare
+pub compare-flip : (a b : List ℕ) → compareBytes b a ≡ flip (compareBytes a b)
+unfolding compareBytes
 compare-flip [] [] = refl
 compare-flip [] (y ∷ ys) = refl
 compare-flip (x ∷ xs) [] = refl
@@ -51,8 +51,8 @@ compare-flip (x ∷ xs) (y ∷ ys) =
 pub less-not-equal : less ≢ equal
 less-not-equal e = let z : _≡_ {A = ℕ} 0 1 = cc in omega arith
 
-pub compare-equal : (a b : List ℕ) → compare a b ≡ equal → a ≡ b
-unfolding compare
+pub compare-equal : (a b : List ℕ) → compareBytes a b ≡ equal → a ≡ b
+unfolding compareBytes
 compare-equal [] [] e = refl
 compare-equal [] (y ∷ ys) e = cc
 compare-equal (x ∷ xs) [] e = cc
@@ -62,8 +62,8 @@ compare-equal (x ∷ xs) (y ∷ ys) e =
     (λ h. ap₂ _∷_ h (compare-equal xs ys (sym (compare-tail x y xs ys h) ∙ e)))
     (λ h. let d = compare-more x y xs ys h in cc)
 
-pub compare-trans : (a b c : List ℕ) → compare a b ≡ less → compare b c ≡ less → compare a c ≡ less
-unfolding compare
+pub compare-trans : (a b c : List ℕ) → compareBytes a b ≡ less → compareBytes b c ≡ less → compareBytes a c ≡ less
+unfolding compareBytes
 compare-trans [] [] c e d = d
 compare-trans [] (y ∷ ys) [] e d = cc
 compare-trans [] (y ∷ ys) (z ∷ zs) e d = refl
@@ -82,11 +82,11 @@ compare-trans (x ∷ xs) (y ∷ ys) (z ∷ zs) e d =
     (λ g. let f = compare-more y z ys zs g in cc))
     (λ h. let f = compare-more x y xs ys h in cc)
 
-pub is-less : (o : Ordering) → isLess o ≡ true → o ≡ less
+pub is-less : (o : ByteOrdering) → isLess o ≡ true → o ≡ less
 is-less less e = refl
 is-less equal e = cc
 is-less more e = cc
 
 -- equal in the order exactly where the bytes are
-pub eqBytes-compare : (a b : List ℕ) → compare a b ≡ equal → eqBytes a b ≡ true
+pub eqBytes-compare : (a b : List ℕ) → compareBytes a b ≡ equal → eqBytes a b ≡ true
 eqBytes-compare a b e = rw (compare-equal a b e) (eqBytes-refl b)

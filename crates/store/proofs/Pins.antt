@@ -15,11 +15,11 @@ use Rattle.store.specs.declared.Position.{Position}
 use Rattle.store.specs.declared.Chain.{Chain}
 use Rattle.store.specs.declared.Chain.the-variants.{All, By}
 use Rattle.store.specs.declared.Triple.{Triple}
-use Rattle.store.specs.Shared.{at, all3, known, within, same, agrees, permitted, below, Entry, matches, pick, lookupName}
+use Rattle.store.specs.Shared.{at, all3, known, within, same, agrees, kindsPermitted, below, Entry, matches, pick, lookupName}
 use Rattle.store.specs.Tables.{off}
-use Rattle.store.specs.Claims.{KnownMeans, WithinMeans, SameMeans, MatchesMeans, PermittedMeans, BelowMeans}
-use Rattle.store.specs.Claims.{FirstIsHighest, BytesMean, LookupMeans}
-use Rattle.store.specs.Claims.{LeastBound, PicksLeast}
+use Rattle.store.specs.Pins.{KnownMeans, WithinMeans, SameMeans, MatchesMeans, KindsPermittedMeans, BelowMeans}
+use Rattle.store.specs.Pins.{FirstIsHighest, BytesMean, LookupMeans}
+use Rattle.store.specs.Pins.{LeastBound, PicksLeast}
 use Rattle.store.proofs.Tests.{decide, off-lt, and-l, and-r, and-of, all3-at, all3-of, known-low, known-high}
 use Rattle.store.proofs.Tests.{known-of, within-high, within-of, same-is, same-self}
 use Rattle.store.proofs.Falling.{below-in, below-out, head-le, head-passes, head-most, head-pos}
@@ -62,9 +62,9 @@ matches-means x e = (
   λ h. and-of _ _ (ap not (h .0)) (agrees-of x (e .spo) (h .1)),
 )
 
-pub permitted-means : PermittedMeans
-unfolding permitted
-permitted-means kind x = (
+pub kinds-permitted-means : KindsPermittedMeans
+unfolding kindsPermitted
+kinds-permitted-means kind x = (
   λ h. (
     eqb-false (kind (x .subject .0)) 3 (not-true _ (and-l _ _ h)),
     eqb-true (kind (x .predicate .0)) 1 (and-r (not (eqb (kind (x .subject .0)) 3)) _ h),

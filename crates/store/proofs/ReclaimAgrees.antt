@@ -1,4 +1,4 @@
--- Reclaim on states that agree: the sweep leaves chains as said over the entries not struck out, in their order, so the
+-- Reclaim on states that agree: the sweep leaves chains as said over the entries not retracted, in their order, so the
 -- values are the same and the states after it agree. Assumes nothing.
 use mathlib.Core.Path.{_≡_, refl, sym, ap, ap₂, _∙_}
 use mathlib.Core.Bool.{Bool, true, false, cond}
@@ -15,7 +15,7 @@ use Rattle.store.specs.declared.Reclaimed.{Reclaimed}
 use Rattle.store.specs.Shared.{at, maxReclaims, Entry}
 use Rattle.store.specs.Tables.{Tables, word, statementWords, resourceWords, termAt, flagAt, tripleAt, offsetAt, kindAt}
 use Rattle.store.specs.Values.{Values, counted, reclaimedValues}
-use Rattle.store.specs.Model.{Model, Capacities, entry, unstruck, reclaimed, reclaimModel}
+use Rattle.store.specs.Model.{Model, Capacities, entry, unretracted, reclaimed, reclaimModel}
 use Rattle.store.specs.Walk.{entryAt}
 use Rattle.store.specs.Statement.{appendRecord}
 use Rattle.store.specs.Soundness.{Linked}
@@ -29,7 +29,7 @@ use Rattle.store.proofs.Words.{append-term, append-flag, linked-length,
 use Rattle.store.proofs.Links.{append-linked}
 use Rattle.store.proofs.Represented.{Agreeing, Same, same-cond, fits-agrees, totals-agree}
 use Rattle.store.proofs.StatementsAgree.{entry-of}
-use Rattle.store.proofs.Unstruck.{unstruck-snoc}
+use Rattle.store.proofs.Unretracted.{unretracted-snoc}
 use Rattle.store.proofs.Swept.{unlinked-length, unlinked-past, unlinked-offset, unlinked-kind, unlinked-linked}
 use Rattle.store.proofs.Swept.{blanked-length, blanked-before, same-entry, same-linked}
 use Rattle.store.proofs.Held.{entries-length, entries-at, agreeing-statements}
@@ -46,7 +46,7 @@ entries-cong a b (suc n) h = rw (entries-cong a b n (λ i q. h i (omega arith)),
 pub record Sweeping (r n : ℕ) (res stm : List ℕ) (z : Swept) : Type 0 where
   pub few : z .count ≤ n
   pub linked : Linked r (z .count) (z .resources) (z .statements)
-  pub holds : entriesUpTo (z .statements) (z .count) ≡ unstruck (entriesUpTo stm n)
+  pub holds : entriesUpTo (z .statements) (z .count) ≡ unretracted (entriesUpTo stm n)
   -- later records as they were; lengths, offsets, kinds, words past the resources
   pub later : (k : ℕ) → statementWords * n ≤ k → word (z .statements) k ≡ word stm k
   pub same-resources : length (z .resources) ≡ length res
@@ -60,7 +60,7 @@ module _ (r t : ℕ) (res stm : List ℕ) (L : Linked r t res stm) where
   start = swept 0 (unlinked r res) stm
 
   sweeping-none : Sweeping r 0 res stm start
-  unfolding entriesUpTo unstruck
+  unfolding entriesUpTo unretracted
   sweeping-none = record {
     few = omega arith;
     linked = unlinked-linked res r stm (L .fit-resources);
@@ -101,14 +101,14 @@ module _ (r t : ℕ) (res stm : List ℕ) (L : Linked r t res stm) where
     pub room-next : statementWords * suc (z .count) ≤ length (z .statements)
     room-next = omega (arith, S .few, S .same-statements, L .fit-statements)
 
-    -- a struck-out one
+    -- a retracted one
     passed : flagAt stm n ≡ 1 → Sweeping r (suc n) res stm z
     unfolding entriesUpTo
     passed e = record {
       few = omega (arith, S .few);
       linked = S .linked;
-      holds = S .holds ∙ sym (unstruck-snoc (entriesUpTo stm n) (entryAt stm n)
-          ∙ ap (λ (b : Bool). cond b (unstruck (entriesUpTo stm n)) (unstruck (entriesUpTo stm n) ++ entryAt stm n ∷ []))
+      holds = S .holds ∙ sym (unretracted-snoc (entriesUpTo stm n) (entryAt stm n)
+          ∙ ap (λ (b : Bool). cond b (unretracted (entriesUpTo stm n)) (unretracted (entriesUpTo stm n) ++ entryAt stm n ∷ []))
           (marked e));
       later = λ k q. S .later k (omega arith);
       same-resources = S .same-resources;
@@ -142,8 +142,8 @@ module _ (r t : ℕ) (res stm : List ℕ) (L : Linked r t res stm) where
       linked = append-linked r (z .count) x (z .resources) (z .statements) (S .linked) room-next x-low x-high;
       holds = ap₂ (λ (l : List Entry) (a : Entry). l ++ a ∷ [])
           (entries-cong stm′ (z .statements) (z .count) old-entry ∙ S .holds) (new-entry e)
-          ∙ sym (unstruck-snoc (entriesUpTo stm n) (entryAt stm n)
-          ∙ ap (λ (b : Bool). cond b (unstruck (entriesUpTo stm n)) (unstruck (entriesUpTo stm n) ++ entryAt stm n ∷ []))
+          ∙ sym (unretracted-snoc (entriesUpTo stm n) (entryAt stm n)
+          ∙ ap (λ (b : Bool). cond b (unretracted (entriesUpTo stm n)) (unretracted (entriesUpTo stm n) ++ entryAt stm n ∷ []))
           (unmarked e));
       later = λ k q.
           append-word-after (z .count) x (z .resources) (z .statements) k (omega (arith, S .few))
@@ -194,11 +194,11 @@ module _ (k : Capacities) (c : Store) (s : Model) (R : Agreeing k c s) where
   abbrev blank : List ℕ
   blank = blanked (z .count) (n .statements) (z .statements)
 
-  entries-now : entriesUpTo blank (z .count) ≡ unstruck (s .entries)
+  entries-now : entriesUpTo blank (z .count) ≡ unretracted (s .entries)
   entries-now =
       entries-cong blank (z .statements) (z .count)
       (same-entry (z .count) (z .statements) blank (blanked-before (z .count) (n .statements) (z .statements)))
-      ∙ swept-all .holds ∙ ap unstruck (agreeing-statements k c s R)
+      ∙ swept-all .holds ∙ ap unretracted (agreeing-statements k c s R)
 
   reclaimed-agrees : n .generation < maxReclaims
       → Agreeing k (store (reclaimedCounters n z) (reclaimedTables n m z) (c .cursors)) (reclaimed s)

@@ -1,4 +1,4 @@
--- What a reclaim does, claim by claim: what is left, the words, a struck-out triple is forgotten, room for a triple that
+-- What a reclaim does, claim by claim: what is left, the words, a retracted triple is forgotten, room for a triple that
 -- was refused 3. Assumes nothing.
 use mathlib.Core.Path.{_≡_, refl, sym, ap, _∙_, subst}
 use mathlib.Core.Logic.{_≢_, _↔_}
@@ -15,25 +15,26 @@ use Rattle.store.specs.declared.Counters.{Counters}
 use Rattle.store.specs.declared.Position.{Position}
 use Rattle.store.specs.declared.Position.the-variants.{Subject, Predicate}
 use Rattle.store.specs.declared.Triple.{Triple}
-use Rattle.store.specs.Shared.{at, known, within, same, permitted, head0, maxReclaims, Entry, wellFormed, nameOf, bytesOf}
+use Rattle.store.specs.Shared.{at, known, within, same, kindsPermitted, head0, maxReclaims, Entry, wellFormed, nameOf, textBytes}
 use Rattle.store.specs.Tables.{Tables, flagAt}
 use Rattle.store.specs.Values.{Values}
 use Rattle.store.specs.Model.{Model, Capacities, Form, Call, intern, assert, retract, open′, next, reclaim}
 use Rattle.store.specs.Model.{freshModel, internName, internModel, entry}
 use Rattle.store.specs.Shared.{lookupName}
-use Rattle.store.specs.Model.{lookup, put, assertModel, strike, retractModel, openModel, turn, noListing, nextModel}
-use Rattle.store.specs.Model.{unstruck, reclaimed, reclaimModel, callModel, modelAfter}
+use Rattle.store.specs.Model.{lookup, put, assertModel, retractEntry, retractModel, openModel, turn, noListing, nextModel}
+use Rattle.store.specs.Model.{unretracted, reclaimed, reclaimModel, callModel, modelAfter}
 use Rattle.store.specs.Walk.{entryAt}
 use Rattle.store.specs.Soundness.{holding, living, Sound}
 use Rattle.store.specs.Reclaim.{sweptOf, reclaimedTables, reclaimedCounters, reclaimOf}
 use Rattle.store.specs.History.{Store, store, freshStore, capacitiesOf, callStore, storeReplies, storeAfter}
-use Rattle.store.specs.Claims.{statementsIn, listsOf, Holds, reclaimsIn, storeAt, Compacted, ReclaimKeeps}
-use Rattle.store.specs.Claims.{ReclaimWrites, ReclaimWords, ForgetsRetracted, RoomAgain}
+use Rattle.store.specs.Claims.{statementsIn, listsOf, Holds, reclaimsIn}
+use Rattle.store.specs.ReclaimClaims.{storeAt, Compacted, ReclaimKeeps}
+use Rattle.store.specs.ReclaimClaims.{ReclaimWrites, ReclaimWords, ForgetsRetracted, RoomAgain}
 use Rattle.store.proofs.Tests.{decide, three, known-low, known-high, known-more, same-is}
 use Rattle.store.proofs.Falling.{below-cong, below-none}
 use Rattle.store.proofs.Text.{name-old, length-snoc}
 use Rattle.store.proofs.Represented.{Agreeing}
-use Rattle.store.proofs.Unstruck.{origin, origin-in, origin-reads, unstruck-live, unstruck-fewer}
+use Rattle.store.proofs.Unretracted.{origin, origin-in, origin-reads, unretracted-live, unretracted-fewer}
 use Rattle.store.proofs.Swept.{blanked-length, blanked-in, blanked-after}
 use Rattle.store.proofs.ReclaimAgrees.{swept-all}
 use Rattle.store.proofs.Kept.{kindIn, Tidy, absent, tidy-call, tidy-history, tidy-fresh}
@@ -77,15 +78,15 @@ module _ (c : Counters) (m : Tables) (S : Sound c m) (g : c .generation < maxRec
   live-flag i h =
       let n = left .counters .statements in
       let w = left .tables .statements in
-      let e : entryAt w i ≡ entry (unstruck (statementsIn here)) i =
+      let e : entryAt w i ≡ entry (unretracted (statementsIn here)) i =
       sym (entries-at w n i h) ∙ ap (λ (l : List Entry). entry l i) (held .statements) in
-      let q : i < length (unstruck (statementsIn here)) =
+      let q : i < length (unretracted (statementsIn here)) =
       omega (arith, entries-length w n, ap length (held .statements)) in
       omega (
         arith,
         held .sound .linked .flag i h,
         eqb-false (flagAt w i) 1 (entry-mark w i false (ap (λ (a : Entry). a .retracted) e
-            ∙ unstruck-live (statementsIn here) i q)),
+            ∙ unretracted-live (statementsIn here) i q)),
       )
 
   live-holds : (p : Position) (y i : ℕ) → flagAt (left .tables .statements) i ≡ 0
@@ -152,7 +153,7 @@ lookup-none x l h =
 
 -- an absent triple of known numbers and permitted kinds is new exactly if there is room
 module _ (k : Capacities) (s : Model) (x : Triple) (a : known (length (s .names)) x ≡ true)
-    (b : permitted (kindIn s) x ≡ true) (e : lookup x (s .entries) ≡ 0) where
+    (b : kindsPermitted (kindIn s) x ≡ true) (e : lookup x (s .entries) ≡ 0) where
   new-if-room : length (s .entries) < k .statements → ((assertModel k s x) .1) .status ≡ 1
   unfolding assertModel put
   new-if-room h = rw (a, b, e, lt-ltb (length (s .entries)) (k .statements) h)
@@ -166,7 +167,7 @@ module _ (k : Capacities) (s : Model) (x : Triple) (a : known (length (s .names)
 -- why an assert was refused 3
 pub record NoRoom (k : Capacities) (s : Model) (x : Triple) : Type 0 where
   pub inside : known (length (s .names)) x ≡ true
-  pub kinds : permitted (kindIn s) x ≡ true
+  pub kinds : kindsPermitted (kindIn s) x ≡ true
   pub missing : lookup x (s .entries) ≡ 0
   pub full : k .statements ≤ length (s .entries)
   pub stays : (assertModel k s x) .0 ≡ s
@@ -174,7 +175,7 @@ pub record NoRoom (k : Capacities) (s : Model) (x : Triple) : Type 0 where
 no-room : (k : Capacities) (s : Model) (x : Triple) → ((assertModel k s x) .1) .refusal ≡ 3 → NoRoom k s x
 no-room k s x h =
     decide (known (length (s .names)) x)
-    (λ a. decide (permitted (kindIn s) x)
+    (λ a. decide (kindsPermitted (kindIn s) x)
     (λ b. by (lookup x (s .entries)) refl a b)
     (λ b. absurd (unpermitted a b h)))
     (λ a. absurd (unknown a h))
@@ -182,18 +183,18 @@ no-room k s x h =
     unknown : known (length (s .names)) x ≡ false → ((assertModel k s x) .1) .refusal ≡ 3 → ⊥
     unknown a = unfold assertModel in (rw a (λ h. omega (arith, h)))
 
-    unpermitted : known (length (s .names)) x ≡ true → permitted (kindIn s) x ≡ false
+    unpermitted : known (length (s .names)) x ≡ true → kindsPermitted (kindIn s) x ≡ false
         → ((assertModel k s x) .1) .refusal ≡ 3 → ⊥
     unpermitted a b = unfold assertModel in (rw (a, b) (λ h. omega (arith, h)))
 
-    is-put : known (length (s .names)) x ≡ true → permitted (kindIn s) x ≡ true
+    is-put : known (length (s .names)) x ≡ true → kindsPermitted (kindIn s) x ≡ true
         → assertModel k s x ≡ put k s x (lookup x (s .entries))
     is-put a b = unfold assertModel in (rw (a, b))
 
-    by : (n : ℕ) → lookup x (s .entries) ≡ n → known (length (s .names)) x ≡ true → permitted (kindIn s) x ≡ true
+    by : (n : ℕ) → lookup x (s .entries) ≡ n → known (length (s .names)) x ≡ true → kindsPermitted (kindIn s) x ≡ true
         → NoRoom k s x
     by zero e a b = decide (ltb (length (s .entries)) (k .statements))
-        (λ d. absurd (roomy d))
+        (λ d. absurd (has-room d))
         (λ d. record {
           inside = a;
           kinds = b;
@@ -205,8 +206,8 @@ no-room k s x h =
         put-stays : ltb (length (s .entries)) (k .statements) ≡ false → (put k s x 0) .0 ≡ s
         put-stays d = unfold put in (rw d)
 
-        roomy : ltb (length (s .entries)) (k .statements) ≡ true → ⊥
-        roomy d = unfold put in (let q : ((put k s x 0) .1) .refusal ≡ 3 = ap (λ (z : Model × Values). z .1 .refusal)
+        has-room : ltb (length (s .entries)) (k .statements) ≡ true → ⊥
+        has-room d = unfold put in (let q : ((put k s x 0) .1) .refusal ≡ 3 = ap (λ (z : Model × Values). z .1 .refusal)
             (sym (is-put a b ∙ ap (put k s x) e)) ∙ h in omega (arith, rw d at q))
     by (suc i) e a b = absurd (there i (ap (λ (z : Model × Values). z .1 .refusal)
         (sym (is-put a b ∙ ap (put k s x) e)) ∙ h))
@@ -243,18 +244,18 @@ module _ (k : Capacities) (s : Model) where
   unfolding assertModel
   assert-names x =
       decide (known (length (s .names)) x)
-      (λ e. rw e (decide (permitted (kindIn s) x) (λ d. rw d (put-names x (lookup x (s .entries)))) (λ d. rw d)))
+      (λ e. rw e (decide (kindsPermitted (kindIn s) x) (λ d. rw d (put-names x (lookup x (s .entries)))) (λ d. rw d)))
       (λ e. rw e)
 
-  strike-names : (n : ℕ) → ((strike s n) .0) .names ≡ s .names
-  unfolding strike
-  strike-names zero = refl
-  strike-names (suc i) = decide ((entry (s .entries) i) .retracted) (λ e. rw e) (λ e. rw e)
+  retract-entry-names : (n : ℕ) → ((retractEntry s n) .0) .names ≡ s .names
+  unfolding retractEntry
+  retract-entry-names zero = refl
+  retract-entry-names (suc i) = decide ((entry (s .entries) i) .retracted) (λ e. rw e) (λ e. rw e)
 
   retract-names : (x : Triple) → ((retractModel s x) .0) .names ≡ s .names
   unfolding retractModel
   retract-names x =
-      decide (known (length (s .names)) x) (λ e. rw e (strike-names (lookup x (s .entries)))) (λ e. rw e)
+      decide (known (length (s .names)) x) (λ e. rw e (retract-entry-names (lookup x (s .entries)))) (λ e. rw e)
 
   intern-wider : (w : List ℕ) → Wider (s .names) (((internModel k s w) .0) .names)
   unfolding internModel
@@ -264,7 +265,7 @@ module _ (k : Capacities) (s : Model) where
       go : (n : ℕ) → Wider (s .names) (((internName k s (canonical w) n) .0) .names)
       go zero =
           unfold internName in
-          (decide (ltb (length (s .names)) (k .resources) && leb (bytesOf (s .names ++ canonical w ∷ [])) (k .text))
+          (decide (ltb (length (s .names)) (k .resources) && leb (textBytes (s .names ++ canonical w ∷ [])) (k .text))
           (λ e. rw e (wider-more (s .names) (canonical w))) (λ e. rw e (wider-same (s .names))))
       go (suc i) = unfold internName in (wider-same (s .names))
 
@@ -288,8 +289,8 @@ wider-history k s [] = wider-same (s .names)
 wider-history k s (a ∷ r) = wider-trans _ _ _ (wider-call k s a) (wider-history k ((callModel k s a) .0) r)
 
 wider-permitted : (ns ns′ : List (List ℕ)) → Wider ns ns′ → (x : Triple) → known (length ns) x ≡ true
-    → permitted (λ y. firstKindOf (nameOf ns′ y)) x ≡ permitted (λ y. firstKindOf (nameOf ns y)) x
-unfolding permitted
+    → kindsPermitted (λ y. firstKindOf (nameOf ns′ y)) x ≡ kindsPermitted (λ y. firstKindOf (nameOf ns y)) x
+unfolding kindsPermitted
 wider-permitted ns ns′ W x e =
     rw (
       W .keeps (x .subject .0) (known-low (length ns) x e Subject) (known-high (length ns) x e Subject),
@@ -305,11 +306,11 @@ reclaim-answered k s =
     decide (ltb (s .generation) maxReclaims) (λ e. rw e (λ h. refl)) (λ e. rw e (λ h. absurd (omega (arith, h))))
 
 -- a triple that no entry has is in none of those kept
-absent-kept : (x : Triple) (l : List Entry) → ((i : ℕ) → i < length l → (entry l i) .spo ≢ x) → lookup x (unstruck l) ≡ 0
+absent-kept : (x : Triple) (l : List Entry) → ((i : ℕ) → i < length l → (entry l i) .spo ≢ x) → lookup x (unretracted l) ≡ 0
 absent-kept x l h =
-    lookup-none x (unstruck l) (λ i q. rw (origin-reads l i q) (h (origin l i) (origin-in l i q)))
+    lookup-none x (unretracted l) (λ i q. rw (origin-reads l i q) (h (origin l i) (origin-in l i q)))
 
--- ---- a struck-out triple is forgotten
+-- ---- a retracted triple is forgotten
 
 module _ (s : Model) (D : Tidy s) (x : Triple) (i : ℕ) (h : i < length (s .entries))
     (e : entry (s .entries) i ≡ record { spo = x; retracted = true }) where
@@ -319,24 +320,24 @@ module _ (s : Model) (D : Tidy s) (x : Triple) (i : ℕ) (h : i < length (s .ent
   spo-is : (entry l i) .spo ≡ x
   spo-is = ap (λ (a : Entry). a .spo) e
 
-  struck-is : (entry l i) .retracted ≡ true
-  struck-is = ap (λ (a : Entry). a .retracted) e
+  retracted-is : (entry l i) .retracted ≡ true
+  retracted-is = ap (λ (a : Entry). a .retracted) e
 
   -- another entry with the triple would be this one, and that is not kept
-  forgotten : lookup x (unstruck l) ≡ 0
-  forgotten = lookup-none x (unstruck l) (λ j q d.
+  forgotten : lookup x (unretracted l) ≡ 0
+  forgotten = lookup-none x (unretracted l) (λ j q d.
       let o = origin l j in
       let here : (entry l o) .spo ≡ x = sym (ap (λ (a : Entry). a .spo) (origin-reads l j q)) ∙ d in
       three o i
       (λ a. D .once o i a h (here ∙ sym spo-is))
-      (λ a. true≢false (sym struck-is ∙ ap (λ (n : ℕ). (entry l n) .retracted) (sym a)
-      ∙ sym (ap (λ (a : Entry). a .retracted) (origin-reads l j q)) ∙ unstruck-live l j q))
+      (λ a. true≢false (sym retracted-is ∙ ap (λ (n : ℕ). (entry l n) .retracted) (sym a)
+      ∙ sym (ap (λ (a : Entry). a .retracted) (origin-reads l j q)) ∙ unretracted-live l j q))
       (λ a. D .once i o a (origin-in l j q) (spo-is ∙ sym here)))
 
   then-new : (k : Capacities) → length l ≤ k .statements → ((assertModel k (reclaimed s) x) .1) .status ≡ 1
   then-new k room =
       new-if-room k (reclaimed s) x (rw (← spo-is) (D .inside i h)) (rw (← spo-is) (D .kinds i h)) forgotten
-      (omega (arith, unstruck-fewer l i h struck-is))
+      (omega (arith, unretracted-fewer l i h retracted-is))
 
 -- ---- the claims over runs
 
@@ -428,20 +429,20 @@ module _ (m : Tables) (before : List Call) (f g : Form) (x : Triple) (between : 
     still-known : known (length (s2 .names)) x ≡ true
     still-known = known-more (length (first .names)) (length (s2 .names)) x (W .longer) (N .inside)
 
-    still-permitted : permitted (kindIn (reclaimed s2)) x ≡ true
+    still-permitted : kindsPermitted (kindIn (reclaimed s2)) x ≡ true
     still-permitted = wider-permitted (first .names) (s2 .names) W x (N .inside) ∙ N .kinds
 
     -- T before the reclaim is at capacity, T after it is the number of those kept
     full-now : c2 .counters .statements ≡ kk .statements
     full-now = omega (arith, R2 .size, R2 .in-statements, same-length, N .full)
 
-    left-now : ((callStore c2 reclaim) .0) .counters .statements ≡ length (unstruck (s2 .entries))
+    left-now : ((callStore c2 reclaim) .0) .counters .statements ≡ length (unretracted (s2 .entries))
     left-now = R-after m before c2 s2 R2 acc .size
 
     again : (callStore ((callStore c2 reclaim) .0) (assert g x)) .1 ≡ (assertModel kk (reclaimed s2) x) .1
     again = assert-after m before c2 s2 R2 acc g x
 
-    missing-now : lookup x (unstruck (s2 .entries)) ≡ 0
+    missing-now : lookup x (unretracted (s2 .entries)) ≡ 0
     missing-now = absent-kept x (s2 .entries) still-absent
 
     room : ((callStore ((callStore c2 reclaim) .0) (assert g x)) .1) .status ≡ 1

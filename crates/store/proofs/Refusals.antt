@@ -13,7 +13,7 @@ use Rattle.store.specs.declared.Interned.the-variants.{Number as Id, Ref
 use Rattle.store.specs.declared.Asserted.{Asserted}
 use Rattle.store.specs.declared.Asserted.the-variants.{New, Already, Revived, Refused as NotAsserted}
 use Rattle.store.specs.declared.Retracted.{Retracted}
-use Rattle.store.specs.declared.Retracted.the-variants.{Number as Struck, Absent as NotLive}
+use Rattle.store.specs.declared.Retracted.the-variants.{Number as WasLive, Absent as NotLive}
 use Rattle.store.specs.declared.Retracted.the-variants.{Refused as NotRetracted}
 use Rattle.store.specs.declared.ScanOpened.{ScanOpened}
 use Rattle.store.specs.declared.ScanOpened.the-variants.{Cursor, Refused as NotOpened}
@@ -24,13 +24,13 @@ use Rattle.store.specs.declared.Scanned.the-variants.{Found, Ended, Spen
 use Rattle.store.specs.Tables.{Tables}
 use Rattle.store.specs.Values.{Values, noCursor, refusedWith, internedValues, assertedValues, retractedValues}
 use Rattle.store.specs.Values.{openedValues, scannedValues, reclaimedValues}
-use Rattle.store.specs.Model.{Form, byValue, lent, Call, intern, assert, retract, open′, next, reclaim}
-use Rattle.store.specs.Statement.{assertOf, retractOf, countersAfter, assertLentOf, retractLentOf}
+use Rattle.store.specs.Model.{Form, byValue, updating, Call, intern, assert, retract, open′, next, reclaim}
+use Rattle.store.specs.Statement.{assertOf, retractOf, countersAfter, assertUpdatingOf, retractUpdatingOf}
 use Rattle.store.specs.Scan.{openOf, nextOf}
 use Rattle.store.specs.Dictionary.{internOf}
 use Rattle.store.specs.Reclaim.{reclaimOf}
 use Rattle.store.specs.History.{Store, store, afterReclaim, internedCounters, openedCursors, movedCursors, callStore}
-use Rattle.store.specs.Claims.{RefusalsChangeNothing, RefusalsAreBare}
+use Rattle.store.specs.RefusalClaims.{RefusalsChangeNothing, RefusalsAreBare}
 use Rattle.store.proofs.Interning.{intern-refused}
 use Rattle.store.proofs.Cases.{assert-refused, retract-refused, reclaim-refused}
 
@@ -60,7 +60,7 @@ module _ (s : Store) where
   retracted-stays : (m′ : Tables) (a : Retracted) → ((q : Refusal) → a ≡ NotRetracted q → m′ ≡ m)
       → (retractedValues a) .refusal ≢ 0
       → store c m′ (s .cursors) ≡ s
-  retracted-stays m′ (Struck n) quiet h = absurd (h refl)
+  retracted-stays m′ (WasLive n) quiet h = absurd (h refl)
   retracted-stays m′ NotLive quiet h = absurd (h refl)
   retracted-stays m′ (NotRetracted q) quiet h = ap (λ (z : Tables). store c z (s .cursors)) (quiet q refl)
 
@@ -96,7 +96,7 @@ asserted-bare (NotAsserted q) h = refl
 
 retracted-bare : (a : Retracted) → (retractedValues a) .refusal ≢ 0
     → retractedValues a ≡ refusedWith ((retractedValues a) .refusal)
-retracted-bare (Struck n) h = absurd (h refl)
+retracted-bare (WasLive n) h = absurd (h refl)
 retracted-bare NotLive h = absurd (h refl)
 retracted-bare (NotRetracted q) h = refl
 
@@ -120,24 +120,24 @@ scanned-bare (NotScanned q) h = refl
 -- ---- the claims
 
 pub refusals-change-nothing : RefusalsChangeNothing
-unfolding callStore assertLentOf retractLentOf
+unfolding callStore assertUpdatingOf retractUpdatingOf
 refusals-change-nothing s (intern w) = interned-stays s _ _ (intern-refused (s .counters) (s .tables) w)
 refusals-change-nothing s (assert byValue x) = asserted-stays s _ _ (assert-refused (s .counters) (s .tables) x)
-refusals-change-nothing s (assert lent x) = asserted-stays s _ _ (assert-refused (s .counters) (s .tables) x)
+refusals-change-nothing s (assert updating x) = asserted-stays s _ _ (assert-refused (s .counters) (s .tables) x)
 refusals-change-nothing s (retract byValue x) = retracted-stays s _ _ (retract-refused (s .counters) (s .tables) x)
-refusals-change-nothing s (retract lent x) = retracted-stays s _ _ (retract-refused (s .counters) (s .tables) x)
+refusals-change-nothing s (retract updating x) = retracted-stays s _ _ (retract-refused (s .counters) (s .tables) x)
 refusals-change-nothing s (open′ x) = opened-stays s (openOf (s .counters) (s .tables) x)
 refusals-change-nothing s (next j b) =
     scanned-stays s j (nextOf (s .counters) (s .tables) (getD (s .cursors) j noCursor) b)
 refusals-change-nothing s reclaim = reclaimed-stays s _ _ (reclaim-refused (s .counters) (s .tables))
 
 pub refusals-are-bare : RefusalsAreBare
-unfolding callStore assertLentOf retractLentOf
+unfolding callStore assertUpdatingOf retractUpdatingOf
 refusals-are-bare s (intern w) = interned-bare ((internOf (s .counters) (s .tables) w) .1)
 refusals-are-bare s (assert byValue x) = asserted-bare ((assertOf (s .counters) (s .tables) x) .1)
-refusals-are-bare s (assert lent x) = asserted-bare ((assertOf (s .counters) (s .tables) x) .1)
+refusals-are-bare s (assert updating x) = asserted-bare ((assertOf (s .counters) (s .tables) x) .1)
 refusals-are-bare s (retract byValue x) = retracted-bare ((retractOf (s .counters) (s .tables) x) .1)
-refusals-are-bare s (retract lent x) = retracted-bare ((retractOf (s .counters) (s .tables) x) .1)
+refusals-are-bare s (retract updating x) = retracted-bare ((retractOf (s .counters) (s .tables) x) .1)
 refusals-are-bare s (open′ x) = opened-bare (openOf (s .counters) (s .tables) x)
 refusals-are-bare s (next j b) = scanned-bare (nextOf (s .counters) (s .tables) (getD (s .cursors) j noCursor) b)
 refusals-are-bare s reclaim = reclaimed-bare ((reclaimOf (s .counters) (s .tables)) .1)

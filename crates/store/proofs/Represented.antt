@@ -17,15 +17,15 @@ use Rattle.store.specs.declared.Position.the-variants.{Subject, Predicat
 use Rattle.store.specs.declared.Chain.{Chain}
 use Rattle.store.specs.declared.Chain.the-variants.{All, By}
 use Rattle.store.specs.declared.Triple.{Triple}
-use Rattle.store.specs.Shared.{at, known, same, below, head0, maxReclaims, Entry, bytesOf}
+use Rattle.store.specs.Shared.{at, known, same, below, head0, maxReclaims, Entry, textBytes}
 use Rattle.store.specs.Tables.{Tables, fits, resourceCapacity, statementCapacity, textCapacity, termAt, flagAt, tripleAt}
 use Rattle.store.specs.Values.{Values}
 use Rattle.store.specs.Model.{Listing, Model, Capacities, entry, lookup, mark, onChain, holders}
-use Rattle.store.specs.Model.{pickModel, cursorOf, noListing, totals, take-off}
+use Rattle.store.specs.Model.{pickModel, cursorOf, noListing, totals, readRest}
 use Rattle.store.specs.Walk.{entryAt, pickChain, pickable, Step, foundIn}
 use Rattle.store.specs.Statement.{seek, countable, locate}
 use Rattle.store.specs.Scan.{chainOk}
-use Rattle.store.specs.Dictionary.{Named}
+use Rattle.store.specs.Names.{Named}
 use Rattle.store.specs.Soundness.{Linked}
 use Rattle.store.specs.History.{Store}
 use Rattle.store.proofs.Tests.{decide, fits-of, all3-at, known-high, same-at}
@@ -40,7 +40,7 @@ use Rattle.store.proofs.Chains.{pickable-linked, countable-linked}
 abbrev pub onList : List Entry → Chain → Triple → ℕ → Bool
 onList l ch x i = onChain ch x ((entry l i) .spo)
 
--- an opening, whatever was asserted or struck out since: its rest is its chain up to some entry
+-- an opening, whatever was asserted or retracted since: its rest is its chain up to some entry
 pub record Good (r : ℕ) (l : List Entry) (g : Listing) : Type 0 where
   pub small : (p : Position) → at p (g .pattern) ≤ r
   pub picked : chainOk (g .chain) (g .pattern) ≡ true
@@ -121,7 +121,7 @@ module _ (k : Capacities) (c : Store) (s : Model) (R : Agreeing k c s) where
       ap (λ (n : ℕ). counts n t (c .counters .text) (c .counters .generation)) (R .named .size)
       ∙ ap (λ (n : ℕ). counts (length (s .names)) n (c .counters .text) (c .counters .generation)) (R .size)
       ∙ ap (λ (n : ℕ). counts (length (s .names)) (length (s .entries)) n (c .counters .generation)) (R .named .bytes)
-      ∙ ap (counts (length (s .names)) (length (s .entries)) (bytesOf (s .names))) (R .generation)
+      ∙ ap (counts (length (s .names)) (length (s .entries)) (textBytes (s .names))) (R .generation)
 
   pub spo-agrees : (i : ℕ) → i < t → (entry (s .entries) i) .spo ≡ tripleAt stm i
   unfolding entryAt
@@ -156,7 +156,7 @@ module _ (k : Capacities) (c : Store) (s : Model) (R : Agreeing k c s) where
   -- the walk of assert and retract comes to the triple's position, or 0
   seek-takes : (x : Triple) → ((p : Position) → at p x ≤ r)
       → seek (c .counters) (c .tables) x
-      ≡ some (asStep (take-off (λ i. same x (tripleAt stm i)) t (below (onWords stm (pickChain res x) x) t)))
+      ≡ some (asStep (readRest (λ i. same x (tripleAt stm i)) t (below (onWords stm (pickChain res x) x) t)))
   unfolding seek
   seek-takes x h =
       rw (chain-start _ _ _ _ (R .linked) (pickChain res x) x (pickChain-bound res x) h)
@@ -169,7 +169,7 @@ module _ (k : Capacities) (c : Store) (s : Model) (R : Agreeing k c s) where
       located (c .counters) (c .tables) x _ (pickable-linked _ _ _ _ (R .linked) x h) (countable-linked _ _ _ _ (R .linked) x e)
       (seek-takes x h)
       ∙ ap some
-      (found-as (take-off (λ i. same x (tripleAt stm i)) t (below (onWords stm (pickChain res x) x) t))
+      (found-as (readRest (λ i. same x (tripleAt stm i)) t (below (onWords stm (pickChain res x) x) t))
       ∙ hit-chain (onWords stm (pickChain res x) x) (λ i. same x (tripleAt stm i)) t t (omega arith)
       (λ i q. same-on (pickChain res x) x (tripleAt stm i))
       ∙ lookup-agrees x)

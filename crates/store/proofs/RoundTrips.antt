@@ -27,9 +27,10 @@ use Rattle.store.specs.Shared.{below, head0, wellFormed, nameOf, lookupN
 use Rattle.store.specs.Tables.{Tables, fits, word, offsetAt}
 use Rattle.store.specs.Model.{internModel}
 use Rattle.store.specs.Reading.{inRange, zeroFrom, spanTo, nameSpanOf}
-use Rattle.store.specs.Dictionary.{storable, Named, joined, findOf, internOf}
+use Rattle.store.specs.Dictionary.{findOf, internOf}
+use Rattle.store.specs.Names.{storable, Named, joined}
 use Rattle.store.specs.Soundness.{Sound}
-use Rattle.store.specs.Claims.{NamedAs, RoundTrips, SpellingsAgree}
+use Rattle.store.specs.NameClaims.{NamedAs, RoundTrips, SpellingsAgree}
 use Rattle.store.proofs.Tests.{decide, three, and-l, and-r, and-of}
 use Rattle.store.proofs.Falling.{head-unique}
 use Rattle.store.proofs.Form.{clean, form-clean, form-short, storable-formed, storable-plain, storable-kept}

@@ -15,22 +15,23 @@ use Rattle.store.specs.declared.Counters.{Counters}
 use Rattle.store.specs.declared.ScanCursor.{ScanCursor}
 use Rattle.store.specs.declared.Refusal.the-variants.{Malformed}
 use Rattle.store.specs.declared.Lookup.the-variants.{Number as Found, Absent, Refused as NotFound}
-use Rattle.store.specs.Shared.{triple, known, within, same, agrees, permitted, below, wellFormed, nameOf, bytesOf, matches, better}
+use Rattle.store.specs.Shared.{triple, known, within, same, agrees, kindsPermitted, below, wellFormed, nameOf, textBytes, matches}
 use Rattle.store.specs.Tables.{Tables, tables, fits, termAt, nextAt, flagAt, tripleAt, firstAt, countAt, offsetAt}
 use Rattle.store.specs.Tables.{kindAt, liveAt, resourceWords}
 use Rattle.store.specs.Values.{Values, refusedWith, numbered, counted, placed, stepped}
-use Rattle.store.specs.Model.{Call, intern, assert, retract, open′, next, reclaim, byValue, lent, Capacities, freshModel}
+use Rattle.store.specs.Model.{Call, intern, assert, retract, open′, next, reclaim, byValue, updating, Capacities, freshModel}
 use Rattle.store.specs.Model.{internName, internModel}
-use Rattle.store.specs.Shared.{lookupName, pick}
-use Rattle.store.specs.Model.{lookup, mark, put, assertModel, strike, retractModel, onChain, holders, Model, unstruck, reclaimModel}
+use Rattle.store.specs.Shared.{better, lookupName, pick}
+use Rattle.store.specs.Model.{lookup, mark, put, assertModel, retractEntry, retractModel, onChain}
+use Rattle.store.specs.Model.{holders, Model, unretracted, reclaimModel}
 use Rattle.store.specs.Reclaim.{unlinked, sweepOne, sweep, blanked, sweptOf, reclaimOf}
-use Rattle.store.specs.Model.{pickModel, listing, openModel, take-off, takeFrom, turn, nextModel, callModel, modelReplies}
-use Rattle.store.specs.Walk.{entryAt, pickChain, pickable, startOf, linkOf, sits, visitable, walk}
-use Rattle.store.specs.Statement.{seek, countable, locate, tallyAt, tally, appendRecord, linkFirst, linkRecord, kinded, asserting}
-use Rattle.store.specs.Statement.{assertOf, counting, retracting, retractOf, assertLentOf, retractLentOf}
+use Rattle.store.specs.Model.{pickModel, listing, openModel, readRest, takeFrom, turn, nextModel, callModel, modelReplies}
+use Rattle.store.specs.Walk.{entryAt, pickChain, pickable, startOf, linkOf, holdsResource, visitable, walk}
+use Rattle.store.specs.Statement.{seek, countable, locate, tallyAt, tally, appendRecord, linkFirst, linkRecord, kindsOk, asserting}
+use Rattle.store.specs.Statement.{assertOf, counting, retracting, retractOf, assertUpdatingOf, retractUpdatingOf}
 use Rattle.store.specs.Scan.{cursorIn, openOf, chainOk, recordOk, cursorOk, walkFrom, nextOf}
-use Rattle.store.specs.Dictionary.{compare, nameAt, rank, placeAt, indexPlaceOf, roomFor, bring, insertAt}
-use Rattle.store.specs.Dictionary.{namesUpTo, findOf, internAs, internOf}
+use Rattle.store.specs.Dictionary.{rank, placeAt, indexPlaceOf, roomFor, bring, insertAt, findOf, internAs, internOf}
+use Rattle.store.specs.Names.{compareBytes, nameAt, namesUpTo}
 use Rattle.store.specs.History.{Store, store, freshStore, capacitiesOf, callStore, storeReplies, storeAfter}
 
 -- ---- histories: each call beside its answer
@@ -105,11 +106,11 @@ paper = (intern r21, counted 0 1 (tot 1 0 7))
     ∷ (intern stringEnding, refusedWith 2)
     ∷ (assert byValue (triple 5 2 3), refusedWith 5)
     ∷ (assert byValue (triple 1 5 3), refusedWith 5)
-    ∷ (assert lent (triple 6 1 1), refusedWith 4)
-    ∷ (assert lent (triple 1 2 0), refusedWith 4)
+    ∷ (assert updating (triple 6 1 1), refusedWith 4)
+    ∷ (assert updating (triple 1 2 0), refusedWith 4)
     ∷ (assert byValue (triple 1 2 3), counted 1 1 (tot 5 1 33))
-    ∷ (assert lent (triple 1 2 4), counted 1 2 (tot 5 2 33))
-    ∷ (assert lent (triple 1 2 3), counted 2 1 (tot 5 2 33))
+    ∷ (assert updating (triple 1 2 4), counted 1 2 (tot 5 2 33))
+    ∷ (assert updating (triple 1 2 3), counted 2 1 (tot 5 2 33))
     ∷ (open′ (triple 1 0 0), placed (cursorAt (triple 1 0 0) (By Subject) 2))
     ∷ (next 0 5, stepped 1 2 1 (cursorAt (triple 1 0 0) (By Subject) 1))
     ∷ (next 0 5, stepped 1 1 1 (cursorAt (triple 1 0 0) (By Subject) 0))
@@ -122,7 +123,7 @@ paper = (intern r21, counted 0 1 (tot 1 0 7))
     ∷ (next 2 1, stepped 1 2 1 (cursorAt (triple 0 0 0) All 1))
     ∷ (next 2 4294967295, stepped 1 1 1 (cursorAt (triple 0 0 0) All 0))
     ∷ (next 2 1, stepped 2 0 0 (cursorAt (triple 0 0 0) All 0))
-    ∷ (retract lent (triple 1 2 3), numbered 1)
+    ∷ (retract updating (triple 1 2 3), numbered 1)
     ∷ (open′ (triple 0 0 3), placed (cursorAt (triple 0 0 3) (By Object) 1))
     ∷ (next 3 9, stepped 2 0 1 (cursorAt (triple 0 0 3) (By Object) 0))
     ∷ (retract byValue (triple 1 2 3), numbered 0)
@@ -148,14 +149,14 @@ tight = (intern ia, counted 0 1 (tot 1 0 4))
     ∷ (intern ic, refusedWith 3)
     ∷ (intern ia, counted 0 1 (tot 4 0 15))
     ∷ (assert byValue (triple 1 2 3), counted 1 1 (tot 4 1 15))
-    ∷ (assert lent (triple 3 2 1), counted 1 2 (tot 4 2 15))
+    ∷ (assert updating (triple 3 2 1), counted 1 2 (tot 4 2 15))
     ∷ (assert byValue (triple 1 2 1), counted 1 3 (tot 4 3 15))
     ∷ (assert byValue (triple 1 2 4), refusedWith 3)
-    ∷ (assert lent (triple 1 2 3), counted 2 1 (tot 4 3 15))
-    ∷ (retract lent (triple 3 2 1), numbered 2)
+    ∷ (assert updating (triple 1 2 3), counted 2 1 (tot 4 3 15))
+    ∷ (retract updating (triple 3 2 1), numbered 2)
     ∷ (open′ (triple 1 0 1), placed (cursorAt (triple 1 0 1) (By Subject) 3))
     ∷ (next 0 1, stepped 1 3 1 (cursorAt (triple 1 0 1) (By Subject) 1))
-    ∷ (assert lent (triple 3 2 1), counted 3 2 (tot 4 3 15))
+    ∷ (assert updating (triple 3 2 1), counted 3 2 (tot 4 3 15))
     ∷ (open′ (triple 0 2 1), placed (cursorAt (triple 0 2 1) (By Object) 3))
     ∷ (next 0 9, stepped 2 0 1 (cursorAt (triple 1 0 1) (By Subject) 0))
     ∷ (retract byValue (triple 1 2 1), numbered 3)
@@ -197,10 +198,10 @@ until-reclaim = (intern ia, counted 0 1 (tot 1 0 4))
     ∷ (intern ip, counted 0 2 (tot 2 0 8))
     ∷ (intern ib, counted 0 3 (tot 3 0 12))
     ∷ (assert byValue (triple 1 2 3), counted 1 1 (tot 3 1 12))
-    ∷ (assert lent (triple 3 2 1), counted 1 2 (tot 3 2 12))
+    ∷ (assert updating (triple 3 2 1), counted 1 2 (tot 3 2 12))
     ∷ (assert byValue (triple 1 2 1), counted 1 3 (tot 3 3 12))
     ∷ (assert byValue (triple 3 2 3), refusedWith 3)
-    ∷ (retract lent (triple 1 2 3), numbered 1)
+    ∷ (retract updating (triple 1 2 3), numbered 1)
     ∷ (open′ (triple 0 2 0), placed (cursorAt (triple 0 2 0) (By Predicate) 3))
     ∷ (next 0 1, stepped 1 3 1 (cursorAt (triple 0 2 0) (By Predicate) 2))
     ∷ (reclaim, counted 0 0 (tot-in 1 3 2 12))
@@ -213,7 +214,7 @@ since-reclaim : History
 since-reclaim = (next 0 1, refusedWith 13)
     ∷ (next 0 0, refusedWith 13)
     ∷ (assert byValue (triple 3 2 3), counted 1 3 (tot-in 1 3 3 12))
-    ∷ (assert lent (triple 1 2 3), refusedWith 3)
+    ∷ (assert updating (triple 1 2 3), refusedWith 3)
     ∷ (retract byValue (triple 3 2 1), numbered 1)
     ∷ (open′ (triple 0 2 0), placed (cursorIn 1 (triple 0 2 0) (By Predicate) 3))
     ∷ (next 1 2, stepped 1 3 1 (cursorIn 1 (triple 0 2 0) (By Predicate) 2))
@@ -221,9 +222,9 @@ since-reclaim = (next 0 1, refusedWith 13)
     ∷ (next 1 2, stepped 2 0 1 (cursorIn 1 (triple 0 2 0) (By Predicate) 0))
     ∷ (reclaim, counted 0 0 (tot-in 2 3 2 12))
     ∷ (next 1 2, refusedWith 13)
-    ∷ (assert lent (triple 3 2 1), counted 1 3 (tot-in 2 3 3 12))
+    ∷ (assert updating (triple 3 2 1), counted 1 3 (tot-in 2 3 3 12))
     ∷ (reclaim, counted 0 0 (tot-in 3 3 3 12))
-    ∷ (assert lent (triple 3 2 1), counted 2 3 (tot-in 3 3 3 12))
+    ∷ (assert updating (triple 3 2 1), counted 2 3 (tot-in 3 3 3 12))
     ∷ (next 7 1, refusedWith 13)
     ∷ []
 
@@ -231,7 +232,7 @@ since-reclaim = (next 0 1, refusedWith 13)
 none-at-all : History
 none-at-all = (intern ia, refusedWith 3)
     ∷ (assert byValue (triple 1 1 1), refusedWith 4)
-    ∷ (retract lent (triple 1 1 1), refusedWith 4)
+    ∷ (retract updating (triple 1 1 1), refusedWith 4)
     ∷ (open′ (triple 0 1 0), refusedWith 4)
     ∷ (open′ (triple 0 0 0), placed (cursorAt (triple 0 0 0) All 0))
     ∷ (next 0 0, refusedWith 7)
@@ -293,19 +294,20 @@ one = triple 1 2 1
 lists-run : Lists wide paper × Lists narrow tight × Lists few short × Lists scant label × Lists void none-at-all
 unfolding r21 trips b4 b7 litA longA ia ib ic ip empty paper tight short label none-at-all writesString
     canonical kindOf firstKindOf runOf stepOf wholeOf
-    among letter alnum iriByte textByte pairByte firstByte labelByte known within same agrees permitted below wellFormed
-    eqBytes lookupName nameOf bytesOf internName internModel matches lookup mark put assertModel strike retractModel
-    onChain holders better pick pickModel listing openModel take-off takeFrom turn nextModel callModel modelReplies
+    among letter alnum iriByte textByte pairByte firstByte labelByte known within same agrees kindsPermitted below wellFormed
+    eqBytes lookupName nameOf textBytes internName internModel matches lookup mark put assertModel retractEntry retractModel
+    onChain holders better pick pickModel listing openModel readRest takeFrom turn nextModel callModel modelReplies
 lists-run = (refl, refl, refl, refl, refl)
 
 stores-run : Stores wide paper × Stores narrow tight × Stores few short × Stores scant label × Stores void none-at-all
     × (nextsOf wide paper 1 ≡ 1 ∷ 1 ∷ 0 ∷ [])
 unfolding r21 trips b4 b7 litA longA ia ib ic ip empty paper tight short label none-at-all writesString
     canonical kindOf firstKindOf runOf stepOf wholeOf
-    among letter alnum iriByte textByte pairByte firstByte labelByte known within same agrees permitted below wellFormed
+    among letter alnum iriByte textByte pairByte firstByte labelByte known within same agrees kindsPermitted below wellFormed
     eqBytes matches better pick fits termAt nextAt flagAt tripleAt firstAt countAt offsetAt kindAt liveAt entryAt pickChain
-    pickable startOf linkOf sits visitable walk seek countable locate tallyAt tally counting appendRecord linkFirst linkRecord
-    kinded asserting assertOf retracting retractOf assertLentOf retractLentOf openOf chainOk recordOk cursorOk walkFrom nextOf compare
+    pickable startOf linkOf holdsResource visitable walk seek countable locate tallyAt tally counting appendRecord linkFirst linkRecord
+    kindsOk asserting assertOf retracting retractOf assertUpdatingOf retractUpdatingOf openOf chainOk recordOk cursorOk walkFrom nextOf
+    compareBytes
     nameAt rank placeAt indexPlaceOf roomFor bring insertAt internAs internOf callStore storeReplies storeAfter
 stores-run = (refl, refl, refl, refl, refl, refl)
 
@@ -316,7 +318,7 @@ held = storeAfter (freshStore scant) (callsIn label)
 finds-run : map (findOf (held .counters) (held .tables)) (litA ∷ longA ∷ empty ∷ stringEnding ∷ [])
     ≡ Found (record { 0 = 1 }) ∷ Found (record { 0 = 1 }) ∷ Absent ∷ NotFound Malformed ∷ []
 unfolding litA longA empty label writesString canonical kindOf firstKindOf runOf stepOf wholeOf among letter alnum iriByte
-    textByte pairByte firstByte labelByte below wellFormed eqBytes fits offsetAt compare nameAt namesUpTo lookupName rank placeAt
+    textByte pairByte firstByte labelByte below wellFormed eqBytes fits offsetAt compareBytes nameAt namesUpTo lookupName rank placeAt
     indexPlaceOf findOf roomFor bring insertAt internAs internOf callStore storeAfter
 finds-run = refl
 
@@ -343,9 +345,9 @@ reclaim-lists-run : Lists narrow (until-reclaim ++ since-reclaim)
     × (modelReplies (capacitiesOf wide) (lists-after 65534) (reclaim ∷ reclaim ∷ [])
     ≡ counted 0 0 (tot-in 65535 0 0 0) ∷ refusedWith 14 ∷ [])
 unfolding ia ib ic ip until-reclaim since-reclaim writesString canonical kindOf firstKindOf runOf stepOf wholeOf
-    among letter alnum iriByte textByte pairByte firstByte labelByte known within same agrees permitted below wellFormed
-    eqBytes lookupName nameOf bytesOf internName internModel matches lookup mark put assertModel strike retractModel
-    onChain holders better pick pickModel listing openModel take-off takeFrom turn nextModel unstruck reclaimModel
+    among letter alnum iriByte textByte pairByte firstByte labelByte known within same agrees kindsPermitted below wellFormed
+    eqBytes lookupName nameOf textBytes internName internModel matches lookup mark put assertModel retractEntry retractModel
+    onChain holders better pick pickModel listing openModel readRest takeFrom turn nextModel unretracted reclaimModel
     callModel modelReplies
 reclaim-lists-run = (refl, refl)
 
@@ -356,11 +358,11 @@ reclaim-stores-run : Stores narrow (until-reclaim ++ since-reclaim) × (wordsAft
     × (storeReplies (after-reclaims 65536) (reclaim ∷ open′ (triple 0 0 0) ∷ intern ia ∷ [])
     ≡ refusedWith 1 ∷ refusedWith 1 ∷ refusedWith 1 ∷ [])
 unfolding ia ib ic ip until-reclaim since-reclaim writesString canonical kindOf firstKindOf runOf stepOf wholeOf
-    among letter alnum iriByte textByte pairByte firstByte labelByte known within same agrees permitted below wellFormed
+    among letter alnum iriByte textByte pairByte firstByte labelByte known within same agrees kindsPermitted below wellFormed
     eqBytes matches better pick fits termAt nextAt flagAt tripleAt firstAt countAt offsetAt kindAt liveAt entryAt
-    pickChain pickable startOf linkOf sits visitable walk seek countable locate tallyAt tally counting appendRecord
-    linkFirst linkRecord kinded asserting assertOf retracting retractOf assertLentOf retractLentOf openOf chainOk
-    recordOk cursorOk walkFrom nextOf compare nameAt rank placeAt indexPlaceOf roomFor bring insertAt internAs internOf
+    pickChain pickable startOf linkOf holdsResource visitable walk seek countable locate tallyAt tally counting appendRecord
+    linkFirst linkRecord kindsOk asserting assertOf retracting retractOf assertUpdatingOf retractUpdatingOf openOf chainOk
+    recordOk cursorOk walkFrom nextOf compareBytes nameAt rank placeAt indexPlaceOf roomFor bring insertAt internAs internOf
     unlinked sweepOne sweep blanked sweptOf reclaimOf callStore storeReplies storeAfter
 reclaim-stores-run = (refl, refl, refl, refl)
 
@@ -369,19 +371,19 @@ reclaim-stores-run = (refl, refl, refl, refl)
 -- the object's, is refused 9 by retract alone.
 live-run : (recordsAfter []
     ≡ rr 2 0 0 2 0 0 0 2 0 0 (rr 0 2 0 0 2 0 7 0 2 0 (rr 0 0 1 0 0 1 17 0 0 1 (rr 0 0 2 0 0 1 23 0 0 1 []))))
-    × (recordsAfter (retract lent (triple 1 2 3) ∷ [])
+    × (recordsAfter (retract updating (triple 1 2 3) ∷ [])
     ≡ rr 2 0 0 2 0 0 0 1 0 0 (rr 0 2 0 0 2 0 7 0 1 0 (rr 0 0 1 0 0 1 17 0 0 0 (rr 0 0 2 0 0 1 23 0 0 1 []))))
-    × (recordsAfter (retract lent (triple 1 2 3) ∷ assert byValue (triple 1 2 3) ∷ []) ≡ recordsAfter [])
-    × (storeReplies (changed 20 2) (assert byValue one ∷ retract lent one ∷ open′ (triple 0 2 0) ∷ [])
+    × (recordsAfter (retract updating (triple 1 2 3) ∷ assert byValue (triple 1 2 3) ∷ []) ≡ recordsAfter [])
+    × (storeReplies (changed 20 2) (assert byValue one ∷ retract updating one ∷ open′ (triple 0 2 0) ∷ [])
     ≡ refusedWith 9 ∷ refusedWith 9 ∷ placed (cursorAt (triple 0 2 0) (By Predicate) 1) ∷ [])
-    × (storeReplies (changed 10 0) (assert lent one ∷ retract byValue one ∷ [])
+    × (storeReplies (changed 10 0) (assert updating one ∷ retract byValue one ∷ [])
     ≡ counted 2 1 (tot 2 1 8) ∷ refusedWith 9 ∷ [])
 unfolding r21 trips b4 b7 loading ia ip single writesString canonical kindOf firstKindOf runOf stepOf wholeOf
-    among letter alnum iriByte textByte pairByte firstByte labelByte known within same agrees permitted below wellFormed
+    among letter alnum iriByte textByte pairByte firstByte labelByte known within same agrees kindsPermitted below wellFormed
     eqBytes matches better pick fits termAt nextAt flagAt tripleAt firstAt countAt offsetAt kindAt liveAt entryAt
-    pickChain pickable startOf linkOf sits visitable walk seek countable locate tallyAt tally counting appendRecord
-    linkFirst linkRecord kinded asserting assertOf retracting retractOf assertLentOf retractLentOf openOf chainOk
-    recordOk cursorOk walkFrom nextOf compare nameAt rank placeAt indexPlaceOf roomFor bring insertAt internAs internOf
+    pickChain pickable startOf linkOf holdsResource visitable walk seek countable locate tallyAt tally counting appendRecord
+    linkFirst linkRecord kindsOk asserting assertOf retracting retractOf assertUpdatingOf retractUpdatingOf openOf chainOk
+    recordOk cursorOk walkFrom nextOf compareBytes nameAt rank placeAt indexPlaceOf roomFor bring insertAt internAs internOf
     callStore storeReplies storeAfter
 live-run = (refl, refl, refl, refl, refl)
 
@@ -397,9 +399,9 @@ bad-run : storeReplies (reading (cursorAt (triple 3 0 0) (By Subject) 0 ∷ curs
     ≡ refusedWith 6 ∷ refusedWith 6 ∷ refusedWith 6 ∷ refusedWith 6 ∷ refusedWith 6 ∷ refusedWith 6
     ∷ stepped 1 1 1 (cursorAt (triple 0 2 0) (By Predicate) 0) ∷ refusedWith 13 ∷ []
 unfolding ia ip single writesString canonical kindOf firstKindOf runOf stepOf wholeOf
-    among letter alnum iriByte textByte pairByte firstByte labelByte known within same agrees permitted below wellFormed
+    among letter alnum iriByte textByte pairByte firstByte labelByte known within same agrees kindsPermitted below wellFormed
     eqBytes matches better pick fits termAt nextAt flagAt tripleAt firstAt countAt offsetAt kindAt liveAt entryAt
-    pickChain pickable startOf linkOf sits visitable walk seek countable locate tallyAt tally appendRecord
-    linkFirst linkRecord kinded asserting assertOf chainOk recordOk cursorOk walkFrom nextOf compare nameAt rank placeAt
+    pickChain pickable startOf linkOf holdsResource visitable walk seek countable locate tallyAt tally appendRecord
+    linkFirst linkRecord kindsOk asserting assertOf chainOk recordOk cursorOk walkFrom nextOf compareBytes nameAt rank placeAt
     indexPlaceOf roomFor bring insertAt internAs internOf callStore storeReplies storeAfter
 bad-run = refl

@@ -21,7 +21,7 @@ use Rattle.store.specs.Tables.{Tables}
 use Rattle.store.specs.Values.{Values, noCursor, placed, openedValues, scannedValues}
 use Rattle.store.specs.Model.{Listing, Model, Capacities, Taken, found as took, ended as emptied}
 use Rattle.store.specs.Model.{spent as stopped, entry, holders, pickModel, listing, cursorOf}
-use Rattle.store.specs.Model.{withListings, openModel, take-off, noListing, leaving, restOf, takenValues, takeFrom, turn, nextModel}
+use Rattle.store.specs.Model.{withListings, openModel, readRest, noListing, leaving, restOf, takenValues, takeFrom, turn, nextModel}
 use Rattle.store.specs.Walk.{entryAt, pickChain, startOf}
 use Rattle.store.specs.Scan.{cursorIn, openOf, chainOk, recordOk, cursorOk, walkFrom, scannedAs, nextOf}
 use Rattle.store.specs.History.{Store, store, openedCursors, movedCursors}
@@ -29,7 +29,7 @@ use Rattle.store.proofs.Tests.{and-of, within-high, within-of}
 use Rattle.store.proofs.Falling.{head-le, head-passes}
 use Rattle.store.proofs.Walks.{asStep, Part, rest-chain, take-cong}
 use Rattle.store.proofs.Picking.{pick-ok}
-use Rattle.store.proofs.Chains.{onWords, pickChain-bound, chain-sits, chain-start, walk-linked, pickable-linked}
+use Rattle.store.proofs.Chains.{onWords, pickChain-bound, chain-holds-resource, chain-start, walk-linked, pickable-linked}
 use Rattle.store.proofs.Represented.{onList, Good, Agreeing, Same, same-cond, fits-agrees, chain-agrees}
 use Rattle.store.proofs.Represented.{holders-agree, pick-agrees, Standing, standing-none}
 
@@ -171,7 +171,7 @@ module _ (k : Capacities) (c : Store) (s : Model) (R : Agreeing k c s) where
     unfolding recordOk
     record-ok zero e = refl
     record-ok (suc i) e =
-        chain-sits (m .statements) (g .chain) (g .pattern) i
+        chain-holds-resource (m .statements) (g .chain) (g .pattern) i
         (head-passes (onWords (m .statements) (g .chain) (g .pattern)) (G .top) i (rw rest-agrees at e))
 
     -- refusal 6 never comes

@@ -18,23 +18,24 @@ use Rattle.store.specs.declared.Triple.{Triple}
 use Rattle.store.specs.declared.Asserted.{Asserted}
 use Rattle.store.specs.declared.Refusal.the-variants.{Damaged}
 use Rattle.store.specs.declared.Retracted.{Retracted}
-use Rattle.store.specs.declared.Retracted.the-variants.{Number as Struck, Refused as NotRetracted}
-use Rattle.store.specs.Shared.{at, all3, known, permitted, Entry, nameOf}
+use Rattle.store.specs.declared.Retracted.the-variants.{Number as WasLive, Refused as NotRetracted}
+use Rattle.store.specs.Shared.{at, all3, known, kindsPermitted, Entry, nameOf}
 use Rattle.store.specs.Tables.{Tables, statementCapacity, statementWords, resourceWords, termAt, flagAt, tripleAt}
 use Rattle.store.specs.Tables.{offsetAt, kindAt, liveAt}
 use Rattle.store.specs.Values.{Values, numbered, counted, assertedValues, retractedValues}
-use Rattle.store.specs.Model.{Model, Capacities, entry, lookup, mark, totals, withEntries, put, assertModel, strike, retractModel}
+use Rattle.store.specs.Model.{Model, Capacities, entry, lookup, mark, totals, withEntries}
+use Rattle.store.specs.Model.{put, assertModel, retractEntry, retractModel}
 use Rattle.store.specs.Walk.{entryAt}
-use Rattle.store.specs.Statement.{tally, withFlag, counting, appendRecord, linkRecord, appended, kinded, oneStatementMore}
-use Rattle.store.specs.Statement.{struckOut, asserting, assertOf, retracting, retractOf, countersAfter}
-use Rattle.store.specs.Dictionary.{Named}
+use Rattle.store.specs.Statement.{tally, withFlag, counting, appendRecord, linkRecord, appended, kindsOk, oneStatementMore}
+use Rattle.store.specs.Statement.{madeRetracted, asserting, assertOf, retracting, retractOf, countersAfter}
+use Rattle.store.specs.Names.{Named}
 use Rattle.store.specs.Soundness.{Linked}
 use Rattle.store.specs.History.{Store, store}
 use Rattle.store.proofs.Tests.{decide, upto, and-of, all3-of, known-low, known-high}
 use Rattle.store.proofs.Words.{triple-of, triple-same, append-length, append-term-old, append-flag-old}
 use Rattle.store.proofs.Words.{append-term, append-flag, linked-length, linked-offset, linked-kind, flag-term}
 use Rattle.store.proofs.Words.{flag-same, flag-other, triple-at, tally-length, tally-offset, tally-kind}
-use Rattle.store.proofs.Links.{append-linked, one-less-live, revived-linked, struck-linked}
+use Rattle.store.proofs.Links.{append-linked, one-less-live, revived-linked, retracted-linked}
 use Rattle.store.proofs.Form.{form-kind, kind-high, storable-formed}
 use Rattle.store.proofs.Text.{length-snoc}
 use Rattle.store.proofs.Represented.{Agreeing, Same, same-cond, fits-agrees, totals-agree, mark-agrees}
@@ -221,30 +222,30 @@ module _ (k : Capacities) (c : Store) (s : Model) (R : Agreeing k c s) where
         )
         (omega arith)))
 
-    strike-live : Same k
-        (retracted′ c (cond (counting (m .resources) x) (struckOut m x i, Struck (record { 0 = suc i })) (m, NotRetracted Damaged)))
+    retract-entry-live : Same k
+        (retracted′ c (cond (counting (m .resources) x) (madeRetracted m x i, WasLive (record { 0 = suc i })) (m, NotRetracted Damaged)))
         (withEntries s (mark (s .entries) i true), numbered (suc i))
-    strike-live =
+    retract-entry-live =
         rw counting-agrees (
           refl,
           flag-agrees (λ n. n - 1) x i 1 true g refl e
-              (struck-linked (n .resources) (n .statements) x (m .resources) (m .statements) i g (R .linked)
+              (retracted-linked (n .resources) (n .statements) x (m .resources) (m .statements) i g (R .linked)
               (found-holds k c s R x i z) is-live),
         )
 
-  strike-agrees : (x : Triple) → known (n .resources) x ≡ true → (i : ℕ) → i ≤ n .statements → lookup x (s .entries) ≡ i
-      → Same k (retracted′ c (retracting m x i)) (strike s i)
-  unfolding retracting strike
-  strike-agrees x e zero g z = (refl, R)
-  strike-agrees x e (suc i) g z =
+  retract-entry-agrees : (x : Triple) → known (n .resources) x ≡ true → (i : ℕ) → i ≤ n .statements → lookup x (s .entries) ≡ i
+      → Same k (retracted′ c (retracting m x i)) (retractEntry s i)
+  unfolding retracting retractEntry
+  retract-entry-agrees x e zero g z = (refl, R)
+  retract-entry-agrees x e (suc i) g z =
       same-cond k (retracted′ c) _ _ _ _ _ _ (mark-agrees k c s R i g) (λ d. (refl, R))
-      (λ d. strike-live x e i g z d)
+      (λ d. retract-entry-live x e i g z d)
 
   -- ---- kinds
 
-  kinded-agrees : (x : Triple) → known (n .resources) x ≡ true → kinded (m .resources) x ≡ true
-  unfolding kinded nameOf
-  kinded-agrees x e =
+  kinds-ok-agrees : (x : Triple) → known (n .resources) x ≡ true → kindsOk (m .resources) x ≡ true
+  unfolding kindsOk nameOf
+  kinds-ok-agrees x e =
       all3-of (λ p. ltb 0 (kindAt (m .resources) (at p x)) && leb (kindAt (m .resources) (at p x)) 3) (λ p.
       let lo = known-low (n .resources) x e p in
       let hi = known-high (n .resources) x e p in
@@ -257,8 +258,8 @@ module _ (k : Capacities) (c : Store) (s : Model) (R : Agreeing k c s) where
       (le-leb (kindAt (m .resources) (at p x)) 3 (rw kind (kind-high (getD (s .names) (at p x - 1) [])))))
 
   pub permitted-agrees : (x : Triple) → known (n .resources) x ≡ true
-      → permitted (kindAt (m .resources)) x ≡ permitted (λ y. firstKindOf (nameOf (s .names) y)) x
-  unfolding permitted
+      → kindsPermitted (kindAt (m .resources)) x ≡ kindsPermitted (λ y. firstKindOf (nameOf (s .names) y)) x
+  unfolding kindsPermitted
   permitted-agrees x e =
       rw (
         R .named .kinds (x .subject .0) (known-low (n .resources) x e Subject) (known-high (n .resources) x e Subject),
@@ -274,8 +275,8 @@ module _ (k : Capacities) (c : Store) (s : Model) (R : Agreeing k c s) where
       rw (fits-agrees k c s R)
       (same-cond k (asserted c) (known (n .resources) x) (known (length (s .names)) x) _ _ _ _
       (ap (λ (z : ℕ). known z x) (R .named .size))
-      (λ e. rw (kinded-agrees x e)
-      (same-cond k (asserted c) (permitted (kindAt (m .resources)) x) _ _ _ _ _ (permitted-agrees x e)
+      (λ e. rw (kinds-ok-agrees x e)
+      (same-cond k (asserted c) (kindsPermitted (kindAt (m .resources)) x) _ _ _ _ _ (permitted-agrees x e)
       (λ d. rw (assertOf, locate-agrees k c s R x e) (put-agrees x e (lookup x (s .entries)) (lookup-le k c s R x) refl))
       (λ d. (refl, R))))
       (λ e. (refl, R)))
@@ -286,5 +287,5 @@ module _ (k : Capacities) (c : Store) (s : Model) (R : Agreeing k c s) where
       rw (fits-agrees k c s R)
       (same-cond k (retracted′ c) (known (n .resources) x) (known (length (s .names)) x) _ _ _ _
       (ap (λ (z : ℕ). known z x) (R .named .size))
-      (λ e. rw (retractOf, locate-agrees k c s R x e) (strike-agrees x e (lookup x (s .entries)) (lookup-le k c s R x) refl))
+      (λ e. rw (retractOf, locate-agrees k c s R x e) (retract-entry-agrees x e (lookup x (s .entries)) (lookup-le k c s R x) refl))
       (λ e. (refl, R)))

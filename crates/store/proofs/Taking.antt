@@ -9,21 +9,22 @@ use Prim.Native.Nat.{ℕ, zero, suc, _+_, _≤_, _<_}
 use native.Mathlib.Omega.{arith}
 use lib.ListN.{length, take, drop}
 use Rattle.store.specs.Shared.{prev}
-use Rattle.store.specs.Model.{Taken, found as took, ended as emptied, spent as stopped, oneMore, take-off, restOf}
-use Rattle.store.specs.Claims.{Latest, NoneOf, Falling}
+use Rattle.store.specs.Model.{Taken, found as took, ended as emptied, spent as stopped, oneMore, readRest, restOf}
+use Rattle.store.specs.Claims.{Latest, NoneOf}
+use Rattle.store.specs.Pins.{Falling}
 use Rattle.store.proofs.Tests.{decide}
 use Rattle.store.proofs.Walks.{visitsIn, rest-more, visits-more, take-hit, take-miss}
 
 pub rest-drop : (live : ℕ → Bool) (b : ℕ) (l : List ℕ)
-    → restOf (take-off live b l) ≡ drop (visitsIn (take-off live b l)) l
-unfolding take-off
+    → restOf (readRest live b l) ≡ drop (visitsIn (readRest live b l)) l
+unfolding readRest
 rest-drop live zero [] = refl
 rest-drop live zero (x ∷ xs) = refl
 rest-drop live (suc b) [] = refl
 rest-drop live (suc b) (x ∷ xs) =
     decide (live (prev x))
     (λ e. rw e)
-    (λ e. rw (e, rest-more (take-off live b xs), visits-more (take-off live b xs)) (rest-drop live b xs))
+    (λ e. rw (e, rest-more (readRest live b xs), visits-more (readRest live b xs)) (rest-drop live b xs))
 
 -- ---- falling lists
 
@@ -50,11 +51,11 @@ falling-drop (suc v) (x ∷ xs) f = falling-drop v xs (f .1)
 -- ---- the three outcomes
 
 pub data Outcome (live : ℕ → Bool) (b : ℕ) (l : List ℕ) : Type 0 where
-  hits : (n v : ℕ) (r : List ℕ) → take-off live b l ≡ took n v r → Latest (λ n. live (prev n)) (take b l) n
+  hits : (n v : ℕ) (r : List ℕ) → readRest live b l ≡ took n v r → Latest (λ n. live (prev n)) (take b l) n
       → Outcome live b l
-  ends : take-off live b l ≡ emptied (length l) → NoneOf (λ n. live (prev n)) (take b l) → length l ≤ b
+  ends : readRest live b l ≡ emptied (length l) → NoneOf (λ n. live (prev n)) (take b l) → length l ≤ b
       → Outcome live b l
-  stops : take-off live b l ≡ stopped b (drop b l) → NoneOf (λ n. live (prev n)) (take b l) → b < length l
+  stops : readRest live b l ≡ stopped b (drop b l) → NoneOf (λ n. live (prev n)) (take b l) → b < length l
       → Outcome live b l
 
 module _ (live : ℕ → Bool) (b x : ℕ) (xs : List ℕ) (f : Falling (x ∷ xs)) where
@@ -87,9 +88,9 @@ module _ (live : ℕ → Bool) (b x : ℕ) (xs : List ℕ) (f : Falling (x ∷ x
     one-on (stops q h l) = stops (take-miss live b x xs e ∙ ap oneMore q) (none-more h) (omega arith)
 
 pub outcome : (live : ℕ → Bool) (b : ℕ) (l : List ℕ) → Falling l → Outcome live b l
-outcome live zero [] f = ends (unfold take-off in refl) (λ i m. absurd (List·Memᴰ·not-nil m)) (omega arith)
-outcome live zero (x ∷ xs) f = stops (unfold take-off in refl) (λ i m. absurd (List·Memᴰ·not-nil m)) (omega arith)
-outcome live (suc b) [] f = ends (unfold take-off in refl) (λ i m. absurd (List·Memᴰ·not-nil m)) (omega arith)
+outcome live zero [] f = ends (unfold readRest in refl) (λ i m. absurd (List·Memᴰ·not-nil m)) (omega arith)
+outcome live zero (x ∷ xs) f = stops (unfold readRest in refl) (λ i m. absurd (List·Memᴰ·not-nil m)) (omega arith)
+outcome live (suc b) [] f = ends (unfold readRest in refl) (λ i m. absurd (List·Memᴰ·not-nil m)) (omega arith)
 outcome live (suc b) (x ∷ xs) f =
     decide (live (prev x))
     (λ e. hits x 1 xs (take-hit live b x xs e) (first-hit live b x xs f e))

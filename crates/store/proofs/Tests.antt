@@ -12,7 +12,7 @@ use Rattle.store.specs.declared.Position.{Position}
 use Rattle.store.specs.declared.Position.the-variants.{Subject, Predicate, Object}
 use Rattle.store.specs.declared.Triple.{Triple}
 use Rattle.store.specs.declared.Counters.{Counters}
-use Rattle.store.specs.Shared.{at, triple, all3, known, within, same, permitted, maxReclaims}
+use Rattle.store.specs.Shared.{at, triple, all3, known, within, same, kindsPermitted, maxReclaims}
 use Rattle.store.specs.Tables.{Tables, off, fits, resourceCapacity, statementCapacity, textCapacity}
 -- Every law stands on this file, and so on the closed runs: a definition that changes an answer is refused there first.
 use Rattle.store.proofs.Runs as runs

@@ -7,8 +7,8 @@ use Prim.Native.Nat.{ℕ, zero, suc, _+_, _-_, _≤_, _<_}
 use native.Mathlib.Omega.{arith}
 use lib.ListN.{length, getD, take, drop, length-append, take-append-drop, List·getD-append}
 use lib.Seq.{sets, sets-eq, split-at, drop-at, take-at, length-take-le, getD-append-seam}
-use Rattle.store.specs.Shared.{nameOf, bytesOf}
-use Rattle.store.specs.Dictionary.{joined, upToZero}
+use Rattle.store.specs.Shared.{nameOf, textBytes}
+use Rattle.store.specs.Names.{joined, upToZero}
 use Rattle.store.proofs.Form.{clean}
 
 pub joined-append : (a b : List (List ℕ)) → joined (a ++ b) ≡ joined a ++ joined b
@@ -25,18 +25,18 @@ unfolding joined
 joined-cons n ns = refl
 
 -- the names' bytes plus 1 each are the joined text's length
-pub joined-length : (ns : List (List ℕ)) → length (joined ns) ≡ bytesOf ns
-unfolding joined bytesOf
+pub joined-length : (ns : List (List ℕ)) → length (joined ns) ≡ textBytes ns
+unfolding joined textBytes
 joined-length [] = refl
 joined-length (n ∷ ns) = length-append n (0 ∷ joined ns) ∙ omega (arith, joined-length ns)
 
-pub bytes-snoc : (ns : List (List ℕ)) (w : List ℕ) → bytesOf (ns ++ w ∷ []) ≡ bytesOf ns + length w + 1
-unfolding bytesOf
+pub bytes-snoc : (ns : List (List ℕ)) (w : List ℕ) → textBytes (ns ++ w ∷ []) ≡ textBytes ns + length w + 1
+unfolding textBytes
 bytes-snoc [] w = omega arith
 bytes-snoc (n ∷ ns) w = omega (arith, bytes-snoc ns w)
 
-pub bytes-append : (a b : List (List ℕ)) → bytesOf (a ++ b) ≡ bytesOf a + bytesOf b
-unfolding bytesOf
+pub bytes-append : (a b : List (List ℕ)) → textBytes (a ++ b) ≡ textBytes a + textBytes b
+unfolding textBytes
 bytes-append [] b = omega arith
 bytes-append (n ∷ a) b = omega (arith, bytes-append a b)
 
@@ -60,24 +60,24 @@ text-splits ns text b i e h =
 
 -- what follows the name's offset: the name, a zero byte, the rest
 pub text-at : (ns : List (List ℕ)) (text : List ℕ) (b i : ℕ) → take b text ≡ joined ns → i < length ns
-    → drop (bytesOf (take i ns)) text ≡ getD ns i [] ++ 0 ∷ (joined (drop (suc i) ns) ++ drop b text)
+    → drop (textBytes (take i ns)) text ≡ getD ns i [] ++ 0 ∷ (joined (drop (suc i) ns) ++ drop b text)
 text-at ns text b i e h =
-    ap (λ (z : List ℕ). drop (bytesOf (take i ns)) z) (text-splits ns text b i e h)
-    ∙ drop-at (joined (take i ns)) _ (bytesOf (take i ns)) (joined-length (take i ns))
+    ap (λ (z : List ℕ). drop (textBytes (take i ns)) z) (text-splits ns text b i e h)
+    ∙ drop-at (joined (take i ns)) _ (textBytes (take i ns)) (joined-length (take i ns))
 
 pub name-read : (ns : List (List ℕ)) (text : List ℕ) (b i : ℕ) → take b text ≡ joined ns → i < length ns
     → clean (getD ns i []) ≡ true
-    → upToZero (drop (bytesOf (take i ns)) text) ≡ getD ns i []
+    → upToZero (drop (textBytes (take i ns)) text) ≡ getD ns i []
 name-read ns text b i e h c = ap upToZero (text-at ns text b i e h) ∙ upToZero-stops (getD ns i []) _ c
 
 -- the bytes up to a name's end are within the names' bytes
 pub bytes-take : (ns : List (List ℕ)) (i : ℕ) → i < length ns
-    → bytesOf (take i ns) + length (getD ns i []) + 1 ≤ bytesOf ns
+    → textBytes (take i ns) + length (getD ns i []) + 1 ≤ textBytes ns
 bytes-take ns i h =
-    let s : bytesOf ns ≡ bytesOf (take i ns) + bytesOf (getD ns i [] ∷ drop (suc i) ns) =
-    ap bytesOf (split-at ns i [] h) ∙ bytes-append (take i ns) _ in
-    let c : bytesOf (getD ns i [] ∷ drop (suc i) ns)
-    ≡ length (getD ns i []) + 1 + bytesOf (drop (suc i) ns) = unfold bytesOf in refl in
+    let s : textBytes ns ≡ textBytes (take i ns) + textBytes (getD ns i [] ∷ drop (suc i) ns) =
+    ap textBytes (split-at ns i [] h) ∙ bytes-append (take i ns) _ in
+    let c : textBytes (getD ns i [] ∷ drop (suc i) ns)
+    ≡ length (getD ns i []) + 1 + textBytes (drop (suc i) ns) = unfold textBytes in refl in
     omega arith
 
 -- ---- one name more

@@ -3,13 +3,22 @@ use mathlib.Core.List.{List, []}
 use Rattle.store.specs.Model.{freshModel}
 use Rattle.store.specs.History.{store, freshStore, capacitiesOf, storeAfter}
 use Rattle.store.specs.Claims.{listsOf, HistoriesAgree, HistoriesStaySound, SoundStoresAgree, FreshIsSound}
-use Rattle.store.specs.Claims.{RefusalsChangeNothing, Finds, EndsOrSpends, VisitsAddUp, RoundTrips, SpellingsAgree, KnownMeans}
-use Rattle.store.specs.Claims.{WithinMeans, SameMeans, MatchesMeans, PermittedMeans, BelowMeans, PicksLeast}
-use Rattle.store.specs.Claims.{RefusalsAreBare, NoneIsMissed, FirstIsHighest, ReadsOnWithBudget, StaleAfterReclaim, StaleRefused}
-use Rattle.store.specs.Claims.{BadRefused, BelowFalls, BytesMean, LookupMeans}
-use Rattle.store.specs.Claims.{LiveCountsShown, LiveCountsAgree, LiveAboveCount, LiveCountOfZero, ScansDoNotLook}
-use Rattle.store.specs.Claims.{ReclaimKeeps, ReclaimWords, ForgetsRetracted, RoomAgain, FitsMeans, CapacityFirst, NumberCounts}
-use Rattle.store.specs.Claims.{UnstruckMeans, ReclaimRefuses}
+use Rattle.store.specs.RefusalClaims.{RefusalsChangeNothing}
+use Rattle.store.specs.Claims.{Finds, EndsOrSpends, VisitsAddUp}
+use Rattle.store.specs.NameClaims.{RoundTrips, SpellingsAgree}
+use Rattle.store.specs.Pins.{KnownMeans}
+use Rattle.store.specs.Pins.{WithinMeans, SameMeans, MatchesMeans, KindsPermittedMeans, BelowMeans, PicksLeast}
+use Rattle.store.specs.RefusalClaims.{RefusalsAreBare, StaleRefused}
+use Rattle.store.specs.Claims.{NoneIsMissed, ReadsOnWithBudget, StaleAfterReclaim}
+use Rattle.store.specs.Pins.{FirstIsHighest}
+use Rattle.store.specs.RefusalClaims.{BadRefused}
+use Rattle.store.specs.Pins.{BelowFalls, BytesMean, LookupMeans}
+use Rattle.store.specs.LiveClaims.{LiveCountsShown, LiveCountsAgree, ScansDoNotLook}
+use Rattle.store.specs.RefusalClaims.{LiveAboveCount, LiveCountOfZero}
+use Rattle.store.specs.ReclaimClaims.{ReclaimKeeps, ReclaimWords, ForgetsRetracted, RoomAgain, NumberCounts}
+use Rattle.store.specs.RefusalClaims.{FitsMeans, CapacityFirst}
+use Rattle.store.specs.ReclaimClaims.{UnretractedMeans}
+use Rattle.store.specs.RefusalClaims.{ReclaimRefuses}
 use Rattle.store.specs.Contracts.{CodeAgrees}
 use Rattle.store.proofs.Histories.{history-agrees, fresh-agrees}
 use Rattle.store.proofs.Kept.{tidy-history, tidy-fresh, agreeing-sound}
@@ -106,8 +115,8 @@ scans-do-not-look = live.scans-do-not-look
 pub number-counts : NumberCounts
 number-counts = limits.number-counts
 
-pub unstruck-means : UnstruckMeans
-unstruck-means = limits.unstruck-means
+pub unretracted-means : UnretractedMeans
+unretracted-means = limits.unretracted-means
 
 pub reclaim-refuses : ReclaimRefuses
 reclaim-refuses = limits.reclaim-refuses
@@ -146,8 +155,8 @@ same-means = pins.same-means
 pub matches-means : MatchesMeans
 matches-means = pins.matches-means
 
-pub permitted-means : PermittedMeans
-permitted-means = pins.permitted-means
+pub kinds-permitted-means : KindsPermittedMeans
+kinds-permitted-means = pins.kinds-permitted-means
 
 pub below-means : BelowMeans
 below-means = pins.below-means

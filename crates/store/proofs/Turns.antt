@@ -7,7 +7,7 @@ use mathlib.Core.Option.{Option, none, some}
 use Prim.Native.Nat.{ℕ, zero, suc, _+_, _-_, _≤_, _<_}
 use native.Mathlib.Omega.{arith}
 use Rattle.store.specs.Walk.{Step, found, ended, spent, afterVisit, walk}
-use Rattle.store.proofs.Walks.{walk-end, walk-out, walk-torn, walk-hit, walk-miss}
+use Rattle.store.proofs.Walks.{walk-end, walk-out, walk-damaged, walk-hit, walk-miss}
 
 -- what a walk comes to after v visits before it
 abbrev pub addVisits : ℕ → Option Step → Option Step
@@ -45,11 +45,11 @@ module _ (link : ℕ → ℕ) (ok hit : ℕ → Bool) where
       ∙ ap (λ (z : ℕ). some (spent z (suc i))) (omega arith)
 
   -- a damaged record
-  pub turn-torn : (left n v : ℕ) → n ≢ 0 → left ≢ 0 → ok (n - 1) ≡ false → addVisits v (walk link ok hit left n) ≡ none
-  turn-torn zero n v h g e = absurd (g refl)
-  turn-torn (suc left) zero v h g e = absurd (h refl)
-  turn-torn (suc left) (suc i) v h g e =
-      let d : suc i - 1 ≡ i = omega arith in ap (addVisits v) (walk-torn link ok hit left i (rw d at e))
+  pub turn-damaged : (left n v : ℕ) → n ≢ 0 → left ≢ 0 → ok (n - 1) ≡ false → addVisits v (walk link ok hit left n) ≡ none
+  turn-damaged zero n v h g e = absurd (g refl)
+  turn-damaged (suc left) zero v h g e = absurd (h refl)
+  turn-damaged (suc left) (suc i) v h g e =
+      let d : suc i - 1 ≡ i = omega arith in ap (addVisits v) (walk-damaged link ok hit left i (rw d at e))
 
   -- the record sought
   pub turn-hit : (left n v : ℕ) → n ≢ 0 → left ≢ 0 → ok (n - 1) ≡ true → hit (n - 1) ≡ true

@@ -13,12 +13,12 @@ use borrow.Author.Tests.{eqb-true, eqb-false}
 use Rattle.term.specs.Scanner.{firstKindOf}
 use Rattle.term.specs.Canonical.{canonical}
 use Rattle.store.specs.declared.Triple.{Triple}
-use Rattle.store.specs.Shared.{known, within, permitted, wellFormed, nameOf, bytesOf, maxReclaims, lookupName}
+use Rattle.store.specs.Shared.{known, within, kindsPermitted, wellFormed, nameOf, textBytes, maxReclaims, lookupName}
 use Rattle.store.specs.Values.{Values, refusedWith}
 use Rattle.store.specs.Model.{Model, Listing, Capacities, Taken, found as took, ended as emptied}
 use Rattle.store.specs.Model.{spent as stopped, Call, intern, assert, retract, open′, next, reclaim, noListing, leaving}
 use Rattle.store.specs.Model.{restOf, takenValues, internName}
-use Rattle.store.specs.Model.{internModel, entry, lookup, put, assertModel, strike, retractModel, listing}
+use Rattle.store.specs.Model.{internModel, entry, lookup, put, assertModel, retractEntry, retractModel, listing}
 use Rattle.store.specs.Model.{openModel, takeFrom, turn, nextModel, reclaimModel, callModel, modelReplies, modelAfter}
 use Rattle.store.specs.Claims.{readsOn, visitsOf, reclaims, reclaimsIn}
 use Rattle.store.proofs.Tests.{decide, cond-all}
@@ -45,43 +45,43 @@ take-sum s g b = visits-rest _ b (g .rest)
 
 -- ---- calls that leave the openings and the number of reclaims alone
 
-abbrev Alone : Model → Model × Values → Type 0
-Alone s o = ((o .0) .listings ≡ s .listings) × ((o .0) .generation ≡ s .generation)
+abbrev Untouched : Model → Model × Values → Type 0
+Untouched s o = ((o .0) .listings ≡ s .listings) × ((o .0) .generation ≡ s .generation)
 
-name-alone : (k : Capacities) (s : Model) (w : List ℕ) (t : ℕ) → Alone s (internName k s w t)
+name-untouched : (k : Capacities) (s : Model) (w : List ℕ) (t : ℕ) → Untouched s (internName k s w t)
 unfolding internName
-name-alone k s w zero =
-    decide (ltb (length (s .names)) (k .resources) && leb (bytesOf (s .names ++ w ∷ [])) (k .text)) (λ e. rw e (refl, refl))
+name-untouched k s w zero =
+    decide (ltb (length (s .names)) (k .resources) && leb (textBytes (s .names ++ w ∷ [])) (k .text)) (λ e. rw e (refl, refl))
     (λ e. rw e (refl, refl))
-name-alone k s w (suc i) = (refl, refl)
+name-untouched k s w (suc i) = (refl, refl)
 
-intern-alone : (k : Capacities) (s : Model) (w : List ℕ) → Alone s (internModel k s w)
+intern-untouched : (k : Capacities) (s : Model) (w : List ℕ) → Untouched s (internModel k s w)
 unfolding internModel
-intern-alone k s w = decide (wellFormed w) (λ e. rw e (name-alone k s (canonical w) (lookupName (canonical w) (s .names)))) (λ e. rw e (refl, refl))
+intern-untouched k s w = decide (wellFormed w) (λ e. rw e (name-untouched k s (canonical w) (lookupName (canonical w) (s .names)))) (λ e. rw e (refl, refl))
 
-put-alone : (k : Capacities) (s : Model) (x : Triple) (t : ℕ) → Alone s (put k s x t)
+put-untouched : (k : Capacities) (s : Model) (x : Triple) (t : ℕ) → Untouched s (put k s x t)
 unfolding put
-put-alone k s x zero = decide (ltb (length (s .entries)) (k .statements)) (λ e. rw e (refl, refl)) (λ e. rw e (refl, refl))
-put-alone k s x (suc i) = decide ((entry (s .entries) i) .retracted) (λ e. rw e (refl, refl)) (λ e. rw e (refl, refl))
+put-untouched k s x zero = decide (ltb (length (s .entries)) (k .statements)) (λ e. rw e (refl, refl)) (λ e. rw e (refl, refl))
+put-untouched k s x (suc i) = decide ((entry (s .entries) i) .retracted) (λ e. rw e (refl, refl)) (λ e. rw e (refl, refl))
 
-assert-alone : (k : Capacities) (s : Model) (x : Triple) → Alone s (assertModel k s x)
+assert-untouched : (k : Capacities) (s : Model) (x : Triple) → Untouched s (assertModel k s x)
 unfolding assertModel
-assert-alone k s x =
+assert-untouched k s x =
     decide (known (length (s .names)) x)
-    (λ e. rw e (decide (permitted (λ y. firstKindOf (nameOf (s .names) y)) x)
-    (λ d. rw d (put-alone k s x (lookup x (s .entries))))
+    (λ e. rw e (decide (kindsPermitted (λ y. firstKindOf (nameOf (s .names) y)) x)
+    (λ d. rw d (put-untouched k s x (lookup x (s .entries))))
     (λ d. rw d (refl, refl))))
     (λ e. rw e (refl, refl))
 
-strike-alone : (s : Model) (t : ℕ) → Alone s (strike s t)
-unfolding strike
-strike-alone s zero = (refl, refl)
-strike-alone s (suc i) = decide ((entry (s .entries) i) .retracted) (λ e. rw e (refl, refl)) (λ e. rw e (refl, refl))
+retract-entry-untouched : (s : Model) (t : ℕ) → Untouched s (retractEntry s t)
+unfolding retractEntry
+retract-entry-untouched s zero = (refl, refl)
+retract-entry-untouched s (suc i) = decide ((entry (s .entries) i) .retracted) (λ e. rw e (refl, refl)) (λ e. rw e (refl, refl))
 
-retract-alone : (s : Model) (x : Triple) → Alone s (retractModel s x)
+retract-untouched : (s : Model) (x : Triple) → Untouched s (retractModel s x)
 unfolding retractModel
-retract-alone s x =
-    decide (known (length (s .names)) x) (λ e. rw e (strike-alone s (lookup x (s .entries)))) (λ e. rw e (refl, refl))
+retract-untouched s x =
+    decide (known (length (s .names)) x) (λ e. rw e (retract-entry-untouched s (lookup x (s .entries)))) (λ e. rw e (refl, refl))
 
 reclaim-listings : (s : Model) → ((reclaimModel s) .0) .listings ≡ s .listings
 unfolding reclaimModel
@@ -91,9 +91,9 @@ reclaim-listings s = decide (ltb (s .generation) maxReclaims) (λ e. rw e) (λ e
 pub generation-call : (k : Capacities) (s : Model) (a : Call)
     → ((callModel k s a) .0) .generation ≡ s .generation + reclaims a ((callModel k s a) .1)
 unfolding callModel openModel nextModel turn reclaimModel
-generation-call k s (intern w) = intern-alone k s w .1 ∙ omega arith
-generation-call k s (assert f x) = assert-alone k s x .1 ∙ omega arith
-generation-call k s (retract f x) = retract-alone s x .1 ∙ omega arith
+generation-call k s (intern w) = intern-untouched k s w .1 ∙ omega arith
+generation-call k s (assert f x) = assert-untouched k s x .1 ∙ omega arith
+generation-call k s (retract f x) = retract-untouched s x .1 ∙ omega arith
 generation-call k s (open′ x) =
     decide (within (length (s .names)) x) (λ e. rw e (omega arith)) (λ e. rw e (omega arith))
 generation-call k s (next j b) =
@@ -119,8 +119,8 @@ pub record Kept (j : ℕ) (a : Call) (s : Model) (o : Model × Values) : Type 0 
   pub stays : j < length ((o .0) .listings)
 
 module _ (k : Capacities) (s : Model) (j : ℕ) (h : j < length (s .listings)) where
-  kept-alone : (a : Call) (o : Model × Values) → readsOn j a ≡ false → (o .0) .listings ≡ s .listings → Kept j a s o
-  kept-alone a o e q = record { now = rw (e, q); sum = rw (e, q) (omega arith); stays = rw q h }
+  kept-untouched : (a : Call) (o : Model × Values) → readsOn j a ≡ false → (o .0) .listings ≡ s .listings → Kept j a s o
+  kept-untouched a o e q = record { now = rw (e, q); sum = rw (e, q) (omega arith); stays = rw q h }
 
   kept-turn : (i b : ℕ) (g : Listing) → g ≡ openingOf s i → Kept j (next i b) s (turn s i g (takeFrom (s .entries) g b))
   unfolding turn
@@ -168,9 +168,9 @@ module _ (k : Capacities) (s : Model) (j : ℕ) (h : j < length (s .listings)) w
 
   pub kept : (a : Call) → Kept j a s (callModel k s a)
   unfolding callModel openModel nextModel
-  kept (intern w) = kept-alone (intern w) (internModel k s w) refl (intern-alone k s w .0)
-  kept (assert f x) = kept-alone (assert f x) (assertModel k s x) refl (assert-alone k s x .0)
-  kept (retract f x) = kept-alone (retract f x) (retractModel s x) refl (retract-alone s x .0)
+  kept (intern w) = kept-untouched (intern w) (internModel k s w) refl (intern-untouched k s w .0)
+  kept (assert f x) = kept-untouched (assert f x) (assertModel k s x) refl (assert-untouched k s x .0)
+  kept (retract f x) = kept-untouched (retract f x) (retractModel s x) refl (retract-untouched s x .0)
   kept (open′ x) =
       decide (within (length (s .names)) x)
       (λ e. rw e (record {
@@ -182,14 +182,14 @@ module _ (k : Capacities) (s : Model) (j : ℕ) (h : j < length (s .listings)) w
         );
         stays = rw length-append (omega arith);
       }))
-      (λ e. rw e (kept-alone (open′ x) (s, refusedWith 4) refl refl))
+      (λ e. rw e (kept-untouched (open′ x) (s, refusedWith 4) refl refl))
   kept (next i b) =
       decide (eqb ((openingOf s i) .generation) (s .generation))
       (λ d. rw d (decide (eqb b 0)
       (λ e. rw e (kept-refused i b 7))
       (λ e. rw e (kept-turn i b (openingOf s i) refl))))
       (λ d. rw d (kept-refused i b 13))
-  kept reclaim = kept-alone reclaim (reclaimModel s) refl (reclaim-listings s)
+  kept reclaim = kept-untouched reclaim (reclaimModel s) refl (reclaim-listings s)
 
 -- ---- a list of calls
 

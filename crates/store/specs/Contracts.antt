@@ -1,22 +1,14 @@
 -- A run of the code (demand 3): for each call, what the contract of its operation says of the store after it and of its reply. The contracts are
--- those of `dictionary::intern`, `statement::assert`, `retract`, `assert_lent`, `retract_lent`, `scan::scan_open`, `scan_next` and
+-- those of `dictionary::intern`, `statement::assert`, `retract`, `assert_updating`, `retract_updating`, `scan::scan_open`, `scan_next` and
 -- `compaction::reclaim`, word for word. Assumes nothing.
-use mathlib.Core.Path.{_≡_}
-use mathlib.Core.List.{List, [], _∷_}
-use Prim.Native.Nat.{ℕ}
-use lib.ListN.{getD}
-use Rattle.store.specs.declared.Interned.{Interned}
-use Rattle.store.specs.declared.Asserted.{Asserted}
-use Rattle.store.specs.declared.Retracted.{Retracted}
-use Rattle.store.specs.declared.Reclaimed.{Reclaimed}
-use Rattle.store.specs.declared.ScanOpened.{ScanOpened}
-use Rattle.store.specs.declared.Scanned.{Scanned}
+use Rattle.store.specs.Prelude.{_≡_, List, [], _∷_, getD, Interned, Asserted, Retracted, Reclaimed, ScanOpened, Scanned}
 use Rattle.store.specs.Tables.{Tables, after}
 use Rattle.store.specs.Values.{Values, noCursor, internedValues, assertedValues, retractedValues, openedValues, scannedValues}
 use Rattle.store.specs.Values.{reclaimedValues}
-use Rattle.store.specs.Model.{Call, byValue, lent, intern, assert, retract, open′, next, reclaim, freshModel, modelReplies, modelAfter}
+use Rattle.store.specs.Model.{Call, byValue, updating, intern, assert, retract, open′, next}
+use Rattle.store.specs.Model.{reclaim, freshModel, modelReplies, modelAfter}
 use Rattle.store.specs.Dictionary.{InternAnswer}
-use Rattle.store.specs.Statement.{Lent, assertOf, retractOf, countersAfter, assertLentOf, retractLentOf}
+use Rattle.store.specs.Statement.{Updated, assertOf, retractOf, countersAfter, assertUpdatingOf, retractUpdatingOf}
 use Rattle.store.specs.Scan.{openOf, nextOf}
 use Rattle.store.specs.Reclaim.{ReclaimAnswer}
 use Rattle.store.specs.History.{Store, store, freshStore, capacitiesOf, internedCounters, afterReclaim, openedCursors, movedCursors}
@@ -29,12 +21,12 @@ Ran s (intern w) t v = (a : Interned) × InternAnswer (s .counters) (s .tables) 
     × (t ≡ store (internedCounters (s .counters) a) (t .tables) (s .cursors)) × (v ≡ internedValues a)
 Ran s (assert byValue x) t v = (a : Asserted) × (after (t .tables) a ≡ assertOf (s .counters) (s .tables) x)
     × (t ≡ store (countersAfter (s .counters) a) (t .tables) (s .cursors)) × (v ≡ assertedValues a)
-Ran s (assert lent x) t v = (a : Lent Asserted) × (a ≡ assertLentOf (s .counters) (s .tables) x)
-    × (t ≡ store (a .counters) (a .lent) (s .cursors)) × (v ≡ assertedValues (a .reply))
+Ran s (assert updating x) t v = (a : Updated Asserted) × (a ≡ assertUpdatingOf (s .counters) (s .tables) x)
+    × (t ≡ store (a .counters) (a .tables) (s .cursors)) × (v ≡ assertedValues (a .reply))
 Ran s (retract byValue x) t v = (a : Retracted) × (after (t .tables) a ≡ retractOf (s .counters) (s .tables) x)
     × (t ≡ store (s .counters) (t .tables) (s .cursors)) × (v ≡ retractedValues a)
-Ran s (retract lent x) t v = (a : Lent Retracted) × (a ≡ retractLentOf (s .counters) (s .tables) x)
-    × (t ≡ store (a .counters) (a .lent) (s .cursors)) × (v ≡ retractedValues (a .reply))
+Ran s (retract updating x) t v = (a : Updated Retracted) × (a ≡ retractUpdatingOf (s .counters) (s .tables) x)
+    × (t ≡ store (a .counters) (a .tables) (s .cursors)) × (v ≡ retractedValues (a .reply))
 Ran s (open′ x) t v = (a : ScanOpened) × (a ≡ openOf (s .counters) (s .tables) x)
     × (t ≡ store (s .counters) (s .tables) (openedCursors (s .cursors) a)) × (v ≡ openedValues a)
 Ran s (next j b) t v = (a : Scanned) × (a ≡ nextOf (s .counters) (s .tables) (getD (s .cursors) j noCursor) b)

@@ -1,88 +1,14 @@
 -- Names in the tables (paper 01, "Find a name", "Enter a name"; 02, notes 5 and 7): the text, the index in rising byte order, what find and intern
 -- answer and write on a sound dictionary, and the bound that holds of them on any tables after refusals 1 and 2. Assumes nothing.
-use mathlib.Core.Path.{_≡_}
-use mathlib.Core.Logic.{_⊎_}
-use mathlib.Core.Bool.{Bool, true, false, cond, not, _&&_}
-use mathlib.Core.List.{List, [], _∷_, _++_}
-use Prim.Native.Nat.{ℕ, zero, suc, _+_, _*_, _-_, _≤_, _<_}
-use lib.ListN.{length, getD, take, drop}
-use lib.Seq.{sets}
-use lib.Dec.{eqb, leb, ltb}
+use Rattle.store.specs.Prelude.{_≡_, _⊎_, Bool, true, false, cond, _&&_, List, [], _∷_, _++_, ℕ, zero, suc, _+_, _*_, _-_, _≤_, _<_}
+use Rattle.store.specs.Prelude.{length, sets, leb, ltb, Counters, Refusal, Capacity, Malformed, Full, Damaged, IndexPlace, At}
+use Rattle.store.specs.Prelude.{Before, OutOfRange, Lookup, Number, Absent, NotFound, Interned, Id, NotInterned}
 use Rattle.term.specs.Bytes.{eqBytes}
 use Rattle.term.specs.Scanner.{firstKindOf}
-use Rattle.term.specs.Canonical.{writesString, canonical}
-use Rattle.store.specs.declared.Counters.{Counters}
-use Rattle.store.specs.declared.Refusal.{Refusal}
-use Rattle.store.specs.declared.Refusal.the-variants.{Capacity, Malformed, Full, Damaged}
-use Rattle.store.specs.declared.IndexPlace.{IndexPlace}
-use Rattle.store.specs.declared.IndexPlace.the-variants.{At, Before, Torn}
-use Rattle.store.specs.declared.Lookup.{Lookup}
-use Rattle.store.specs.declared.Lookup.the-variants.{Number, Absent, Refused as NotFound}
-use Rattle.store.specs.declared.Interned.{Interned}
-use Rattle.store.specs.declared.Interned.the-variants.{Number as Id, Refused as NotInterned}
-use Rattle.store.specs.Shared.{unless, below, wellFormed, nameOf, bytesOf, lookupName}
-use Rattle.store.specs.Tables.{Tables, after, fits, resourceCapacity, textCapacity, resourceWords, offsetAt, kindAt, word}
-
--- ---- the byte order of names: by the first byte that differs, a prefix first
-
-pub data Ordering : Type 0 where
-  less equal more : Ordering
-
-unfoldable pub compare : List ℕ → List ℕ → Ordering
-compare [] [] = equal
-compare [] (y ∷ ys) = less
-compare (x ∷ xs) [] = more
-compare (x ∷ xs) (y ∷ ys) = cond (ltb x y) less (cond (ltb y x) more (compare xs ys))
-
-abbrev pub isLess : Ordering → Bool
-isLess less = true
-isLess equal = false
-isLess more = false
-
--- ---- a sound dictionary
-
--- every name closed by a zero byte
-unfoldable pub joined : List (List ℕ) → List ℕ
-joined [] = []
-joined (n ∷ ns) = n ++ 0 ∷ joined ns
-
--- the index: its first R words are in 1..R, and their names rise
-pub record Indexed (name : ℕ → List ℕ) (idx : List ℕ) (r : ℕ) : Type 0 where
-  pub fit : r ≤ length idx
-  pub low : (i : ℕ) → i < r → 0 < word idx i
-  pub high : (i : ℕ) → i < r → word idx i ≤ r
-  pub rise : (i j : ℕ) → i < j → j < r → compare (name (word idx i)) (name (word idx j)) ≡ less
-
--- well formed and without the string ending
-unfoldable pub storable : List ℕ → Bool
-storable w = wellFormed w && not (writesString w)
-
--- the names of a dictionary: R of them, well formed and without the string ending, B bytes long with their zeros, at the offsets and of the
--- kinds the records say
-pub record Named (ns : List (List ℕ)) (c : Counters) (m : Tables) : Type 0 where
-  pub size : c .resources ≡ length ns
-  pub bytes : c .text ≡ bytesOf ns
-  pub spelled : take (c .text) (m .text) ≡ joined ns
-  pub well : (i : ℕ) → i < length ns → storable (getD ns i []) ≡ true
-  pub offsets : (y : ℕ) → 0 < y → y ≤ c .resources → offsetAt (m .resources) y ≡ bytesOf (take (y - 1) ns)
-  pub kinds : (y : ℕ) → 0 < y → y ≤ c .resources → kindAt (m .resources) y ≡ firstKindOf (nameOf ns y)
-  pub index : Indexed (nameOf ns) (m .index) (c .resources)
-
--- ---- the names, read from the text
-
-abbrev pub upToZero : List ℕ → List ℕ
-upToZero [] = []
-upToZero (zero ∷ r) = []
-upToZero (suc b ∷ r) = suc b ∷ upToZero r
-
--- the name of resource y, read from the text
-unfoldable pub nameAt : Tables → ℕ → List ℕ
-nameAt m y = upToZero (drop (offsetAt (m .resources) y) (m .text))
-
--- the names of the resources 1 .. n
-unfoldable pub namesUpTo : Tables → ℕ → List (List ℕ)
-namesUpTo m zero = []
-namesUpTo m (suc n) = namesUpTo m n ++ nameAt m (suc n) ∷ []
+use Rattle.term.specs.Canonical.{canonical}
+use Rattle.store.specs.Shared.{unless, below, wellFormed, lookupName}
+use Rattle.store.specs.Tables.{Tables, after, fits, resourceCapacity, textCapacity, resourceWords, word}
+use Rattle.store.specs.Names.{compareBytes, isLess, Named, nameAt, namesUpTo}
 
 -- ---- find
 
@@ -110,7 +36,7 @@ pub record FindAnswer (c : Counters) (m : Tables) (w : List ℕ) (a : Lookup) : 
 
 -- how many of the index's first R names are less than w
 unfoldable pub rank : (ℕ → List ℕ) → List ℕ → ℕ → List ℕ → ℕ
-rank name idx r w = length (below (λ i. isLess (compare (name (word idx i)) w)) r)
+rank name idx r w = length (below (λ i. isLess (compareBytes (name (word idx i)) w)) r)
 
 -- the entry at the rank has these bytes, or the name is absent and belongs there
 unfoldable pub placeAt : Counters → Tables → List ℕ → ℕ → IndexPlace
@@ -124,7 +50,7 @@ indexPlaceOf c m w = placeAt c m w (rank (nameAt m) (m .index) (c .resources) w)
 abbrev pub PlaceWithin : ℕ → IndexPlace → Type 0
 PlaceWithin r (At n k) = (0 < n .0) × (n .0 ≤ r) × (k < r)
 PlaceWithin r (Before k) = k ≤ r
-PlaceWithin r Torn = Unit {0}
+PlaceWithin r OutOfRange = Unit {0}
 
 -- ---- intern
 
@@ -171,7 +97,7 @@ internAs c m w (At n k) = (m, Id n c)
 internAs c m w (Before k) =
     unless (roomFor c m w) (m, NotInterned Full)
     (withName c m w k, Id (record { 0 = suc (c .resources) }) (oneNameMore c w))
-internAs c m w Torn = (m, NotInterned Damaged)
+internAs c m w OutOfRange = (m, NotInterned Damaged)
 
 -- Enter on a sound dictionary: 1; 2, by the name as spelled; by the name without the string ending, already there; 3; new. On any tables
 -- `InternAnswer` says what holds.

@@ -1,25 +1,14 @@
 -- A list of calls on the tables (paper 01, "The plain lists"; 02, note 6): from fresh counters over tables that hold anything, each call on the
 -- counters last answered and the tables the last call left, each next from its opening's last cursor. Assumes nothing.
-use mathlib.Core.List.{List, [], _∷_, _++_}
-use Prim.Native.Nat.{ℕ}
-use lib.ListN.{getD, set}
-use Rattle.store.specs.declared.Counters.{Counters}
-use Rattle.store.specs.declared.ScanCursor.{ScanCursor}
-use Rattle.store.specs.declared.Interned.{Interned}
-use Rattle.store.specs.declared.Interned.the-variants.{Number as Id, Refused as NotInterned}
-use Rattle.store.specs.declared.Reclaimed.{Reclaimed}
-use Rattle.store.specs.declared.Reclaimed.the-variants.{Done, Refused as NotReclaimed}
-use Rattle.store.specs.declared.ScanOpened.{ScanOpened}
-use Rattle.store.specs.declared.ScanOpened.the-variants.{Cursor, Refused as NotOpened}
-use Rattle.store.specs.declared.Scanned.{Scanned}
-use Rattle.store.specs.declared.Scanned.the-variants.{Found, Ended, Spent, Refused as NotScanned}
+use Rattle.store.specs.Prelude.{List, [], _∷_, _++_, ℕ, getD, set, Counters, ScanCursor, Interned, Id, NotInterned, Reclaimed, Done}
+use Rattle.store.specs.Prelude.{NotReclaimed, ScanOpened, Cursor, NotOpened, Scanned, Found, Ended, Spent, NotScanned}
 use Rattle.store.specs.Tables.{Tables, resourceCapacity, statementCapacity, textCapacity}
 use Rattle.store.specs.Shared.{freshCounters}
 use Rattle.store.specs.Values.{Values, noCursor, internedValues, assertedValues, retractedValues, openedValues, scannedValues}
 use Rattle.store.specs.Values.{reclaimedValues}
-use Rattle.store.specs.Model.{Capacities, Form, byValue, lent, Call, intern, assert, retract, open′, next, reclaim}
+use Rattle.store.specs.Model.{Capacities, byValue, updating, Call, intern, assert, retract, open′, next, reclaim}
 use Rattle.store.specs.Dictionary.{internOf}
-use Rattle.store.specs.Statement.{assertOf, retractOf, countersAfter, assertLentOf, retractLentOf}
+use Rattle.store.specs.Statement.{assertOf, retractOf, countersAfter, assertUpdatingOf, retractUpdatingOf}
 use Rattle.store.specs.Scan.{openOf, nextOf}
 use Rattle.store.specs.Reclaim.{reclaimOf}
 
@@ -66,12 +55,12 @@ callStore s (intern w) =
 callStore s (assert byValue x) =
     let r = assertOf (s .counters) (s .tables) x in
     (store (countersAfter (s .counters) (r .1)) (r .0) (s .cursors), assertedValues (r .1))
-callStore s (assert lent x) =
-    let r = assertLentOf (s .counters) (s .tables) x in (store (r .counters) (r .lent) (s .cursors), assertedValues (r .reply))
+callStore s (assert updating x) =
+    let r = assertUpdatingOf (s .counters) (s .tables) x in (store (r .counters) (r .tables) (s .cursors), assertedValues (r .reply))
 callStore s (retract byValue x) =
     let r = retractOf (s .counters) (s .tables) x in (store (s .counters) (r .0) (s .cursors), retractedValues (r .1))
-callStore s (retract lent x) =
-    let r = retractLentOf (s .counters) (s .tables) x in (store (r .counters) (r .lent) (s .cursors), retractedValues (r .reply))
+callStore s (retract updating x) =
+    let r = retractUpdatingOf (s .counters) (s .tables) x in (store (r .counters) (r .tables) (s .cursors), retractedValues (r .reply))
 callStore s (open′ x) =
     let r = openOf (s .counters) (s .tables) x in (store (s .counters) (s .tables) (openedCursors (s .cursors) r), openedValues r)
 callStore s (next j b) =

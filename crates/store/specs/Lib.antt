@@ -1,3 +1,4 @@
+pub mod Prelude
 pub mod Shared
 pub mod Tables
 pub mod Values
@@ -6,9 +7,15 @@ pub mod Reading
 pub mod Walk
 pub mod Statement
 pub mod Scan
+pub mod Names
 pub mod Dictionary
 pub mod Soundness
 pub mod Reclaim
 pub mod History
 pub mod Claims
+pub mod Pins
+pub mod NameClaims
+pub mod ReclaimClaims
+pub mod LiveClaims
+pub mod RefusalClaims
 pub mod Contracts

@@ -1,22 +1,12 @@
 -- The plain lists (paper 01, "The plain lists"; 02, notes 6 and 7): what a reader has to believe of demand 3. Two lists under the same
 -- capacities, of names and of triples with a mark, what is left of each opening, and the number of reclaims. Nothing here speaks of
 -- tables, links or counts. Assumes nothing.
-use mathlib.Core.Bool.{Bool, true, false, cond, not, _&&_, _||_}
-use mathlib.Core.List.{List, [], _∷_, _++_}
-use Prim.Native.Nat.{ℕ, zero, suc, _+_, _-_}
-use lib.ListN.{length, getD, set}
-use lib.Dec.{eqb, leb, ltb}
+use Rattle.store.specs.Prelude.{Bool, true, false, cond, _&&_, List, [], _∷_, _++_, ℕ, zero, suc, length, getD, set, eqb, leb, ltb}
+use Rattle.store.specs.Prelude.{Chain, All, By, Counters, Triple, ScanCursor}
 use Rattle.term.specs.Scanner.{firstKindOf}
 use Rattle.term.specs.Canonical.{canonical}
-use Rattle.store.specs.declared.Position.{Position}
-use Rattle.store.specs.declared.Position.the-variants.{Subject, Predicate, Object}
-use Rattle.store.specs.declared.Chain.{Chain}
-use Rattle.store.specs.declared.Chain.the-variants.{All, By}
-use Rattle.store.specs.declared.Counters.{Counters}
-use Rattle.store.specs.declared.Triple.{Triple}
-use Rattle.store.specs.declared.ScanCursor.{ScanCursor}
-use Rattle.store.specs.Shared.{maxReclaims, unless, at, known, within, same, permitted, Entry, matches, pick, wellFormed, nameOf, bytesOf, lookupName}
-use Rattle.store.specs.Shared.{below, head0, prev}
+use Rattle.store.specs.Shared.{maxReclaims, unless, at, known, within, same, kindsPermitted, Entry, matches, pick, wellFormed}
+use Rattle.store.specs.Shared.{nameOf, textBytes, lookupName, below, head0, prev}
 use Rattle.store.specs.Values.{Values, noTriple, refusedWith, numbered, counted, placed, stepped}
 
 -- ---- the lists
@@ -42,9 +32,9 @@ pub record Capacities : Type 0 where
 abbrev pub freshModel : Model
 freshModel = record { names = []; entries = []; listings = []; generation = 0 }
 
--- one call; the lent form of assert and retract is answered like the form by value
+-- one call; the updating form of assert and retract is answered like the form by value
 pub data Form : Type 0 where
-  byValue lent : Form
+  byValue updating : Form
 
 pub data Call : Type 0 where
   intern : List ℕ → Call
@@ -61,7 +51,7 @@ abbrev pub totals : Model → Counters
 totals s = record {
   resources = length (s .names);
   statements = length (s .entries);
-  text = bytesOf (s .names);
+  text = textBytes (s .names);
   generation = s .generation;
 }
 
@@ -74,7 +64,7 @@ lastName s = (s, counted 0 (length (s .names)) (totals s))
 
 unfoldable pub internName : Capacities → Model → List ℕ → ℕ → Model × Values
 internName k s w zero =
-    unless (ltb (length (s .names)) (k .resources) && leb (bytesOf (s .names ++ w ∷ [])) (k .text)) (s, refusedWith 3)
+    unless (ltb (length (s .names)) (k .resources) && leb (textBytes (s .names ++ w ∷ [])) (k .text)) (s, refusedWith 3)
     (lastName (withNames s (s .names ++ w ∷ [])))
 internName k s w (suc i) = (s, counted 0 (suc i) (totals s))
 
@@ -116,18 +106,19 @@ put k s x (suc i) =
 unfoldable pub assertModel : Capacities → Model → Triple → Model × Values
 assertModel k s x =
     unless (known (length (s .names)) x) (s, refusedWith 4)
-    (unless (permitted (λ y. firstKindOf (nameOf (s .names) y)) x) (s, refusedWith 5)
+    (unless (kindsPermitted (λ y. firstKindOf (nameOf (s .names) y)) x) (s, refusedWith 5)
     (put k s x (lookup x (s .entries))))
 
-unfoldable pub strike : Model → ℕ → Model × Values
-strike s zero = (s, numbered 0)
-strike s (suc i) = cond ((entry (s .entries) i) .retracted) (s, numbered 0) (withEntries s (mark (s .entries) i true), numbered (suc i))
+unfoldable pub retractEntry : Model → ℕ → Model × Values
+retractEntry s zero = (s, numbered 0)
+retractEntry s (suc i) =
+    cond ((entry (s .entries) i) .retracted) (s, numbered 0) (withEntries s (mark (s .entries) i true), numbered (suc i))
 
--- Retract: 4; a live triple is struck out; otherwise 0
+-- Retract: 4; a live triple is retracted; otherwise 0
 unfoldable pub retractModel : Model → Triple → Model × Values
 retractModel s x =
     unless (known (length (s .names)) x) (s, refusedWith 4)
-    (strike s (lookup x (s .entries)))
+    (retractEntry s (lookup x (s .entries)))
 
 -- ---- listings
 
@@ -174,11 +165,11 @@ oneMore (ended v) = ended (suc v)
 oneMore (spent v r) = spent (suc v) r
 
 -- takes positions off the rest, one visit each, to the first that passes, the budget or the end
-unfoldable pub take-off : (ℕ → Bool) → ℕ → List ℕ → Taken
-take-off live zero [] = ended 0
-take-off live zero (x ∷ xs) = spent 0 (x ∷ xs)
-take-off live (suc b) [] = ended 0
-take-off live (suc b) (x ∷ xs) = cond (live (prev x)) (found x 1 xs) (oneMore (take-off live b xs))
+unfoldable pub readRest : (ℕ → Bool) → ℕ → List ℕ → Taken
+readRest live zero [] = ended 0
+readRest live zero (x ∷ xs) = spent 0 (x ∷ xs)
+readRest live (suc b) [] = ended 0
+readRest live (suc b) (x ∷ xs) = cond (live (prev x)) (found x 1 xs) (oneMore (readRest live b xs))
 
 abbrev pub noListing : Listing
 noListing = record { pattern = noTriple; chain = All; rest = []; generation = 0 }
@@ -197,7 +188,7 @@ takenValues g (ended v) = stepped 2 0 v (cursorOf (leaving g []))
 takenValues g (spent v r) = stepped 3 0 v (cursorOf (leaving g r))
 
 unfoldable pub takeFrom : List Entry → Listing → ℕ → Taken
-takeFrom l g b = take-off (λ i. matches (g .pattern) (entry l i)) b (g .rest)
+takeFrom l g b = readRest (λ i. matches (g .pattern) (entry l i)) b (g .rest)
 
 unfoldable pub turn : Model → ℕ → Listing → Taken → Model × Values
 turn s j g r = (withListings s (set (s .listings) j (leaving g (restOf r))), takenValues g r)
@@ -213,14 +204,14 @@ nextModel s j b =
 
 -- ---- reclaim
 
--- the entries that are not struck out, in their order
-unfoldable pub unstruck : List Entry → List Entry
-unstruck [] = []
-unstruck (e ∷ l) = cond (e .retracted) (unstruck l) (e ∷ unstruck l)
+-- the entries that are not retracted, in their order
+unfoldable pub unretracted : List Entry → List Entry
+unretracted [] = []
+unretracted (e ∷ l) = cond (e .retracted) (unretracted l) (e ∷ unretracted l)
 
--- the struck-out entries forgotten, one reclaim more; the listings are kept and can't go on
+-- the retracted entries forgotten, one reclaim more; the listings are kept and can't go on
 abbrev pub reclaimed : Model → Model
-reclaimed s = record { names = s .names; entries = unstruck (s .entries); listings = s .listings; generation = suc (s .generation) }
+reclaimed s = record { names = s .names; entries = unretracted (s .entries); listings = s .listings; generation = suc (s .generation) }
 
 -- Reclaim: 14 past the maximum
 unfoldable pub reclaimModel : Model → Model × Values

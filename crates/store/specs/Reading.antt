@@ -1,18 +1,7 @@
 -- Read a statement, and name of a number (paper 01), on any tables. Assumes nothing.
-use mathlib.Core.Bool.{Bool, true, false, cond, _&&_}
-use mathlib.Core.List.{List, [], _∷_}
-use mathlib.Core.Option.{Option, none, some}
-use Prim.Native.Nat.{ℕ, zero, suc, _+_, _-_}
-use lib.ListN.{getD}
-use lib.Dec.{eqb, leb, ltb}
-use Rattle.store.specs.declared.Counters.{Counters}
-use Rattle.store.specs.declared.ResourceId.{ResourceId}
-use Rattle.store.specs.declared.StatementId.{StatementId}
-use Rattle.store.specs.declared.Refusal.the-variants.{Capacity, UnknownNumber, Damaged}
-use Rattle.store.specs.declared.StatementRead.{StatementRead}
-use Rattle.store.specs.declared.StatementRead.the-variants.{Is, Refused as NotRead}
-use Rattle.store.specs.declared.NameRead.{NameRead}
-use Rattle.store.specs.declared.NameRead.the-variants.{Span, Refused as NotNamed}
+use Rattle.store.specs.Prelude.{Bool, true, false, _&&_, List, Option, none, some, ℕ, zero, suc, _+_, _-_, eqb, leb, ltb, Counters}
+use Rattle.store.specs.Prelude.{ResourceId, StatementId, Capacity, UnknownNumber, Damaged, StatementRead, Is, NotRead, NameRead}
+use Rattle.store.specs.Prelude.{Span, NotNamed}
 use Rattle.store.specs.Shared.{unless, known}
 use Rattle.term.specs.Grammar.{nameLimit}
 use Rattle.store.specs.Tables.{Tables, fits, tripleAt, flagAt, offsetAt, word}

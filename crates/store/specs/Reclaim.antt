@@ -1,18 +1,8 @@
 -- Reclaim (paper 02, note 6): the live statements move down in their order and are numbered from 1, all chains and counts are built anew,
 -- the words of the records given up are 0, names stay. Right on a sound store; on any tables `ReclaimAnswer` says what holds. Assumes
 -- nothing.
-use mathlib.Core.Path.{_≡_}
-use mathlib.Core.Bool.{true, false, cond}
-use mathlib.Core.List.{List, [], _∷_}
-use Prim.Native.Nat.{ℕ, zero, suc, _+_, _*_, _-_, _<_}
-use lib.ListN.{replicate}
-use lib.Seq.{sets}
-use lib.Dec.{eqb, ltb}
-use Rattle.store.specs.declared.Counters.{Counters}
-use Rattle.store.specs.declared.Triple.{Triple}
-use Rattle.store.specs.declared.Refusal.the-variants.{Capacity, Damaged, ReclaimLimit}
-use Rattle.store.specs.declared.Reclaimed.{Reclaimed}
-use Rattle.store.specs.declared.Reclaimed.the-variants.{Done, Refused as NotReclaimed}
+use Rattle.store.specs.Prelude.{_≡_, true, false, cond, List, [], _∷_, ℕ, zero, suc, _+_, _*_, _-_, _<_, replicate, sets, eqb, ltb}
+use Rattle.store.specs.Prelude.{Counters, Triple, Capacity, Damaged, ReclaimLimit, Reclaimed, Done, NotReclaimed}
 use Rattle.store.specs.Tables.{Tables, tables, after, fits, statementWords, resourceWords, flagAt, tripleAt}
 use Rattle.store.specs.Shared.{unless, maxReclaims}
 use Rattle.store.specs.Statement.{appendRecord, linkRecord}
@@ -42,7 +32,7 @@ abbrev pub movedDown : Swept → Triple → Swept
 movedDown z x =
     swept (suc (z .count)) (linkRecord (z .count) x (z .resources)) (appendRecord (z .count) x (z .resources) (z .statements))
 
--- entry i of what the table now holds: passed over if struck out, else moved down
+-- entry i of what the table now holds: passed over if retracted, else moved down
 unfoldable pub sweepOne : ℕ → Swept → Swept
 sweepOne i z = cond (eqb (flagAt (z .statements) i) 1) z (movedDown z (tripleAt (z .statements) i))
 

@@ -1,23 +1,12 @@
 -- Open and next of a pattern scan, the paper's listing (paper 01, "Open a listing", "Next of a listing"; 02, note 6), on tables that hold
 -- anything and any cursor. Assumes nothing.
-use mathlib.Core.Bool.{Bool, true, false, cond, _&&_}
-use mathlib.Core.List.{List}
-use mathlib.Core.Option.{Option, none, some}
-use Prim.Native.Nat.{ℕ, zero, suc}
-use lib.Dec.{eqb, leb, ltb}
-use Rattle.store.specs.declared.Counters.{Counters}
-use Rattle.store.specs.declared.Chain.{Chain}
-use Rattle.store.specs.declared.Chain.the-variants.{All, By}
-use Rattle.store.specs.declared.Triple.{Triple}
-use Rattle.store.specs.declared.ScanCursor.{ScanCursor}
-use Rattle.store.specs.declared.Refusal.the-variants.{Capacity, UnknownNumber, BadCursor, NoBudget, Damaged, StaleCursor}
-use Rattle.store.specs.declared.ScanOpened.{ScanOpened}
-use Rattle.store.specs.declared.ScanOpened.the-variants.{Cursor, Refused as NotOpened}
-use Rattle.store.specs.declared.Scanned.{Scanned}
-use Rattle.store.specs.declared.Scanned.the-variants.{Found, Ended, Spent, Refused as NotScanned}
+use Rattle.store.specs.Prelude.{Bool, true, cond, _&&_, List, Option, none, some, ℕ, zero, suc, eqb, leb, ltb, Counters, Chain, All}
+use Rattle.store.specs.Prelude.{By, Triple, ScanCursor, Capacity, UnknownNumber, BadCursor, NoBudget, Damaged, StaleCursor}
+use Rattle.store.specs.Prelude.{ScanOpened, Cursor, NotOpened, Scanned, Found, Ended, Spent, NotScanned}
 use Rattle.store.specs.Shared.{unless, at, all3, within, matches}
 use Rattle.store.specs.Tables.{Tables, fits}
-use Rattle.store.specs.Walk.{entryAt, pickChain, pickable, startOf, linkOf, sits, visitable, walk, Step, found, ended, spent}
+use Rattle.store.specs.Walk.{entryAt, pickChain, pickable, startOf, linkOf, holdsResource, visitable, walk}
+use Rattle.store.specs.Walk.{Step, found, ended, spent}
 
 -- ---- open
 
@@ -44,7 +33,7 @@ chainOk (By p) x = ltb 0 (at p x)
 -- a record other than 0 has the bound resource at the chain's position
 unfoldable pub recordOk : List ℕ → Chain → Triple → ℕ → Bool
 recordOk stm ch x zero = true
-recordOk stm ch x (suc i) = sits stm ch x i
+recordOk stm ch x (suc i) = holdsResource stm ch x i
 
 -- refusal 6 exactly where this is false
 unfoldable pub cursorOk : Counters → Tables → ScanCursor → Bool

@@ -1,20 +1,11 @@
 -- What the plain lists and the tables' definitions share: limits, refusals in their order, triples of numbers at a position in general, listed
 -- triples, the position picked, names, and the falling positions of a list's entries that pass a test. Each is pinned by a law in `Claims`.
 -- Assumes nothing.
-use mathlib.Core.Bool.{Bool, true, false, cond, not, _&&_, _||_}
-use mathlib.Core.List.{List, [], _∷_}
-use Prim.Native.Nat.{ℕ, zero, suc, _+_, _-_}
-use lib.ListN.{length, getD}
-use lib.Dec.{eqb, leb, ltb}
+use Rattle.store.specs.Prelude.{Bool, cond, not, _&&_, _||_, List, [], _∷_, ℕ, zero, suc, _+_, _-_, length, getD, eqb, leb, ltb}
+use Rattle.store.specs.Prelude.{Counters, Position, Subject, Predicate, Object, Chain, All, By, Triple}
 use Rattle.term.specs.Bytes.{eqBytes}
 use Rattle.term.specs.Grammar.{nameLimit}
 use Rattle.term.specs.Scanner.{kindOf}
-use Rattle.store.specs.declared.Counters.{Counters}
-use Rattle.store.specs.declared.Position.{Position}
-use Rattle.store.specs.declared.Position.the-variants.{Subject, Predicate, Object}
-use Rattle.store.specs.declared.Chain.{Chain}
-use Rattle.store.specs.declared.Chain.the-variants.{All, By}
-use Rattle.store.specs.declared.Triple.{Triple}
 
 -- ---- limits, each named once, and a fresh store
 
@@ -69,8 +60,8 @@ unfoldable pub agrees : Triple → Triple → Bool
 agrees x t = all3 (λ p. eqb (at p x) 0 || eqb (at p t) (at p x))
 
 -- a subject is no literal (kind 3), a predicate is an IRI (kind 1), by the kinds of numbers
-unfoldable pub permitted : (ℕ → ℕ) → Triple → Bool
-permitted kind x = not (eqb (kind (x .subject .0)) 3) && eqb (kind (x .predicate .0)) 1
+unfoldable pub kindsPermitted : (ℕ → ℕ) → Triple → Bool
+kindsPermitted kind x = not (eqb (kind (x .subject .0)) 3) && eqb (kind (x .predicate .0)) 1
 
 -- ---- listed triples, and the position picked
 
@@ -120,9 +111,9 @@ unfoldable pub nameOf : List (List ℕ) → ℕ → List ℕ
 nameOf ns y = getD ns (y - 1) []
 
 -- the names' bytes plus 1 each
-unfoldable pub bytesOf : List (List ℕ) → ℕ
-bytesOf [] = 0
-bytesOf (n ∷ ns) = length n + 1 + bytesOf ns
+unfoldable pub textBytes : List (List ℕ) → ℕ
+textBytes [] = 0
+textBytes (n ∷ ns) = length n + 1 + textBytes ns
 
 -- the position of a listed name, or 0
 unfoldable pub lookupName : List ℕ → List (List ℕ) → ℕ

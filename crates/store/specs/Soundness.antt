@@ -1,18 +1,10 @@
 -- Sound (paper 01, "Sound means"; 02, notes 5, 6 and 7): one definition for find, intern, reclaim, the check and both demands. Words past
 -- the counters do not matter. Assumes nothing.
-use mathlib.Core.Path.{_≡_}
-use mathlib.Core.Logic.{_≢_}
-use mathlib.Core.Bool.{Bool, true, _&&_}
-use mathlib.Core.List.{List}
-use Prim.Native.Nat.{ℕ, _*_, _≤_, _<_}
-use lib.ListN.{length}
-use lib.Dec.{eqb}
-use Rattle.store.specs.declared.Counters.{Counters}
-use Rattle.store.specs.declared.Position.{Position}
-use Rattle.store.specs.Shared.{permitted, below, head0}
+use Rattle.store.specs.Prelude.{_≡_, _≢_, Bool, true, _&&_, List, ℕ, _*_, _≤_, _<_, length, eqb, Counters, Position}
+use Rattle.store.specs.Shared.{kindsPermitted, below, head0}
 use Rattle.store.specs.Tables.{Tables, fits, resourceWords, statementWords, termAt, nextAt, flagAt, tripleAt, firstAt}
 use Rattle.store.specs.Tables.{countAt, kindAt, liveAt}
-use Rattle.store.specs.Dictionary.{Named}
+use Rattle.store.specs.Names.{Named}
 
 -- entry i holds the resource y at a position
 unfoldable pub holding : List ℕ → Position → ℕ → ℕ → Bool
@@ -44,7 +36,7 @@ pub record Sound (c : Counters) (m : Tables) : Type 0 where
   -- statement resources in 1..R, flag 0 or 1; every first, next, count and live count
   pub linked : Linked (c .resources) (c .statements) (m .resources) (m .statements)
   -- permitted kinds
-  pub kinds : (i : ℕ) → i < c .statements → permitted (kindAt (m .resources)) (tripleAt (m .statements) i) ≡ true
+  pub kinds : (i : ℕ) → i < c .statements → kindsPermitted (kindAt (m .resources)) (tripleAt (m .statements) i) ≡ true
   -- no triple twice, live or not
   pub once : (i j : ℕ) → i < j → j < c .statements → tripleAt (m .statements) i ≢ tripleAt (m .statements) j
   -- the text is exactly R well-formed names without the string ending, with right offsets and kinds; the index is complete and rising, so

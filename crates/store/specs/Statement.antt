@@ -1,23 +1,10 @@
 -- Assert and retract (paper 01; 02, note 5), by value and on lent counters: the reply and all four tables, on tables that hold
 -- anything. Assumes nothing.
-use mathlib.Core.Bool.{Bool, true, false, cond, _&&_}
-use mathlib.Core.List.{List, [], _∷_}
-use mathlib.Core.Option.{Option, none, some}
-use Prim.Native.Nat.{ℕ, zero, suc, _+_, _*_, _-_}
-use lib.ListN.{set}
-use lib.Seq.{sets}
-use lib.Dec.{eqb, leb, ltb}
-use Rattle.store.specs.declared.Counters.{Counters}
-use Rattle.store.specs.declared.Position.{Position}
-use Rattle.store.specs.declared.Position.the-variants.{Subject, Predicate, Object}
-use Rattle.store.specs.declared.Triple.{Triple}
-use Rattle.store.specs.declared.Refusal.{Refusal}
-use Rattle.store.specs.declared.Refusal.the-variants.{Capacity, Full, UnknownNumber, KindNotPermitted, Damaged}
-use Rattle.store.specs.declared.Asserted.{Asserted}
-use Rattle.store.specs.declared.Asserted.the-variants.{New, Already, Revived, Refused as NotAsserted}
-use Rattle.store.specs.declared.Retracted.{Retracted}
-use Rattle.store.specs.declared.Retracted.the-variants.{Number as Struck, Absent as NotLive, Refused as NotRetracted}
-use Rattle.store.specs.Shared.{unless, at, all3, known, same, permitted}
+use Rattle.store.specs.Prelude.{Bool, cond, _&&_, List, [], _∷_, Option, none, some, ℕ, zero, suc, _+_, _*_, _-_, set, sets, eqb}
+use Rattle.store.specs.Prelude.{leb, ltb, Counters, Position, Subject, Predicate, Object, Triple, Capacity, Full, UnknownNumber}
+use Rattle.store.specs.Prelude.{KindNotPermitted, Damaged, Asserted, New, Already, Revived, NotAsserted, Retracted, WasLive, NotLive}
+use Rattle.store.specs.Prelude.{NotRetracted}
+use Rattle.store.specs.Shared.{unless, at, all3, known, same, kindsPermitted}
 use Rattle.store.specs.Tables.{Tables, fits, statementCapacity, statementWords, resourceWords, off, tripleAt, flagAt, firstAt}
 use Rattle.store.specs.Tables.{countAt, kindAt, liveAt}
 use Rattle.store.specs.Walk.{pickChain, pickable, startOf, linkOf, visitable, walk, Step, foundIn}
@@ -60,12 +47,12 @@ withFlag f v m x i = record {
   text = m .text;
 }
 
--- made live again: three live counts one up; struck out: three live counts one down
+-- made live again: three live counts one up; retracted: three live counts one down
 abbrev pub madeLive : Tables → Triple → ℕ → Tables
 madeLive m x i = withFlag suc 0 m x i
 
-abbrev pub struckOut : Tables → Triple → ℕ → Tables
-struckOut m x i = withFlag (λ n. n - 1) 1 m x i
+abbrev pub madeRetracted : Tables → Triple → ℕ → Tables
+madeRetracted m x i = withFlag (λ n. n - 1) 1 m x i
 
 -- the seven words of a new record: its nexts are the old firsts
 abbrev pub recordWords : Triple → List ℕ → List ℕ
@@ -96,8 +83,8 @@ appended t m x = record {
 -- ---- assert
 
 -- every kind is in 1..3
-unfoldable pub kinded : List ℕ → Triple → Bool
-kinded res x = all3 (λ p. ltb 0 (kindAt res (at p x)) && leb (kindAt res (at p x)) 3)
+unfoldable pub kindsOk : List ℕ → Triple → Bool
+kindsOk res x = all3 (λ p. ltb 0 (kindAt res (at p x)) && leb (kindAt res (at p x)) 3)
 
 abbrev pub oneStatementMore : Counters → Counters
 oneStatementMore c = record {
@@ -120,8 +107,8 @@ unfoldable pub assertOf : Counters → Tables → Triple → Tables × Asserted
 assertOf c m x =
     unless (fits c m) (m, NotAsserted Capacity)
     (unless (known (c .resources) x) (m, NotAsserted UnknownNumber)
-    (unless (kinded (m .resources) x) (m, NotAsserted Damaged)
-    (unless (permitted (kindAt (m .resources)) x) (m, NotAsserted KindNotPermitted)
+    (unless (kindsOk (m .resources) x) (m, NotAsserted Damaged)
+    (unless (kindsPermitted (kindAt (m .resources)) x) (m, NotAsserted KindNotPermitted)
     (elim (locate c m x) [ none ↦ (m, NotAsserted Damaged) | some n ↦ asserting c m x n ]))))
 
 -- ---- retract
@@ -136,7 +123,7 @@ retracting m x zero = (m, NotLive)
 retracting m x (suc i) =
     cond (eqb (flagAt (m .statements) i) 1)
     (m, NotLive)
-    (cond (counting (m .resources) x) (struckOut m x i, Struck (record { 0 = suc i })) (m, NotRetracted Damaged))
+    (cond (counting (m .resources) x) (madeRetracted m x i, WasLive (record { 0 = suc i })) (m, NotRetracted Damaged))
 
 -- Retract: 1; 4; 9; then by the record found
 unfoldable pub retractOf : Counters → Tables → Triple → Tables × Retracted
@@ -155,13 +142,14 @@ countersAfter c (Revived n d) = d
 countersAfter c (NotAsserted r) = c
 
 -- counters, tables and reply
-pub record Lent (A : Type 0) : Type 0 where
+pub record Updated (A : Type 0) : Type 0 where
   pub counters : Counters
-  pub lent : Tables
+  pub tables : Tables
   pub reply : A
 
-unfoldable pub assertLentOf : Counters → Tables → Triple → Lent Asserted
-assertLentOf c m x = record { counters = countersAfter c ((assertOf c m x) .1); lent = (assertOf c m x) .0; reply = (assertOf c m x) .1 }
+unfoldable pub assertUpdatingOf : Counters → Tables → Triple → Updated Asserted
+assertUpdatingOf c m x =
+    record { counters = countersAfter c ((assertOf c m x) .1); tables = (assertOf c m x) .0; reply = (assertOf c m x) .1 }
 
-unfoldable pub retractLentOf : Counters → Tables → Triple → Lent Retracted
-retractLentOf c m x = record { counters = c; lent = (retractOf c m x) .0; reply = (retractOf c m x) .1 }
+unfoldable pub retractUpdatingOf : Counters → Tables → Triple → Updated Retracted
+retractUpdatingOf c m x = record { counters = c; tables = (retractOf c m x) .0; reply = (retractOf c m x) .1 }

@@ -1,14 +1,7 @@
 -- The tables and counters (paper 01, "Tables and counters"; 02, notes 5 and 6): widths and offsets of the records, their words at a position
 -- in general, capacities, refusal 1. Total on any words: a word past a table's end is 0. Assumes nothing.
-use mathlib.Core.Bool.{Bool, true, false, _&&_}
-use mathlib.Core.List.{List, [], _∷_}
-use Prim.Native.Nat.{ℕ, zero, suc, _+_, _*_, _-_, _/_, min}
-use lib.ListN.{length, getD}
-use lib.Dec.{eqb, leb, ltb}
-use Rattle.store.specs.declared.Counters.{Counters}
-use Rattle.store.specs.declared.Position.{Position}
-use Rattle.store.specs.declared.Position.the-variants.{Subject, Predicate, Object}
-use Rattle.store.specs.declared.Triple.{Triple}
+use Rattle.store.specs.Prelude.{Bool, _&&_, List, ℕ, _+_, _*_, _-_, _/_, min, length, getD, leb, Counters, Position, Subject}
+use Rattle.store.specs.Prelude.{Predicate, Object, Triple}
 use Rattle.store.specs.Shared.{triple, maxResources, maxStatements, maxText, maxReclaims}
 
 -- ---- widths, each named once

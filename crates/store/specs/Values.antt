@@ -1,32 +1,11 @@
 -- The paper's number and values for each case of each reply (paper 01, "Operations and refusals"; 02, note 6): what a promise compares. Every
 -- field that a case does not name is 0, and beside a refusal's number all are. Assumes nothing.
-use Prim.Native.Nat.{ℕ}
-use Rattle.store.specs.declared.Counters.{Counters}
-use Rattle.store.specs.declared.Triple.{Triple}
-use Rattle.store.specs.declared.Chain.{Chain}
-use Rattle.store.specs.declared.Chain.the-variants.{All}
-use Rattle.store.specs.declared.ScanCursor.{ScanCursor}
-use Rattle.store.specs.declared.Refusal.{Refusal}
-use Rattle.store.specs.declared.Refusal.the-variants.{Capacity, Malformed, Full, UnknownNumber, KindNotPermitted}
-use Rattle.store.specs.declared.Refusal.the-variants.{BadCursor, NoBudget, BadQuery, Damaged, BadLine, StaleCursor, ReclaimLimit}
-use Rattle.store.specs.declared.StatementRead.{StatementRead}
-use Rattle.store.specs.declared.StatementRead.the-variants.{Is, Refused as NotRead}
-use Rattle.store.specs.declared.NameRead.{NameRead}
-use Rattle.store.specs.declared.NameRead.the-variants.{Span, Refused as NotNamed}
-use Rattle.store.specs.declared.Lookup.{Lookup}
-use Rattle.store.specs.declared.Lookup.the-variants.{Number, Absent, Refused as NotFound}
-use Rattle.store.specs.declared.Interned.{Interned}
-use Rattle.store.specs.declared.Interned.the-variants.{Number as Id, Refused as NotInterned}
-use Rattle.store.specs.declared.Asserted.{Asserted}
-use Rattle.store.specs.declared.Asserted.the-variants.{New, Already, Revived, Refused as NotAsserted}
-use Rattle.store.specs.declared.Retracted.{Retracted}
-use Rattle.store.specs.declared.Retracted.the-variants.{Number as Struck, Absent as NotLive, Refused as NotRetracted}
-use Rattle.store.specs.declared.Reclaimed.{Reclaimed}
-use Rattle.store.specs.declared.Reclaimed.the-variants.{Done, Refused as NotReclaimed}
-use Rattle.store.specs.declared.ScanOpened.{ScanOpened}
-use Rattle.store.specs.declared.ScanOpened.the-variants.{Cursor, Refused as NotOpened}
-use Rattle.store.specs.declared.Scanned.{Scanned}
-use Rattle.store.specs.declared.Scanned.the-variants.{Found, Ended, Spent, Refused as NotScanned}
+use Rattle.store.specs.Prelude.{ℕ, Counters, Triple, All, ScanCursor, Refusal, Capacity, Malformed, Full, UnknownNumber}
+use Rattle.store.specs.Prelude.{KindNotPermitted, BadCursor, NoBudget, BadQuery, Damaged, BadLine, StaleCursor, ReclaimLimit}
+use Rattle.store.specs.Prelude.{StatementRead, Is, NotRead, NameRead, Span, NotNamed, Lookup, Number, Absent, NotFound, Interned, Id}
+use Rattle.store.specs.Prelude.{NotInterned, Asserted, New, Already, Revived, NotAsserted, Retracted, WasLive, NotLive, NotRetracted}
+use Rattle.store.specs.Prelude.{Reclaimed, Done, NotReclaimed, ScanOpened, Cursor, NotOpened, Scanned, Found, Ended, Spent}
+use Rattle.store.specs.Prelude.{NotScanned}
 use Rattle.store.specs.Shared.{triple, freshCounters}
 
 abbrev pub refusalNumber : Refusal → ℕ
@@ -90,7 +69,7 @@ assertedValues (Revived n c) = counted 3 (n .0) c
 assertedValues (NotAsserted r) = refusedWith (refusalNumber r)
 
 abbrev pub retractedValues : Retracted → Values
-retractedValues (Struck n) = numbered (n .0)
+retractedValues (WasLive n) = numbered (n .0)
 retractedValues NotLive = numbered 0
 retractedValues (NotRetracted r) = refusedWith (refusalNumber r)
 

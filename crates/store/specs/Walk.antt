@@ -1,13 +1,7 @@
 -- Chains in the tables (paper 01, "9 in a chain step"): which chain is picked, what a visit tests, and the walk within a budget. One
 -- definition for the scan, assert and retract, over a position in general, on tables that hold anything. Assumes nothing.
-use mathlib.Core.Bool.{Bool, true, false, cond, not, _&&_, _||_}
-use mathlib.Core.List.{List, [], _∷_}
-use mathlib.Core.Option.{Option, none, some}
-use Prim.Native.Nat.{ℕ, zero, suc, _+_}
-use lib.Dec.{eqb, leb, ltb}
-use Rattle.store.specs.declared.Chain.{Chain}
-use Rattle.store.specs.declared.Chain.the-variants.{All, By}
-use Rattle.store.specs.declared.Triple.{Triple}
+use Rattle.store.specs.Prelude.{Bool, true, false, _&&_, _||_, List, Option, none, some, ℕ, zero, suc, eqb, leb, Chain, All, By}
+use Rattle.store.specs.Prelude.{Triple}
 use Rattle.store.specs.Shared.{at, all3, known, Entry, pick}
 use Rattle.store.specs.Tables.{termAt, nextAt, flagAt, tripleAt, firstAt, countAt}
 
@@ -38,13 +32,13 @@ linkOf stm All i = i
 linkOf stm (By p) i = nextAt stm p i
 
 -- entry i has the chain's resource at the chain's position
-unfoldable pub sits : List ℕ → Chain → Triple → ℕ → Bool
-sits stm All x i = true
-sits stm (By p) x i = eqb (termAt stm p i) (at p x)
+unfoldable pub holdsResource : List ℕ → Chain → Triple → ℕ → Bool
+holdsResource stm All x i = true
+holdsResource stm (By p) x i = eqb (termAt stm p i) (at p x)
 
 -- 9 at a visit: a resource outside 1..R, the chain's resource missing, a next not below the record's own number, a flag above 1
 unfoldable pub visitable : ℕ → List ℕ → Chain → Triple → ℕ → Bool
-visitable r stm ch x i = known r (tripleAt stm i) && (sits stm ch x i && (leb (linkOf stm ch i) i && leb (flagAt stm i) 1))
+visitable r stm ch x i = known r (tripleAt stm i) && (holdsResource stm ch x i && (leb (linkOf stm ch i) i && leb (flagAt stm i) 1))
 
 -- ---- the walk
 

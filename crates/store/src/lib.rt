@@ -137,7 +137,7 @@ pub enum NameRead {
 pub enum IndexPlace {
     At(ResourceId, u32),
     Before(u32),
-    Torn,
+    OutOfRange,
 }
 
 // Find a name.

@@ -3,13 +3,13 @@
 use Prim.Native.Nat.{ℕ, zero, suc, _+_, _≤_, _<_}
 use mathlib.Core.Path.{_≡_, refl, sym, ap, _∙_}
 use mathlib.Core.List.{List, [], _∷_, _++_}
-use mathlib.Core.Bool.{Bool, true, false}
+use mathlib.Core.Bool.{Bool, true, false, cond}
 use mathlib.Core.Logic.{_⊎_, ⊎-elim, inl, inr}
 use lib.Dec.{eqb}
 use lib.ListN.{length, take}
 use lib.Seq.{take-nil}
 use native.Mathlib.Omega.{arith}
-use Rattle.term.specs.Bytes.{pick, among, iriByte, textByte, pairByte, firstByte, labelByte, letter, alnum}
+use Rattle.term.specs.Bytes.{among, iriByte, textByte, pairByte, firstByte, labelByte, letter, alnum}
 use Rattle.term.specs.Grammar.{Name}
 use Rattle.term.specs.Scanner.{stepOf, runOf, wholeOf, isBad, haltOf, firstKindOf, longestOf}
 use Rattle.term.specs.Halting.{Begins, Breaks, LongestName, HaltIsFirstBreak, BeginningHasOneKind}
@@ -170,7 +170,7 @@ record Found (q : Scan) (i : ℕ) (s : List ℕ) (n : ℕ) : Type 0 where
   at : n ≡ i + more
   whole : Accepts q (take more s)
 
-at-best : (q : Scan) (best i : ℕ) (s : List ℕ) (n : ℕ) (t : Bool) → wholeOf q ≡ t → n ≡ pick t i best
+at-best : (q : Scan) (best i : ℕ) (s : List ℕ) (n : ℕ) (t : Bool) → wholeOf q ≡ t → n ≡ cond t i best
     → (n ≡ best) ⊎ Found q i s n
 unfolding runOf
 at-best q best i s n true e h = inr (record { more = 0; within = omega arith; at = omega arith; whole = e })
@@ -185,29 +185,29 @@ further q i b s n f =
 
 found : (s : List ℕ) (q : Scan) (best i : ℕ) → (longestOf best i q s ≡ best) ⊎ Found q i s (longestOf best i q s)
 unfolding longestOf
-found [] q best i = at-best q best i [] (pick (wholeOf q) i best) (wholeOf q) refl refl
+found [] q best i = at-best q best i [] (cond (wholeOf q) i best) (wholeOf q) refl refl
 found (b ∷ s) q best i =
-    let n = longestOf (pick (wholeOf q) i best) (i + 1) (stepOf q b) s in
-    ⊎-elim (λ (e : n ≡ pick (wholeOf q) i best). at-best q best i (b ∷ s) n (wholeOf q) refl e)
+    let n = longestOf (cond (wholeOf q) i best) (i + 1) (stepOf q b) s in
+    ⊎-elim (λ (e : n ≡ cond (wholeOf q) i best). at-best q best i (b ∷ s) n (wholeOf q) refl e)
     (λ (f : Found (stepOf q b) (i + 1) s n). inr (further q i b s n f))
-    (found s (stepOf q b) (pick (wholeOf q) i best) (i + 1))
+    (found s (stepOf q b) (cond (wholeOf q) i best) (i + 1))
 
-pick-low : (t : Bool) (best i : ℕ) → best ≤ i → best ≤ pick t i best
-pick-low true best i h = h
-pick-low false best i h = omega arith
+cond-low : (t : Bool) (best i : ℕ) → best ≤ i → best ≤ cond t i best
+cond-low true best i h = h
+cond-low false best i h = omega arith
 
-pick-high : (t : Bool) (best i : ℕ) → best ≤ i → pick t i best ≤ i
-pick-high true best i h = omega arith
-pick-high false best i h = h
+cond-high : (t : Bool) (best i : ℕ) → best ≤ i → cond t i best ≤ i
+cond-high true best i h = omega arith
+cond-high false best i h = h
 
 -- what was found is not lost
 kept : (s : List ℕ) (q : Scan) (best i : ℕ) → best ≤ i → best ≤ longestOf best i q s
 unfolding longestOf
-kept [] q best i h = pick-low (wholeOf q) best i h
+kept [] q best i h = cond-low (wholeOf q) best i h
 kept (b ∷ s) q best i h =
-    let low = pick-low (wholeOf q) best i h in
-    let high = pick-high (wholeOf q) best i h in
-    let k = kept s (stepOf q b) (pick (wholeOf q) i best) (i + 1) (omega arith) in
+    let low = cond-low (wholeOf q) best i h in
+    let high = cond-high (wholeOf q) best i h in
+    let k = kept s (stepOf q b) (cond (wholeOf q) i best) (i + 1) (omega arith) in
     omega arith
 
 here : (s : List ℕ) (q : Scan) (best i : ℕ) → wholeOf q ≡ true → i ≤ longestOf best i q s
@@ -228,9 +228,9 @@ unfolding longestOf runOf
 most [] q best i m l h w =
     let z = here [] q best i (rw (take-nil m) at w) in omega arith
 most (b ∷ s) q best i m l h w =
-    let high = pick-high (wholeOf q) best i l in
+    let high = cond-high (wholeOf q) best i l in
     most-cons b s q best i m
-    (λ k g v. most s (stepOf q b) (pick (wholeOf q) i best) (i + 1) k (omega arith) g v) h w
+    (λ k g v. most s (stepOf q b) (cond (wholeOf q) i best) (i + 1) k (omega arith) g v) h w
 
 longest-name : (s : List ℕ) (n : ℕ) → Found Start 0 s n → ((k : ℕ) × Name k (take n s))
 longest-name s n f =
@@ -254,9 +254,9 @@ longest-bad (b ∷ s) best i = longest-bad s best (i + 1)
 
 -- a scan that halts before b has found what it finds
 longest-stop : (q : Scan) (best i b : ℕ) (s : List ℕ) → isBad (stepOf q b) ≡ true
-    → longestOf best i q (b ∷ s) ≡ pick (wholeOf q) i best
+    → longestOf best i q (b ∷ s) ≡ cond (wholeOf q) i best
 unfolding longestOf
-longest-stop q best i b s e = rw (bad-only (stepOf q b) e) (longest-bad s (pick (wholeOf q) i best) (i + 1))
+longest-stop q best i b s e = rw (bad-only (stepOf q b) e) (longest-bad s (cond (wholeOf q) i best) (i + 1))
 
 halt-at : (q : Scan) (i b : ℕ) (s : List ℕ) → isBad (stepOf q b) ≡ false
     → haltOf q i (b ∷ s) .at ≡ haltOf (stepOf q b) (i + 1) s .at
@@ -271,17 +271,17 @@ ends-cons : (q : Scan) (best i b : ℕ) (s : List ℕ) (t : Bool) → isBad (ste
 ends-cons q best i b s true e l f =
     let x = longest-stop q best i b s e in
     let y = halt-at-bad q i b s e in
-    let z = pick-high (wholeOf q) best i l in
+    let z = cond-high (wholeOf q) best i l in
     omega arith
 ends-cons q best i b s false e l f = let y = halt-at q i b s e in omega arith
 
 ends : (s : List ℕ) (q : Scan) (best i : ℕ) → best ≤ i → longestOf best i q s ≤ haltOf q i s .at
 unfolding longestOf haltOf
-ends [] q best i l = pick-high (wholeOf q) best i l
+ends [] q best i l = cond-high (wholeOf q) best i l
 ends (b ∷ s) q best i l =
-    let z = pick-high (wholeOf q) best i l in
+    let z = cond-high (wholeOf q) best i l in
     ends-cons q best i b s (isBad (stepOf q b)) refl l
-    (ends s (stepOf q b) (pick (wholeOf q) i best) (i + 1) (omega arith))
+    (ends s (stepOf q b) (cond (wholeOf q) i best) (i + 1) (omega arith))
 
 pub longest-ends : LongestEndsByHalt
 longest-ends s = ends s Start 0 0 (omega arith)
@@ -304,7 +304,7 @@ unfolding longestOf haltOf
 whole-at [] q best i w = rw w
 whole-at (b ∷ s) q best i w =
     whole-cons q best i b s (isBad (stepOf q b)) refl
-    (λ h. whole-at s (stepOf q b) (pick (wholeOf q) i best) (i + 1) h) w
+    (λ h. whole-at s (stepOf q b) (cond (wholeOf q) i best) (i + 1) h) w
 
 pub whole-at-halt : WholeAtHalt
 whole-at-halt s w = whole-at s Start 0 0 w
@@ -331,7 +331,7 @@ notDot Caret = true
 notDot Carets = true
 notDot Bad = true
 
-off : (t : Bool) (x y : Scan) → notDot x ≡ true → notDot y ≡ true → notDot (pick t x y) ≡ true
+off : (t : Bool) (x y : Scan) → notDot x ≡ true → notDot y ≡ true → notDot (cond t x y) ≡ true
 off true x y p q = p
 off false x y p q = q
 
@@ -364,7 +364,7 @@ before-dot q b e =
     ⊎-elim (λ (w : wholeOf q ≡ true). w) (λ (w : notDot (stepOf q b) ≡ true). never (ap notDot (sym e) ∙ w))
     (whole-or-off q b)
 
-dot-stop : (q : Scan) (best i : ℕ) → q ≡ Dot → (q ≡ Dot → best + 1 ≡ i) → pick (wholeOf q) i best + 1 ≡ i
+dot-stop : (q : Scan) (best i : ℕ) → q ≡ Dot → (q ≡ Dot → best + 1 ≡ i) → cond (wholeOf q) i best + 1 ≡ i
 unfolding wholeOf
 dot-stop q best i e f = let z = f e in rw e z
 
@@ -380,7 +380,7 @@ dot-cons q best i b s true e d f w =
 dot-cons q best i b s false e d f w =
     f (ap (λ (x : Halt). x .state) (sym (halt-first q i b s e)) ∙ w) ∙ sym (halt-at q i b s e)
 
-before-next : (q : Scan) (best i b : ℕ) → stepOf q b ≡ Dot → pick (wholeOf q) i best + 1 ≡ i + 1
+before-next : (q : Scan) (best i b : ℕ) → stepOf q b ≡ Dot → cond (wholeOf q) i best + 1 ≡ i + 1
 before-next q best i b e = rw (before-dot q b e)
 
 dot-at : (s : List ℕ) (q : Scan) (best i : ℕ) → (q ≡ Dot → best + 1 ≡ i) → haltOf q i s .state ≡ Dot
@@ -389,7 +389,7 @@ unfolding longestOf haltOf
 dot-at [] q best i d w = dot-stop q best i w d
 dot-at (b ∷ s) q best i d w =
     dot-cons q best i b s (isBad (stepOf q b)) refl d
-    (λ h. dot-at s (stepOf q b) (pick (wholeOf q) i best) (i + 1) (λ e. before-next q best i b e) h) w
+    (λ h. dot-at s (stepOf q b) (cond (wholeOf q) i best) (i + 1) (λ e. before-next q best i b e) h) w
 
 pub whole-before-dot : WholeBeforeDot
 whole-before-dot s w = dot-at s Start 0 0 (λ e. never (ap notDot (sym e))) w

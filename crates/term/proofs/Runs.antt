@@ -2,12 +2,11 @@
 use Prim.Native.Nat.{ℕ, _+_, _≤_, _<_}
 use mathlib.Core.Path.{_≡_, refl, sym, ap, _∙_}
 use mathlib.Core.List.{List, [], _∷_, _++_}
-use mathlib.Core.Bool.{Bool, true, false}
+use mathlib.Core.Bool.{Bool, true, false, cond}
 use lib.Dec.{leb}
 use lib.ListN.{length, getD}
 use native.Mathlib.Omega.{arith}
 use borrow.Author.Tests.{lt-leb, le-leb}
-use Rattle.term.specs.Bytes.{pick}
 use Rattle.term.specs.Scanner.{stepOf, runOf, isBad, haltOf, wholeOf, firstKindOf, kindOf}
 use Rattle.term.specs.declared.Scan.{Scan}
 use Rattle.term.specs.declared.Halt.{Halt}
@@ -98,7 +97,7 @@ unfolding kindOf
 kind-long limit s h = rw (lt-leb (length s) limit h)
 
 kind-bad : (limit : ℕ) (s : List ℕ) (t : Bool) → wholeOf (runOf Start s) ≡ false
-    → pick t (pick (wholeOf (runOf Start s)) (firstKindOf s) 0) 0 ≡ 0
+    → cond t (cond (wholeOf (runOf Start s)) (firstKindOf s) 0) 0 ≡ 0
 kind-bad limit s true e = rw e
 kind-bad limit s false e = refl
 

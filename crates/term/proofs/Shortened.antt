@@ -3,13 +3,13 @@
 use Prim.Native.Nat.{ℕ, suc, _+_, _-_, _≤_, _<_}
 use mathlib.Core.Path.{_≡_, refl, sym, ap, _∙_}
 use mathlib.Core.List.{List, [], _∷_, _++_, append-nil}
-use mathlib.Core.Bool.{Bool, true, false}
+use mathlib.Core.Bool.{Bool, true, false, cond}
 use lib.Dec.{leb, eqb}
 use lib.ListN.{length, take, drop, getD, length-append, take-append-drop}
 use lib.Seq.{drop-append-seam, take-append-seam, drop-cons, getD-drop}
 use native.Mathlib.Omega.{arith}
 use borrow.Author.Tests.{leb-true, le-leb}
-use Rattle.term.specs.Bytes.{pick, among, iriByte, textByte, pairByte, firstByte, labelByte, letter, alnum}
+use Rattle.term.specs.Bytes.{among, iriByte, textByte, pairByte, firstByte, labelByte, letter, alnum}
 use Rattle.term.specs.Scanner.{stepOf, runOf, wholeOf, firstKindOf, kindOf}
 use Rattle.term.specs.Canonical.{stringEnding, endingBytes, writesString, canonical}
 use Rattle.term.specs.Theorems.{CanonicalDrops, CanonicalKeeps, Canonical, CanonicalName}
@@ -233,30 +233,30 @@ isPast Caret = true
 isPast Carets = true
 isPast Bad = true
 
-pick-past : (t : Bool) (x y : Scan) → isPast x ≡ true → isPast y ≡ true → isPast (pick t x y) ≡ true
-pick-past true x y p q = p
-pick-past false x y p q = q
+cond-past : (t : Bool) (x y : Scan) → isPast x ≡ true → isPast y ≡ true → isPast (cond t x y) ≡ true
+cond-past true x y p q = p
+cond-past false x y p q = q
 
 past-step : (q : Scan) (b : ℕ) → isPast q ≡ true → isPast (stepOf q b) ≡ true
 unfolding stepOf
 past-step Start b e = never e
-past-step IriOpen b e = pick-past (iriByte b) Iri Bad refl refl
-past-step Iri b e = pick-past (iriByte b) Iri _ refl (pick-past (eqb b 62) Closed Bad refl refl)
+past-step IriOpen b e = cond-past (iriByte b) Iri Bad refl refl
+past-step Iri b e = cond-past (iriByte b) Iri _ refl (cond-past (eqb b 62) Closed Bad refl refl)
 past-step Closed b e = refl
-past-step Under b e = pick-past (eqb b 58) Colon Bad refl refl
-past-step Colon b e = pick-past (firstByte b) Label Bad refl refl
-past-step Label b e = pick-past (labelByte b) Label _ refl (pick-past (eqb b 46) Dot Bad refl refl)
-past-step Dot b e = pick-past (labelByte b) Label _ refl (pick-past (eqb b 46) Dots Bad refl refl)
-past-step Dots b e = pick-past (labelByte b) Label _ refl (pick-past (eqb b 46) Dots Bad refl refl)
+past-step Under b e = cond-past (eqb b 58) Colon Bad refl refl
+past-step Colon b e = cond-past (firstByte b) Label Bad refl refl
+past-step Label b e = cond-past (labelByte b) Label _ refl (cond-past (eqb b 46) Dot Bad refl refl)
+past-step Dot b e = cond-past (labelByte b) Label _ refl (cond-past (eqb b 46) Dots Bad refl refl)
+past-step Dots b e = cond-past (labelByte b) Label _ refl (cond-past (eqb b 46) Dots Bad refl refl)
 past-step Text b e = never e
 past-step Escape b e = never e
 past-step Quote b e = never e
-past-step At b e = pick-past (letter b) Tag Bad refl refl
-past-step Tag b e = pick-past (letter b) Tag _ refl (pick-past (eqb b 45) Hyphen Bad refl refl)
-past-step Hyphen b e = pick-past (alnum b) Group Bad refl refl
-past-step Group b e = pick-past (alnum b) Group _ refl (pick-past (eqb b 45) Hyphen Bad refl refl)
-past-step Caret b e = pick-past (eqb b 94) Carets Bad refl refl
-past-step Carets b e = pick-past (eqb b 60) IriOpen Bad refl refl
+past-step At b e = cond-past (letter b) Tag Bad refl refl
+past-step Tag b e = cond-past (letter b) Tag _ refl (cond-past (eqb b 45) Hyphen Bad refl refl)
+past-step Hyphen b e = cond-past (alnum b) Group Bad refl refl
+past-step Group b e = cond-past (alnum b) Group _ refl (cond-past (eqb b 45) Hyphen Bad refl refl)
+past-step Caret b e = cond-past (eqb b 94) Carets Bad refl refl
+past-step Carets b e = cond-past (eqb b 60) IriOpen Bad refl refl
 past-step Bad b e = refl
 
 past-run : (x : List ℕ) (q : Scan) → isPast q ≡ true → isPast (runOf q x) ≡ true
@@ -271,7 +271,7 @@ pub quote-last : (x : List ℕ) → runOf Quote x ≡ Quote → x ≡ []
 unfolding stepOf runOf
 quote-last [] h = refl
 quote-last (b ∷ x) h =
-    past-quote x (stepOf Quote b) (pick-past (eqb b 64) At _ refl (pick-past (eqb b 94) Caret Bad refl refl)) h
+    past-quote x (stepOf Quote b) (cond-past (eqb b 64) At _ refl (cond-past (eqb b 94) Caret Bad refl refl)) h
 
 -- ---- what is left of a name
 
@@ -281,8 +281,8 @@ unfolding runOf stepOf firstKindOf
 quote-literal [] e = never (ap isQuote e)
 quote-literal (b ∷ x) e = by-first (eqb b 60) (eqb b 95) (eqb b 34) e
   where
-    by-first : (p q r : Bool) → runOf (pick p IriOpen (pick q Under (pick r Text Bad))) x ≡ Quote
-        → _≡_ {A = ℕ} (pick p 1 (pick q 2 (pick r 3 0))) 3
+    by-first : (p q r : Bool) → runOf (cond p IriOpen (cond q Under (cond r Text Bad))) x ≡ Quote
+        → _≡_ {A = ℕ} (cond p 1 (cond q 2 (cond r 3 0))) 3
     by-first true q r h = past-quote x IriOpen refl h
     by-first false true r h = past-quote x Under refl h
     by-first false false true h = refl

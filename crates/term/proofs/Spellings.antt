@@ -2,10 +2,10 @@
 use Prim.Native.Nat.{ℕ}
 use mathlib.Core.Path.{_≡_, refl, sym, ap, _∙_}
 use mathlib.Core.List.{List, [], _∷_, _++_}
-use mathlib.Core.Bool.{Bool, true, false}
+use mathlib.Core.Bool.{Bool, true, false, cond}
 use lib.Dec.{eqb}
 use borrow.Author.Tests.{eqb-true}
-use Rattle.term.specs.Bytes.{pick, iriByte, firstByte, labelByte, letter, alnum, All}
+use Rattle.term.specs.Bytes.{iriByte, firstByte, labelByte, letter, alnum, All}
 use Rattle.term.specs.Grammar as g
 use Rattle.term.specs.Spelling.{labelOrDot, lastOf, SpelledIri, SpelledBlank, Group, AllGroups, groups, SpelledTag}
 use Rattle.term.specs.Spelling.{IriIsSpelled, BlankIsSpelled, TagIsSpelled}
@@ -40,7 +40,7 @@ iri-is-spelled l = (
 -- ---- blank nodes
 
 -- a label's byte is one of the wider class, and no dot
-label-wide : (b : ℕ) (t : Bool) → labelByte b ≡ true → pick t true (labelByte b) ≡ true
+label-wide : (b : ℕ) (t : Bool) → labelByte b ≡ true → cond t true (labelByte b) ≡ true
 label-wide b true e = refl
 label-wide b false e = e
 
@@ -74,11 +74,11 @@ blank-spelled (g.Blank.single {b = b} e) =
 blank-spelled (g.Blank.longer {b = b} {s = s} e r) =
     record { first = b; later = s; starts = e; fine = label-fine r .0; ends = label-fine r .1 b; spells = refl }
 
-label-last : (b : ℕ) (t : Bool) → pick t true (labelByte b) ≡ true → t ≡ false → labelByte b ≡ true
+label-last : (b : ℕ) (t : Bool) → cond t true (labelByte b) ≡ true → t ≡ false → labelByte b ≡ true
 label-last b true h e = never (sym e)
 label-last b false h e = h
 
-label-more : (b : ℕ) (s : List ℕ) (t : Bool) → eqb b 46 ≡ t → pick t true (labelByte b) ≡ true → g.LabelRest s
+label-more : (b : ℕ) (s : List ℕ) (t : Bool) → eqb b 46 ≡ t → cond t true (labelByte b) ≡ true → g.LabelRest s
     → g.LabelRest (b ∷ s)
 label-more b s true e h r = rw (eqb-true b 46 e) (g.LabelRest.dot r)
 label-more b s false e h r = g.LabelRest.byte h r

@@ -3,11 +3,10 @@
 use Prim.Native.Nat.{ℕ, zero, suc, _≤_}
 use mathlib.Core.Path.{_≡_, refl, sym, ap, _∙_}
 use mathlib.Core.List.{List, [], _∷_}
-use mathlib.Core.Bool.{Bool, true, false}
+use mathlib.Core.Bool.{Bool, true, false, cond}
 use lib.Dec.{leb, eqb}
 use lib.ListN.{length}
 use native.Mathlib.Omega.{arith}
-use Rattle.term.specs.Bytes.{pick}
 use Rattle.term.specs.Grammar as g
 use Rattle.term.specs.Scanner.{stepOf, runOf, wholeOf, firstKindOf, kindOf, numberOf, refusalOf}
 use Rattle.term.specs.Theorems.{KindIsWellFormed, RefusedIsMalformed}
@@ -51,21 +50,21 @@ refused Blank s e = (λ w. absurd (omega arith), λ f. absurd (found 2 s (omega 
 refused Literal s e = (λ w. absurd (omega arith), λ f. absurd (found 3 s (omega arith) e f))
 refused Malformed s e = (λ w n. well-formed s .1 n (sym e), λ f. refl)
 
-pick-most : (t : Bool) (a b : ℕ) → a ≤ 3 → b ≤ 3 → pick t a b ≤ 3
-pick-most true a b p q = p
-pick-most false a b p q = q
+cond-most : (t : Bool) (a b : ℕ) → a ≤ 3 → b ≤ 3 → cond t a b ≤ 3
+cond-most true a b p q = p
+cond-most false a b p q = q
 
 first-most : (s : List ℕ) → firstKindOf s ≤ 3
 unfolding firstKindOf
 first-most [] = omega arith
 first-most (b ∷ s) =
-    pick-most (eqb b 60) 1 _ (omega arith)
-    (pick-most (eqb b 95) 2 _ (omega arith) (pick-most (eqb b 34) 3 0 (omega arith) (omega arith)))
+    cond-most (eqb b 60) 1 _ (omega arith)
+    (cond-most (eqb b 95) 2 _ (omega arith) (cond-most (eqb b 34) 3 0 (omega arith) (omega arith)))
 
 pub at-most-three : KindAtMostThree
 unfolding kindOf
 at-most-three limit s =
-    pick-most (leb (length s) limit) _ 0 (pick-most (wholeOf (runOf Start s)) _ 0 (first-most s) (omega arith))
+    cond-most (leb (length s) limit) _ 0 (cond-most (wholeOf (runOf Start s)) _ 0 (first-most s) (omega arith))
     (omega arith)
 
 -- what a kind is found of is accepted

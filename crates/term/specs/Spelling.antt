@@ -1,8 +1,8 @@
 -- Names as the paper spells them out, each a list of bytes put together from its parts: the grammar of `Grammar.antt`
 -- reads from the left, these say what the whole is, and the two agree. The proofs are in `proofs/Spellings.antt` and `Literals.antt`.
 -- Assumes nothing.
-use Rattle.term.specs.Prelude.{ℕ, _≡_, List, [], _∷_, _++_, Bool, true, false, _↔_, eqb}
-use Rattle.term.specs.Bytes.{pick, iriByte, textByte, pairByte, firstByte, labelByte, letter, alnum, All}
+use Rattle.term.specs.Prelude.{ℕ, _≡_, List, [], _∷_, _++_, Bool, true, false, cond, _↔_, eqb}
+use Rattle.term.specs.Bytes.{iriByte, textByte, pairByte, firstByte, labelByte, letter, alnum, All}
 use Rattle.term.specs.Grammar.{Iri, Blank, Suffix, Literal}
 
 -- the last byte of b ∷ s
@@ -19,7 +19,7 @@ pub record SpelledIri (l : List ℕ) : Type 0 where
 
 -- a label's, the dot too
 unfoldable pub labelOrDot : ℕ → Bool
-labelOrDot b = pick (eqb b 46) true (labelByte b)
+labelOrDot b = cond (eqb b 46) true (labelByte b)
 
 -- a blank node: `_:`, a letter, digit or `_`, then letters, digits, `_`, `-`, `.`, not ending in `.`
 pub record SpelledBlank (l : List ℕ) : Type 0 where

@@ -1,7 +1,7 @@
 -- `capi::lt_assert` meets its contract. Assumes nothing.
 use Rattle.capi.proofs.Writes.{assert-refused, assert-answered}
 use Rattle.store.specs.Tables.{tables}
-use Rattle.capi_calls.specs.Words.{counterWords, lent}
+use Rattle.capi_calls.specs.Words.{counterWords, ifShort}
 use Rattle.capi_calls.specs.Calls.{assertCall}
 use lib.ListN.{length, set, length-set}
 use borrow.Author.Tests.{lt-ltb, le-ltb, eq-eqb, ne-eqb}
@@ -19,11 +19,11 @@ use Rattle.capi_words.proofs.words.triple_of.Reads as triple-of-reads
 use Rattle.statement.proofs.assert.Reads as assert-reads
 
 returns : tie.Need-returns
-unfolding assertCall lent
+unfolding assertCall ifShort
 returns c = simp (lt-ltb (length (c .before .before .before .before .before .before .before .args .counters .now)) counterWords (c .if1 .taken))
 
 returns-2 : tie.Need-returns-2
-unfolding assertCall lent
+unfolding assertCall ifShort
 returns-2 c = simp (le-ltb (length (c .before .before .before .before .before .before .before .before .args .counters .now)) counterWords (c .before .if1 .left), lt-ltb (length (c .before .before .before .before .before .before .before .before .args .reply .now)) 2 (c .if2 .taken))
 
 counters-of-requires : tie.Need-counters-of-requires

@@ -1,5 +1,5 @@
 -- `capi::lt_name` meets its contract. Assumes nothing.
-use Rattle.capi_calls.specs.Words.{counterWords, lent}
+use Rattle.capi_calls.specs.Words.{counterWords, ifShort}
 use Rattle.capi_calls.specs.Calls.{nameCall}
 use native.Mathlib.Omega.{arith}
 use lib.ListN.{length, set, length-set}
@@ -15,11 +15,11 @@ use Rattle.capi_words.proofs.replies.name_answer.Reads as name-answer-reads
 use Rattle.table.proofs.name_span.Reads as name-span-reads
 
 returns : tie.Need-returns
-unfolding nameCall lent
+unfolding nameCall ifShort
 returns c = simp (lt-ltb (length (c .before .before .before .before .before .before .before .args .counters .now)) counterWords (c .if1 .taken))
 
 returns-2 : tie.Need-returns-2
-unfolding nameCall lent
+unfolding nameCall ifShort
 returns-2 c = simp (le-ltb (length (c .before .before .before .before .before .before .before .before .args .counters .now)) counterWords (c .before .if1 .left), lt-ltb (length (c .before .before .before .before .before .before .before .before .args .reply .now)) 2 (c .if2 .taken))
 
 counters-of-requires : tie.Need-counters-of-requires
@@ -41,7 +41,7 @@ same-length : tie.Need-same-length
 same-length c = search needs
 
 returns-3 : tie.Need-returns-3
-unfolding nameCall lent
+unfolding nameCall ifShort
 returns-3 c = simp (c .name-answer .ensures, c .before .name-span .ensures, c .before .before .counters-of .ensures, le-ltb (length (c .before .before .before .before .before .before .before .before .before .before .before .args .counters .now)) counterWords (c .before .before .before .before .if1 .left), le-ltb (length (c .before .before .before .before .before .before .before .before .before .before .before .args .reply .now)) 2 (c .before .before .before .if2 .left))
 
 pub lt-name-spec : {M : Type 1} → statement M

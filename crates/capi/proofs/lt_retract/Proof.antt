@@ -1,7 +1,7 @@
 -- `capi::lt_retract` meets its contract. Assumes nothing.
 use Rattle.capi.proofs.Writes.{retract-done}
 use Rattle.store.specs.Tables.{tables}
-use Rattle.capi_calls.specs.Words.{counterWords, lent}
+use Rattle.capi_calls.specs.Words.{counterWords, ifShort}
 use Rattle.capi_calls.specs.Calls.{retractCall}
 use lib.ListN.{length}
 use borrow.Author.Tests.{lt-ltb, le-ltb}
@@ -16,11 +16,11 @@ use Rattle.capi_words.proofs.words.triple_of.Reads as triple-of-reads
 use Rattle.statement.proofs.retract.Reads as retract-reads
 
 returns : tie.Need-returns
-unfolding retractCall lent
+unfolding retractCall ifShort
 returns c = simp (lt-ltb (length (c .before .before .before .before .before .before .before .args .counters .now)) counterWords (c .if1 .taken))
 
 returns-2 : tie.Need-returns-2
-unfolding retractCall lent
+unfolding retractCall ifShort
 returns-2 c = let a = c .before .before .before .before .before .before .before .before .args in
     simp (le-ltb (length (a .counters .now)) counterWords (c .before .if1 .left), lt-ltb (length (a .reply .now)) 1 (c .if2 .taken))
 

@@ -1,7 +1,7 @@
 -- `capi::lt_scan_open` meets its contract. Assumes nothing.
 use Rattle.capi.proofs.Writes.{open-refused, open-opened}
 use Rattle.store.specs.Tables.{tables}
-use Rattle.capi_calls.specs.Words.{counterWords, cursorWords, lent}
+use Rattle.capi_calls.specs.Words.{counterWords, cursorWords, ifShort}
 use Rattle.capi_calls.specs.Calls.{openCall}
 use lib.ListN.{length, set, length-set}
 use borrow.Author.Tests.{lt-ltb, le-ltb, eq-eqb, ne-eqb}
@@ -18,11 +18,11 @@ use Rattle.capi_words.proofs.words.triple_of.Reads as triple-of-reads
 use Rattle.scan.proofs.scan_open.Reads as scan-open-reads
 
 returns : tie.Need-returns
-unfolding openCall lent
+unfolding openCall ifShort
 returns c = simp (lt-ltb (length (c .before .before .before .before .before .before .before .args .counters .now)) counterWords (c .if1 .taken))
 
 returns-2 : tie.Need-returns-2
-unfolding openCall lent
+unfolding openCall ifShort
 returns-2 c = simp (le-ltb (length (c .before .before .before .before .before .before .before .before .args .counters .now)) counterWords (c .before .if1 .left), lt-ltb (length (c .before .before .before .before .before .before .before .before .args .cursor .now)) cursorWords (c .if2 .taken))
 
 counters-of-requires : tie.Need-counters-of-requires

@@ -1,5 +1,5 @@
 -- `capi::lt_statement` meets its contract. Assumes nothing.
-use Rattle.capi_calls.specs.Words.{counterWords, lent}
+use Rattle.capi_calls.specs.Words.{counterWords, ifShort}
 use Rattle.capi_calls.specs.Calls.{statementCall}
 use native.Mathlib.Omega.{arith}
 use lib.ListN.{length, set, length-set}
@@ -15,11 +15,11 @@ use Rattle.capi_words.proofs.replies.statement_answer.Reads as statement-answer
 use Rattle.table.proofs.read_statement.Reads as read-statement-reads
 
 returns : tie.Need-returns
-unfolding statementCall lent
+unfolding statementCall ifShort
 returns c = simp (lt-ltb (length (c .before .before .before .before .before .before .before .args .counters .now)) counterWords (c .if1 .taken))
 
 returns-2 : tie.Need-returns-2
-unfolding statementCall lent
+unfolding statementCall ifShort
 returns-2 c = simp (le-ltb (length (c .before .before .before .before .before .before .before .before .args .counters .now)) counterWords (c .before .if1 .left), lt-ltb (length (c .before .before .before .before .before .before .before .before .args .reply .now)) 4 (c .if2 .taken))
 
 counters-of-requires : tie.Need-counters-of-requires
@@ -47,7 +47,7 @@ same-length : tie.Need-same-length
 same-length c = search needs
 
 returns-3 : tie.Need-returns-3
-unfolding statementCall lent
+unfolding statementCall ifShort
 returns-3 c = simp (c .statement-answer .ensures, c .before .read-statement .ensures, c .before .before .counters-of .ensures, le-ltb (length (c .before .before .before .before .before .before .before .before .before .before .before .args .counters .now)) counterWords (c .before .before .before .before .if1 .left), le-ltb (length (c .before .before .before .before .before .before .before .before .before .before .before .args .reply .now)) 4 (c .before .before .before .if2 .left))
 
 pub lt-statement-spec : {M : Type 1} → statement M

@@ -1,4 +1,4 @@
-use Rattle.dictionary.proofs.Answers.{malformed, formed, readable, roomy, miss-within, intern-capacity, intern-malformed}
+use Rattle.dictionary.proofs.Answers.{malformed, formed, readable, has-room, miss-within, intern-capacity, intern-malformed}
 use Rattle.dictionary.proofs.Answers.{intern-searched, intern-full, intern-new, left-short}
 use Rattle.table.proofs.Capacity.{fits-room}
 use Rattle.store.proofs.Form.{form-short}
@@ -157,7 +157,7 @@ append-requires c κs =
     let f = sym (fits2 .ensures) ∙ not-false (fits2 .result) (if1 .left) in
     let s = sym (at .given .1) ∙ search .ensures in
     let g = (rw (one-name-more .ensures) at (sym (fits3 .ensures) ∙ not-false (fits3 .result) (if3 .left))) in
-    roomy (a .c) m n′ _ g (miss-within (a .c) (m .resources) (m .index) (m .text) n′ _ s)
+    has-room (a .c) m n′ _ g (miss-within (a .c) (m .resources) (m .index) (m .text) n′ _ s)
 
 same-length-10 : tie.Need-same-length-10
 same-length-10 c = search needs

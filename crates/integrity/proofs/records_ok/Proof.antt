@@ -6,8 +6,8 @@ use Rattle.integrity.proofs.records_ok.Statement.{statement}
 use Rattle.integrity.proofs.records_ok.Tie as tie
 use Rattle.integrity.proofs.records_ok.Reads as reads
 use Rattle.integrity.proofs.records_ok.Lts as lts
-use Rattle.integrity.proofs.alone.all_alone.Reads as all-alone-reads
-use Rattle.integrity.proofs.chains.all_chains_ok.Reads as all-chains-ok-reads
+use Rattle.integrity.proofs.unique.all_stand_once.Reads as all-stand-once-reads
+use Rattle.integrity.proofs.chains.all_chains_sound.Reads as all-chains-sound-reads
 use Rattle.integrity.proofs.records.each_ok.Reads as each-ok-reads
 
 each-ok-requires : tie.Need-each-ok-requires
@@ -20,25 +20,25 @@ returns c =
     let if1 = c .if1 in
     rw (← the-each-ok .ensures, not-true (the-each-ok .result) (if1 .taken))
 
-all-chains-ok-requires : tie.Need-all-chains-ok-requires
-all-chains-ok-requires c κs = search needs
+all-chains-sound-requires : tie.Need-all-chains-sound-requires
+all-chains-sound-requires c κs = search needs
 
 returns-2 : tie.Need-returns-2
 unfolding recordsOk
 returns-2 c =
     let the-each-ok = c .before .before .before .each-ok in
     let if1 = c .before .before .if1 in
-    let the-all-chains-ok = c .before .all-chains-ok in
+    let the-all-chains-sound = c .before .all-chains-sound in
     let if2 = c .if2 in
     rw (
       ← the-each-ok .ensures,
       not-false (the-each-ok .result) (if1 .left),
-      ← the-all-chains-ok .ensures,
-      not-true (the-all-chains-ok .result) (if2 .taken),
+      ← the-all-chains-sound .ensures,
+      not-true (the-all-chains-sound .result) (if2 .taken),
     )
 
-all-alone-requires : tie.Need-all-alone-requires
-all-alone-requires c κs =
+all-stand-once-requires : tie.Need-all-stand-once-requires
+all-stand-once-requires c κs =
     let the-each-ok = c .before .before .before .each-ok in
     let if1 = c .before .before .if1 in
     let h = sym (the-each-ok .ensures) ∙ not-false (the-each-ok .result) (if1 .left) in
@@ -49,16 +49,16 @@ unfolding recordsOk
 returns-3 c =
     let the-each-ok = c .before .before .before .before .each-ok in
     let if1 = c .before .before .before .if1 in
-    let the-all-chains-ok = c .before .before .all-chains-ok in
+    let the-all-chains-sound = c .before .before .all-chains-sound in
     let if2 = c .before .if2 in
-    let the-all-alone = c .all-alone in
+    let the-all-stand-once = c .all-stand-once in
     rw (
       ← the-each-ok .ensures,
       not-false (the-each-ok .result) (if1 .left),
-      ← the-all-chains-ok .ensures,
-      not-false (the-all-chains-ok .result) (if2 .left),
+      ← the-all-chains-sound .ensures,
+      not-false (the-all-chains-sound .result) (if2 .left),
     )
-    (the-all-alone .ensures)
+    (the-all-stand-once .ensures)
 
 pub records-ok-spec : {M : Type 1} → statement M
 records-ok-spec =
@@ -66,7 +66,7 @@ records-ok-spec =
     (tie.spec
     each-ok-requires
     returns
-    all-chains-ok-requires
+    all-chains-sound-requires
     returns-2
-    all-alone-requires
+    all-stand-once-requires
     returns-3)

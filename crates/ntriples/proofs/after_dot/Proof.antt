@@ -2,7 +2,7 @@ use mathlib.Core.Path.{_≡_, refl, sym, _∙_, ap}
 use mathlib.Core.List.{[], _∷_}
 use native.Mathlib.Omega.{arith}
 use Rattle.ntriples.specs.Reader.{answerOf}
-use Rattle.ntriples.proofs.Sequence.{after-end, after-odd, after-note, noted-end, noted-odd}
+use Rattle.ntriples.proofs.Sequence.{after-end, after-odd, after-note, comment-after-dot-end, comment-after-dot-odd}
 use borrow.Author.Needs.{needs}
 use Rattle.ntriples.proofs.after_dot.Statement.{statement}
 use Rattle.ntriples.proofs.after_dot.Tie as tie
@@ -92,7 +92,7 @@ returns-3 c =
     sym (ap (answerOf (a .at))
     (after-note (a .text .now) (a .stop) (a .from) _ (a .s ∷ (a .p ∷ (a .o ∷ []))) (p .before) (p .inText) w n
     (c .before .before .if2 .left)
-    ∙ noted-odd (a .text .now) (a .stop) _ _ (a .s ∷ (a .p ∷ (a .o ∷ []))) (omega arith) (p .inText)
+    ∙ comment-after-dot-odd (a .text .now) (a .stop) _ _ (a .s ∷ (a .p ∷ (a .o ∷ []))) (omega arith) (p .inText)
     (c .before .comment .ensures) (c .if3 .taken)))
 
 returns-4 : tie.Need-returns-4
@@ -109,7 +109,7 @@ returns-4 c =
     sym (ap (answerOf (a .at))
     (after-note (a .text .now) (a .stop) (a .from) _ (a .s ∷ (a .p ∷ (a .o ∷ []))) (p .before) (p .inText) w n
     (c .before .before .if2 .left)
-    ∙ noted-end (a .text .now) (a .stop) _ _ (a .s ∷ (a .p ∷ (a .o ∷ []))) (omega arith) (p .inText)
+    ∙ comment-after-dot-end (a .text .now) (a .stop) _ _ (a .s ∷ (a .p ∷ (a .o ∷ []))) (omega arith) (p .inText)
     (c .before .comment .ensures) (c .if3 .left)))
 
 pub after-dot-spec : {M : Type 1} → statement M

@@ -3,7 +3,7 @@ use mathlib.Core.List.{[], _∷_}
 use native.Mathlib.Omega.{arith}
 use Rattle.ntriples.specs.Reader.{answerOf}
 use Rattle.ntriples.specs.declared.ObjectEnd.the-variants.{Whole, Dotted, Broken}
-use Rattle.ntriples.proofs.Sequence.{run-dark, gap-skipped, object-told}
+use Rattle.ntriples.proofs.Sequence.{run-not-white, gap-skipped, object-told}
 use borrow.Author.Needs.{needs}
 use Rattle.ntriples.proofs.after_predicate.Statement.{statement}
 use Rattle.ntriples.proofs.after_predicate.Tie as tie
@@ -19,7 +19,7 @@ white-space-requires c κs = record { before = c .before .pre .before; inText = 
 
 object-requires : tie.Need-object-requires
 object-requires c κs =
-    run-dark (c .before .before .args .text .now) (c .before .before .args .stop) (c .before .before .args .from) _
+    run-not-white (c .before .before .args .text .now) (c .before .before .args .stop) (c .before .before .args .from) _
     (c .before .before .pre .inText) (c .white-space .ensures)
 
 enum-known-e : tie.Need-enum-known-e

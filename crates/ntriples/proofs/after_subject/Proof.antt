@@ -3,7 +3,7 @@ use mathlib.Core.List.{[], _∷_}
 use native.Mathlib.Omega.{arith}
 use Rattle.ntriples.specs.Reader.{answerOf}
 use Rattle.ntriples.specs.declared.TermEnd.the-variants.{Whole, Broken}
-use Rattle.ntriples.proofs.Sequence.{run-dark, gap-skipped, term-told}
+use Rattle.ntriples.proofs.Sequence.{run-not-white, gap-skipped, term-told}
 use borrow.Author.Needs.{needs}
 use Rattle.ntriples.proofs.after_subject.Statement.{statement}
 use Rattle.ntriples.proofs.after_subject.Tie as tie
@@ -18,7 +18,7 @@ white-space-requires c κs = record { before = c .before .pre .before; inText = 
 
 predicate-requires : tie.Need-predicate-requires
 predicate-requires c κs =
-    run-dark (c .before .before .args .text .now) (c .before .before .args .stop) (c .before .before .args .from) _
+    run-not-white (c .before .before .args .text .now) (c .before .before .args .stop) (c .before .before .args .from) _
     (c .before .before .pre .inText) (c .white-space .ensures)
 
 enum-known-e : tie.Need-enum-known-e

@@ -1,7 +1,7 @@
 use mathlib.Core.Path.{_≡_, refl, sym, _∙_, ap}
 use native.Mathlib.Omega.{arith}
 use Rattle.ntriples.specs.Reader.{answerOf}
-use Rattle.ntriples.proofs.Sequence.{remark-end, remark-odd}
+use Rattle.ntriples.proofs.Sequence.{comment-line-end, comment-line-odd}
 use borrow.Author.Needs.{needs}
 use Rattle.ntriples.proofs.comment_line.Statement.{statement}
 use Rattle.ntriples.proofs.comment_line.Tie as tie
@@ -25,7 +25,7 @@ returns c =
     let c3 = c .before .before .before in
     let a = c3 .args in
     let p = c3 .pre in
-    sym (ap (answerOf (a .at)) (remark-odd (a .text .now) (a .stop) (a .from) _ (p .before) (p .inText)
+    sym (ap (answerOf (a .at)) (comment-line-odd (a .text .now) (a .stop) (a .from) _ (p .before) (p .inText)
     (c .before .comment .ensures) (c .if1 .taken)))
 
 returns-2 : tie.Need-returns-2
@@ -34,7 +34,7 @@ returns-2 c =
     let c3 = c .before .before .before in
     let a = c3 .args in
     let p = c3 .pre in
-    sym (ap (answerOf (a .at)) (remark-end (a .text .now) (a .stop) (a .from) _ (p .before) (p .inText)
+    sym (ap (answerOf (a .at)) (comment-line-end (a .text .now) (a .stop) (a .from) _ (p .before) (p .inText)
     (c .before .comment .ensures) (c .if1 .left)))
 
 pub comment-line-spec : {M : Type 1} → statement M

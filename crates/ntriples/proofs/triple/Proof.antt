@@ -13,7 +13,7 @@ use Rattle.ntriples.proofs.after_subject.Reads as after-subject-reads
 use Rattle.ntriples.proofs.subject.Reads as subject-reads
 
 subject-requires : tie.Need-subject-requires
-subject-requires c κs = let p = c .before .pre in record { before = p .before; inText = p .inText; dark = p .dark }
+subject-requires c κs = let p = c .before .pre in record { before = p .before; inText = p .inText; notWhite = p .notWhite }
 
 enum-known-e : tie.Need-enum-known-e
 enum-known-e c = search needs

@@ -61,7 +61,7 @@ triple-requires c κs =
     let c3 = c .before .before .before in
     let c5 = c .before .before .before .before .before in
     let w = c3 .white-space .ensures in
-    record { begun = w .after; before = w .before; inText = c5 .pre .inText; dark = w .out }
+    record { begun = w .after; before = w .before; inText = c5 .pre .inText; notWhite = w .out }
 
 returns-3 : tie.Need-returns-3
 returns-3 c =

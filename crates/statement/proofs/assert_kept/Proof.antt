@@ -1,5 +1,5 @@
 use denote.Ref.{now}
-use Rattle.statement.proofs.Lent.{assert-kept}
+use Rattle.statement.proofs.Updating.{assert-kept}
 use Rattle.store.specs.Tables.{tables}
 use borrow.Author.Needs.{needs}
 use Rattle.statement.proofs.assert_kept.Statement.{statement}

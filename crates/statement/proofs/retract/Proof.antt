@@ -8,7 +8,7 @@ use Rattle.statement.proofs.retract.Statement.{statement}
 use Rattle.statement.proofs.retract.Tie as tie
 use Rattle.statement.proofs.retract.Reads as reads
 use Rattle.statement.proofs.retract.Lts as lts
-use Rattle.statement_record.proofs.record.strike.Reads as strike-reads
+use Rattle.statement_record.proofs.record.retract_record.Reads as retract-record-reads
 use Rattle.statement_target.proofs.target.retract_target.Reads as retract-target-reads
 
 retract-target-requires : tie.Need-retract-target-requires
@@ -20,8 +20,8 @@ enum-known-e c = search needs
 enum-known-n : tie.Need-enum-known-n
 enum-known-n c = search needs
 
-strike-requires : tie.Need-strike-requires
-strike-requires c κs =
+retract-record-requires : tie.Need-retract-record-requires
+retract-record-requires c κs =
     let a = c .before .before .before .before .before .before .before .before .before .before .before .before .args in
     let m = tables (now (a .resources)) (now (a .statements)) (now (a .index)) (now (a .text)) in
     let n = c .before .before .before .n .given .0 .0 in
@@ -51,7 +51,7 @@ returns-2 c =
     let a = c .before .before .before .before .before .before .before .before .before .before .before .before .before .before .before .before .before .args in
     let m = tables (now (a .resources)) (now (a .statements)) (now (a .index)) (now (a .text)) in
     let n = c .before .before .before .before .before .before .before .before .n .given .0 .0 in
-    c .before .before .before .before .strike .ensures .leaves (now (a .index)) (now (a .text)) ∙ retract-at (a .c) m (a .x) n (sym (c .before .before .before .before .before .before .before .before .before .before .retract-target .ensures) ∙ c .before .before .before .before .before .before .before .before .n .given .1)
+    c .before .before .before .before .retract-record .ensures .leaves (now (a .index)) (now (a .text)) ∙ retract-at (a .c) m (a .x) n (sym (c .before .before .before .before .before .before .before .before .before .before .retract-target .ensures) ∙ c .before .before .before .before .before .before .before .before .n .given .1)
 
 pub retract-spec : {M : Type 1} → statement M
 retract-spec =
@@ -59,7 +59,7 @@ retract-spec =
     (tie.spec retract-target-requires
     enum-known-e
     enum-known-n
-    strike-requires
+    retract-record-requires
     same-length
     same-length-2
     returns

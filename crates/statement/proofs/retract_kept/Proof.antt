@@ -1,5 +1,5 @@
 use denote.Ref.{now}
-use Rattle.statement.proofs.Lent.{retract-kept}
+use Rattle.statement.proofs.Updating.{retract-kept}
 use Rattle.store.specs.Tables.{tables}
 use borrow.Author.Needs.{needs}
 use Rattle.statement.proofs.retract_kept.Statement.{statement}

@@ -2,7 +2,7 @@
 use Rattle.capi.proofs.QueryWrites.{open-refused, open-opened}
 use Rattle.capi_calls.specs.QueryCalls.{queryOpenCall}
 use Rattle.capi_calls.specs.QueryWords.{queryCursorWords}
-use Rattle.capi_calls.specs.Words.{counterWords, lent}
+use Rattle.capi_calls.specs.Words.{counterWords, ifShort}
 use borrow.Author.Tests.{lt-ltb, le-ltb}
 use lib.ListN.{length}
 use Rattle.store.specs.Tables.{tables}
@@ -17,14 +17,14 @@ use Rattle.capi_query_words.proofs.queries.put_query_cursor.Reads as put-query-
 use Rattle.query.proofs.query_open.Reads as query-open-reads
 
 returns : tie.Need-returns
-unfolding queryOpenCall lent
+unfolding queryOpenCall ifShort
 returns c =
     let a = c .before .before .before .before .before .before .before .before .args in
     let if1 = c .if1 in
     simp (lt-ltb (length (a .counters .now)) counterWords (if1 .taken))
 
 returns-2 : tie.Need-returns-2
-unfolding queryOpenCall lent
+unfolding queryOpenCall ifShort
 returns-2 c =
     let a = c .before .before .before .before .before .before .before .before .before .args in
     let if1 = c .before .if1 in

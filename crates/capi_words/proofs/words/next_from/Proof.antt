@@ -12,7 +12,7 @@ use Rattle.capi_words.proofs.words.next_from.Statement.{statement}
 use Rattle.capi_words.proofs.words.next_from.Tie as tie
 use Rattle.capi_words.proofs.words.next_from.Reads as reads
 use Rattle.capi_words.proofs.words.next_from.Lts as lts
-use Rattle.capi_words.proofs.words.cursor_of.Reads as cursor-of-reads
+use Rattle.capi_words.proofs.words.cursor_from.Reads as cursor-from-reads
 use Rattle.scan.proofs.scan_next.Reads as scan-next-reads
 use Rattle.table.proofs.fits.Reads as fits-reads
 
@@ -49,15 +49,15 @@ returns-3 c =
     let e : word (now (a .words)) 5 ≡ a .c .generation = omega arith in
     simp (lt-leb _ _ (if1 .taken), passed (fits2 .ensures) (if2 .left), eq-eqb _ _ e)
 
-cursor-of-requires : tie.Need-cursor-of-requires
-cursor-of-requires c κs = search needs
+cursor-from-requires : tie.Need-cursor-from-requires
+cursor-from-requires c κs = search needs
 
 scan-next-requires : tie.Need-scan-next-requires
 scan-next-requires c κs = search needs
 
 returns-4 : tie.Need-returns-4
 unfolding nextFrom
-returns-4 c = simp (c .scan-next .ensures, c .before .cursor-of .ensures, le-leb _ _ (c .before .before .if1 .left))
+returns-4 c = simp (c .scan-next .ensures, c .before .cursor-from .ensures, le-leb _ _ (c .before .before .if1 .left))
 
 pub next-from-spec : {M : Type 1} → statement M
 next-from-spec =
@@ -69,6 +69,6 @@ next-from-spec =
     shared-slice-read-if3
     returns-2
     returns-3
-    cursor-of-requires
+    cursor-from-requires
     scan-next-requires
     returns-4)

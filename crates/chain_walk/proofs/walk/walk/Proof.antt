@@ -1,6 +1,6 @@
 use denote.Ref.{now}
 use native.Mathlib.Omega.{arith}
-use Rattle.chain_walk.proofs.Walks.{onward, plus-none, walk-ended, walk-spent, walk-torn, walk-hit, walk-miss, visit-falls}
+use Rattle.chain_walk.proofs.Walks.{onward, plus-none, walk-ended, walk-spent, walk-damaged, walk-hit, walk-miss, visit-falls}
 use Rattle.chain_walk.specs.Walks.{hits}
 use Rattle.store.specs.Walk.{linkOf, visitable, walk}
 use Rattle.store.specs.Tables.{statementWords}
@@ -52,7 +52,7 @@ returns-3 c =
     let l = c .before .before .before .before .before .before .loop in let a = c .before .before .before .before .before .before .before .before .args in
     let e = sym (c .before .before .visit .ensures) ∙ c .enum-told .given .1 in
     let h = c .before .before .before .if2 .left in
-    sym (walk-torn (a .sought) (a .r) (now (a .statements)) (a .chain) (a .x) (l .visits) (a .budget - l .visits) (l .n .0) (c .before .before .before .before .if1 .left) (λ d. h (omega arith)) e) ∙ l .inv .2
+    sym (walk-damaged (a .sought) (a .r) (now (a .statements)) (a .chain) (a .x) (l .visits) (a .budget - l .visits) (l .n .0) (c .before .before .before .before .if1 .left) (λ d. h (omega arith)) e) ∙ l .inv .2
 
 enum-known-m : tie.Need-enum-known-m Inv-loop μ-loop
 enum-known-m c = search needs

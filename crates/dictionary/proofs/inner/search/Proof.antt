@@ -1,4 +1,4 @@
-use Rattle.dictionary.proofs.Steps.{Going, search-end, search-less, search-more, search-same, search-torn}
+use Rattle.dictionary.proofs.Steps.{Going, search-end, search-less, search-more, search-same, search-damaged}
 use Rattle.dictionary.specs.Search.{searched}
 use denote.Ref.{now}
 use native.Mathlib.Omega.{arith}
@@ -106,7 +106,7 @@ returns-2 c =
     let loop-test = c .before .before .before .loop-test in
     let probe = c .before .before .probe in
     let enum-told4 = c .enum-told4 in
-    cc (search-torn (a .c) (now (a .resources)) (now (a .index)) (now (a .text)) (now (a .name))
+    cc (search-damaged (a .c) (now (a .resources)) (now (a .index)) (now (a .text)) (now (a .name))
     (searched (a .c) (now (a .resources)) (now (a .index)) (now (a .text)) (now (a .name)))
     (loop .lo) (loop .hi) (loop .inv .2) (loop-test .taken) (sym (probe .ensures) ∙ enum-told4 .given .1))
 

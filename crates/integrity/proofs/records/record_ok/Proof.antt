@@ -7,7 +7,7 @@ use Rattle.integrity.proofs.records.record_ok.Tie as tie
 use Rattle.integrity.proofs.records.record_ok.Reads as reads
 use Rattle.integrity.proofs.records.record_ok.Lts as lts
 use Rattle.table.proofs.known.Reads as known-reads
-use Rattle.integrity.proofs.records.permitted.Reads as permitted-reads
+use Rattle.integrity.proofs.records.kinds_permitted.Reads as kinds-permitted-reads
 use Rattle.table.proofs.inner.flag_at.Reads as flag-at-reads
 use Rattle.table.proofs.inner.triple_at.Reads as triple-at-reads
 
@@ -25,8 +25,8 @@ returns c =
     let if1 = c .if1 in
     rw (← the-triple-at .ensures, ← the-known .ensures, not-true (the-known .result) (if1 .taken))
 
-permitted-requires : tie.Need-permitted-requires
-permitted-requires c κs =
+kinds-permitted-requires : tie.Need-kinds-permitted-requires
+kinds-permitted-requires c κs =
     let the-known = c .before .known in
     let if1 = c .if1 in
     let h = sym (the-known .ensures) ∙ not-false (the-known .result) (if1 .left) in
@@ -38,14 +38,14 @@ returns-2 c =
     let the-triple-at = c .before .before .before .before .triple-at in
     let the-known = c .before .before .before .known in
     let if1 = c .before .before .if1 in
-    let the-permitted = c .before .permitted in
+    let the-kinds-permitted = c .before .kinds-permitted in
     let if2 = c .if2 in
     rw (
       ← the-triple-at .ensures,
       ← the-known .ensures,
       not-false (the-known .result) (if1 .left),
-      ← the-permitted .ensures,
-      not-true (the-permitted .result) (if2 .taken),
+      ← the-kinds-permitted .ensures,
+      not-true (the-kinds-permitted .result) (if2 .taken),
     )
 
 flag-at-requires : tie.Need-flag-at-requires
@@ -57,15 +57,15 @@ returns-3 c =
     let the-triple-at = c .before .before .before .before .before .triple-at in
     let the-known = c .before .before .before .before .known in
     let if1 = c .before .before .before .if1 in
-    let the-permitted = c .before .before .permitted in
+    let the-kinds-permitted = c .before .before .kinds-permitted in
     let if2 = c .before .if2 in
     let the-flag-at = c .flag-at in
     rw (
       ← the-triple-at .ensures,
       ← the-known .ensures,
       not-false (the-known .result) (if1 .left),
-      ← the-permitted .ensures,
-      not-false (the-permitted .result) (if2 .left),
+      ← the-kinds-permitted .ensures,
+      not-false (the-kinds-permitted .result) (if2 .left),
       ← the-flag-at .ensures,
     )
 
@@ -76,7 +76,7 @@ record-ok-spec =
     triple-at-requires
     known-requires
     returns
-    permitted-requires
+    kinds-permitted-requires
     returns-2
     flag-at-requires
     returns-3)

@@ -1,5 +1,5 @@
 use Rattle.query_walk.proofs.Turns.{Walking, walks-here, walks-on, Here, top-small, stack-held, slot-here}
-use Rattle.query_walk.proofs.Turns.{runs-out, pop-needs, pops, visit-needs, sees-torn, sees-miss, try-needs}
+use Rattle.query_walk.proofs.Turns.{runs-out, pop-needs, pops, visit-needs, sees-damaged, sees-miss, try-needs}
 use Rattle.query_walk.proofs.Turns.{Tried, tried-top, tried-damaged, tried-onward, tried-whole}
 use Rattle.graph.proofs.Laws.{walk-over}
 use Rattle.query_stack.specs.Stack.{deepest, entered}
@@ -175,7 +175,7 @@ returns-2 : tie.Need-returns-2 Inv-loop μ-loop Inv-walk μ-walk
 unfolding packed
 returns-2 c =
     let d = c .before .before .before in
-    c .refused .ensures ∙ answers ((before-visit d) .before) _ (sees-torn (here (before-visit d)) (d .before .before .if2 .left)
+    c .refused .ensures ∙ answers ((before-visit d) .before) _ (sees-damaged (here (before-visit d)) (d .before .before .if2 .left)
     (sym (d .seen .ensures) ∙ c .before .enum-told .given .1))
 
 enum-known-n : tie.Need-enum-known-n Inv-loop μ-loop Inv-walk μ-walk

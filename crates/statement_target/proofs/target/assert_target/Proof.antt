@@ -10,9 +10,9 @@ use Rattle.statement_target.proofs.target.assert_target.Statement.{stat
 use Rattle.statement_target.proofs.target.assert_target.Tie as tie
 use Rattle.statement_target.proofs.target.assert_target.Reads as reads
 use Rattle.statement_target.proofs.target.assert_target.Lts as lts
-use Rattle.statement_target.proofs.target.kinded.Reads as kinded-reads
+use Rattle.statement_target.proofs.target.kinds_ok.Reads as kinds-ok-reads
 use Rattle.statement_target.proofs.target.locate.Reads as locate-reads
-use Rattle.statement_target.proofs.target.permitted.Reads as permitted-reads
+use Rattle.statement_target.proofs.target.kinds_permitted.Reads as kinds-permitted-reads
 use Rattle.table.proofs.known.Reads as known-reads
 use Rattle.table.proofs.fits.Reads as fits-reads
 
@@ -30,21 +30,21 @@ returns-2 : tie.Need-returns-2
 unfolding assertTarget
 returns-2 c = simp (passed (c .before .before .before .fits2 .ensures) (c .before .before .if1 .left), failed (c .before .known .ensures) (c .if2 .taken))
 
-kinded-requires : tie.Need-kinded-requires
-kinded-requires c κs = let a = c .before .before .before .before .before .before .before .before .args in
+kinds-ok-requires : tie.Need-kinds-ok-requires
+kinds-ok-requires c κs = let a = c .before .before .before .before .before .before .before .before .args in
     let m = tables (now (a .resources)) (now (a .statements)) (now (a .index)) (now (a .text)) in known-held (a .c) m (passed (c .before .before .before .fits2 .ensures) (c .before .before .if1 .left)) (a .x) (passed (c .before .known .ensures) (c .if2 .left))
 
 returns-3 : tie.Need-returns-3
 unfolding assertTarget
-returns-3 c = simp (passed (c .before .before .before .before .before .fits2 .ensures) (c .before .before .before .before .if1 .left), passed (c .before .before .before .known .ensures) (c .before .before .if2 .left), failed (c .before .kinded .ensures) (c .if3 .taken))
+returns-3 c = simp (passed (c .before .before .before .before .before .fits2 .ensures) (c .before .before .before .before .if1 .left), passed (c .before .before .before .known .ensures) (c .before .before .if2 .left), failed (c .before .kinds-ok .ensures) (c .if3 .taken))
 
-permitted-requires : tie.Need-permitted-requires
-permitted-requires c κs = let a = c .before .before .before .before .before .before .before .before .before .before .args in
+kinds-permitted-requires : tie.Need-kinds-permitted-requires
+kinds-permitted-requires c κs = let a = c .before .before .before .before .before .before .before .before .before .before .args in
     let m = tables (now (a .resources)) (now (a .statements)) (now (a .index)) (now (a .text)) in known-held (a .c) m (passed (c .before .before .before .before .before .fits2 .ensures) (c .before .before .before .before .if1 .left)) (a .x) (passed (c .before .before .before .known .ensures) (c .before .before .if2 .left))
 
 returns-4 : tie.Need-returns-4
 unfolding assertTarget
-returns-4 c = simp (passed (c .before .before .before .before .before .before .before .fits2 .ensures) (c .before .before .before .before .before .before .if1 .left), passed (c .before .before .before .before .before .known .ensures) (c .before .before .before .before .if2 .left), passed (c .before .before .before .kinded .ensures) (c .before .before .if3 .left), failed (c .before .permitted .ensures) (c .if4 .taken))
+returns-4 c = simp (passed (c .before .before .before .before .before .before .before .fits2 .ensures) (c .before .before .before .before .before .before .if1 .left), passed (c .before .before .before .before .before .known .ensures) (c .before .before .before .before .if2 .left), passed (c .before .before .before .kinds-ok .ensures) (c .before .before .if3 .left), failed (c .before .kinds-permitted .ensures) (c .if4 .taken))
 
 locate-requires : tie.Need-locate-requires
 locate-requires c κs =
@@ -55,7 +55,7 @@ locate-requires c κs =
 
 returns-5 : tie.Need-returns-5
 unfolding assertTarget
-returns-5 c = simp (passed (c .before .before .before .before .before .before .before .before .fits2 .ensures) (c .before .before .before .before .before .before .before .if1 .left), passed (c .before .before .before .before .before .before .known .ensures) (c .before .before .before .before .before .if2 .left), passed (c .before .before .before .before .kinded .ensures) (c .before .before .before .if3 .left), passed (c .before .before .permitted .ensures) (c .before .if4 .left), locate-any, ← c .locate .ensures)
+returns-5 c = simp (passed (c .before .before .before .before .before .before .before .before .fits2 .ensures) (c .before .before .before .before .before .before .before .if1 .left), passed (c .before .before .before .before .before .before .known .ensures) (c .before .before .before .before .before .if2 .left), passed (c .before .before .before .before .kinds-ok .ensures) (c .before .before .before .if3 .left), passed (c .before .before .kinds-permitted .ensures) (c .before .if4 .left), locate-any, ← c .locate .ensures)
 
 pub assert-target-spec : {M : Type 1} → statement M
 assert-target-spec =
@@ -65,9 +65,9 @@ assert-target-spec =
     returns
     known-requires
     returns-2
-    kinded-requires
+    kinds-ok-requires
     returns-3
-    permitted-requires
+    kinds-permitted-requires
     returns-4
     locate-requires
     returns-5)

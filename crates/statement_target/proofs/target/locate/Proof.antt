@@ -6,7 +6,7 @@ use native.Mathlib.Omega.{arith}
 use denote.Ref.{now}
 use Rattle.chain.proofs.Chains.{pick-bound, start-within}
 use Rattle.table.proofs.Branches.{failed, passed}
-use Rattle.statement_target.proofs.Locate.{held-pattern, locate-torn, locate-walk, located, ready}
+use Rattle.statement_target.proofs.Locate.{held-pattern, locate-damaged, locate-walk, located, ready}
 use Rattle.chain_walk.specs.Walks.{stepOf}
 use Rattle.statement_target.specs.Targets.{locatedAs}
 use Rattle.chain_walk.specs.declared.walk.Walked.{Walked}
@@ -28,7 +28,7 @@ ready-requires : tie.Need-ready-requires
 ready-requires c κs = search needs
 
 returns : tie.Need-returns
-returns c = let a = c .before .before .before .before .args in sym (ap (λ (o : Option ℕ). locatedAs o) (locate-torn (a .c) (tables (now (a .resources)) (now (a .statements)) [] []) (a .x) (failed (c .before .ready .ensures) (c .if1 .taken))))
+returns c = let a = c .before .before .before .before .args in sym (ap (λ (o : Option ℕ). locatedAs o) (locate-damaged (a .c) (tables (now (a .resources)) (now (a .statements)) [] []) (a .x) (failed (c .before .ready .ensures) (c .if1 .taken))))
 
 pick-chain-requires : tie.Need-pick-chain-requires
 pick-chain-requires c κs = let a = c .before .before .before .before .args in held-pattern (now (a .resources)) (a .x) (c .before .before .before .before .pre .0)
