@@ -32,14 +32,14 @@ use Rattle.store.specs.History.{Store, store, internedCounters, callStore}
 use Rattle.ntriples.specs.declared.Span.{Span}
 use Rattle.ntriples.specs.declared.Line.{Line}
 use Rattle.ntriples.specs.declared.Line.the-variants as answer
-use Rattle.ntriples.specs.Text.{bytesOf}
-use Rattle.graph.specs.Claims.{loadOf}
+use Rattle.ntriples.specs.Grammar.{bytesOf}
+use Rattle.graph.specs.Claims.{loading, loadOf}
 use Rattle.graph.proofs.Theorems.{graph-writes}
 use Rattle.lines.specs.Claims.{namesIn}
 use Rattle.loader.specs.declared.Outcome.{Outcome}
 use Rattle.loader.specs.declared.Outcome.the-variants.{Nothing, Refused}
 use Rattle.loader.specs.declared.LineLoaded.{LineLoaded}
-use Rattle.loader.proofs.Inside.{noPart}
+use Rattle.ntriples.specs.Grammar.{noPart}
 use Rattle.loader.specs.Lines.{come, reported, loadLineOf, Loads, refusedLine, assertedLine}
 
 abbrev pub Ready : Counters → Tables → Type 0
@@ -103,7 +103,7 @@ loadFrom text (p ∷ ps) ids s =
     unless (eqb (a .1 .refusal) 0) a (loadFrom text ps (ids ++ record { 0 = a .1 .number } ∷ []) (a .0))
 
 load-from : (text : List ℕ) (x y z : Span) (s : Store) → loadOf s (namesIn text x y z) ≡ loadFrom text (x ∷ y ∷ z ∷ []) [] s
-unfolding loadOf loadFrom
+unfolding loading loadFrom
 load-from text x y z s = refl
 
 -- the names of the first i parts have been entered, which led from c and m to d and m′

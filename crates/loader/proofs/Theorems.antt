@@ -32,4 +32,4 @@ code-loads c m m′ text x y z r S L =
     let e = L .sound S [] in
     let p : store (r .counters) m′ [] ≡ a .0 = ap (λ (w : Store × Outcome). w .0) e in
     let q : refusalIn (r .outcome) ≡ a .1 .refusal = ap (λ (w : Store × Outcome). refusalIn (w .1)) e ∙ refusal-is (a .1) in
-    rw (p, q) (line-loads (store c m []) S y′)
+    rw (p, q) (line-loads (store c m []) S y′ .0)

@@ -9,7 +9,7 @@ ghost use Prim.Native.Nat.{ℕ, _≤_, _<_};
 ghost use lib.ListN.{length};
 ghost use Rattle.term.specs.Grammar.{nameLimit};
 ghost use Rattle.store.specs.Tables.{tables};
-ghost use Rattle.ntriples.specs.Text.{readOf};
+ghost use Rattle.ntriples.specs.Reader.{readOf};
 ghost use Rattle.loader.specs.Lines.{refusedLine, assertedLine, LineInside, ReadAt, Loads};
 use ntriples::Line;
 use ntriples::Span;

@@ -59,7 +59,7 @@ use denote.Triple.Table.{entered, cited}
 use denote.Triple.Walked.{Stays, stay-none-slice, walkOf, goes-none-slice, Walks, ends-at, walked, walk-meets}
 use denote.Triple.Clauses.{ensured, lasts}
 use denote.Exit.{yes}
-use Rattle.ntriples.specs.Text.{readOf}
+use Rattle.ntriples.specs.Reader.{readOf}
 use Rattle.ntriples.specs.declared.Line.{Line}
 use Rattle.ntriples.specs.declared.LineRead.{LineRead}
 use Rattle.line_reader.specs.declared.LineReader.{LineReader}

@@ -81,7 +81,7 @@ use denote.Triple.Walked.{says, Stays, stay-none, stay-slice, stay-none-slice, w
 use denote.Triple.Walked.{Walks, ends-at, walked, walk-meets}
 use denote.Triple.Clauses.{ensured, lasts}
 use denote.Exit.{yes}
-use Rattle.ntriples.specs.Text.{readOf}
+use Rattle.ntriples.specs.Reader.{readOf}
 use Rattle.ntriples.specs.declared.Line.{Line}
 use Rattle.line_reader.specs.declared.LineReader.{LineReader}
 use Rattle.line_reader.proofs.LineReader as T
