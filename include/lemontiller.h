@@ -43,6 +43,12 @@
 #include <stddef.h>
 #include <stdint.h>
 
+/* The version of the library and of this file. */
+#define LT_VERSION "0.1.0"
+#define LT_VERSION_MAJOR 0
+#define LT_VERSION_MINOR 1
+#define LT_VERSION_PATCH 0
+
 #ifdef __cplusplus
 extern "C" {
 #endif
