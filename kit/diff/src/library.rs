@@ -1,5 +1,5 @@
-//! A call through the C interface, of a function itself or by the structs of its header. Everything lent stands between guard words, so that a write outside of it shows; names, lines and
-//! questions are lent as copies, and must be as they were afterwards.
+//! A call through the C interface, of a function itself or by the structs of its header. Everything lent stands between guard words, so
+//! that a write outside of it shows; names, lines and questions are lent as copies, and must be as they were afterwards.
 
 use crate::plain::{Call, Lent};
 use crate::structs;

@@ -4,12 +4,12 @@
 //!
 //!     diff SEED CALLS SECONDS
 //!
-//! makes calls from a seed until there are so many or so much time has passed, about half of them by the structs of the header. After each call the result, the reply, the cursor, the
-//! counters and every byte of the tables must be what the paper says; where find and enter meet a dictionary that is not sound, what
-//! the paper leaves open is bounded. The first difference is told with the seed, the call's number and both answers, and ends the run
-//! with status 1. A run that made fewer calls than it was to make, and fewer than a million, has failed too. At the end stands how many
-//! calls of each kind had each result, and how many met the string ending, live counts and reclaims in which way; a run of 300,000 calls
-//! or more must have met all of these.
+//! makes calls from a seed until there are so many or so much time has passed, about half of them by the structs of the header. After
+//! each call the result, the reply, the cursor, the counters and every byte of the tables must be what the paper says; where find and
+//! enter meet a dictionary that is not sound, what the paper leaves open is bounded. The first difference is told with the seed, the
+//! call's number and both answers, and ends the run with status 1. A run that made fewer calls than it was to make, and fewer than a
+//! million, has failed too. At the end stands how many calls of each kind had each result, and how many met the string ending, live
+//! counts and reclaims in which way; a run of 300,000 calls or more must have met all of these.
 
 mod damage;
 #[cfg(test)]

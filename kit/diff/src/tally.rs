@@ -1,4 +1,5 @@
-//! How many calls of each kind had each result, and of them by the structs, and how many met the string ending, live counts and reclaims in which way.
+//! How many calls of each kind had each result, and of them by the structs, and how many met the string ending, live counts and reclaims
+//! in which way.
 
 use crate::library::Way;
 use crate::live;
