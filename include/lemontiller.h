@@ -34,12 +34,20 @@
  * counters, cursor and tables stay as they were. LT_TOO_SHORT comes before every refusal, and nothing at all is written with it. Words
  * past those that counters, a reply or a cursor name keep their values.
  * The refusals of a function are tested in the order in which its sentence names them.
+ *
+ * The library has the functions on slices. After them stand inline functions on a `struct lt_store`, with structs for replies and cursors.
  */
 #ifndef LEMONTILLER_H
 #define LEMONTILLER_H
 
 #include <stddef.h>
 #include <stdint.h>
+
+/* The version of the library and of this file. */
+#define LT_VERSION "0.1.0"
+#define LT_VERSION_MAJOR 0
+#define LT_VERSION_MINOR 1
+#define LT_VERSION_PATCH 0
 
 #ifdef __cplusplus
 extern "C" {
@@ -99,7 +107,7 @@ enum { LT_LINE_WORDS = 8 };
 enum lt_kind { LT_IRI = 1, LT_BLANK = 2, LT_LITERAL = 3 };
 enum lt_chain { LT_BY_NONE = 0, LT_BY_SUBJECT = 1, LT_BY_PREDICATE = 2, LT_BY_OBJECT = 3 };
 enum lt_place { LT_START = 0, LT_WITHIN = 1, LT_END = 2 };
-enum lt_line { LT_LINE_END = 0, LT_LINE_NOTHING = 1, LT_LINE_TRIPLE = 2 };
+enum lt_line_kind { LT_LINE_END = 0, LT_LINE_NOTHING = 1, LT_LINE_TRIPLE = 2 };
 enum lt_asserted { LT_NEW = 1, LT_ALREADY = 2, LT_REVIVED = 3 };
 
 /* What a next call did. Found: the reply holds one. Ended: no record remains, nor for further calls. Spent: `budget` records were
@@ -141,10 +149,10 @@ static inline const char *lt_strerror(uint32_t result)
 /* The kind of a name, or LT_MALFORMED, by the name as it is spelled. reply 1: an `lt_kind`. */
 uint32_t lt_name_kind(const uint8_t *name, size_t name_len, uint32_t *reply, size_t reply_len);
 
-/* Reads the line at a position of a text. reply LT_LINE_WORDS: an `lt_line`, position after, start and length in the text of subject,
+/* Reads the line at a position of a text. reply LT_LINE_WORDS: an `lt_line_kind`, position after, start and length in the text of subject,
  * predicate, object, which are 0 if there is no triple; the object's length is without the string ending. At the text's end, or past it,
- * the position stays. With LT_BAD_LINE: 0 (no `lt_line` then: the line may well be followed by others), position after, the offset in the
- * line, as it is spelled, of the first byte that fits no line (the line's length if it stops short), zeros.
+ * the position stays. With LT_BAD_LINE: 0 (no `lt_line_kind` then: the line may well be followed by others), position after, the offset in
+ * the line, as it is spelled, of the first byte that fits no line (the line's length if it stops short), zeros.
  * The lines read are those N-Triples whose terms are names: bytes 32 to 126 (and tabs between terms and in comments) alone, so no UTF-8; of
  * the escapes \" \\ \n \r and no other, so neither \u nor \t; labels of blank nodes without a colon. Other lines are LT_BAD_LINE. */
 uint32_t lt_read_line(const uint8_t *text, size_t text_len, size_t at, uint64_t *reply, size_t reply_len);
@@ -211,6 +219,290 @@ uint32_t lt_query_next(LT_STORE, const uint32_t *words, size_t words_len, uint32
                        uint32_t *reply, size_t reply_len);
 
 #undef LT_STORE
+
+/* The same with a struct for a store, and with named fields for replies and cursors. Each function from here on makes one call of the
+ * function above whose name it has (lt_store_find of lt_find), and gives back its result. All that is said there holds: beside a refusal
+ * the reply's fields are 0 (except LT_BAD_LINE), and counters, cursor and tables stay as they were. LT_TOO_SHORT cannot come. Words are
+ * copied to fields and back one by one, so nothing depends on how a struct is laid out. */
+
+struct lt_counters {
+    uint32_t resources, statements, text, reclaims;
+};
+
+/* A store: its counters, all 0 if it is fresh, and where its four tables stand. The functions that take it as const write none of them, so
+ * to those alone tables that cannot be written may be lent, by a cast. */
+struct lt_store {
+    struct lt_counters counters;
+    uint32_t *resources;
+    size_t resources_len;
+    uint32_t *statements;
+    size_t statements_len;
+    uint32_t *index;
+    size_t index_len;
+    uint8_t *text;
+    size_t text_len;
+};
+
+/* A part of a text. */
+struct lt_span {
+    size_t start, length;
+};
+
+/* A line: an `lt_line_kind`; the position after it; its names in the text, 0 if there is no triple. `fault` is 0, and with LT_BAD_LINE the
+ * offset in the line of the first byte that fits no line; `what` says nothing then. */
+struct lt_line {
+    uint32_t what;
+    size_t next;
+    struct lt_span subject, predicate, object;
+    size_t fault;
+};
+
+/* A statement's resources, and 1 if it is retracted. */
+struct lt_triple {
+    uint32_t subject, predicate, object, retracted;
+};
+
+/* What asserting did, an `lt_asserted`, and the statement's number. */
+struct lt_assertion {
+    uint32_t status, number;
+};
+
+/* A scan's cursor: the pattern, 0 for any; an `lt_chain`; the next statement or 0; the reclaims. */
+struct lt_scan {
+    uint32_t subject, predicate, object, chain, next, reclaims;
+};
+
+/* A scan's reply: an `lt_step`, the statement or 0, the visits made. */
+struct lt_found {
+    uint32_t step, statement, visits;
+};
+
+/* A query's cursor: an `lt_place`; how many levels are entered; the reclaims; for each level the chain and the record. */
+struct lt_level {
+    uint32_t chain, record;
+};
+struct lt_query {
+    uint32_t place, levels, reclaims;
+    struct lt_level level[LT_MAX_PATTERNS];
+};
+
+/* A query's reply: an `lt_step`, the visits made, the resource of each variable or 0. */
+struct lt_solution {
+    uint32_t step, visits;
+    uint32_t resource[LT_VARIABLES];
+};
+
+/* Fields to words, and words to fields: LT_COUNTER_WORDS, LT_CURSOR_WORDS and LT_QUERY_CURSOR_WORDS of them. */
+static inline void lt_counters_to_words(const struct lt_counters *counters, uint32_t *words)
+{
+    words[0] = counters->resources;
+    words[1] = counters->statements;
+    words[2] = counters->text;
+    words[3] = counters->reclaims;
+}
+
+static inline void lt_counters_from_words(struct lt_counters *counters, const uint32_t *words)
+{
+    counters->resources = words[0];
+    counters->statements = words[1];
+    counters->text = words[2];
+    counters->reclaims = words[3];
+}
+
+static inline void lt_scan_to_words(const struct lt_scan *scan, uint32_t *words)
+{
+    words[0] = scan->subject;
+    words[1] = scan->predicate;
+    words[2] = scan->object;
+    words[3] = scan->chain;
+    words[4] = scan->next;
+    words[5] = scan->reclaims;
+}
+
+static inline void lt_scan_from_words(struct lt_scan *scan, const uint32_t *words)
+{
+    scan->subject = words[0];
+    scan->predicate = words[1];
+    scan->object = words[2];
+    scan->chain = words[3];
+    scan->next = words[4];
+    scan->reclaims = words[5];
+}
+
+static inline void lt_query_to_words(const struct lt_query *query, uint32_t *words)
+{
+    size_t level;
+    words[0] = query->place;
+    words[1] = query->levels;
+    words[2] = query->reclaims;
+    for (level = 0; level < LT_MAX_PATTERNS; level++) {
+        words[3 + 2 * level] = query->level[level].chain;
+        words[4 + 2 * level] = query->level[level].record;
+    }
+}
+
+static inline void lt_query_from_words(struct lt_query *query, const uint32_t *words)
+{
+    size_t level;
+    query->place = words[0];
+    query->levels = words[1];
+    query->reclaims = words[2];
+    for (level = 0; level < LT_MAX_PATTERNS; level++) {
+        query->level[level].chain = words[3 + 2 * level];
+        query->level[level].record = words[4 + 2 * level];
+    }
+}
+
+/* lt_name_kind. */
+static inline uint32_t lt_kind_of(const uint8_t *name, size_t name_len, uint32_t *kind) { return lt_name_kind(name, name_len, kind, 1); }
+
+/* lt_read_line. */
+static inline uint32_t lt_line_read(const uint8_t *text, size_t text_len, size_t at, struct lt_line *line)
+{
+    uint64_t words[LT_LINE_WORDS];
+    uint32_t result = lt_read_line(text, text_len, at, words, LT_LINE_WORDS);
+    line->what = (uint32_t)words[0];
+    line->next = (size_t)words[1];
+    line->fault = result == LT_BAD_LINE ? (size_t)words[2] : 0;
+    line->subject.start = result == LT_BAD_LINE ? 0 : (size_t)words[2];
+    line->subject.length = (size_t)words[3];
+    line->predicate.start = (size_t)words[4];
+    line->predicate.length = (size_t)words[5];
+    line->object.start = (size_t)words[6];
+    line->object.length = (size_t)words[7];
+    return result;
+}
+
+/* The five slices of a store, whose counters are `counters`. */
+#define LT_SLICES                                                                                               \
+    counters, LT_COUNTER_WORDS, store->resources, store->resources_len, store->statements, store->statements_len, \
+        store->index, store->index_len, store->text, store->text_len
+
+static inline uint32_t lt_store_check(const struct lt_store *store, uint32_t *sound)
+{
+    uint32_t counters[LT_COUNTER_WORDS];
+    lt_counters_to_words(&store->counters, counters);
+    return lt_check(LT_SLICES, sound, 1);
+}
+
+static inline uint32_t lt_store_find(const struct lt_store *store, const uint8_t *name, size_t name_len, uint32_t *number)
+{
+    uint32_t counters[LT_COUNTER_WORDS];
+    lt_counters_to_words(&store->counters, counters);
+    return lt_find(LT_SLICES, name, name_len, number, 1);
+}
+
+static inline uint32_t lt_store_enter(struct lt_store *store, const uint8_t *name, size_t name_len, uint32_t *number)
+{
+    uint32_t counters[LT_COUNTER_WORDS], result;
+    lt_counters_to_words(&store->counters, counters);
+    result = lt_enter(LT_SLICES, name, name_len, number, 1);
+    lt_counters_from_words(&store->counters, counters);
+    return result;
+}
+
+static inline uint32_t lt_store_name(const struct lt_store *store, uint32_t number, struct lt_span *name)
+{
+    uint32_t counters[LT_COUNTER_WORDS], words[2], result;
+    lt_counters_to_words(&store->counters, counters);
+    result = lt_name(LT_SLICES, number, words, 2);
+    name->start = words[0];
+    name->length = words[1];
+    return result;
+}
+
+static inline uint32_t lt_store_statement(const struct lt_store *store, uint32_t number, struct lt_triple *triple)
+{
+    uint32_t counters[LT_COUNTER_WORDS], words[4], result;
+    lt_counters_to_words(&store->counters, counters);
+    result = lt_statement(LT_SLICES, number, words, 4);
+    triple->subject = words[0];
+    triple->predicate = words[1];
+    triple->object = words[2];
+    triple->retracted = words[3];
+    return result;
+}
+
+static inline uint32_t lt_store_assert(struct lt_store *store, uint32_t subject, uint32_t predicate, uint32_t object,
+                                       struct lt_assertion *assertion)
+{
+    uint32_t counters[LT_COUNTER_WORDS], words[2], result;
+    lt_counters_to_words(&store->counters, counters);
+    result = lt_assert(LT_SLICES, subject, predicate, object, words, 2);
+    lt_counters_from_words(&store->counters, counters);
+    assertion->status = words[0];
+    assertion->number = words[1];
+    return result;
+}
+
+static inline uint32_t lt_store_retract(struct lt_store *store, uint32_t subject, uint32_t predicate, uint32_t object,
+                                        uint32_t *number)
+{
+    uint32_t counters[LT_COUNTER_WORDS];
+    lt_counters_to_words(&store->counters, counters);
+    return lt_retract(LT_SLICES, subject, predicate, object, number, 1);
+}
+
+static inline uint32_t lt_store_reclaim(struct lt_store *store)
+{
+    uint32_t counters[LT_COUNTER_WORDS], result;
+    lt_counters_to_words(&store->counters, counters);
+    result = lt_reclaim(LT_SLICES);
+    lt_counters_from_words(&store->counters, counters);
+    return result;
+}
+
+static inline uint32_t lt_store_scan_open(const struct lt_store *store, uint32_t subject, uint32_t predicate, uint32_t object,
+                                          struct lt_scan *scan)
+{
+    uint32_t counters[LT_COUNTER_WORDS], cursor[LT_CURSOR_WORDS], result;
+    lt_counters_to_words(&store->counters, counters);
+    result = lt_scan_open(LT_SLICES, subject, predicate, object, cursor, LT_CURSOR_WORDS);
+    if (result == LT_ANSWERED)
+        lt_scan_from_words(scan, cursor);
+    return result;
+}
+
+static inline uint32_t lt_store_scan_next(const struct lt_store *store, struct lt_scan *scan, uint32_t budget, struct lt_found *found)
+{
+    uint32_t counters[LT_COUNTER_WORDS], cursor[LT_CURSOR_WORDS], words[LT_SCAN_REPLY_WORDS], result;
+    lt_counters_to_words(&store->counters, counters);
+    lt_scan_to_words(scan, cursor);
+    result = lt_scan_next(LT_SLICES, cursor, LT_CURSOR_WORDS, budget, words, LT_SCAN_REPLY_WORDS);
+    lt_scan_from_words(scan, cursor);
+    found->step = words[0];
+    found->statement = words[1];
+    found->visits = words[2];
+    return result;
+}
+
+static inline uint32_t lt_store_query_open(const struct lt_store *store, const uint32_t *words, size_t words_len, struct lt_query *query)
+{
+    uint32_t counters[LT_COUNTER_WORDS], cursor[LT_QUERY_CURSOR_WORDS], result;
+    lt_counters_to_words(&store->counters, counters);
+    result = lt_query_open(LT_SLICES, words, words_len, cursor, LT_QUERY_CURSOR_WORDS);
+    if (result == LT_ANSWERED)
+        lt_query_from_words(query, cursor);
+    return result;
+}
+
+static inline uint32_t lt_store_query_next(const struct lt_store *store, const uint32_t *words, size_t words_len, struct lt_query *query,
+                                           uint32_t budget, struct lt_solution *solution)
+{
+    uint32_t counters[LT_COUNTER_WORDS], cursor[LT_QUERY_CURSOR_WORDS], reply[LT_QUERY_REPLY_WORDS], result;
+    size_t variable;
+    lt_counters_to_words(&store->counters, counters);
+    lt_query_to_words(query, cursor);
+    result = lt_query_next(LT_SLICES, words, words_len, cursor, LT_QUERY_CURSOR_WORDS, budget, reply, LT_QUERY_REPLY_WORDS);
+    lt_query_from_words(query, cursor);
+    solution->step = reply[0];
+    solution->visits = reply[1];
+    for (variable = 0; variable < LT_VARIABLES; variable++)
+        solution->resource[variable] = reply[2 + variable];
+    return result;
+}
+
+#undef LT_SLICES
 
 #ifdef __cplusplus
 }

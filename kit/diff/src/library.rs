@@ -1,7 +1,8 @@
-//! A call through the C interface. Everything lent stands between guard words, so that a write outside of it shows; names, lines and
-//! questions are lent as copies, and must be as they were afterwards.
+//! A call through the C interface, of a function itself or by the structs of its header. Everything lent stands between guard words, so
+//! that a write outside of it shows; names, lines and questions are lent as copies, and must be as they were afterwards.
 
 use crate::plain::{Call, Lent};
+use crate::structs;
 use lemontiller::ffi;
 
 const GUARDS: usize = 16;
@@ -37,8 +38,18 @@ impl<T: Copy + PartialEq> Guarded<T> {
     }
 }
 
+/// How a call is made.
+#[derive(Clone, Copy, Debug, PartialEq)]
+pub enum Way {
+    /// The library's function.
+    Slices,
+    /// The header's function on structs, for which every slice must have its words.
+    Structs,
+}
+
 /// Makes the call on a copy of what is lent: its result, and what the copy holds afterwards.
-pub fn make(call: &Call, lent: &Lent) -> Result<(u32, Lent), String> {
+pub fn make(call: &Call, lent: &Lent, way: Way) -> Result<(u32, Lent), String> {
+    assert!(way == Way::Slices || !call.lacks_words(lent));
     const WORD: u32 = 0xA5A5_5A5A;
     let mut counters = Guarded::new(&lent.counters, WORD);
     let mut resources = Guarded::new(&lent.resources, WORD);
@@ -67,23 +78,47 @@ pub fn make(call: &Call, lent: &Lent) -> Result<(u32, Lent), String> {
             ffi::$function(c, c_len, r, r_len, s, s_len, i, i_len, t, t_len $(, $arg)*)
         };
     }
-    // SAFETY: every pointer and length is that of a live slice, and those that are written are apart from each other.
+    macro_rules! by_structs {
+        ($function:ident $(, $arg:expr)*) => {
+            structs::$function(c, r, r_len, s, s_len, i, i_len, t, t_len $(, $arg)*)
+        };
+    }
+    // SAFETY: every pointer and length is that of a live slice, and those that are written are apart from each other. What is lent without
+    // a length has all its words.
     let result = unsafe {
-        match call {
-            Call::NameKind { .. } => ffi::lt_name_kind(name, name_len, out, out_len),
-            Call::ReadLine { at, .. } => ffi::lt_read_line(name, name_len, *at, line, line_len),
-            Call::Check => store!(lt_check, out, out_len),
-            Call::Find { .. } => store!(lt_find, name, name_len, out, out_len),
-            Call::Enter { .. } => store!(lt_enter, name, name_len, out, out_len),
-            Call::Name { number } => store!(lt_name, *number, out, out_len),
-            Call::Statement { number } => store!(lt_statement, *number, out, out_len),
-            Call::Assert { triple: [a, b, o] } => store!(lt_assert, *a, *b, *o, out, out_len),
-            Call::Retract { triple: [a, b, o] } => store!(lt_retract, *a, *b, *o, out, out_len),
-            Call::Reclaim => store!(lt_reclaim),
-            Call::ScanOpen { pattern: [a, b, o] } => store!(lt_scan_open, *a, *b, *o, at, at_len),
-            Call::ScanNext { budget } => store!(lt_scan_next, at, at_len, *budget, out, out_len),
-            Call::QueryOpen { .. } => store!(lt_query_open, words, words_len, at, at_len),
-            Call::QueryNext { budget, .. } => store!(lt_query_next, words, words_len, at, at_len, *budget, out, out_len),
+        match way {
+            Way::Slices => match call {
+                Call::NameKind { .. } => ffi::lt_name_kind(name, name_len, out, out_len),
+                Call::ReadLine { at, .. } => ffi::lt_read_line(name, name_len, *at, line, line_len),
+                Call::Check => store!(lt_check, out, out_len),
+                Call::Find { .. } => store!(lt_find, name, name_len, out, out_len),
+                Call::Enter { .. } => store!(lt_enter, name, name_len, out, out_len),
+                Call::Name { number } => store!(lt_name, *number, out, out_len),
+                Call::Statement { number } => store!(lt_statement, *number, out, out_len),
+                Call::Assert { triple: [a, b, o] } => store!(lt_assert, *a, *b, *o, out, out_len),
+                Call::Retract { triple: [a, b, o] } => store!(lt_retract, *a, *b, *o, out, out_len),
+                Call::Reclaim => store!(lt_reclaim),
+                Call::ScanOpen { pattern: [a, b, o] } => store!(lt_scan_open, *a, *b, *o, at, at_len),
+                Call::ScanNext { budget } => store!(lt_scan_next, at, at_len, *budget, out, out_len),
+                Call::QueryOpen { .. } => store!(lt_query_open, words, words_len, at, at_len),
+                Call::QueryNext { budget, .. } => store!(lt_query_next, words, words_len, at, at_len, *budget, out, out_len),
+            },
+            Way::Structs => match call {
+                Call::NameKind { .. } => structs::structs_name_kind(name, name_len, out),
+                Call::ReadLine { at, .. } => structs::structs_read_line(name, name_len, *at, line),
+                Call::Check => by_structs!(structs_check, out),
+                Call::Find { .. } => by_structs!(structs_find, name, name_len, out),
+                Call::Enter { .. } => by_structs!(structs_enter, name, name_len, out),
+                Call::Name { number } => by_structs!(structs_name, *number, out),
+                Call::Statement { number } => by_structs!(structs_statement, *number, out),
+                Call::Assert { triple: [a, b, o] } => by_structs!(structs_assert, *a, *b, *o, out),
+                Call::Retract { triple: [a, b, o] } => by_structs!(structs_retract, *a, *b, *o, out),
+                Call::Reclaim => by_structs!(structs_reclaim),
+                Call::ScanOpen { pattern: [a, b, o] } => by_structs!(structs_scan_open, *a, *b, *o, at),
+                Call::ScanNext { budget } => by_structs!(structs_scan_next, at, *budget, out),
+                Call::QueryOpen { .. } => by_structs!(structs_query_open, words, words_len, at),
+                Call::QueryNext { budget, .. } => by_structs!(structs_query_next, words, words_len, at, *budget, out),
+            },
         }
     };
     if bytes.unguarded("the name or line")? != call.bytes() || question.unguarded("the question")? != call.words() {

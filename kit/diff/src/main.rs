@@ -4,12 +4,12 @@
 //!
 //!     diff SEED CALLS SECONDS
 //!
-//! makes calls from a seed until there are so many or so much time has passed. After each call the result, the reply, the cursor, the
-//! counters and every byte of the tables must be what the paper says; where find and enter meet a dictionary that is not sound, what
-//! the paper leaves open is bounded. The first difference is told with the seed, the call's number and both answers, and ends the run
-//! with status 1. A run that made fewer calls than it was to make, and fewer than a million, has failed too. At the end stands how many
-//! calls of each kind had each result, and how many met the string ending, live counts and reclaims in which way; a run of 300,000 calls
-//! or more must have met all of these.
+//! makes calls from a seed until there are so many or so much time has passed, about half of them by the structs of the header. After
+//! each call the result, the reply, the cursor, the counters and every byte of the tables must be what the paper says; where find and
+//! enter meet a dictionary that is not sound, what the paper leaves open is bounded. The first difference is told with the seed, the
+//! call's number and both answers, and ends the run with status 1. A run that made fewer calls than it was to make, and fewer than a
+//! million, has failed too. At the end stands how many calls of each kind had each result, and how many met the string ending, live
+//! counts and reclaims in which way; a run of 300,000 calls or more must have met all of these.
 
 mod damage;
 #[cfg(test)]
@@ -21,9 +21,11 @@ mod names;
 mod plain;
 mod random;
 mod reclaims;
+mod structs;
 mod tally;
 
 use damage::damage;
+use library::Way;
 use plain::{
     Call, Expected, Lent, COUNTER_WORDS, END, MAX_RECLAIMS, PLACES, QUERY_RECLAIMS, RECLAIMS, RESOURCE_WORDS, SCAN_NEXT,
     SCAN_RECLAIMS, STATEMENT_WORDS, WITHIN,
@@ -76,11 +78,12 @@ impl Run {
     fn compare(&mut self, call: &Call, lent: &mut Lent) -> Result<u32, Difference> {
         self.made += 1;
         let before = lent.clone();
+        let way = if self.random.one_in(2) && !call.lacks_words(lent) { Way::Structs } else { Way::Slices };
         let told = |what: String| {
             let lent = if before.resources.len() < 1000 { format!("{before:?}") } else { "the tables of the limits".to_string() };
-            format!("call {}: {call:?}\n{what}\nlent: {lent}", self.made)
+            format!("call {}, by {way:?}: {call:?}\n{what}\nlent: {lent}", self.made)
         };
-        let (result, after) = library::make(call, &before).map_err(told)?;
+        let (result, after) = library::make(call, &before, way).map_err(told)?;
         let expected = call.make(lent);
         match expected {
             Expected::Exactly(right) if result == right && after == *lent => {}
@@ -97,7 +100,7 @@ impl Run {
                 *lent = after;
             }
         }
-        self.tally.count(call, result, &before, lent, expected == Expected::Bounded);
+        self.tally.count(call, way, result, &before, lent, expected == Expected::Bounded);
         Ok(result)
     }
 

@@ -768,13 +768,17 @@ impl Call {
         }
     }
 
-    /// Makes the call on what is lent, as the paper says.
-    pub fn make(&self, lent: &mut Lent) -> Expected {
-        if self.takes_tables() && lent.counters.len() < COUNTER_WORDS
+    /// Whether counters, cursor or reply have fewer words than the call needs.
+    pub fn lacks_words(&self, lent: &Lent) -> bool {
+        self.takes_tables() && lent.counters.len() < COUNTER_WORDS
             || lent.cursor.len() < self.cursor_words()
             || lent.reply.len() < self.reply_words()
             || lent.line_reply.len() < self.line_words()
-        {
+    }
+
+    /// Makes the call on what is lent, as the paper says.
+    pub fn make(&self, lent: &mut Lent) -> Expected {
+        if self.lacks_words(lent) {
             return Expected::Exactly(100);
         }
         if let Call::Find { name } | Call::Enter { name } = self {

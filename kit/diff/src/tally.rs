@@ -1,5 +1,7 @@
-//! How many calls of each kind had each result, and how many met the string ending, live counts and reclaims in which way.
+//! How many calls of each kind had each result, and of them by the structs, and how many met the string ending, live counts and reclaims
+//! in which way.
 
+use crate::library::Way;
 use crate::live;
 use crate::names::{quoted_and_suffix, MAX_NAME, STRING_ENDING};
 use crate::plain::{Call, Lent};
@@ -9,11 +11,12 @@ use std::fmt;
 
 type Counts = BTreeMap<(&'static str, String), u64>;
 
-/// Calls by function and result; where the paper only bounds the answer, apart from the others. Then those that meet the string ending,
-/// those that meet live counts and those that meet reclaims, by function and how.
+/// Calls by function and result, where the paper only bounds the answer apart from the others; those of them by the structs. Then those
+/// that meet the string ending, those that meet live counts and those that meet reclaims, by function and how.
 #[derive(Default)]
 pub struct Tally {
     calls: Counts,
+    by_structs: Counts,
     endings: Counts,
     live_counts: Counts,
     reclaims: Counts,
@@ -39,6 +42,10 @@ const RESULTS: [(&str, &[&str]); 14] = [
         &["found", "ended", "spent", "refused 1", "refused 6", "refused 7", "refused 8", "refused 9", "refused 13", "refused 100"],
     ),
 ];
+
+/// Calls by the structs have every result but one.
+const BY_STRUCTS: &str = "by the structs ";
+const TOO_SHORT: &str = "refused 100";
 
 /// Well formed with the string ending, but for its length.
 const TOO_LONG: &str = "over 255 bytes as spelled";
@@ -194,12 +201,14 @@ fn met_in_broken_line(text: &[u8], at: usize, reply: &[u64]) -> Vec<&'static str
 
 impl Tally {
     /// Counts a call by its result, what it was lent and what it left.
-    pub fn count(&mut self, call: &Call, result: u32, before: &Lent, after: &Lent, bounded: bool) {
+    pub fn count(&mut self, call: &Call, way: Way, result: u32, before: &Lent, after: &Lent, bounded: bool) {
         let one_more = |counts: &mut Counts, label| *counts.entry((function(call), label)).or_default() += 1;
         let own = label(call, result, after);
-        one_more(&mut self.calls, own.clone());
-        if bounded {
-            one_more(&mut self.calls, "bounded".to_string());
+        for label in [own.clone(), "bounded".to_string()].into_iter().take(if bounded { 2 } else { 1 }) {
+            one_more(&mut self.calls, label.clone());
+            if way == Way::Structs {
+                one_more(&mut self.by_structs, label);
+            }
         }
         if result != 1 && result != 100 {
             met(call, result, before, after, bounded).into_iter().for_each(|label| one_more(&mut self.endings, label));
@@ -219,12 +228,14 @@ impl Tally {
     /// What did not occur.
     pub fn missing(&self) -> Vec<String> {
         let results = RESULTS.iter().map(|row| (row, &self.calls, ""));
+        let by_structs = RESULTS.iter().map(|row| (row, &self.by_structs, BY_STRUCTS));
         let endings = ENDINGS.iter().map(|row| (row, &self.endings, "with the string ending "));
         let live_counts = live::WAYS.iter().map(|row| (row, &self.live_counts, "with a live count "));
         let reclaims = reclaims::WAYS.iter().map(|row| (row, &self.reclaims, "with reclaims "));
         let mut missing = vec![];
-        for (&(function, labels), counts, with) in results.chain(endings).chain(live_counts).chain(reclaims) {
-            let absent = labels.iter().filter(|label| !counts.contains_key(&(function, label.to_string())));
+        for (&(function, labels), counts, with) in results.chain(by_structs).chain(endings).chain(live_counts).chain(reclaims) {
+            let due = labels.iter().filter(|&&label| with != BY_STRUCTS || label != TOO_SHORT);
+            let absent = due.filter(|label| !counts.contains_key(&(function, label.to_string())));
             missing.extend(absent.map(|label| format!("{function} {with}{label}")));
         }
         missing
@@ -244,6 +255,8 @@ fn table(f: &mut fmt::Formatter<'_>, rows: &[(&'static str, &[&str])], counts: &
 impl fmt::Display for Tally {
     fn fmt(&self, f: &mut fmt::Formatter<'_>) -> fmt::Result {
         table(f, &RESULTS, &self.calls)?;
+        writeln!(f, "of these by the structs:")?;
+        table(f, &RESULTS, &self.by_structs)?;
         writeln!(f, "with the string ending, or close to it:")?;
         table(f, &ENDINGS, &self.endings)?;
         writeln!(f, "with live counts:")?;

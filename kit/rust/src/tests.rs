@@ -366,6 +366,24 @@ fn a_label_typed_two_ways_is_one() {
     assert!(!store.is_sound());
 }
 
+/// `samples/substation.nt` in tables of the loading program's lengths. Its totals are counted from its lines, without a store.
+#[test]
+fn the_substation_fits() {
+    let input = std::fs::read(concat!(env!("CARGO_MANIFEST_DIR"), "/../../samples/substation.nt")).unwrap();
+    let (mut counters, mut resources, mut statements) =
+        ([0; COUNTER_WORDS], [7; 512 * RESOURCE_WORDS], [7; 1024 * STATEMENT_WORDS]);
+    let (mut index, mut text) = ([7; 512], [7; 16384]);
+    let mut store = Store::new(&mut counters, &mut resources, &mut statements, &mut index, &mut text).unwrap();
+    for line in Lines::new(&input) {
+        if let Line::Triple(names) = line.unwrap() {
+            let [subject, predicate, object] = names.map(|name| store.enter(name).unwrap());
+            assert!(matches!(store.assert(subject, predicate, object), Ok(Asserted::New(_))));
+        }
+    }
+    assert_eq!(store.counters(), Counters { resources: 298, statements: 641, text: 3566, reclaims: 0 });
+    assert!(store.is_sound());
+}
+
 #[test]
 fn every_refusal_has_its_number_and_text() {
     let mut texts = Vec::new();
