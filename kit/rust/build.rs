@@ -2,7 +2,7 @@
 use std::{env, path::PathBuf};
 
 /// The crate that the library is built from, and so its name.
-const CRATE: &str = "capi";
+const CRATE: &str = "lemontiller";
 
 fn main() {
     let folder = env::var_os("LEMONTILLER_LIB")

@@ -1,0 +1,124 @@
+-- `capi::lt_enter` meets its contract. Assumes nothing.
+use Rattle.lemontiller.proofs.Writes.{enter-no-counters, enter-no-reply, enter-refused, enter-answered}
+use borrow.Author.Needs.{needs}
+use Rattle.lemontiller.proofs.lt_enter.Statement.{statement}
+use Rattle.lemontiller.proofs.lt_enter.Tie as tie
+use Rattle.lemontiller.proofs.lt_enter.Reads as reads
+use Rattle.lemontiller.proofs.lt_enter.Lts as lts
+use Rattle.capi_words.proofs.words.counters_of.Reads as counters-of-reads
+use Rattle.capi_words.proofs.words.put_counters.Reads as put-counters-reads
+use Rattle.capi_words.proofs.replies.enter_answer.Reads as enter-answer-reads
+use Rattle.capi_words.proofs.replies.interned_counters.Reads as interned-counters-reads
+use Rattle.dictionary.proofs.intern.Reads as intern-reads
+
+returns : tie.Need-returns
+returns c =
+    let a = c .before .before .before .before .before .before .before .before .args in
+    let if1 = c .if1 in
+    enter-no-counters (a .counters .now) (a .reply .now) (if1 .taken)
+
+returns-2 : tie.Need-returns-2
+returns-2 c =
+    let a = c .before .before .before .before .before .before .before .before .before .args in
+    let if1 = c .before .if1 in
+    let if2 = c .if2 in
+    enter-no-reply (a .counters .now) (a .reply .now) (if1 .left) (if2 .taken)
+
+counters-of-requires : tie.Need-counters-of-requires
+counters-of-requires c κs = search needs
+
+intern-requires : tie.Need-intern-requires
+intern-requires c κs = search needs
+
+enter-answer-requires : tie.Need-enter-answer-requires
+enter-answer-requires c κs = search needs
+
+slice-write-reply : tie.Need-slice-write-reply
+slice-write-reply c = search needs
+
+same-length : tie.Need-same-length
+same-length c = search needs
+
+same-length-2 : tie.Need-same-length-2
+same-length-2 c = search needs
+
+same-length-3 : tie.Need-same-length-3
+same-length-3 c = search needs
+
+same-length-4 : tie.Need-same-length-4
+same-length-4 c = search needs
+
+same-length-5 : tie.Need-same-length-5
+same-length-5 c = search needs
+
+returns-3 : tie.Need-returns-3
+returns-3 c =
+    let a = c .before .before .before .before .before .before .before .before .before .before .before .before .before .before .before .before .before .before .before .before .before .before .before .before .args in
+    let if1 = c .before .before .before .before .before .before .before .before .before .before .before .before .before .before .before .before .if1 in
+    let if2 = c .before .before .before .before .before .before .before .before .before .before .before .before .before .before .before .if2 in
+    let counters-of = c .before .before .before .before .before .before .before .before .before .before .before .before .before .counters-of in
+    let intern = c .before .before .before .before .before .before .before .before .before .intern in
+    let enter-answer = c .before .before .enter-answer in
+    let if3 = c .if3 in
+    enter-refused (a .counters .now) (a .reply .now) (counters-of .ensures) (intern .ensures) (enter-answer .ensures) (if3 .taken)
+    (if1 .left) (if2 .left)
+
+interned-counters-requires : tie.Need-interned-counters-requires
+interned-counters-requires c κs = search needs
+
+put-counters-requires : tie.Need-put-counters-requires
+put-counters-requires c κs = search needs
+
+same-length-6 : tie.Need-same-length-6
+same-length-6 c = search needs
+
+same-length-7 : tie.Need-same-length-7
+same-length-7 c = search needs
+
+same-length-8 : tie.Need-same-length-8
+same-length-8 c = search needs
+
+same-length-9 : tie.Need-same-length-9
+same-length-9 c = search needs
+
+same-length-10 : tie.Need-same-length-10
+same-length-10 c = search needs
+
+returns-4 : tie.Need-returns-4
+returns-4 c =
+    let a = c .before .before .before .before .before .before .before .before .before .before .before .before .before .before .before .before .before .before .before .before .before .before .before .before .before .before .before .before .before .args in
+    let if1 = c .before .before .before .before .before .before .before .before .before .before .before .before .before .before .before .before .before .before .before .before .before .if1 in
+    let if2 = c .before .before .before .before .before .before .before .before .before .before .before .before .before .before .before .before .before .before .before .before .if2 in
+    let counters-of = c .before .before .before .before .before .before .before .before .before .before .before .before .before .before .before .before .before .before .counters-of in
+    let intern = c .before .before .before .before .before .before .before .before .before .before .before .before .before .before .intern in
+    let enter-answer = c .before .before .before .before .before .before .before .enter-answer in
+    let interned-counters = c .before .before .before .before .interned-counters in
+    let if3 = c .before .before .before .before .before .if3 in
+    let put-counters = c .before .before .put-counters in
+    enter-answered (a .counters .now) (a .reply .now) (counters-of .ensures) (intern .ensures) (enter-answer .ensures) (if3 .left)
+    (interned-counters .ensures) (put-counters .ensures) (if1 .left) (if2 .left)
+
+pub lt-enter-spec : {M : Type 1} → statement M
+lt-enter-spec =
+    tie.close
+    (tie.spec
+    returns
+    returns-2
+    counters-of-requires
+    intern-requires
+    enter-answer-requires
+    slice-write-reply
+    same-length
+    same-length-2
+    same-length-3
+    same-length-4
+    same-length-5
+    returns-3
+    interned-counters-requires
+    put-counters-requires
+    same-length-6
+    same-length-7
+    same-length-8
+    same-length-9
+    same-length-10
+    returns-4)

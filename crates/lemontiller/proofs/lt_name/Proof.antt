@@ -1,0 +1,59 @@
+-- `capi::lt_name` meets its contract. Assumes nothing.
+use Rattle.capi_calls.specs.Words.{counterWords, ifShort}
+use Rattle.capi_calls.specs.Calls.{nameCall}
+use native.Mathlib.Omega.{arith}
+use lib.ListN.{length, set, length-set}
+use borrow.Author.Tests.{lt-ltb, le-ltb, eq-eqb, ne-eqb}
+use mathlib.Core.Path.{_≡_, sym, ap, _∙_, refl}
+use borrow.Author.Needs.{needs}
+use Rattle.lemontiller.proofs.lt_name.Statement.{statement}
+use Rattle.lemontiller.proofs.lt_name.Tie as tie
+use Rattle.lemontiller.proofs.lt_name.Reads as reads
+use Rattle.lemontiller.proofs.lt_name.Lts as lts
+use Rattle.capi_words.proofs.words.counters_of.Reads as counters-of-reads
+use Rattle.capi_words.proofs.replies.name_answer.Reads as name-answer-reads
+use Rattle.table.proofs.name_span.Reads as name-span-reads
+
+returns : tie.Need-returns
+unfolding nameCall ifShort
+returns c = simp (lt-ltb (length (c .before .before .before .before .before .before .before .args .counters .now)) counterWords (c .if1 .taken))
+
+returns-2 : tie.Need-returns-2
+unfolding nameCall ifShort
+returns-2 c = simp (le-ltb (length (c .before .before .before .before .before .before .before .before .args .counters .now)) counterWords (c .before .if1 .left), lt-ltb (length (c .before .before .before .before .before .before .before .before .args .reply .now)) 2 (c .if2 .taken))
+
+counters-of-requires : tie.Need-counters-of-requires
+counters-of-requires c κs = search needs
+
+name-span-requires : tie.Need-name-span-requires
+name-span-requires c κs = search needs
+
+name-answer-requires : tie.Need-name-answer-requires
+name-answer-requires c κs = search needs
+
+slice-write-reply : tie.Need-slice-write-reply
+slice-write-reply c = search needs
+
+slice-write-reply-2 : tie.Need-slice-write-reply-2
+slice-write-reply-2 c = simp length-set (omega arith)
+
+same-length : tie.Need-same-length
+same-length c = search needs
+
+returns-3 : tie.Need-returns-3
+unfolding nameCall ifShort
+returns-3 c = simp (c .name-answer .ensures, c .before .name-span .ensures, c .before .before .counters-of .ensures, le-ltb (length (c .before .before .before .before .before .before .before .before .before .before .before .args .counters .now)) counterWords (c .before .before .before .before .if1 .left), le-ltb (length (c .before .before .before .before .before .before .before .before .before .before .before .args .reply .now)) 2 (c .before .before .before .if2 .left))
+
+pub lt-name-spec : {M : Type 1} → statement M
+lt-name-spec =
+    tie.close
+    (tie.spec
+    returns
+    returns-2
+    counters-of-requires
+    name-span-requires
+    name-answer-requires
+    slice-write-reply
+    slice-write-reply-2
+    same-length
+    returns-3)

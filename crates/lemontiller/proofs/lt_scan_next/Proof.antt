@@ -1,0 +1,95 @@
+-- `capi::lt_scan_next` meets its contract. Assumes nothing.
+use Rattle.capi_calls.specs.Words.{counterWords, cursorWords}
+use Rattle.lemontiller.proofs.Writes.{next-refused, next-answered}
+use Rattle.store.specs.Tables.{tables}
+use Rattle.capi_calls.specs.Calls.{nextCall}
+use native.Mathlib.Omega.{arith}
+use lib.ListN.{length, set, length-set}
+use borrow.Author.Tests.{lt-ltb, le-ltb, eq-eqb, ne-eqb}
+use mathlib.Core.Path.{_≡_, sym, ap, _∙_, refl}
+use borrow.Author.Needs.{needs}
+use Rattle.lemontiller.proofs.lt_scan_next.Statement.{statement}
+use Rattle.lemontiller.proofs.lt_scan_next.Tie as tie
+use Rattle.lemontiller.proofs.lt_scan_next.Reads as reads
+use Rattle.lemontiller.proofs.lt_scan_next.Lts as lts
+use Rattle.capi_words.proofs.words.counters_of.Reads as counters-of-reads
+use Rattle.capi_words.proofs.words.next_from.Reads as next-from-reads
+use Rattle.capi_words.proofs.words.put_cursor.Reads as put-cursor-reads
+use Rattle.capi_words.proofs.replies.scanned_answer.Reads as scanned-answer-reads
+use Rattle.capi_words.proofs.replies.scanned_cursor.Reads as scanned-cursor-reads
+
+returns : tie.Need-returns
+unfolding nextCall
+returns c = simp (lt-ltb (length (c .before .before .before .before .before .before .before .before .args .counters .now)) counterWords (c .if1 .taken))
+
+returns-2 : tie.Need-returns-2
+unfolding nextCall
+returns-2 c = simp (le-ltb (length (c .before .before .before .before .before .before .before .before .before .args .counters .now)) counterWords (c .before .if1 .left), lt-ltb (length (c .before .before .before .before .before .before .before .before .before .args .cursor .now)) cursorWords (c .if2 .taken))
+
+returns-3 : tie.Need-returns-3
+unfolding nextCall
+returns-3 c = simp (le-ltb (length (c .before .before .before .before .before .before .before .before .before .before .args .counters .now)) counterWords (c .before .before .if1 .left), le-ltb (length (c .before .before .before .before .before .before .before .before .before .before .args .cursor .now)) cursorWords (c .before .if2 .left), lt-ltb (length (c .before .before .before .before .before .before .before .before .before .before .args .reply .now)) 3 (c .if3 .taken))
+
+counters-of-requires : tie.Need-counters-of-requires
+counters-of-requires c κs = search needs
+
+next-from-requires : tie.Need-next-from-requires
+next-from-requires c κs = search needs
+
+scanned-answer-requires : tie.Need-scanned-answer-requires
+scanned-answer-requires c κs = search needs
+
+slice-write-reply : tie.Need-slice-write-reply
+slice-write-reply c = search needs
+
+slice-write-reply-2 : tie.Need-slice-write-reply-2
+slice-write-reply-2 c = simp length-set (omega arith)
+
+slice-write-reply-3 : tie.Need-slice-write-reply-3
+slice-write-reply-3 c = search needs
+
+same-length : tie.Need-same-length
+same-length c = search needs
+
+same-length-2 : tie.Need-same-length-2
+same-length-2 c = search needs
+
+returns-4 : tie.Need-returns-4
+returns-4 c = next-refused (c .before .before .before .before .before .before .before .before .before .before .before .before .before .before .before .before .args .counters .now) (c .before .before .before .before .before .before .before .before .before .before .before .before .before .before .before .before .args .cursor .now) (c .before .before .before .before .before .before .before .before .before .before .before .before .before .before .before .before .args .reply .now) (tables (c .before .before .before .before .before .before .before .before .before .before .before .before .before .before .before .before .args .resources .now) (c .before .before .before .before .before .before .before .before .before .before .before .before .before .before .before .before .args .statements .now) (c .before .before .before .before .before .before .before .before .before .before .before .before .before .before .before .before .args .index .now) (c .before .before .before .before .before .before .before .before .before .before .before .before .before .before .before .before .args .text .now)) (c .before .before .before .before .before .before .before .before .before .before .before .before .before .before .before .before .args .budget) (c .before .before .before .before .before .counters-of .ensures) (c .before .before .before .next-from .ensures) (c .before .before .scanned-answer .ensures) (c .if4 .taken) (c .before .before .before .before .before .before .before .before .if1 .left) (c .before .before .before .before .before .before .before .if2 .left) (c .before .before .before .before .before .before .if3 .left)
+
+scanned-cursor-requires : tie.Need-scanned-cursor-requires
+scanned-cursor-requires c κs = search needs
+
+put-cursor-requires : tie.Need-put-cursor-requires
+put-cursor-requires c κs = search needs
+
+same-length-3 : tie.Need-same-length-3
+same-length-3 c = search needs
+
+same-length-4 : tie.Need-same-length-4
+same-length-4 c = search needs
+
+returns-5 : tie.Need-returns-5
+returns-5 c = next-answered (c .before .before .before .before .before .before .before .before .before .before .before .before .before .before .before .before .before .before .before .before .before .args .counters .now) (c .before .before .before .before .before .before .before .before .before .before .before .before .before .before .before .before .before .before .before .before .before .args .cursor .now) (c .before .before .before .before .before .before .before .before .before .before .before .before .before .before .before .before .before .before .before .before .before .args .reply .now) (tables (c .before .before .before .before .before .before .before .before .before .before .before .before .before .before .before .before .before .before .before .before .before .args .resources .now) (c .before .before .before .before .before .before .before .before .before .before .before .before .before .before .before .before .before .before .before .before .before .args .statements .now) (c .before .before .before .before .before .before .before .before .before .before .before .before .before .before .before .before .before .before .before .before .before .args .index .now) (c .before .before .before .before .before .before .before .before .before .before .before .before .before .before .before .before .before .before .before .before .before .args .text .now)) (c .before .before .before .before .before .before .before .before .before .before .before .before .before .before .before .before .before .before .before .before .before .args .budget) (c .before .before .before .before .before .before .before .before .before .before .counters-of .ensures) (c .before .before .before .before .before .before .before .before .next-from .ensures) (c .before .before .before .before .before .before .before .scanned-answer .ensures) (c .before .before .before .before .before .if4 .left) (c .before .before .before .before .scanned-cursor .ensures) (c .before .before .put-cursor .ensures) (c .before .before .before .before .before .before .before .before .before .before .before .before .before .if1 .left) (c .before .before .before .before .before .before .before .before .before .before .before .before .if2 .left) (c .before .before .before .before .before .before .before .before .before .before .before .if3 .left)
+
+pub lt-scan-next-spec : {M : Type 1} → statement M
+lt-scan-next-spec =
+    tie.close
+    (tie.spec
+    returns
+    returns-2
+    returns-3
+    counters-of-requires
+    next-from-requires
+    scanned-answer-requires
+    slice-write-reply
+    slice-write-reply-2
+    slice-write-reply-3
+    same-length
+    same-length-2
+    returns-4
+    scanned-cursor-requires
+    put-cursor-requires
+    same-length-3
+    same-length-4
+    returns-5)

@@ -1,0 +1,67 @@
+-- `capi::lt_statement` meets its contract. Assumes nothing.
+use Rattle.capi_calls.specs.Words.{counterWords, ifShort}
+use Rattle.capi_calls.specs.Calls.{statementCall}
+use native.Mathlib.Omega.{arith}
+use lib.ListN.{length, set, length-set}
+use borrow.Author.Tests.{lt-ltb, le-ltb, eq-eqb, ne-eqb}
+use mathlib.Core.Path.{_≡_, sym, ap, _∙_, refl}
+use borrow.Author.Needs.{needs}
+use Rattle.lemontiller.proofs.lt_statement.Statement.{statement}
+use Rattle.lemontiller.proofs.lt_statement.Tie as tie
+use Rattle.lemontiller.proofs.lt_statement.Reads as reads
+use Rattle.lemontiller.proofs.lt_statement.Lts as lts
+use Rattle.capi_words.proofs.words.counters_of.Reads as counters-of-reads
+use Rattle.capi_words.proofs.replies.statement_answer.Reads as statement-answer-reads
+use Rattle.table.proofs.read_statement.Reads as read-statement-reads
+
+returns : tie.Need-returns
+unfolding statementCall ifShort
+returns c = simp (lt-ltb (length (c .before .before .before .before .before .before .before .args .counters .now)) counterWords (c .if1 .taken))
+
+returns-2 : tie.Need-returns-2
+unfolding statementCall ifShort
+returns-2 c = simp (le-ltb (length (c .before .before .before .before .before .before .before .before .args .counters .now)) counterWords (c .before .if1 .left), lt-ltb (length (c .before .before .before .before .before .before .before .before .args .reply .now)) 4 (c .if2 .taken))
+
+counters-of-requires : tie.Need-counters-of-requires
+counters-of-requires c κs = search needs
+
+read-statement-requires : tie.Need-read-statement-requires
+read-statement-requires c κs = search needs
+
+statement-answer-requires : tie.Need-statement-answer-requires
+statement-answer-requires c κs = search needs
+
+slice-write-reply : tie.Need-slice-write-reply
+slice-write-reply c = search needs
+
+slice-write-reply-2 : tie.Need-slice-write-reply-2
+slice-write-reply-2 c = simp length-set (omega arith)
+
+slice-write-reply-3 : tie.Need-slice-write-reply-3
+slice-write-reply-3 c = simp length-set (omega arith)
+
+slice-write-reply-4 : tie.Need-slice-write-reply-4
+slice-write-reply-4 c = simp length-set (omega arith)
+
+same-length : tie.Need-same-length
+same-length c = search needs
+
+returns-3 : tie.Need-returns-3
+unfolding statementCall ifShort
+returns-3 c = simp (c .statement-answer .ensures, c .before .read-statement .ensures, c .before .before .counters-of .ensures, le-ltb (length (c .before .before .before .before .before .before .before .before .before .before .before .args .counters .now)) counterWords (c .before .before .before .before .if1 .left), le-ltb (length (c .before .before .before .before .before .before .before .before .before .before .before .args .reply .now)) 4 (c .before .before .before .if2 .left))
+
+pub lt-statement-spec : {M : Type 1} → statement M
+lt-statement-spec =
+    tie.close
+    (tie.spec
+    returns
+    returns-2
+    counters-of-requires
+    read-statement-requires
+    statement-answer-requires
+    slice-write-reply
+    slice-write-reply-2
+    slice-write-reply-3
+    slice-write-reply-4
+    same-length
+    returns-3)
