@@ -38,7 +38,7 @@ use Rattle.graph.specs.Order.{Descending}
 use Rattle.graph.specs.Meaning.{RdfTriple, partAt}
 use Rattle.graph.specs.Graph.{named, graphOf}
 use Rattle.graph.specs.Claims.{Reply, scanReply, readOn, AllPositive, namedAt, Matches, AllMatches, scanNext, scanning, ScanClaim}
-use Rattle.graph.specs.Claims.{only, LiveCountClaim}
+use Rattle.graph.specs.LiveClaims.{only, LiveCountClaim}
 use Rattle.graph.proofs.Solve.{descending-nodup}
 use Rattle.graph.proofs.Names.{named-at, names-apart, live-graph}
 use Rattle.graph.proofs.Solutions.{mem-map, map-mem, map-once}

@@ -1,7 +1,8 @@
 -- Every claim of `specs/Claims.antt` and `specs/Standing.antt` with its proof: a declaration of each type. Assumes nothing.
 use Rattle.graph.specs.Claims.{GraphClaim, WordsClaim, ReadingClaim, NextClaim, KeptClaim, BudgetClaim, SplitClaim}
 use Rattle.graph.specs.Claims.{StaleClaim, RefusalsBare, ReclaimedClaim}
-use Rattle.graph.specs.Claims.{ScanClaim, LiveCountClaim, QueriesDoNotLook}
+use Rattle.graph.specs.Claims.{ScanClaim}
+use Rattle.graph.specs.LiveClaims.{LiveCountClaim, QueriesDoNotLook}
 use Rattle.graph.specs.Claims.{WriteClaim, LoadClaim}
 use Rattle.graph.specs.Standing.{PlaceClaim, BadPlaceClaim}
 use Rattle.graph.proofs.Names as names

@@ -15,7 +15,7 @@ use Rattle.graph.specs.Query.{asked, backtrack, Turn, bad, go, whole, en
 use Rattle.graph.specs.Place.{Place, start, inside, finish}
 use Rattle.graph.specs.Words.{Bindings}
 use Rattle.graph.specs.Query.{visit, walk, begun, resume, answerOf, openQueryOf, stale, nextQueryOf}
-use Rattle.graph.specs.Claims.{QueriesDoNotLook}
+use Rattle.graph.specs.LiveClaims.{QueriesDoNotLook}
 use Rattle.graph.proofs.Laws.{walk-ended, walk-bad, walk-go, walk-whole}
 
 module _ (c : Counters) (m m′ : Tables) (s : SameButLive m m′) (stm : List ℕ) (ps : List QueryPattern) where

@@ -1,22 +1,21 @@
 -- The claims of demand 2 (paper 01; 02, note 6) as types, each with soundness as its only hypothesis on the tables, but those that say "on
 -- any tables": the live statements are an RDF graph; a query read through gives exactly the solution mappings of SPARQL 1.1; a call from
 -- any accepted cursor answers from the solutions that hold; budgets add up; a pattern scan read through gives exactly the live triples that
--- match, and a live count says how many; what each write does to the graph. A query does not look at live counts. Assumes nothing.
+-- match; what each write does to the graph. Assumes nothing.
 use Rattle.store.specs.Prelude.{_≡_, _⊎_, _↔_, _≢_, Bool, true, false, cond, _&&_, _||_, List, [], _∷_, _++_, map, List·Memᴰ, ℕ, _+_, _*_}
 use Rattle.store.specs.Prelude.{_≤_, _<_, length, eqb}
-use Rattle.graph.specs.Prelude.{Position, Subject, Predicate, Object, Counters, Triple, ScanCursor, QueryCursor}
+use Rattle.graph.specs.Prelude.{Position, Counters, Triple, ScanCursor, QueryCursor}
 use Rattle.term.specs.Grammar.{nameLimit}
 use Rattle.term.specs.Scanner.{kindOf}
 use Rattle.term.specs.Canonical.{canonical}
 use Rattle.store.specs.Shared.{unless, at, triple, within, prev, wellFormed}
-use Rattle.store.specs.Tables.{Tables, fits, tripleAt, liveAt}
+use Rattle.store.specs.Tables.{Tables, fits, tripleAt}
 use Rattle.store.specs.Values.{Values, openedValues, scannedValues}
 use Rattle.store.specs.Model.{Capacities, Model, Call, Form, byValue, intern, assert, retract, reclaim, callModel}
 use Rattle.store.specs.Names.{nameAt}
 use Rattle.store.specs.Scan.{openOf, nextOf}
 use Rattle.store.specs.Soundness.{Sound}
 use Rattle.store.specs.History.{Store, store, capacitiesOf, callStore, storeReplies, storeAfter}
-use Rattle.store.specs.LiveClaims.{SameButLive}
 use Rattle.store.specs.Claims.{listsOf, reclaimsIn}
 use Rattle.graph.specs.Words.{maxPatterns, variables, firstVariable, wordsOk, patternsOf, Bindings, unbound}
 use Rattle.graph.specs.Place.{placeOf, startCursor}
@@ -249,28 +248,7 @@ pub record ScanReads (c : Counters) (m : Tables) (x : Triple) : Type 0 where
 abbrev pub ScanClaim : Type 0
 ScanClaim = (c : Counters) (m : Tables) → Sound c m → (x : Triple) → within (c .resources) x ≡ true → ScanReads c m x
 
--- ---- 7. A live count says without a walk what a walk would find.
-
--- the pattern with the resource y at one position, any at the others
-abbrev pub only : Position → ℕ → Triple
-only Subject y = triple y 0 0
-only Predicate y = triple 0 y 0
-only Object y = triple 0 0 y
-
--- A resource's live count at a position is the number of statements that a scan of it there finds, read to its end: as many as the triples
--- of the graph that have its name there, each of which is found once (`ScanClaim`).
-abbrev pub LiveCountClaim : Type 0
-LiveCountClaim = (c : Counters) (m : Tables) → Sound c m → (p : Position) (y : ℕ) → 0 < y → y ≤ c .resources
-    → (bs : List ℕ) → AllPositive bs → hasEnded (scanning c m (only p y) bs) ≡ true
-    → length (foundIn (scanning c m (only p y) bs)) ≡ liveAt (m .resources) p y
-
--- On tables that differ in live counts alone a query is answered alike, sound or not; of a scan `ScansDoNotLook` of crate `store` says so.
-abbrev pub QueriesDoNotLook : Type 0
-QueriesDoNotLook = (c : Counters) (m m′ : Tables) → SameButLive m m′ → (ws : List ℕ)
-    → (openQueryOf c m ws ≡ openQueryOf c m′ ws)
-    × ((q : QueryCursor) (b : ℕ) → nextQueryOf c m ws q b ≡ nextQueryOf c m′ ws q b)
-
--- ---- 8. Entering and reclaiming leave the graph, asserting adds exactly its triple, retracting takes exactly it away.
+-- ---- 7. Entering and reclaiming leave the graph, asserting adds exactly its triple, retracting takes exactly it away.
 
 abbrev pub SoundStore : Store → Type 0
 SoundStore s = Sound (s .counters) (s .tables)

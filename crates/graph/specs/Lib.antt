@@ -9,3 +9,4 @@ pub mod Meaning
 pub mod Graph
 pub mod Standing
 pub mod Claims
+pub mod LiveClaims

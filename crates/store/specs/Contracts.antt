@@ -1,6 +1,6 @@
--- A run of the code (demand 3): for each call, what the contract of its operation says of the store after it and of its reply. The contracts are
--- those of `dictionary::intern`, `statement::assert`, `retract`, `assert_updating`, `retract_updating`, `scan::scan_open`, `scan_next` and
--- `compaction::reclaim`, word for word. Assumes nothing.
+-- A run of the code (demand 3): for each call, what the contract of its operation says of the store after it and of its reply. The contracts
+-- are those of `dictionary::intern`, `statement::assert`, `retract`, `assert_updating`, `retract_updating`, `scan::scan_open`, `scan_next` and
+-- `compaction::reclaim`; the updating forms have the same equation inside a record. Assumes nothing.
 use Rattle.store.specs.Prelude.{_≡_, List, [], _∷_, getD, Interned, Asserted, Retracted, Reclaimed, ScanOpened, Scanned}
 use Rattle.store.specs.Tables.{Tables, after}
 use Rattle.store.specs.Values.{Values, noCursor, internedValues, assertedValues, retractedValues, openedValues, scannedValues}
