@@ -18,7 +18,7 @@ use Rattle.ntriples.specs.Claims.{objectPart, Derived}
 use Rattle.ntriples.proofs.Lines.{line-exists, line-first}
 use Rattle.ntriples.proofs.Claims.{reads-a-line}
 use Rattle.line_reader.proofs.Moves.{moves}
-use Rattle.loader.specs.Lines.{Inside, LineInside, ReadAt}
+use Rattle.loader.specs.Lines.{Inside, LineInside, Ends, ReadAt}
 
 abbrev pub noPart : Span
 noPart = record { start = 0; end = 0 }
@@ -73,8 +73,8 @@ line-inside text i (answer.Triple x y z) e = triple-inside text i x y z e (below
 pub read-inside : (text : List ℕ) (from : ℕ) (line : Line) (next : ℕ) → ReadAt text from line next → LineInside text line
 read-inside text from line next R = line-inside text from line (sym (R .answered))
 
-pub read-moves : (text : List ℕ) (from : ℕ) (line : Line) (next : ℕ) → ReadAt text from line next → (from < next) × (next ≤ length text)
-read-moves text from line next R = rw (R .moved) (moves nameLimit text from (R .before-end))
+pub read-moves : (text : List ℕ) (from next : ℕ) → Ends text from next → (from < next) × (next ≤ length text)
+read-moves text from next N = rw (N .moved) (moves nameLimit text from (N .before-end))
 
 pub parts-inside : (text : List ℕ) (a b : Line) → a ≡ b → LineInside text a → LineInside text b
 parts-inside text a b e h = rw e at h

@@ -1,4 +1,5 @@
 pub mod Inside
+pub mod Endings
 pub mod Loading
 pub mod Theorems
 pub mod Again

@@ -4,12 +4,14 @@ use mathlib.Core.Path.{_≡_, refl, sym, ap, _∙_}
 use mathlib.Core.Logic.{_⊎_, inl, inr}
 use mathlib.Core.Bool.{true, false}
 use mathlib.Core.List.{List, [], _∷_, _++_}
-use Prim.Native.Nat.{ℕ, suc, _+_, _<_}
+use Prim.Native.Nat.{ℕ, suc, _+_, _≤_, _<_}
 use native.Mathlib.Omega.{arith}
 use native.Mathlib.Numerals.{add-one}
 use lib.ListN.{length, take, drop, getD, set}
 use lib.Seq.{drop-cons, take-suc-set, take-all}
 use lib.Dec.{eqb}
+use borrow.Author.Tests.{le-leb, lt-leb}
+use Rattle.term.specs.Grammar.{nameLimit}
 use Rattle.store.specs.declared.Counters.{Counters}
 use Rattle.store.specs.declared.ResourceId.{ResourceId}
 use Rattle.store.specs.declared.ScanCursor.{ScanCursor}
@@ -32,7 +34,7 @@ use Rattle.store.specs.History.{Store, store, internedCounters, callStore}
 use Rattle.ntriples.specs.declared.Span.{Span}
 use Rattle.ntriples.specs.declared.Line.{Line}
 use Rattle.ntriples.specs.declared.Line.the-variants as answer
-use Rattle.ntriples.specs.Text.{bytesOf}
+use Rattle.ntriples.specs.Text.{bytesOf, readOf}
 use Rattle.graph.specs.Claims.{loadOf}
 use Rattle.graph.proofs.Theorems.{graph-writes}
 use Rattle.lines.specs.Claims.{namesIn}
@@ -40,7 +42,7 @@ use Rattle.loader.specs.declared.Outcome.{Outcome}
 use Rattle.loader.specs.declared.Outcome.the-variants.{Nothing, Refused}
 use Rattle.loader.specs.declared.LineLoaded.{LineLoaded}
 use Rattle.loader.proofs.Inside.{noPart}
-use Rattle.loader.specs.Lines.{come, reported, loadLineOf, Loads, refusedLine, assertedLine}
+use Rattle.loader.specs.Lines.{lineLimit, contentOf, lineAt, come, reported, loadLineOf, Loads, refusedLine, assertedLine}
 
 abbrev pub Ready : Counters → Tables → Type 0
 Ready c m = Sound c m ⊎ (fits c m ≡ false)
@@ -208,3 +210,21 @@ module _ (c : Counters) (m : Tables) (text : List ℕ) (line : Line) where
 pub loads-as : (c : Counters) (m m′ : Tables) (text : List ℕ) (a b : Line) (r : LineLoaded) → a ≡ b → Loads c m m′ text b r → Loads c m m′
     text a r
 loads-as c m m′ text a b r e h = rw e h
+
+-- ---- the limit
+
+line-over : (text : List ℕ) (from n : ℕ) → n ≡ contentOf text from → lineLimit < n → lineAt text from ≡ answer.Refused lineLimit
+unfolding lineAt
+line-over text from n e h = rw (← e, lt-leb n lineLimit h)
+
+line-within : (text : List ℕ) (from n : ℕ) → n ≡ contentOf text from → n ≤ lineLimit → lineAt text from ≡ readOf nameLimit text from .line
+unfolding lineAt
+line-within text from n e h = rw (← e, le-leb n lineLimit h)
+
+pub loads-over : (c : Counters) (m : Tables) (text : List ℕ) (from n : ℕ) (r : LineLoaded) → n ≡ contentOf text from → lineLimit < n
+    → r ≡ refusedLine c BadLine → Loads c m m text (lineAt text from) r
+loads-over c m text from n r e h f = loads-bad c m text (lineAt text from) lineLimit r (line-over text from n e h) f
+
+pub loads-within : (c : Counters) (m m′ : Tables) (text : List ℕ) (from n : ℕ) (line : Line) (r : LineLoaded) → n ≡ contentOf text from
+    → n ≤ lineLimit → line ≡ readOf nameLimit text from .line → Loads c m m′ text line r → Loads c m m′ text (lineAt text from) r
+loads-within c m m′ text from n line r e h f L = loads-as c m m′ text _ line r (line-within text from n e h ∙ sym f) L

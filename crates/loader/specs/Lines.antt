@@ -5,8 +5,8 @@ use mathlib.Core.Logic.{_≢_}
 use mathlib.Core.Bool.{false, cond}
 use mathlib.Core.List.{List, [], _∷_}
 use Prim.Native.Nat.{ℕ, _≤_, _<_}
-use lib.ListN.{length}
-use lib.Dec.{eqb}
+use lib.ListN.{length, drop}
+use lib.Dec.{eqb, leb}
 use Rattle.term.specs.Grammar.{nameLimit}
 use Rattle.store.specs.declared.Counters.{Counters}
 use Rattle.store.specs.declared.ScanCursor.{ScanCursor}
@@ -21,7 +21,7 @@ use Rattle.store.specs.History.{Store, store}
 use Rattle.ntriples.specs.declared.Span.{Span}
 use Rattle.ntriples.specs.declared.Line.{Line}
 use Rattle.ntriples.specs.declared.Line.the-variants as answer
-use Rattle.ntriples.specs.Text.{readOf}
+use Rattle.ntriples.specs.Text.{firstLineOf, readOf}
 use Rattle.graph.specs.Claims.{loadOf, canonicalTriple, Loaded}
 use Rattle.lines.specs.Claims.{namesIn}
 use Rattle.loader.specs.declared.Outcome.{Outcome}
@@ -29,6 +29,17 @@ use Rattle.loader.specs.declared.Outcome.the-variants.{Nothing, New, Alr
 use Rattle.loader.specs.declared.LineLoaded.{LineLoaded}
 
 -- ---- what a line comes to
+
+-- a line has at most this many bytes, its ending apart
+abbrev pub lineLimit : ℕ
+lineLimit = 1024
+
+unfoldable pub contentOf : List ℕ → ℕ → ℕ
+contentOf text from = length (firstLineOf (drop from text))
+
+-- what is read of the line that begins at a position of the text; a line over the limit is refused, whatever it holds
+unfoldable pub lineAt : List ℕ → ℕ → Line
+lineAt text from = unless (leb (contentOf text from) lineLimit) (answer.Refused lineLimit) (readOf nameLimit text from .line)
 
 -- by the values of the last call made. Status 2 is "already", 3 "revived": loading retracts nothing, so that a known triple is live.
 abbrev pub outcomeOf : Values → Outcome
@@ -87,11 +98,14 @@ LineInside text answer.Nothing = Unit {0}
 LineInside text (answer.Refused k) = Unit {0}
 LineInside text (answer.Triple x y z) = Inside text (x ∷ y ∷ z ∷ [])
 
--- what was read of the line that begins at a position of the text, and the position after it
-pub record ReadAt (text : List ℕ) (from : ℕ) (line : Line) (next : ℕ) : Type 0 where
+-- the line that begins at `from` ends before `next`; what was read of it
+pub record Ends (text : List ℕ) (from next : ℕ) : Type 0 where
   pub before-end : from < length text
-  pub answered : line ≡ readOf nameLimit text from .line
   pub moved : next ≡ readOf nameLimit text from .next
+
+pub record ReadAt (text : List ℕ) (from : ℕ) (line : Line) (next : ℕ) : Type 0 where
+  pub ends : Ends text from next
+  pub answered : line ≡ readOf nameLimit text from .line
 
 -- a line refused, a line asserted
 abbrev pub refusedLine : Counters → Refusal → LineLoaded

@@ -5,12 +5,10 @@
 // `NUMBER new|already N` or `NUMBER refused N`; a blank or comment line by none. Names are entered once the whole line is read, subject first;
 // those entered before a refusal remain.
 ghost use mathlib.Core.Path.{_≡_};
-ghost use Prim.Native.Nat.{ℕ, _≤_, _<_};
+ghost use Prim.Native.Nat.{ℕ, _≤_};
 ghost use lib.ListN.{length};
-ghost use Rattle.term.specs.Grammar.{nameLimit};
 ghost use Rattle.store.specs.Tables.{tables};
-ghost use Rattle.ntriples.specs.Text.{readOf};
-ghost use Rattle.loader.specs.Lines.{refusedLine, assertedLine, LineInside, ReadAt, Loads};
+ghost use Rattle.loader.specs.Lines.{contentOf, lineAt, Loads, LineInside, Ends, ReadAt, refusedLine, assertedLine};
 use ntriples::Line;
 use ntriples::Span;
 use store::Asserted;
@@ -147,7 +145,7 @@ fn load_triple(
 }
 
 // Loads what was read of a line of the source.
-fn load_line(
+fn load_read(
     c: Counters,
     resources: &mut [u32],
     statements: &mut [u32],
@@ -185,9 +183,10 @@ fn load_line(
     }
 }
 
-// How many bytes a line of the source has that was read from `from` up to `next`, its ending apart: a LF, and one CR before it.
+// How many bytes the line of the source from `from` up to `next` has, its ending apart: a LF, and one CR before it.
 fn content(source: &[u8], from: usize, next: usize) -> usize
-    requires { ⌜ (from < next) × (next ≤ length (now source)) ⌝ }
+    requires { ⌜ Ends (now source) from next ⌝ }
+    ensures { λ n. ⌜ n ≡ contentOf (now (source .entry)) from ⌝ }
 {
     let last = next - 1;
     if source[last] != b'\n' {
@@ -202,8 +201,8 @@ fn content(source: &[u8], from: usize, next: usize) -> usize
     last - from
 }
 
-// Loads what was read of a line. Over `LINE_LIMIT` bytes it is refused 10, whatever it holds.
-fn load_limited(
+// Loads the line of the source from `from` up to `next`, read as `line`. Over `LINE_LIMIT` bytes it is refused 10, whatever it holds.
+fn load_line(
     c: Counters,
     resources: &mut [u32],
     statements: &mut [u32],
@@ -215,11 +214,14 @@ fn load_limited(
     next: usize,
 ) -> LineLoaded
     requires { ⌜ ReadAt (now source) from line next ⌝ }
+    ensures { λ r. ⌜ Loads c (tables (now (resources .entry)) (now (statements .entry)) (now (index .entry)) (now (text .entry)))
+        (tables (now (resources .exit)) (now (statements .exit)) (now (index .exit)) (now (text .exit)))
+        (now (source .entry)) (lineAt (now (source .entry)) from) r ⌝ }
 {
     if content(source, from, next) > LINE_LIMIT {
         return refused(c, Refusal::BadLine);
     }
-    load_line(c, resources, statements, index, text, source, line)
+    load_read(c, resources, statements, index, text, source, line)
 }
 
 // One line more. No input has as many lines as the number can count.
@@ -246,7 +248,7 @@ fn take_line(
     requires { ⌜ ReadAt (now source) from line next ⌝ }
 {
     let c = l.counters;
-    let r = load_limited(
+    let r = load_line(
         c,
         resources,
         statements,
