@@ -1,4 +1,5 @@
--- How many bytes a line has, its ending apart, by the bytes before the position after it: a law for each way out of the code. Assumes nothing.
+-- How many bytes a line has, its ending apart, by the bytes before the position after it: a law for each way out of the code. Assumes
+-- nothing.
 use mathlib.Core.Path.{_≡_, refl, sym, ap, _∙_}
 use mathlib.Core.Logic.{_≢_}
 use mathlib.Core.Bool.{Bool, true, false}

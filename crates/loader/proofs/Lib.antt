@@ -2,4 +2,5 @@ pub mod Inside
 pub mod Endings
 pub mod Loading
 pub mod Theorems
+pub mod Source
 pub mod Again

@@ -4,9 +4,9 @@ use mathlib.Core.Path.{_≡_}
 use mathlib.Core.Logic.{_≢_}
 use mathlib.Core.Bool.{false, cond}
 use mathlib.Core.List.{List, [], _∷_}
-use Prim.Native.Nat.{ℕ, _≤_, _<_}
+use Prim.Native.Nat.{ℕ, zero, suc, _≤_, _<_}
 use lib.ListN.{length, drop}
-use lib.Dec.{eqb, leb}
+use lib.Dec.{eqb, leb, ltb}
 use Rattle.term.specs.Grammar.{nameLimit}
 use Rattle.store.specs.declared.Counters.{Counters}
 use Rattle.store.specs.declared.ScanCursor.{ScanCursor}
@@ -58,6 +58,16 @@ loadLineOf s text answer.Nothing = come s Nothing
 loadLineOf s text (answer.Refused k) = come s (Refused 10)
 loadLineOf s text (answer.Triple x y z) = reported (loadOf s (namesIn text x y z))
 
+-- at most n lines of the text from a position on, one after another: the store after them
+unfoldable pub linesFrom : ℕ → Store → List ℕ → ℕ → Store
+linesFrom zero s text from = s
+linesFrom (suc n) s text from =
+    unless (ltb from (length text)) s (linesFrom n ((loadLineOf s text (lineAt text from)) .0) text (readOf nameLimit text from .next))
+
+-- all lines of the text: each has a byte or more
+abbrev pub loadLinesOf : Store → List ℕ → Store
+loadLinesOf s text = linesFrom (length text) s text 0
+
 -- ---- the code that loads it
 
 -- the counters and the outcome answered and the tables left are those of the definition, whatever listings are open
@@ -69,6 +79,15 @@ pub record Loads (c : Counters) (m m′ : Tables) (text : List ℕ) (line : Line
   pub sound : Sound c m → Exact c m m′ text line r
   pub capacity : fits c m ≡ false → Exact c m m′ text line r
   pub unread : ((x y z : Span) → line ≢ answer.Triple x y z) → Exact c m m′ text line r
+
+-- a line loaded and reported: the outcome is seen in the output alone
+pub record Takes (c : Counters) (m m′ : Tables) (text : List ℕ) (from : ℕ) (d : Counters) : Type 0 where
+  pub outcome : Outcome
+  pub loads : Loads c m m′ text (lineAt text from) record { counters = d; outcome = outcome }
+
+-- all lines of a text, on a sound store
+pub record LoadsLines (c : Counters) (m m′ : Tables) (text : List ℕ) (d : Counters) : Type 0 where
+  pub sound : Sound c m → (qs : List ScanCursor) → store d m′ qs ≡ loadLinesOf (store c m qs) text
 
 -- the refusal's number, or 0
 abbrev pub refusalIn : Outcome → ℕ

@@ -8,7 +8,7 @@ ghost use mathlib.Core.Path.{_≡_};
 ghost use Prim.Native.Nat.{ℕ, _≤_};
 ghost use lib.ListN.{length};
 ghost use Rattle.store.specs.Tables.{tables};
-ghost use Rattle.loader.specs.Lines.{contentOf, lineAt, Loads, LineInside, Ends, ReadAt, refusedLine, assertedLine};
+ghost use Rattle.loader.specs.Lines.{contentOf, lineAt, Loads, Takes, LoadsLines, LineInside, Ends, ReadAt, refusedLine, assertedLine};
 use ntriples::Line;
 use ntriples::Span;
 use store::Asserted;
@@ -246,6 +246,9 @@ fn take_line(
     next: usize,
 ) -> Load
     requires { ⌜ ReadAt (now source) from line next ⌝ }
+    ensures { λ r. ⌜ Takes (l .counters) (tables (now (resources .entry)) (now (statements .entry)) (now (index .entry)) (now (text .entry)))
+        (tables (now (resources .exit)) (now (statements .exit)) (now (index .exit)) (now (text .exit)))
+        (now (source .entry)) from (r .counters) ⌝ }
 {
     let c = l.counters;
     let r = load_line(
@@ -278,7 +281,11 @@ fn load_lines(
     index: &mut [u32],
     text: &mut [u8],
     source: &[u8],
-) -> Load {
+) -> Load
+    ensures { λ r. ⌜ LoadsLines (l .counters) (tables (now (resources .entry)) (now (statements .entry)) (now (index .entry)) (now (text .entry)))
+        (tables (now (resources .exit)) (now (statements .exit)) (now (index .exit)) (now (text .exit)))
+        (now (source .entry)) (r .counters) ⌝ }
+{
     let mut m = l;
     let mut r = line_reader::reader(source);
     loop {

@@ -63,7 +63,8 @@ sub-result-3 c =
 returns-3 : tie.Need-returns-3
 returns-3 c =
     let a = c .before .before .before .before .before .args in
-    content-cr (now (a .source)) (a .from) (a .next) (c .before .before .before .before .before .pre) (c .before .before .before .if1 .left) (c .before .before .if2 .left) (c .if3 .taken)
+    content-cr (now (a .source)) (a .from) (a .next) (c .before .before .before .before .before .pre) (c .before .before .before .if1 .left)
+    (c .before .before .if2 .left) (c .if3 .taken)
 
 sub-result-4 : tie.Need-sub-result-4
 sub-result-4 c =
@@ -74,7 +75,8 @@ sub-result-4 c =
 returns-4 : tie.Need-returns-4
 returns-4 c =
     let a = c .before .before .before .before .before .args in
-    content-lf (now (a .source)) (a .from) (a .next) (c .before .before .before .before .before .pre) (c .before .before .before .if1 .left) (c .before .before .if2 .left) (c .if3 .left)
+    content-lf (now (a .source)) (a .from) (a .next) (c .before .before .before .before .before .pre) (c .before .before .before .if1 .left)
+    (c .before .before .if2 .left) (c .if3 .left)
 
 pub content-spec : {M : Type 1} → statement M
 content-spec =

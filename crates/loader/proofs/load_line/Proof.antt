@@ -23,7 +23,8 @@ returns c =
     let a = c .before .before .before .before .before .before .before .before .args in
     let m = tables (now (a .resources)) (now (a .statements)) (now (a .index)) (now (a .text)) in
     let n = c .before .before .content in
-    loads-over (a .c) m (now (a .source)) (a .from) (n .result) (c .refused .result) (n .ensures) (c .before .if1 .taken) (c .refused .ensures)
+    loads-over (a .c) m (now (a .source)) (a .from) (n .result) (c .refused .result) (n .ensures) (c .before .if1 .taken) (c .refused
+    .ensures)
 
 load-read-requires : tie.Need-load-read-requires
 load-read-requires c κs =
@@ -45,10 +46,13 @@ same-length-4 c = search needs
 
 returns-2 : tie.Need-returns-2
 returns-2 c =
-    let a = c .before .before .before .before .before .before .before .before .before .before .before .before .before .before .before .before .before .before .before .before .args in
+    let a = c .before .before .before .before .before .before .before .before .before .before .before .before .before .before .before
+    .before .before .before .before .before .args in
     let n = c .before .before .before .before .before .before .before .before .before .before .before .before .before .before .content in
     let r = c .before .before .before .before .before .before .before .before .load-read in
-    loads-within _ _ _ (now (a .source)) (a .from) (n .result) (a .line) _ (n .ensures) (c .before .before .before .before .before .before .before .before .before .before .before .before .before .if1 .left) (c .before .before .before .before .before .before .before .before .before .before .before .before .before .before .before .before .before .before .before .before .pre .answered) (r .ensures)
+    loads-within _ _ _ (now (a .source)) (a .from) (n .result) (a .line) _ (n .ensures) (c .before .before .before .before .before .before
+    .before .before .before .before .before .before .before .if1 .left) (c .before .before .before .before .before .before .before .before
+    .before .before .before .before .before .before .before .before .before .before .before .before .pre .answered) (r .ensures)
 
 pub load-line-spec : {M : Type 1} → statement M
 load-line-spec =
