@@ -15,7 +15,8 @@ use Rattle.term.proofs.Names.{never}
 use Rattle.ntriples.specs.Text.{Unbroken, endsInCr, FirstLine, readOf}
 use Rattle.ntriples.proofs.Lines.{line-found, line-exists}
 use Rattle.ntriples.proofs.Claims.{reads-a-line}
-use Rattle.loader.specs.Lines.{contentOf, Ends}
+use Rattle.loader.specs.Lines.{contentOf}
+use Rattle.loader.specs.Steps.{Ends}
 use Rattle.loader.proofs.Inside.{read-moves}
 
 -- ---- bytes of a line

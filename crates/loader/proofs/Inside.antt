@@ -18,7 +18,7 @@ use Rattle.ntriples.specs.Claims.{objectPart, Derived}
 use Rattle.ntriples.proofs.Lines.{line-exists, line-first}
 use Rattle.ntriples.proofs.Claims.{reads-a-line}
 use Rattle.line_reader.proofs.Moves.{moves}
-use Rattle.loader.specs.Lines.{Inside, LineInside, Ends, ReadAt}
+use Rattle.loader.specs.Steps.{Inside, LineInside, Ends, ReadAt}
 
 abbrev pub noPart : Span
 noPart = record { start = 0; end = 0 }

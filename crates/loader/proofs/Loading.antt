@@ -42,7 +42,8 @@ use Rattle.loader.specs.declared.Outcome.{Outcome}
 use Rattle.loader.specs.declared.Outcome.the-variants.{Nothing, Refused}
 use Rattle.loader.specs.declared.LineLoaded.{LineLoaded}
 use Rattle.loader.proofs.Inside.{noPart}
-use Rattle.loader.specs.Lines.{lineLimit, contentOf, lineAt, come, reported, loadLineOf, Loads, refusedLine, assertedLine}
+use Rattle.loader.specs.Lines.{lineLimit, contentOf, lineAt, ended, reported, loadLineOf, Loads}
+use Rattle.loader.specs.Steps.{refusedLine, assertedLine}
 
 abbrev pub Ready : Counters → Tables → Type 0
 Ready c m = Sound c m ⊎ (fits c m ≡ false)
@@ -128,12 +129,12 @@ module _ (text : List ℕ) (parts : List Span) (c : Counters) (m : Tables) (ids 
 
   -- a line with these parts, once the rest is done
   loads-by : (x y z : Span) → parts ≡ x ∷ y ∷ z ∷ [] → (r : LineLoaded)
-      → (Ready c m → (qs : List ScanCursor) → come (store (r .counters) m″ qs) (r .outcome) ≡ reported (rest qs))
+      → (Ready c m → (qs : List ScanCursor) → ended (store (r .counters) m″ qs) (r .outcome) ≡ reported (rest qs))
       → Loads c m m″ text (answer.Triple x y z) r
   unfolding loadLineOf
   loads-by x y z p r f =
       let whole : Ready c m → (qs : List ScanCursor)
-      → come (store (r .counters) m″ qs) (r .outcome) ≡ reported (loadOf (store c m qs) (namesIn text x y z)) =
+      → ended (store (r .counters) m″ qs) (r .outcome) ≡ reported (loadOf (store c m qs) (namesIn text x y z)) =
       λ R qs. f R qs ∙ ap reported (sym (E .onward R qs)
       ∙ (ap (λ (ps : List Span). loadFrom text ps [] (store c m qs)) p ∙ sym (load-from text x y z (store c m qs))))
       in
@@ -191,7 +192,7 @@ module _ (text : List ℕ) (parts : List Span) (c : Counters) (m : Tables) (ids 
 -- ---- no triple
 
 module _ (c : Counters) (m : Tables) (text : List ℕ) (line : Line) where
-  loads-kept : (o : Outcome) → ((qs : List ScanCursor) → come (store c m qs) o ≡ loadLineOf (store c m qs) text line)
+  loads-kept : (o : Outcome) → ((qs : List ScanCursor) → ended (store c m qs) o ≡ loadLineOf (store c m qs) text line)
       → Loads c m m text line record { counters = c; outcome = o }
   loads-kept o f = record { sound = λ S. f; capacity = λ e. f; unread = λ h. f }
 

@@ -20,7 +20,8 @@ use Rattle.graph.specs.Claims.{SoundStore}
 use Rattle.graph.proofs.Theorems.{line-loads}
 use Rattle.lines.specs.Claims.{namesIn}
 use Rattle.loader.specs.declared.Outcome.{Outcome}
-use Rattle.loader.specs.Lines.{lineAt, loadLineOf, linesFrom, loadLinesOf, Takes, LoadsLines, Ends}
+use Rattle.loader.specs.Lines.{lineAt, loadLineOf, linesFrom, loadLinesOf, LoadsLines}
+use Rattle.loader.specs.Steps.{Takes, Ends}
 use Rattle.loader.proofs.Inside.{read-moves}
 
 line-sound : (s : Store) → SoundStore s → (text : List ℕ) (line : Line) → SoundStore ((loadLineOf s text line) .0)

@@ -1,14 +1,15 @@
 // Loading N-Triples (paper 01, "Loading program"): lines out of blocks of any length, in fixed memory, and each line into the store.
 //
-// The input comes in blocks into a lent buffer. One reader is carried over the whole lines in it; the bytes of the line that has not ended are moved
-// to its front, and the next block is read behind them. Every line is numbered. A statement line is answered by one line of output,
-// `NUMBER new|already N` or `NUMBER refused N`; a blank or comment line by none. Names are entered once the whole line is read, subject first;
-// those entered before a refusal remain.
+// The input comes in blocks into a lent buffer. One reader is carried over the whole lines in it; the bytes of the line that has not
+// ended are moved to its front, and the next block is read behind them. Every line is numbered. A statement line is answered by one line
+// of output, `NUMBER new|already N` or `NUMBER refused N`; a blank or comment line by none. Names are entered once the whole line is
+// read, subject first; those entered before a refusal remain.
 ghost use mathlib.Core.Path.{_≡_};
 ghost use Prim.Native.Nat.{ℕ, _≤_};
 ghost use lib.ListN.{length};
 ghost use Rattle.store.specs.Tables.{tables};
-ghost use Rattle.loader.specs.Lines.{contentOf, lineAt, Loads, Takes, LoadsLines, LineInside, Ends, ReadAt, refusedLine, assertedLine};
+ghost use Rattle.loader.specs.Lines.{contentOf, lineAt, Loads, LoadsLines};
+ghost use Rattle.loader.specs.Steps.{Takes, LineInside, Ends, ReadAt, refusedLine, assertedLine};
 use ntriples::Line;
 use ntriples::Span;
 use store::Asserted;
@@ -40,7 +41,8 @@ pub const INDEX_TABLE: usize = 512;
 
 pub const TEXT_TABLE: usize = 16384;
 
-// How far a load is: the store's counters, the lines that have ended, and how many bytes of the line being read stand at the front of the buffer.
+// How far a load is: the store's counters, the lines that have ended, and how many bytes of the line being read stand at the front of
+// the buffer.
 pub struct Load {
     pub counters: Counters,
     pub lines: u64,
@@ -246,7 +248,8 @@ fn take_line(
     next: usize,
 ) -> Load
     requires { ⌜ ReadAt (now source) from line next ⌝ }
-    ensures { λ r. ⌜ Takes (l .counters) (tables (now (resources .entry)) (now (statements .entry)) (now (index .entry)) (now (text .entry)))
+    ensures { λ r. ⌜ Takes (l .counters)
+        (tables (now (resources .entry)) (now (statements .entry)) (now (index .entry)) (now (text .entry)))
         (tables (now (resources .exit)) (now (statements .exit)) (now (index .exit)) (now (text .exit)))
         (now (source .entry)) from (r .counters) ⌝ }
 {
@@ -282,7 +285,8 @@ fn load_lines(
     text: &mut [u8],
     source: &[u8],
 ) -> Load
-    ensures { λ r. ⌜ LoadsLines (l .counters) (tables (now (resources .entry)) (now (statements .entry)) (now (index .entry)) (now (text .entry)))
+    ensures { λ r. ⌜ LoadsLines (l .counters)
+        (tables (now (resources .entry)) (now (statements .entry)) (now (index .entry)) (now (text .entry)))
         (tables (now (resources .exit)) (now (statements .exit)) (now (index .exit)) (now (text .exit)))
         (now (source .entry)) (r .counters) ⌝ }
 {
@@ -310,7 +314,7 @@ fn load_lines(
 }
 
 // The smaller number.
-pub fn within(a: usize, b: usize) -> usize
+fn within(a: usize, b: usize) -> usize
     ensures { λ r. ⌜ r ≤ b ⌝ }
 {
     if a < b { a } else { b }

@@ -1,5 +1,6 @@
 -- A line over the limit is refused, another loaded; what was read of it lies in the text. Assumes nothing.
 use denote.Ref.{now}
+use native.Mathlib.Omega.{arith}
 use Rattle.store.specs.Tables.{tables}
 use Rattle.loader.proofs.Inside.{read-inside}
 use Rattle.loader.proofs.Loading.{loads-over, loads-within}
@@ -23,14 +24,15 @@ returns c =
     let a = c .before .before .before .before .before .before .before .before .args in
     let m = tables (now (a .resources)) (now (a .statements)) (now (a .index)) (now (a .text)) in
     let n = c .before .before .content in
-    loads-over (a .c) m (now (a .source)) (a .from) (n .result) (c .refused .result) (n .ensures) (c .before .if1 .taken) (c .refused
-    .ensures)
+    let h = c .before .if1 .taken in
+    let r = c .refused in
+    loads-over (a .c) m (now (a .source)) (a .from) (n .result) (r .result) (n .ensures) (omega (arith, h)) (r .ensures)
 
 load-read-requires : tie.Need-load-read-requires
 load-read-requires c κs =
-    let a = c .before .before .before .before .before .before .before .before .before .before .before .args in
-    read-inside (now (a .source)) (a .from) (a .line) (a .next) (c .before .before .before .before .before .before .before .before .before
-    .before .before .pre)
+    let s = c .before .before .before .before .before .before .before .before .before .before .before in
+    let a = s .args in
+    read-inside (now (a .source)) (a .from) (a .line) (a .next) (s .pre)
 
 same-length : tie.Need-same-length
 same-length c = search needs
@@ -46,13 +48,13 @@ same-length-4 c = search needs
 
 returns-2 : tie.Need-returns-2
 returns-2 c =
-    let a = c .before .before .before .before .before .before .before .before .before .before .before .before .before .before .before
-    .before .before .before .before .before .args in
+    let s = c .before .before .before .before .before .before .before .before .before .before .before .before .before .before .before
+    .before .before .before .before .before in
+    let a = s .args in
     let n = c .before .before .before .before .before .before .before .before .before .before .before .before .before .before .content in
+    let h = c .before .before .before .before .before .before .before .before .before .before .before .before .before .if1 .left in
     let r = c .before .before .before .before .before .before .before .before .load-read in
-    loads-within _ _ _ (now (a .source)) (a .from) (n .result) (a .line) _ (n .ensures) (c .before .before .before .before .before .before
-    .before .before .before .before .before .before .before .if1 .left) (c .before .before .before .before .before .before .before .before
-    .before .before .before .before .before .before .before .before .before .before .before .before .pre .answered) (r .ensures)
+    loads-within _ _ _ (now (a .source)) (a .from) (n .result) (a .line) _ (n .ensures) (omega (arith, h)) (s .pre .answered) (r .ensures)
 
 pub load-line-spec : {M : Type 1} → statement M
 load-line-spec =

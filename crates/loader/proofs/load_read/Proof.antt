@@ -1,3 +1,4 @@
+-- By what was read. Assumes nothing.
 use denote.Ref.{now}
 use Rattle.store.specs.Tables.{tables}
 use Rattle.loader.proofs.Inside.{parts-inside}
@@ -15,9 +16,9 @@ enum-known-line c = search needs
 
 load-triple-requires : tie.Need-load-triple-requires
 load-triple-requires c κs =
-    let a = c .before .before .before .before .before .before .before .before .before .before .before .before .args in
-    parts-inside (now (a .source)) (a .line) _ (c .before .before .before .before .before .line .given .1) (c .before .before .before
-    .before .before .before .before .before .before .before .before .before .pre)
+    let s = c .before .before .before .before .before .before .before .before .before .before .before .before in
+    let line = c .before .before .before .before .before .line in
+    parts-inside (now (s .args .source)) (s .args .line) _ (line .given .1) (s .pre)
 
 enum-told : tie.Need-enum-told
 enum-told c = search needs
@@ -44,8 +45,10 @@ same-length-4 : tie.Need-same-length-4
 same-length-4 c = search needs
 
 returns : tie.Need-returns
-returns c = loads-as _ _ _ _ _ _ _ (c .before .before .before .before .before .before .before .before .before .before .before .before
-    .before .before .line .given .1) (c .before .before .before .before .before .before .before .before .load-triple .ensures)
+returns c =
+    let line = c .before .before .before .before .before .before .before .before .before .before .before .before .before .before .line in
+    let r = c .before .before .before .before .before .before .before .before .load-triple in
+    loads-as _ _ _ _ _ _ _ (line .given .1) (r .ensures)
 
 returns-2 : tie.Need-returns-2
 returns-2 c =
