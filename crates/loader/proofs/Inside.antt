@@ -12,14 +12,16 @@ use Rattle.ntriples.specs.declared.Span.{Span}
 use Rattle.ntriples.specs.declared.Line.{Line}
 use Rattle.ntriples.specs.declared.Line.the-variants as answer
 use Rattle.ntriples.specs.declared.LineRead.{LineRead}
-use Rattle.ntriples.specs.Grammar.{subjectSpan, predicateSpan}
-use Rattle.ntriples.specs.Grammar.{Values, values, noPart, valuesOf}
+use Rattle.ntriples.specs.Grammar.{subjectSpan, predicateSpan, Values, valuesOf}
 use Rattle.ntriples.specs.Reader.{readOf}
 use Rattle.ntriples.specs.Claims.{objectPart, Derived}
 use Rattle.ntriples.proofs.Lines.{line-exists, line-first}
 use Rattle.ntriples.proofs.Claims.{reads-a-line}
 use Rattle.line_reader.proofs.Moves.{moves}
-use Rattle.loader.specs.Lines.{Inside, LineInside, ReadAt}
+use Rattle.loader.specs.Steps.{Inside, LineInside, Ends, ReadAt}
+
+abbrev pub noPart : Span
+noPart = record { start = 0; end = 0 }
 
 -- each of several parts
 pub record EachInside (text : List ℕ) (ps : List Span) : Type 0 where
@@ -48,11 +50,9 @@ derived-inside i text l r x y z h e D =
     same-parts text (subjectSpan i d) (predicateSpan i d) (objectPart i d) x y z (D .subjectAt) (D .predicateAt) (D .objectAt)
     (omega arith, omega arith, (omega arith, omega arith, (omega arith, omega arith, tt)))
 
-end-triple : {C : Type 0} (x y z : Span) → values 0 0 0 noPart noPart noPart ≡ values 0 2 0 x y z → C
-end-triple x y z e = let f : _≡_ {A = ℕ} 0 2 = ap (λ (v : Values). v .status) e in absurd (omega arith)
-
-triple-inside : (text : List ℕ) (i : ℕ) (x y z : Span) → readOf nameLimit text i .line ≡ answer.Triple x y z
-    → (i < length text) ⊎ (length text ≤ i) → LineInside text (answer.Triple x y z)
+triple-inside : (text : List ℕ) (i : ℕ) (x y z : Span) → readOf nameLimit text i .line ≡ answer.Triple x y z → (i < length text) ⊎ (length
+    text ≤ i)
+    → LineInside text (answer.Triple x y z)
 unfolding valuesOf
 triple-inside text i x y z e (inl h) =
     let w = line-exists (drop i text) in
@@ -60,7 +60,8 @@ triple-inside text i x y z e (inl h) =
     let a = reads-a-line 255 text i (omega arith) .answered (w .0) (w .1) h (w .2) in
     derived-inside i text (w .0) (r .0) x y z (omega arith) (r .1) (a .triple x y z .0 (ap valuesOf e))
 triple-inside text i x y z e (inr h) =
-    end-triple x y z (sym (reads-a-line 255 text i (omega arith) .ended h .0) ∙ ap valuesOf e)
+    let k : _≡_ {A = ℕ} 0 2 = ap (λ (v : Values). v .status) (sym (reads-a-line 255 text i (omega arith) .ended h .0) ∙ ap valuesOf e) in
+    absurd (omega arith)
 
 line-inside : (text : List ℕ) (i : ℕ) (a : Line) → readOf nameLimit text i .line ≡ a → LineInside text a
 line-inside text i answer.End e = tt
@@ -71,8 +72,8 @@ line-inside text i (answer.Triple x y z) e = triple-inside text i x y z e (below
 pub read-inside : (text : List ℕ) (from : ℕ) (line : Line) (next : ℕ) → ReadAt text from line next → LineInside text line
 read-inside text from line next R = line-inside text from line (sym (R .answered))
 
-pub read-moves : (text : List ℕ) (from : ℕ) (line : Line) (next : ℕ) → ReadAt text from line next → (from < next) × (next ≤ length text)
-read-moves text from line next R = rw (R .moved) (moves nameLimit text from (R .before-end))
+pub read-moves : (text : List ℕ) (from next : ℕ) → Ends text from next → (from < next) × (next ≤ length text)
+read-moves text from next N = rw (N .moved) (moves nameLimit text from (N .before-end))
 
 pub parts-inside : (text : List ℕ) (a b : Line) → a ≡ b → LineInside text a → LineInside text b
 parts-inside text a b e h = rw e at h

@@ -1,4 +1,6 @@
 pub mod Inside
+pub mod Endings
 pub mod Loading
 pub mod Theorems
+pub mod Source
 pub mod Again

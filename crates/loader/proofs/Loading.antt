@@ -4,19 +4,20 @@ use mathlib.Core.Path.{_≡_, refl, sym, ap, _∙_}
 use mathlib.Core.Logic.{_⊎_, inl, inr}
 use mathlib.Core.Bool.{true, false}
 use mathlib.Core.List.{List, [], _∷_, _++_}
-use Prim.Native.Nat.{ℕ, suc, _+_, _<_}
+use Prim.Native.Nat.{ℕ, suc, _+_, _≤_, _<_}
 use native.Mathlib.Omega.{arith}
 use native.Mathlib.Numerals.{add-one}
 use lib.ListN.{length, take, drop, getD, set}
 use lib.Seq.{drop-cons, take-suc-set, take-all}
 use lib.Dec.{eqb}
+use borrow.Author.Tests.{ne-eqb, le-leb, lt-leb}
+use Rattle.term.specs.Grammar.{nameLimit}
 use Rattle.store.specs.declared.Counters.{Counters}
 use Rattle.store.specs.declared.ResourceId.{ResourceId}
 use Rattle.store.specs.declared.ScanCursor.{ScanCursor}
 use Rattle.store.specs.declared.Triple.{Triple}
 use Rattle.store.specs.declared.Refusal.{Refusal}
-use Rattle.store.specs.declared.Refusal.the-variants.{Capacity, Malformed, Full, UnknownNumber, KindNotPermitted}
-use Rattle.store.specs.declared.Refusal.the-variants.{BadCursor, NoBudget, BadQuery, Damaged, BadLine, StaleCursor, ReclaimLimit}
+use Rattle.store.specs.declared.Refusal.the-variants.{BadLine}
 use Rattle.store.specs.declared.Interned.{Interned}
 use Rattle.store.specs.declared.Interned.the-variants.{Number as Id, Refused as NotInterned}
 use Rattle.store.specs.declared.Asserted.{Asserted}
@@ -33,14 +34,17 @@ use Rattle.ntriples.specs.declared.Span.{Span}
 use Rattle.ntriples.specs.declared.Line.{Line}
 use Rattle.ntriples.specs.declared.Line.the-variants as answer
 use Rattle.ntriples.specs.Grammar.{bytesOf}
+use Rattle.ntriples.specs.Reader.{readOf}
 use Rattle.graph.specs.Claims.{loading, loadOf}
+use Rattle.graph.proofs.Refusals.{refusal-positive}
 use Rattle.graph.proofs.Theorems.{graph-writes}
 use Rattle.lines.specs.Claims.{namesIn}
 use Rattle.loader.specs.declared.Outcome.{Outcome}
 use Rattle.loader.specs.declared.Outcome.the-variants.{Nothing, Refused}
 use Rattle.loader.specs.declared.LineLoaded.{LineLoaded}
-use Rattle.ntriples.specs.Grammar.{noPart}
-use Rattle.loader.specs.Lines.{come, reported, loadLineOf, Loads, refusedLine, assertedLine}
+use Rattle.loader.proofs.Inside.{noPart}
+use Rattle.loader.specs.Lines.{lineLimit, contentOf, lineAt, ended, reported, loadLineOf, Loads}
+use Rattle.loader.specs.Steps.{refusedLine, assertedLine}
 
 abbrev pub Ready : Counters → Tables → Type 0
 Ready c m = Sound c m ⊎ (fits c m ≡ false)
@@ -50,18 +54,7 @@ answered s v = (s, v)
 
 -- no refusal has the number 0
 refuses : (e : Refusal) → eqb (refusalNumber e) 0 ≡ false
-refuses Capacity = refl
-refuses Malformed = refl
-refuses Full = refl
-refuses UnknownNumber = refl
-refuses KindNotPermitted = refl
-refuses BadCursor = refl
-refuses NoBudget = refl
-refuses BadQuery = refl
-refuses Damaged = refl
-refuses BadLine = refl
-refuses StaleCursor = refl
-refuses ReclaimLimit = refl
+refuses e = ne-eqb (refusalNumber e) 0 (refusal-positive e)
 
 pub assert-refused : (c : Counters) (e : Refusal) → refusedLine c e ≡ assertedLine c (NotAsserted e)
 assert-refused c e = rw (refuses e)
@@ -126,12 +119,12 @@ module _ (text : List ℕ) (parts : List Span) (c : Counters) (m : Tables) (ids 
 
   -- a line with these parts, once the rest is done
   loads-by : (x y z : Span) → parts ≡ x ∷ y ∷ z ∷ [] → (r : LineLoaded)
-      → (Ready c m → (qs : List ScanCursor) → come (store (r .counters) m″ qs) (r .outcome) ≡ reported (rest qs))
+      → (Ready c m → (qs : List ScanCursor) → ended (store (r .counters) m″ qs) (r .outcome) ≡ reported (rest qs))
       → Loads c m m″ text (answer.Triple x y z) r
   unfolding loadLineOf
   loads-by x y z p r f =
       let whole : Ready c m → (qs : List ScanCursor)
-      → come (store (r .counters) m″ qs) (r .outcome) ≡ reported (loadOf (store c m qs) (namesIn text x y z)) =
+      → ended (store (r .counters) m″ qs) (r .outcome) ≡ reported (loadOf (store c m qs) (namesIn text x y z)) =
       λ R qs. f R qs ∙ ap reported (sym (E .onward R qs)
       ∙ (ap (λ (ps : List Span). loadFrom text ps [] (store c m qs)) p ∙ sym (load-from text x y z (store c m qs))))
       in
@@ -189,7 +182,7 @@ module _ (text : List ℕ) (parts : List Span) (c : Counters) (m : Tables) (ids 
 -- ---- no triple
 
 module _ (c : Counters) (m : Tables) (text : List ℕ) (line : Line) where
-  loads-kept : (o : Outcome) → ((qs : List ScanCursor) → come (store c m qs) o ≡ loadLineOf (store c m qs) text line)
+  loads-kept : (o : Outcome) → ((qs : List ScanCursor) → ended (store c m qs) o ≡ loadLineOf (store c m qs) text line)
       → Loads c m m text line record { counters = c; outcome = o }
   loads-kept o f = record { sound = λ S. f; capacity = λ e. f; unread = λ h. f }
 
@@ -208,3 +201,21 @@ module _ (c : Counters) (m : Tables) (text : List ℕ) (line : Line) where
 pub loads-as : (c : Counters) (m m′ : Tables) (text : List ℕ) (a b : Line) (r : LineLoaded) → a ≡ b → Loads c m m′ text b r → Loads c m m′
     text a r
 loads-as c m m′ text a b r e h = rw e h
+
+-- ---- the limit
+
+line-over : (text : List ℕ) (from n : ℕ) → n ≡ contentOf text from → lineLimit < n → lineAt text from ≡ answer.Refused lineLimit
+unfolding lineAt
+line-over text from n e h = rw (← e, lt-leb n lineLimit h)
+
+line-within : (text : List ℕ) (from n : ℕ) → n ≡ contentOf text from → n ≤ lineLimit → lineAt text from ≡ readOf nameLimit text from .line
+unfolding lineAt
+line-within text from n e h = rw (← e, le-leb n lineLimit h)
+
+pub loads-over : (c : Counters) (m : Tables) (text : List ℕ) (from n : ℕ) (r : LineLoaded) → n ≡ contentOf text from → lineLimit < n
+    → r ≡ refusedLine c BadLine → Loads c m m text (lineAt text from) r
+loads-over c m text from n r e h f = loads-bad c m text (lineAt text from) lineLimit r (line-over text from n e h) f
+
+pub loads-within : (c : Counters) (m m′ : Tables) (text : List ℕ) (from n : ℕ) (line : Line) (r : LineLoaded) → n ≡ contentOf text from
+    → n ≤ lineLimit → line ≡ readOf nameLimit text from .line → Loads c m m′ text line r → Loads c m m′ text (lineAt text from) r
+loads-within c m m′ text from n line r e h f L = loads-as c m m′ text _ line r (line-within text from n e h ∙ sym f) L

@@ -1,27 +1,24 @@
--- Loading a line (paper 01, "Loading program"): what a line that was read comes to and does to the store, by `loadOf` of crate `graph`, and
--- what holds of the code that loads it. Assumes nothing.
+-- Loading lines (paper 01, "Loading program"): what a line comes to and what it does to the store, by `loadOf` of crate `graph`; all lines
+-- of a text, one after another; and what holds of the code that loads them. Assumes nothing.
 use mathlib.Core.Path.{_≡_}
 use mathlib.Core.Logic.{_≢_}
 use mathlib.Core.Bool.{false, cond}
-use mathlib.Core.List.{List, [], _∷_}
-use Prim.Native.Nat.{ℕ, _≤_, _<_}
-use lib.ListN.{length}
-use lib.Dec.{eqb}
+use mathlib.Core.List.{List, []}
+use Prim.Native.Nat.{ℕ, zero, suc}
+use lib.ListN.{length, drop}
+use lib.Dec.{eqb, leb, ltb}
 use Rattle.term.specs.Grammar.{nameLimit}
 use Rattle.store.specs.declared.Counters.{Counters}
 use Rattle.store.specs.declared.ScanCursor.{ScanCursor}
-use Rattle.store.specs.declared.Refusal.{Refusal}
-use Rattle.store.specs.declared.Asserted.{Asserted}
 use Rattle.store.specs.Shared.{unless}
 use Rattle.store.specs.Tables.{Tables, fits}
-use Rattle.store.specs.Values.{Values, refusalNumber, assertedValues}
-use Rattle.store.specs.Statement.{countersAfter}
+use Rattle.store.specs.Values.{Values}
 use Rattle.store.specs.Soundness.{Sound}
 use Rattle.store.specs.History.{Store, store}
 use Rattle.ntriples.specs.declared.Span.{Span}
 use Rattle.ntriples.specs.declared.Line.{Line}
 use Rattle.ntriples.specs.declared.Line.the-variants as answer
-use Rattle.ntriples.specs.Reader.{readOf}
+use Rattle.ntriples.specs.Reader.{firstLineOf, readOf}
 use Rattle.graph.specs.Claims.{loadOf, canonicalTriple, Loaded}
 use Rattle.lines.specs.Claims.{namesIn}
 use Rattle.loader.specs.declared.Outcome.{Outcome}
@@ -30,34 +27,62 @@ use Rattle.loader.specs.declared.LineLoaded.{LineLoaded}
 
 -- ---- what a line comes to
 
--- by the values of the last call made. Status 2 is "already", 3 "revived": loading retracts nothing, so that a known triple is live.
+-- a line has at most this many bytes, its ending apart
+abbrev pub lineLimit : ℕ
+lineLimit = 1024
+
+-- how many bytes the line has that begins at a position of the text
+unfoldable pub contentOf : List ℕ → ℕ → ℕ
+contentOf text from = length (firstLineOf (drop from text))
+
+-- what is read of it; a line over the limit is refused, whatever it holds
+unfoldable pub lineAt : List ℕ → ℕ → Line
+lineAt text from = unless (leb (contentOf text from) lineLimit) (answer.Refused lineLimit) (readOf nameLimit text from .line)
+
+-- what a triple comes to, by the values of the last call made. Status 2 is "already", 3 "revived": loading retracts nothing, so that a
+-- known triple is live.
 abbrev pub outcomeOf : Values → Outcome
 outcomeOf v = unless (eqb (v .refusal) 0) (Refused (v .refusal)) (cond (eqb (v .status) 1) (New (v .number)) (Already (v .number)))
 
-abbrev pub come : Store → Outcome → Store × Outcome
-come s o = (s, o)
+-- the store after a line, and what it comes to
+abbrev pub ended : Store → Outcome → Store × Outcome
+ended s o = (s, o)
 
 abbrev pub reported : Store × Values → Store × Outcome
-reported a = come (a .0) (outcomeOf (a .1))
+reported a = ended (a .0) (outcomeOf (a .1))
 
--- a line of the text, by what was read of it: the store after it, and what it comes to
+-- a line of the text, by what was read of it
 unfoldable pub loadLineOf : Store → List ℕ → Line → Store × Outcome
-loadLineOf s text answer.End = come s Nothing
-loadLineOf s text answer.Nothing = come s Nothing
-loadLineOf s text (answer.Refused k) = come s (Refused 10)
+loadLineOf s text answer.End = ended s Nothing
+loadLineOf s text answer.Nothing = ended s Nothing
+loadLineOf s text (answer.Refused k) = ended s (Refused 10)
 loadLineOf s text (answer.Triple x y z) = reported (loadOf s (namesIn text x y z))
+
+-- at most n lines of the text from a position on, one after another: the store after them
+unfoldable pub linesFrom : ℕ → Store → List ℕ → ℕ → Store
+linesFrom zero s text from = s
+linesFrom (suc n) s text from =
+    unless (ltb from (length text)) s (linesFrom n ((loadLineOf s text (lineAt text from)) .0) text (readOf nameLimit text from .next))
+
+-- all lines of the text: each has a byte or more
+abbrev pub loadLinesOf : Store → List ℕ → Store
+loadLinesOf s text = linesFrom (length text) s text 0
 
 -- ---- the code that loads it
 
 -- the counters and the outcome answered and the tables left are those of the definition, whatever listings are open
 abbrev pub Exact : Counters → Tables → Tables → List ℕ → Line → LineLoaded → Type 0
-Exact c m m′ text line r = (qs : List ScanCursor) → come (store (r .counters) m′ qs) (r .outcome) ≡ loadLineOf (store c m qs) text line
+Exact c m m′ text line r = (qs : List ScanCursor) → ended (store (r .counters) m′ qs) (r .outcome) ≡ loadLineOf (store c m qs) text line
 
 -- exact on a sound store; on any tables where a counter is over its capacity, and where no triple was read
 pub record Loads (c : Counters) (m m′ : Tables) (text : List ℕ) (line : Line) (r : LineLoaded) : Type 0 where
   pub sound : Sound c m → Exact c m m′ text line r
   pub capacity : fits c m ≡ false → Exact c m m′ text line r
   pub unread : ((x y z : Span) → line ≢ answer.Triple x y z) → Exact c m m′ text line r
+
+-- all lines of a text, on a sound store
+pub record LoadsLines (c : Counters) (m m′ : Tables) (text : List ℕ) (d : Counters) : Type 0 where
+  pub sound : Sound c m → (qs : List ScanCursor) → store d m′ qs ≡ loadLinesOf (store c m qs) text
 
 -- the refusal's number, or 0
 abbrev pub refusalIn : Outcome → ℕ
@@ -66,36 +91,9 @@ refusalIn (New n) = 0
 refusalIn (Already n) = 0
 refusalIn (Refused n) = n
 
--- Loaded by the code into a sound store, a triple is added to the graph, and nothing else; a refusal leaves the graph; the store stays
--- sound, and
--- so the next line is exact too. (Fresh counters are sound over any tables: `FreshIsSound` of crate `store`.)
+-- Loaded by the code into a sound store, a triple is added to the graph, and nothing else; a refusal leaves the graph. The store stays
+-- sound, and so the next line is exact too; fresh counters are sound over any tables (`FreshIsSound` of crate `store`).
 abbrev pub CodeLoads : Type 0
 CodeLoads = (c : Counters) (m m′ : Tables) (text : List ℕ) (x y z : Span) (r : LineLoaded) → Sound c m
     → Loads c m m′ text (answer.Triple x y z) r
     → Loaded (store c m []) (store (r .counters) m′ []) (canonicalTriple (namesIn text x y z)) (refusalIn (r .outcome))
-
--- ---- inside it
-
--- parts that lie in a text, and what was read of a line, if its parts do
-abbrev pub Inside : List ℕ → List Span → Type 0
-Inside text [] = Unit {0}
-Inside text (p ∷ ps) = (p .start ≤ p .end) × (p .end ≤ length text) × Inside text ps
-
-abbrev pub LineInside : List ℕ → Line → Type 0
-LineInside text answer.End = Unit {0}
-LineInside text answer.Nothing = Unit {0}
-LineInside text (answer.Refused k) = Unit {0}
-LineInside text (answer.Triple x y z) = Inside text (x ∷ y ∷ z ∷ [])
-
--- what was read of the line that begins at a position of the text, and the position after it
-pub record ReadAt (text : List ℕ) (from : ℕ) (line : Line) (next : ℕ) : Type 0 where
-  pub before-end : from < length text
-  pub answered : line ≡ readOf nameLimit text from .line
-  pub moved : next ≡ readOf nameLimit text from .next
-
--- a line refused, a line asserted
-abbrev pub refusedLine : Counters → Refusal → LineLoaded
-refusedLine c e = record { counters = c; outcome = Refused (refusalNumber e) }
-
-abbrev pub assertedLine : Counters → Asserted → LineLoaded
-assertedLine c a = record { counters = countersAfter c a; outcome = outcomeOf (assertedValues a) }

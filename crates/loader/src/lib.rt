@@ -1,16 +1,15 @@
 // Loading N-Triples (paper 01, "Loading program"): lines out of blocks of any length, in fixed memory, and each line into the store.
 //
-// The input comes in blocks into a lent buffer. One reader is carried over the whole lines in it; the bytes of the line that has not ended are moved
-// to its front, and the next block is read behind them. Every line is numbered. A statement line is answered by one line of output,
-// `NUMBER new|already N` or `NUMBER refused N`; a blank or comment line by none. Names are entered once the whole line is read, subject first;
-// those entered before a refusal remain.
+// The input comes in blocks into a lent buffer. One reader is carried over the whole lines in it; the bytes of the line that has not
+// ended are moved to its front, and the next block is read behind them. Every line is numbered. A statement line is answered by one line
+// of output, `NUMBER new|already N` or `NUMBER refused N`; a blank or comment line by none. Names are entered once the whole line is
+// read, subject first; those entered before a refusal remain.
 ghost use mathlib.Core.Path.{_≡_};
-ghost use Prim.Native.Nat.{ℕ, _≤_, _<_};
+ghost use Prim.Native.Nat.{ℕ, _≤_};
 ghost use lib.ListN.{length};
-ghost use Rattle.term.specs.Grammar.{nameLimit};
 ghost use Rattle.store.specs.Tables.{tables};
-ghost use Rattle.ntriples.specs.Reader.{readOf};
-ghost use Rattle.loader.specs.Lines.{refusedLine, assertedLine, LineInside, ReadAt, Loads};
+ghost use Rattle.loader.specs.Lines.{contentOf, lineAt, Loads, LoadsLines};
+ghost use Rattle.loader.specs.Steps.{Takes, LineInside, Ends, ReadAt, refusedLine, assertedLine};
 use ntriples::Line;
 use ntriples::Span;
 use store::Asserted;
@@ -42,7 +41,8 @@ pub const INDEX_TABLE: usize = 512;
 
 pub const TEXT_TABLE: usize = 16384;
 
-// How far a load is: the store's counters, the lines that have ended, and how many bytes of the line being read stand at the front of the buffer.
+// How far a load is: the store's counters, the lines that have ended, and how many bytes of the line being read stand at the front of
+// the buffer.
 pub struct Load {
     pub counters: Counters,
     pub lines: u64,
@@ -147,7 +147,7 @@ fn load_triple(
 }
 
 // Loads what was read of a line of the source.
-fn load_line(
+fn load_read(
     c: Counters,
     resources: &mut [u32],
     statements: &mut [u32],
@@ -185,9 +185,10 @@ fn load_line(
     }
 }
 
-// How many bytes a line of the source has that was read from `from` up to `next`, its ending apart: a LF, and one CR before it.
+// How many bytes the line of the source from `from` up to `next` has, its ending apart: a LF, and one CR before it.
 fn content(source: &[u8], from: usize, next: usize) -> usize
-    requires { ⌜ (from < next) × (next ≤ length (now source)) ⌝ }
+    requires { ⌜ Ends (now source) from next ⌝ }
+    ensures { λ n. ⌜ n ≡ contentOf (now (source .entry)) from ⌝ }
 {
     let last = next - 1;
     if source[last] != b'\n' {
@@ -202,8 +203,8 @@ fn content(source: &[u8], from: usize, next: usize) -> usize
     last - from
 }
 
-// Loads what was read of a line. Over `LINE_LIMIT` bytes it is refused 10, whatever it holds.
-fn load_limited(
+// Loads the line of the source from `from` up to `next`, read as `line`. Over `LINE_LIMIT` bytes it is refused 10, whatever it holds.
+fn load_line(
     c: Counters,
     resources: &mut [u32],
     statements: &mut [u32],
@@ -215,11 +216,14 @@ fn load_limited(
     next: usize,
 ) -> LineLoaded
     requires { ⌜ ReadAt (now source) from line next ⌝ }
+    ensures { λ r. ⌜ Loads c (tables (now (resources .entry)) (now (statements .entry)) (now (index .entry)) (now (text .entry)))
+        (tables (now (resources .exit)) (now (statements .exit)) (now (index .exit)) (now (text .exit)))
+        (now (source .entry)) (lineAt (now (source .entry)) from) r ⌝ }
 {
     if content(source, from, next) > LINE_LIMIT {
         return refused(c, Refusal::BadLine);
     }
-    load_line(c, resources, statements, index, text, source, line)
+    load_read(c, resources, statements, index, text, source, line)
 }
 
 // One line more. No input has as many lines as the number can count.
@@ -244,9 +248,13 @@ fn take_line(
     next: usize,
 ) -> Load
     requires { ⌜ ReadAt (now source) from line next ⌝ }
+    ensures { λ r. ⌜ Takes (l .counters)
+        (tables (now (resources .entry)) (now (statements .entry)) (now (index .entry)) (now (text .entry)))
+        (tables (now (resources .exit)) (now (statements .exit)) (now (index .exit)) (now (text .exit)))
+        (now (source .entry)) from (r .counters) ⌝ }
 {
     let c = l.counters;
-    let r = load_limited(
+    let r = load_line(
         c,
         resources,
         statements,
@@ -276,7 +284,12 @@ fn load_lines(
     index: &mut [u32],
     text: &mut [u8],
     source: &[u8],
-) -> Load {
+) -> Load
+    ensures { λ r. ⌜ LoadsLines (l .counters)
+        (tables (now (resources .entry)) (now (statements .entry)) (now (index .entry)) (now (text .entry)))
+        (tables (now (resources .exit)) (now (statements .exit)) (now (index .exit)) (now (text .exit)))
+        (now (source .entry)) (r .counters) ⌝ }
+{
     let mut m = l;
     let mut r = line_reader::reader(source);
     loop {
@@ -301,7 +314,7 @@ fn load_lines(
 }
 
 // The smaller number.
-pub fn within(a: usize, b: usize) -> usize
+fn within(a: usize, b: usize) -> usize
     ensures { λ r. ⌜ r ≤ b ⌝ }
 {
     if a < b { a } else { b }

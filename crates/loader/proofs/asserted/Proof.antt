@@ -1,5 +1,6 @@
+-- By the answer of assert. Assumes nothing.
 use mathlib.Core.Path.{sym, ap, _∙_}
-use Rattle.loader.specs.Lines.{assertedLine}
+use Rattle.loader.specs.Steps.{assertedLine}
 use Rattle.loader.proofs.Loading.{assert-refused}
 use borrow.Author.Needs.{needs}
 use Rattle.loader.proofs.asserted.Statement.{statement}
@@ -8,44 +9,35 @@ use Rattle.loader.proofs.asserted.Reads as reads
 use Rattle.loader.proofs.asserted.Lts as lts
 use Rattle.loader.proofs.refused.Reads as refused-reads
 
--- src/lib.rt:89:23
 enum-known-a : tie.Need-enum-known-a
 enum-known-a c = search needs
 
--- src/lib.rt:93:27
 enum-known-a-2 : tie.Need-enum-known-a-2
 enum-known-a-2 c = search needs
 
--- src/lib.rt:97:27
 enum-known-a-3 : tie.Need-enum-known-a-3
 enum-known-a-3 c = search needs
 
--- src/lib.rt:101:27
 enum-known-a-4 : tie.Need-enum-known-a-4
 enum-known-a-4 c = search needs
 
--- src/lib.rt:101:33
 refused-requires : tie.Need-refused-requires
 refused-requires c κs = search needs
 
--- src/lib.rt:85:1
 returns : tie.Need-returns
 returns c = sym (ap (assertedLine (c .before .before .before .args .c)) (c .before .a .given .1))
 
--- src/lib.rt:85:1
 returns-2 : tie.Need-returns-2
 returns-2 c = sym (ap (assertedLine (c .before .before .before .args .c)) (c .before .a2 .given .1))
 
--- src/lib.rt:85:1
 returns-3 : tie.Need-returns-3
 returns-3 c = sym (ap (assertedLine (c .before .before .before .args .c)) (c .before .a3 .given .1))
 
--- src/lib.rt:85:1
 returns-4 : tie.Need-returns-4
 returns-4 c =
     let k = c .before .before .before .before .args .c in
-    c .refused .ensures ∙ (assert-refused k (c .before .before .a4 .given .0 .0) ∙ sym (ap (assertedLine k) (c .before .before .a4 .given
-    .1)))
+    let e = c .before .before .a4 .given in
+    c .refused .ensures ∙ (assert-refused k (e .0 .0) ∙ sym (ap (assertedLine k) (e .1)))
 
 pub asserted-spec : {M : Type 1} → statement M
 asserted-spec =

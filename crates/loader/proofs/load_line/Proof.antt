@@ -1,35 +1,38 @@
+-- A line over the limit is refused, another loaded; what was read of it lies in the text. Assumes nothing.
 use denote.Ref.{now}
+use native.Mathlib.Omega.{arith}
 use Rattle.store.specs.Tables.{tables}
-use Rattle.loader.proofs.Inside.{parts-inside}
-use Rattle.loader.proofs.Loading.{loads-as, loads-bad, loads-end, loads-nothing}
+use Rattle.loader.proofs.Inside.{read-inside}
+use Rattle.loader.proofs.Loading.{loads-over, loads-within}
 use borrow.Author.Needs.{needs}
 use Rattle.loader.proofs.load_line.Statement.{statement}
 use Rattle.loader.proofs.load_line.Tie as tie
 use Rattle.loader.proofs.load_line.Reads as reads
 use Rattle.loader.proofs.load_line.Lts as lts
-use Rattle.loader.proofs.load_triple.Reads as load-triple-reads
+use Rattle.loader.proofs.content.Reads as content-reads
+use Rattle.loader.proofs.load_read.Reads as load-read-reads
 use Rattle.loader.proofs.refused.Reads as refused-reads
 
-enum-known-line : tie.Need-enum-known-line
-enum-known-line c = search needs
-
-load-triple-requires : tie.Need-load-triple-requires
-load-triple-requires c κs =
-    let a = c .before .before .before .before .before .before .before .before .before .before .before .before .args in
-    parts-inside (now (a .source)) (a .line) _ (c .before .before .before .before .before .line .given .1) (c .before .before .before
-    .before .before .before .before .before .before .before .before .before .pre)
-
-enum-told : tie.Need-enum-told
-enum-told c = search needs
+content-requires : tie.Need-content-requires
+content-requires c κs = c .before .before .before .before .before .pre .ends
 
 refused-requires : tie.Need-refused-requires
 refused-requires c κs = search needs
 
-enum-told-2 : tie.Need-enum-told-2
-enum-told-2 c = search needs
+returns : tie.Need-returns
+returns c =
+    let a = c .before .before .before .before .before .before .before .before .args in
+    let m = tables (now (a .resources)) (now (a .statements)) (now (a .index)) (now (a .text)) in
+    let n = c .before .before .content in
+    let h = c .before .if1 .taken in
+    let r = c .refused in
+    loads-over (a .c) m (now (a .source)) (a .from) (n .result) (r .result) (n .ensures) (omega (arith, h)) (r .ensures)
 
-enum-told-3 : tie.Need-enum-told-3
-enum-told-3 c = search needs
+load-read-requires : tie.Need-load-read-requires
+load-read-requires c κs =
+    let s = c .before .before .before .before .before .before .before .before .before .before .before in
+    let a = s .args in
+    read-inside (now (a .source)) (a .from) (a .line) (a .next) (s .pre)
 
 same-length : tie.Need-same-length
 same-length c = search needs
@@ -43,43 +46,26 @@ same-length-3 c = search needs
 same-length-4 : tie.Need-same-length-4
 same-length-4 c = search needs
 
-returns : tie.Need-returns
-returns c = loads-as _ _ _ _ _ _ _ (c .before .before .before .before .before .before .before .before .before .before .before .before
-    .before .before .line .given .1) (c .before .before .before .before .before .before .before .before .load-triple .ensures)
-
 returns-2 : tie.Need-returns-2
 returns-2 c =
-    let a = c .before .before .before .before .before .before .before .before .args in
-    let m = tables (now (a .resources)) (now (a .statements)) (now (a .index)) (now (a .text)) in
-    loads-bad (a .c) m (now (a .source)) (a .line) _ (c .refused .result) (c .before .enum-told .given .1) (c .refused .ensures)
-
-returns-3 : tie.Need-returns-3
-returns-3 c =
-    let a = c .before .before .before .before .before .before .before .args in
-    let m = tables (now (a .resources)) (now (a .statements)) (now (a .index)) (now (a .text)) in
-    loads-end (a .c) m (now (a .source)) (a .line) (c .enum-told2 .given .1)
-
-returns-4 : tie.Need-returns-4
-returns-4 c =
-    let a = c .before .before .before .before .before .before .before .args in
-    let m = tables (now (a .resources)) (now (a .statements)) (now (a .index)) (now (a .text)) in
-    loads-nothing (a .c) m (now (a .source)) (a .line) (c .enum-told3 .given .1)
+    let s = c .before .before .before .before .before .before .before .before .before .before .before .before .before .before .before
+    .before .before .before .before .before in
+    let a = s .args in
+    let n = c .before .before .before .before .before .before .before .before .before .before .before .before .before .before .content in
+    let h = c .before .before .before .before .before .before .before .before .before .before .before .before .before .if1 .left in
+    let r = c .before .before .before .before .before .before .before .before .load-read in
+    loads-within _ _ _ (now (a .source)) (a .from) (n .result) (a .line) _ (n .ensures) (omega (arith, h)) (s .pre .answered) (r .ensures)
 
 pub load-line-spec : {M : Type 1} → statement M
 load-line-spec =
     tie.close
     (tie.spec
-    enum-known-line
-    load-triple-requires
-    enum-told
+    content-requires
     refused-requires
-    enum-told-2
-    enum-told-3
+    returns
+    load-read-requires
     same-length
     same-length-2
     same-length-3
     same-length-4
-    returns
-    returns-2
-    returns-3
-    returns-4)
+    returns-2)

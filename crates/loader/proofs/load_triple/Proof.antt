@@ -1,3 +1,4 @@
+-- The names of the parts before i have been entered; a refusal, and the triple asserted, each end the line. Assumes nothing.
 use denote.Ref.{now}
 use mathlib.Core.Path.{_≡_, refl}
 use Prim.Native.Nat.{_-_, _≤_}
@@ -79,15 +80,16 @@ returns c =
     .before .before .before .before .before .before .before .before .before .args in
     let l = c .before .before .before .before .before .before .before .before .before .before .before .before .before .before .before
     .before .before .before .loop in
-    let intern = c .before .before .before .before .before .before .before .before .before .before .intern in
+    let h = c .before .before .before .before .before .before .before .before .before .before .before .before .before .before .before
+    .before .before .loop-test .taken in
+    let i = c .before .before .before .before .before .before .before .before .before .before .intern in
     let m = tables (now (a .resources)) (now (a .statements)) (now (a .index)) (now (a .text)) in
     let m′ = tables (l .resources) (now (a .statements)) (l .index) (l .text) in
-    let m″ = tables (intern .last .1 .0) (now (a .statements)) (intern .last .1 .1 .1 .0) (intern .last .1 .1 .1 .1 .0) in
-    let e = c .before .before .e in
-    loads-refused (now (a .source)) _ (a .c) m (l .ids) (l .d) m′ m″ (l .i) (l .inv .6)
-    (c .before .before .before .before .before .before .before .before .before .before .before .before .before .before .before .before
-    .before .loop-test .taken) (a .subject) (a .predicate) (a .object) refl (intern .result) (e .given .0 .0) (c .refused .result) (intern
-    .ensures) (e .given .1) (c .refused .ensures)
+    let m″ = tables (i .last .1 .0) (now (a .statements)) (i .last .1 .1 .1 .0) (i .last .1 .1 .1 .1 .0) in
+    let e = c .before .before .e .given in
+    let r = c .refused in
+    loads-refused (now (a .source)) _ (a .c) m (l .ids) (l .d) m′ m″ (l .i) (l .inv .6) h (a .subject) (a .predicate) (a .object) refl
+    (i .result) (e .0 .0) (r .result) (i .ensures) (e .1) (r .ensures)
 
 enum-known-n : tie.Need-enum-known-n Inv-loop μ-loop
 enum-known-n c = search needs
@@ -110,21 +112,21 @@ loop-again c =
     .before .before .before .before .before .before .before .before .args in
     let l = c .before .before .before .before .before .before .before .before .before .before .before .before .before .before .before
     .before .before .loop in
-    let intern = c .before .before .before .before .before .before .before .before .before .intern in
-    let m = tables (now (a .resources)) (now (a .statements)) (now (a .index)) (now (a .text)) in
-    let m′ = tables (l .resources) (now (a .statements)) (l .index) (l .text) in
-    let m″ = tables (intern .last .1 .0) (now (a .statements)) (intern .last .1 .1 .1 .0) (intern .last .1 .1 .1 .1 .0) in
     let h = c .before .before .before .before .before .before .before .before .before .before .before .before .before .before .before
     .before .loop-test .taken in
-    let n = c .before .n in (
+    let i = c .before .before .before .before .before .before .before .before .before .intern in
+    let m = tables (now (a .resources)) (now (a .statements)) (now (a .index)) (now (a .text)) in
+    let m′ = tables (l .resources) (now (a .statements)) (l .index) (l .text) in
+    let m″ = tables (i .last .1 .0) (now (a .statements)) (i .last .1 .1 .1 .0) (i .last .1 .1 .1 .1 .0) in
+    let n = c .before .n .given in (
       search needs,
       search needs,
       search needs,
       omega (arith, h),
       search needs,
       l .inv .5,
-      entering-more (now (a .source)) _ (a .c) m (l .ids) (l .d) m′ m″ (l .i) (l .inv .6)
-          h (intern .result) (n .given .0 .0) (n .given .0 .1 .0) (intern .ensures) (n .given .1) (omega (arith, h)),
+      entering-more (now (a .source)) _ (a .c) m (l .ids) (l .d) m′ m″ (l .i) (l .inv .6) h (i .result) (n .0 .0) (n .0 .1 .0)
+          (i .ensures) (n .1) (omega (arith, h)),
     )
 
 array-copy-out-t22 : tie.Need-array-copy-out-t22 Inv-loop μ-loop
@@ -159,13 +161,14 @@ returns-2 c =
     let a = c .before .before .before .before .before .before .before .before .before .before .before .before .before .before .before
     .before .before .before .before .before .args in
     let l = c .before .before .before .before .before .before .before .before .before .before .before .before .before .before .loop in
-    let assert = c .before .before .before .before .before .assert in
+    let h = c .before .before .before .before .before .before .before .before .before .before .before .before .before .loop-test .left in
+    let s = c .before .before .before .before .before .assert in
     let m = tables (now (a .resources)) (now (a .statements)) (now (a .index)) (now (a .text)) in
     let m′ = tables (l .resources) (now (a .statements)) (l .index) (l .text) in
-    let m″ = tables (assert .last .1 .0) (assert .last .1 .1 .0) (l .index) (l .text) in
-    loads-asserted (now (a .source)) _ (a .c) m (l .ids) (l .d) m′ m″ (l .i) (l .inv .6)
-    (a .subject) (a .predicate) (a .object) refl (assert .result) (c .asserted .result) (omega arith) (l .inv .4) (assert .ensures) (c
-    .asserted .ensures)
+    let m″ = tables (s .last .1 .0) (s .last .1 .1 .0) (l .index) (l .text) in
+    let r = c .asserted in
+    loads-asserted (now (a .source)) _ (a .c) m (l .ids) (l .d) m′ m″ (l .i) (l .inv .6) (a .subject) (a .predicate) (a .object) refl
+    (s .result) (r .result) (omega (arith, h, l .inv .3)) (l .inv .4) (s .ensures) (r .ensures)
 
 pub load-triple-spec : {M : Type 1} → statement M
 load-triple-spec =

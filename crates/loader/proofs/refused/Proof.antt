@@ -1,3 +1,4 @@
+-- The paper's number of the refusal. Assumes nothing.
 use borrow.Author.Needs.{needs}
 use Rattle.loader.proofs.refused.Statement.{statement}
 use Rattle.loader.proofs.refused.Tie as tie
@@ -5,11 +6,9 @@ use Rattle.loader.proofs.refused.Reads as reads
 use Rattle.loader.proofs.refused.Lts as lts
 use Rattle.store.proofs.refusal_number.Reads as refusal-number-reads
 
--- src/lib.rt:80:35
 refusal-number-requires : tie.Need-refusal-number-requires
 refusal-number-requires c κs = search needs
 
--- src/lib.rt:75:1
 returns : tie.Need-returns
 returns c = rw (c .refusal-number .ensures)
 
