@@ -129,7 +129,7 @@ static inline const char *lt_strerror(uint32_t result)
     case LT_FULL: return "no room for one more";
     case LT_UNKNOWN_NUMBER: return "the number names nothing";
     case LT_KIND_NOT_PERMITTED: return "a literal as subject, or a predicate that is no IRI";
-    case LT_BAD_CURSOR: return "the cursor fits neither the store nor the pattern";
+    case LT_BAD_CURSOR: return "the cursor does not fit the store or the pattern";
     case LT_NO_BUDGET: return "a budget of 0";
     case LT_BAD_QUERY: return "the words are no query";
     case LT_DAMAGED: return "the tables are damaged";
@@ -154,7 +154,8 @@ uint32_t lt_name_kind(const uint8_t *name, size_t name_len, uint32_t *reply, siz
  * the position stays. With LT_BAD_LINE: 0 (no `lt_line_kind` then: the line may well be followed by others), position after, the offset in
  * the line, as it is spelled, of the first byte that fits no line (the line's length if it stops short), zeros.
  * The lines read are those N-Triples whose terms are names: bytes 32 to 126 (and tabs between terms and in comments) alone, so no UTF-8; of
- * the escapes \" \\ \n \r and no other, so neither \u nor \t; labels of blank nodes without a colon. Other lines are LT_BAD_LINE. */
+ * the escapes \" \\ \n \r and no other, so neither \u nor \t; labels of blank nodes without a colon; no empty IRI, no white space inside a literal
+ * before its tag or datatype, no name over LT_MAX_NAME bytes. Other lines are LT_BAD_LINE. */
 uint32_t lt_read_line(const uint8_t *text, size_t text_len, size_t at, uint64_t *reply, size_t reply_len);
 
 /* Whether the store is sound: every word of it is as entering, asserting, retracting and reclaiming leave it. reply 1: 1 or 0. It refuses
@@ -220,8 +221,9 @@ uint32_t lt_query_next(LT_STORE, const uint32_t *words, size_t words_len, uint32
 
 #undef LT_STORE
 
-/* The same with a struct for a store, and with named fields for replies and cursors. Each function from here on makes one call of the
- * function above whose name it has (lt_store_find of lt_find), and gives back its result. All that is said there holds: beside a refusal
+/* The same with a struct for a store, and with named fields for replies and cursors. Each lt_store_… function makes one call of the
+ * function above with the rest of its name (lt_store_find of lt_find), lt_kind_of of lt_name_kind, lt_line_read of lt_read_line, and gives
+ * back its result. All that is said there holds: beside a refusal
  * the reply's fields are 0 (except LT_BAD_LINE), and counters, cursor and tables stay as they were. LT_TOO_SHORT cannot come. Words are
  * copied to fields and back one by one, so nothing depends on how a struct is laid out. */
 

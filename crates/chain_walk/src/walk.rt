@@ -71,7 +71,7 @@ pub fn holds_resource(statements: &[u32], chain: Chain, x: Triple, n: StatementI
     }
 }
 
-// Whether record n, whose triple is t, is what is sought.
+// Whether record n is what is sought.
 pub fn hits(statements: &[u32], sought: Sought, x: Triple, n: StatementId) -> bool
     requires { ⌜ StatementHeld (now statements) (n .0) ⌝ }
     ensures { λ b. ⌜ b ≡ hits sought (now (statements .entry)) x (n .0 - 1) ⌝ }

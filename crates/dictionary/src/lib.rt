@@ -20,7 +20,8 @@ ghost use Rattle.store.specs.Dictionary.{FindAnswer, InternAnswer};
 mod extend;
 pub mod inner;
 
-// The bytes at an offset of the text against a name: less, the same, more, or unreadable: a byte past the text in use is needed.
+// The bytes at an offset of the text against a name: less, the same, more, or unreadable: it needs a byte past the
+// text in use, or the index word is no number.
 pub enum Compared {
     Less,
     Same,

@@ -1,4 +1,4 @@
--- Every claim of `specs/Claims.antt` and `specs/Standing.antt` with its proof: a declaration of each type. Assumes nothing.
+-- Every claim of this crate's `specs/` with its proof: a declaration of each type. Assumes nothing.
 use Rattle.graph.specs.Claims.{GraphClaim, WordsClaim, ReadingClaim, NextClaim, KeptClaim, BudgetClaim, SplitClaim}
 use Rattle.graph.specs.Claims.{StaleClaim, RefusalsBare, ReclaimedClaim}
 use Rattle.graph.specs.Claims.{ScanClaim}

@@ -1,5 +1,5 @@
--- What is claimed of live counts and queries (paper 02, note 5), as types: a live count says without a walk what a walk would find, and a query does not look at
--- live counts. Assumes nothing.
+-- What is claimed of live counts and queries (paper 02, note 5), as types: a live count says without a walk what a walk would find, and a
+-- query does not look at live counts. Assumes nothing.
 use Rattle.store.specs.Prelude.{_≡_, true, List, ℕ}
 use Rattle.store.specs.Prelude.{_≤_, _<_, length}
 use Rattle.graph.specs.Prelude.{Position, Subject, Predicate, Object, Counters, Triple, QueryCursor}

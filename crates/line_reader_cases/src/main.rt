@@ -1,8 +1,8 @@
-// Reads a text from standard input, line after line, by a reader of lines (scope paper, "Read a line" and "The right form for
+// Reads a text from standard input, line after line, by a reader of lines (paper 01, "Read a line" and "The right form for
 // each place"). Prints a line for each: its number, the answer and the position after it, and at last the answer at the end.
 //
 // A line that is refused stands before others, so the output shows that a reader moves past it. The expected output is
-// worked out by hand from the scope paper.
+// worked out by hand from paper 01.
 ghost use mathlib.Core.Path.{_≡_};
 ghost use Rattle.line_reader_cases.specs.End.{isEnd};
 use store::Refusal;

@@ -1,4 +1,4 @@
--- Every claim of `specs/Claims.antt` and `specs/Contracts.antt` with its proof: a declaration of each type. Assumes nothing.
+-- Every claim of this crate's `specs/` with its proof: a declaration of each type. Assumes nothing.
 use mathlib.Core.List.{List, []}
 use Rattle.store.specs.Model.{freshModel}
 use Rattle.store.specs.History.{store, freshStore, capacitiesOf, storeAfter}

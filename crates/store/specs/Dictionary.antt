@@ -1,5 +1,5 @@
--- Names in the tables (paper 01, "Find a name", "Enter a name"; 02, notes 5 and 7): the text, the index in rising byte order, what find and intern
--- answer and write on a sound dictionary, and the bound that holds of them on any tables after refusals 1 and 2. Assumes nothing.
+-- Find and enter a name (paper 01; 02, notes 5 and 7): what they answer and write on a sound dictionary, and the bound that holds on any
+-- tables after refusals 1 and 2. Assumes nothing.
 use Rattle.store.specs.Prelude.{_≡_, _⊎_, Bool, true, false, cond, _&&_, List, [], _∷_, _++_, ℕ, zero, suc, _+_, _*_, _-_, _≤_, _<_}
 use Rattle.store.specs.Prelude.{length, sets, leb, ltb, Counters, Refusal, Capacity, Malformed, Full, Damaged, IndexPlace, At}
 use Rattle.store.specs.Prelude.{Before, OutOfRange, Lookup, Number, Absent, NotFound, Interned, Id, NotInterned}

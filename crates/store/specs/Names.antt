@@ -1,5 +1,5 @@
--- Names in the tables (paper 01, "Sound means"; 02, note 7): their byte order, the names of a sound dictionary, and the names read from the text.
--- Assumes nothing.
+-- Names in the tables (paper 01, "Sound means"; 02, note 7): their byte order, the names of a sound dictionary, and the names read from the
+-- text. Assumes nothing.
 use Rattle.store.specs.Prelude.{_≡_, Bool, true, false, cond, not, _&&_, List, [], _∷_, _++_, ℕ, zero, suc, _-_, _≤_, _<_, length}
 use Rattle.store.specs.Prelude.{getD, take, drop, ltb, Counters}
 use Rattle.term.specs.Scanner.{firstKindOf}

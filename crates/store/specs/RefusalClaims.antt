@@ -1,5 +1,5 @@
--- What is claimed of refusals on any tables (demand 1), as types: 1 before all else, nothing written and zeros beside a refusal, 6 and 13 of a listing, 9 for
--- live counts, 1, 14 and 9 of a reclaim. Assumes nothing.
+-- What is claimed of refusals on any tables (demand 1), as types: 1 before all else, nothing written and zeros beside a refusal, 6 and 13 of
+-- a listing, 9 for live counts, 1, 14 and 9 of a reclaim. Assumes nothing.
 use Rattle.store.specs.Prelude.{_≡_, _≢_, _↔_, true, false, some, ℕ, suc, _≤_, _<_, Counters, Position, All, By, Triple, ScanCursor}
 use Rattle.store.specs.Prelude.{Damaged, NotAsserted, NotRetracted, Reclaimed}
 use Rattle.store.specs.Shared.{at, known, kindsPermitted}

@@ -1,6 +1,6 @@
--- What the plain lists and the tables' definitions share: limits, refusals in their order, triples of numbers at a position in general, listed
--- triples, the position picked, names, and the falling positions of a list's entries that pass a test. Each is pinned by a law in `Claims`.
--- Assumes nothing.
+-- What the plain lists and the tables' definitions share: limits, refusals in their order, triples of numbers at a position in general,
+-- listed triples, the position picked, names, and the falling positions of a list's entries that pass a test. What its tests and searches
+-- mean is pinned in `Pins`. Assumes nothing.
 use Rattle.store.specs.Prelude.{Bool, cond, not, _&&_, _||_, List, [], _∷_, ℕ, zero, suc, _+_, _-_, length, getD, eqb, leb, ltb}
 use Rattle.store.specs.Prelude.{Counters, Position, Subject, Predicate, Object, Chain, All, By, Triple}
 use Rattle.term.specs.Bytes.{eqBytes}

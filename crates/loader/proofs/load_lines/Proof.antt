@@ -1,6 +1,5 @@
 -- `loader::load_lines` meets its contract: a walk of its MIR, by hand, with a loop that carries one reader. The reader lies in a local.
--- Each turn
--- reads its position, lends it to `read_line` for a lifetime that is made for the call, and lends the four tables again to `take_line`. All
+-- Each turn reads its position, lends it to `read_line` for a lifetime that is made for the call, and lends the four tables again to `take_line`. All
 -- that the proof knows of a callee is that it meets its contract; that the loop ends is `line_reader`'s `moves`. Assumes nothing.
 use mathlib.Core.Path.{_≡_, refl, sym, ap, _∙_, subst}
 use mathlib.Core.Bool.{Bool, not}
