@@ -113,7 +113,7 @@ impl fmt::Display for Error {
             Error::Full => write!(f, "no room for one more"),
             Error::UnknownNumber => write!(f, "the number names nothing"),
             Error::KindNotPermitted => write!(f, "a literal as subject, or a predicate that is no IRI"),
-            Error::BadCursor => write!(f, "the cursor fits neither the store nor the pattern"),
+            Error::BadCursor => write!(f, "the cursor does not fit the store or the pattern"),
             Error::NoBudget => write!(f, "a budget of 0"),
             Error::BadQuery => write!(f, "the words are no query"),
             Error::Damaged => write!(f, "the tables are damaged"),
