@@ -245,7 +245,7 @@ class Store:
             n = after
         return 0, 0
 
-    # The record with the triple is struck out (1) or made live (0), which the three live counts follow.
+    # The record with the triple is retracted (1) or made live (0), which the three live counts follow.
     def mark(self, n, triple, flag):
         self.statement(n)["flag"] = [flag]
         for p, y in enumerate(triple):
@@ -404,7 +404,7 @@ class Store:
             if bound is None:
                 refuse(6)
 
-    # The levels that a walk starts from; 9 if a word of an entered record is out of range. Below a record struck out since, levels are left.
+    # The levels that a walk starts from; 9 if a word of an entered record is out of range. Below a record retracted since, levels are left.
     def entered(self):
         how, depth, reclaims, levels = self.place
         if how == "start" or depth == 0:

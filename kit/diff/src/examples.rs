@@ -105,9 +105,9 @@ fn run_out_chains() {
     assert_eq!(lent.cursor[..4], [2, 0, 0, 0]);
 }
 
-/// Decision 58: the level whose record was struck out is left for its chain's next, without a visit.
+/// Decision 58: the level whose record was retracted is left for its chain's next, without a visit.
 #[test]
-fn struck_out_since() {
+fn retracted_since() {
     let words = vec![V, 2, V + 1, V + 1, 2, V + 2];
     let mut lent = store(&["<a>", "<b>", "<c>", "<d>"], &[[1, 2, 3], [2, 2, 1], [3, 2, 4]]);
     assert_eq!(call(&mut lent, Call::Retract { triple: [1, 2, 3] }), (0, vec![1]));
@@ -613,7 +613,7 @@ fn room_back() {
 }
 
 /// Paper 02, getting room back: refused 3 and made again right after the next reclaim, an assert is new exactly if a record was dropped; a
-/// triple that was struck out is new.
+/// triple that was retracted is new.
 #[test]
 fn new_once_reclaimed() {
     let absent = Call::Assert { triple: [4, 2, 1] };
@@ -637,7 +637,7 @@ fn new_once_reclaimed() {
     assert_eq!(enter(&mut lent, "<e>").0, 3);
 }
 
-/// Paper 02, getting room back: a plain list read alongside forgets its struck-out entries at the same moment.
+/// Paper 02, getting room back: a plain list read alongside forgets its retracted entries at the same moment.
 #[test]
 fn a_list_read_alongside() {
     let mut random = Random::new(2);

@@ -632,7 +632,7 @@ impl Lent {
             levels.push(self.pick(bound_places(patterns[0], &solutions[0]))?);
         }
 
-        // The entered records before the deepest: their flags and nexts, and the first that is struck out.
+        // The entered records before the deepest: their flags and nexts, and the first that is retracted.
         let entered = levels.len() - 1;
         if levels[..entered].iter().any(|&(chain, n)| self.flag(n) > 1 || self.after(chain, n) >= n) {
             return Err(9);

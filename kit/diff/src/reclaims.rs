@@ -11,10 +11,10 @@ use crate::{Difference, Run, UNWRITTEN};
 /// The number of reclaims is above its limit, and nothing else is the reason for refusal 1.
 const NUMBER_ALONE: &str = "1 for the number alone";
 
-/// Refused 3 before a reclaim, and now new; refused 3 again, since nothing was dropped; struck out before a reclaim, and now new.
+/// Refused 3 before a reclaim, and now new; refused 3 again, since nothing was dropped; retracted before a reclaim, and now new.
 const ROOM_AGAIN: &str = "new, 3 before";
 const STILL_NO_ROOM: &str = "3 as before";
-const FORGOTTEN: &str = "new, struck out before";
+const FORGOTTEN: &str = "new, retracted before";
 
 /// The ways that are to be met. "13" is a place of another number of reclaims: by what the call would be given else, by the place, by what
 /// else is wrong with it, and by that number.
@@ -155,7 +155,7 @@ fn met_reclaimed(before: &Lent, after: &Lent) -> Vec<String> {
         ("no statements", then == 0),
         ("none dropped", then > 0 && now == then),
         ("some dropped", 0 < now && now < then),
-        // A live record stands behind one that is struck out.
+        // A live record stands behind one that is retracted.
         ("some moved", now > 0 && (1..=now).any(|n| before.flag(n) == 1)),
         ("all dropped", then > 0 && now == 0),
         ("a resource twice", now < then && after.flagged(0).iter().any(twice)),
@@ -225,7 +225,7 @@ fn else_given(call: &Call, lent: &Lent) -> String {
 
 impl Run {
     /// Right after a reclaim that was answered: a triple that had no room before it is new exactly if a record was dropped, and one that was
-    /// struck out is new.
+    /// retracted is new.
     pub fn assert_again(&mut self, before: &Lent, lent: &mut Lent, no_room: Option<[u32; 3]>) -> Result<(), Difference> {
         let dropped = lent.t() < before.t();
         let (triple, met) = match no_room {
