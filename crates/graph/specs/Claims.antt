@@ -17,7 +17,7 @@ use Rattle.store.specs.Scan.{openOf, nextOf}
 use Rattle.store.specs.Soundness.{Sound}
 use Rattle.store.specs.History.{Store, store, capacitiesOf, callStore, storeReplies, storeAfter}
 use Rattle.store.specs.Claims.{listsOf, reclaimsIn}
-use Rattle.graph.specs.Words.{maxPatterns, variables, firstVariable, wordsOk, patternsOf, Bindings, unbound}
+use Rattle.graph.specs.Words.{wordsOk, patternsOf, Bindings, unbound}
 use Rattle.graph.specs.Place.{placeOf, startCursor}
 use Rattle.graph.specs.Work.{workOf, scanWorkOf}
 use Rattle.graph.specs.Query.{placeOk, openQueryOf, nextQueryOf}
@@ -134,8 +134,8 @@ ReadingClaim = (c : Counters) (m : Tables) → Sound c m → (ws : List ℕ) →
 pub record Accepts (r : ℕ) (ws : List ℕ) : Type 0 where
   pub patterns : ℕ
   pub three-each : length ws ≡ 3 * patterns
-  pub few : patterns ≤ maxPatterns
-  pub each : (w : ℕ) → List·Memᴰ w ws → ((0 < w) × (w ≤ r)) ⊎ ((v : ℕ) × (v < variables) × (w ≡ firstVariable + v))
+  pub few : patterns ≤ 8
+  pub each : (w : ℕ) → List·Memᴰ w ws → ((0 < w) × (w ≤ r)) ⊎ ((v : ℕ) × (v < 16) × (w ≡ 2147483648 + v))
 
 abbrev pub WordsClaim : Type 0
 WordsClaim = (r : ℕ) (ws : List ℕ) → wordsOk r ws ≡ true ↔ Accepts r ws
