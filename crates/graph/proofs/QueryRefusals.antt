@@ -45,19 +45,19 @@ module _ (c : Counters) (m : Tables) (ws : List ℕ) (q : QueryCursor) (b : ℕ)
   unfolding nextQueryOf stale answerOf packed
   eight-of f w = rw (f, w)
 
-  place-ok : Admitted c m ws q b → placeOk (m .statements) (patternsOf ws) (c .resources) (c .statements) (placeOf q) ≡ true
+  place-ok : Admitted c m ws q → placeOk (m .statements) (patternsOf ws) (c .resources) (c .statements) (placeOf q) ≡ true
   place-ok A = (place-stands c m ws (A .capacity) (A .words) (placeOf q)) .1 (A .place)
 
-  seven-of : Admitted c m ws q b → b ≡ 0 → number ≡ 7
+  seven-of : Admitted c m ws q → b ≡ 0 → number ≡ 7
   seven-of A z = rw (read-on c m ws q b (own-number c m ws q (A .generation)))
       (unfold answerOf packed in (rw (A .capacity, A .words, place-ok A, eq-eqb b 0 z)))
 
-  resumed : Admitted c m ws q b → 0 < b → answerOf c m ws (placeOf q) b
+  resumed : Admitted c m ws q → 0 < b → answerOf c m ws (placeOf q) b
       ≡ resume (c .resources) (c .statements) (m .resources) (m .statements) (patternsOf ws) (placeOf q) b
   unfolding answerOf
   resumed A h = rw (A .capacity, A .words, place-ok A, ne-eqb b 0 (λ d. omega arith))
 
-  walked-of : Admitted c m ws q b → 0 < b → (number ≡ 0) ⊎ (number ≡ 9)
+  walked-of : Admitted c m ws q → 0 < b → (number ≡ 0) ⊎ (number ≡ 9)
   walked-of A h = rw (read-on c m ws q b (own-number c m ws q (A .generation)), resumed A h)
       (nine-only (c .generation) _
       (λ k n. resume-not k n (c .resources) (c .statements) (m .resources) (m .statements) (patternsOf ws) (placeOf q) b))
@@ -66,7 +66,7 @@ module _ (c : Counters) (m : Tables) (ws : List ℕ) (q : QueryCursor) (b : ℕ)
 
   module _ (P : Type 0) (one : fits c m ≡ false → number ≡ 1 → P)
       (eight : fits c m ≡ true → wordsOk (c .resources) ws ≡ false → number ≡ 8 → P) (thirteen : number ≡ 13 → P) (six : number ≡ 6 → P)
-      (seven : Admitted c m ws q b → b ≡ 0 → number ≡ 7 → P) (walked : Admitted c m ws q b → 0 < b → (number ≡ 0) ⊎ (number ≡ 9) → P) where
+      (seven : Admitted c m ws q → b ≡ 0 → number ≡ 7 → P) (walked : Admitted c m ws q → 0 < b → (number ≡ 0) ⊎ (number ≡ 9) → P) where
     by-tests : P
     by-tests =
         decide (fits c m)
@@ -74,7 +74,7 @@ module _ (c : Counters) (m : Tables) (ws : List ℕ) (q : QueryCursor) (b : ℕ)
         (λ w. decide (eqb (q .generation) (c .generation))
         (λ g. let g′ = eqb-true (q .generation) (c .generation) g in
         decide (placeOk (m .statements) (patternsOf ws) (c .resources) (c .statements) (placeOf q))
-        (λ o. let A : Admitted c m ws q b = record {
+        (λ o. let A : Admitted c m ws q = record {
           capacity = f;
           words = w;
           generation = g′;
@@ -109,13 +109,13 @@ module _ (c : Counters) (m : Tables) (ws : List ℕ) (q : QueryCursor) (b : ℕ)
       λ h. eight-of (h .0) (h .1),
     );
     budget = (
-      λ e. by-tests (Admitted c m ws q b × (b ≡ 0)) (λ f n. absurd (omega (arith, e, n))) (λ f w n. absurd (omega (arith, e, n)))
+      λ e. by-tests (Admitted c m ws q × (b ≡ 0)) (λ f n. absurd (omega (arith, e, n))) (λ f w n. absurd (omega (arith, e, n)))
           (λ n. absurd (omega (arith, e, n))) (λ n. absurd (omega (arith, e, n))) (λ A z n. (A, z))
           (λ A h s. absurd (not-walked 7 (omega arith) (omega arith) e s)),
       λ h. seven-of (h .0) (h .1),
     );
     walked = (
-      λ s. by-tests (Admitted c m ws q b × (0 < b)) (λ f n. absurd (not-walked 1 (omega arith) (omega arith) n s))
+      λ s. by-tests (Admitted c m ws q × (0 < b)) (λ f n. absurd (not-walked 1 (omega arith) (omega arith) n s))
           (λ f w n. absurd (not-walked 8 (omega arith) (omega arith) n s)) (λ n. absurd (not-walked 13 (omega arith) (omega arith) n s))
           (λ n. absurd (not-walked 6 (omega arith) (omega arith) n s)) (λ A z n. absurd (not-walked 7 (omega arith) (omega arith) n s))
           (λ A h s. (A, h)),

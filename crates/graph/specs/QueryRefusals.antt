@@ -17,20 +17,19 @@ module _ (c : Counters) (m : Tables) (ws : List ℕ) where
     pub words : n ≡ 8 ↔ (fits c m ≡ true) × (wordsOk (c .resources) ws ≡ false)
     pub opened : n ≡ 0 ↔ (fits c m ≡ true) × (wordsOk (c .resources) ws ≡ true)
 
-  module _ (q : QueryCursor) (b : ℕ) where
-    -- the call is accepted, but for its budget: 1, 8, 13 and 6 are not refused
-    pub record Admitted : Type 0 where
-      pub capacity : fits c m ≡ true
-      pub words : wordsOk (c .resources) ws ≡ true
-      pub generation : q .generation ≡ c .generation
-      pub place : PlaceStands c m ws (placeOf q)
+  -- 1, 8, 13 and 6 are not refused
+  pub record Admitted (q : QueryCursor) : Type 0 where
+    pub capacity : fits c m ≡ true
+    pub words : wordsOk (c .resources) ws ≡ true
+    pub generation : q .generation ≡ c .generation
+    pub place : PlaceStands c m ws (placeOf q)
 
-    -- a next is refused n, or 0 if it is not refused; 9 is the walk's
-    pub record NextRefused (n : ℕ) : Type 0 where
-      pub capacity : n ≡ 1 ↔ (fits c m ≡ false)
-      pub words : n ≡ 8 ↔ (fits c m ≡ true) × (wordsOk (c .resources) ws ≡ false)
-      pub budget : n ≡ 7 ↔ Admitted × (b ≡ 0)
-      pub walked : (n ≡ 0) ⊎ (n ≡ 9) ↔ Admitted × (0 < b)
+  -- a next is refused n, or 0 if it is not refused; only a walk with a budget is refused 9
+  pub record NextRefused (q : QueryCursor) (b n : ℕ) : Type 0 where
+    pub capacity : n ≡ 1 ↔ (fits c m ≡ false)
+    pub words : n ≡ 8 ↔ (fits c m ≡ true) × (wordsOk (c .resources) ws ≡ false)
+    pub budget : n ≡ 7 ↔ Admitted q × (b ≡ 0)
+    pub walked : (n ≡ 0) ⊎ (n ≡ 9) ↔ Admitted q × (0 < b)
 
 abbrev pub RefusalsClaim : Type 0
 RefusalsClaim = (c : Counters) (m : Tables) (ws : List ℕ)
