@@ -15,6 +15,7 @@ pub mod Calls
 pub mod Onwards
 pub mod Budget
 pub mod Standing
+pub mod QueryRefusals
 pub mod Scans
 pub mod Unseen
 pub mod Listed

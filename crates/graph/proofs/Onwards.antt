@@ -114,6 +114,10 @@ module _ (c : Counters) (m : Tables) (S : Sound c m) (ws : List ℕ) (words : wo
   cursor-after : (q : Place) → Ok q → onwardsFrom c m ws all (cursorHere q) ≡ after q
   cursor-after q o = ap after (place-cursor (c .generation) q (accepted-shallow c m ws words q o))
 
+  ended-place : placeOf (cursorHere finish) ≡ finish
+  unfolding placeAs cursorAt
+  ended-place = refl
+
   ended-after : onwardsFrom c m ws all (cursorHere finish) ≡ []
   unfolding onwardsOf placeAs cursorAt
   ended-after = refl
@@ -136,7 +140,7 @@ module _ (c : Counters) (m : Tables) (S : Sound c m) (ws : List ℕ) (words : wo
     unrefused = refl;
     status = inr (inl refl);
     found = λ e. absurd (omega arith);
-    ended = λ e. (sym (from-after (placeOf q) o) ∙ g, ended-after);
+    ended = λ e. (sym (from-after (placeOf q) o) ∙ g, ended-place, ended-after);
     spent = λ e. absurd (omega arith);
     kept = cursor-ok finish (unfold placeOk in refl);
   }

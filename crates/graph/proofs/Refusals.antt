@@ -61,7 +61,7 @@ module _ (k : ℕ) (nine : 9 ≢ k) where
     begun-not b (go l up) = walk-not b l up 0
     begun-not b (whole s l up) = ne-eqb 9 k nine
 
-    resume-not : (q : Place) (b : ℕ) → says k (resume r t res stm ps q b) ≡ false
+    pub resume-not : (q : Place) (b : ℕ) → says k (resume r t res stm ps q b) ≡ false
     unfolding resume
     resume-not start b =
         decide (eqb (length ps) 0) (λ e. rw e) (λ e. rw e (begun-not b (enter r t res stm ps [])))

@@ -5,6 +5,7 @@ use Rattle.graph.specs.Claims.{ScanClaim}
 use Rattle.graph.specs.LiveClaims.{LiveCountClaim, QueriesDoNotLook}
 use Rattle.graph.specs.Claims.{WriteClaim, LoadClaim}
 use Rattle.graph.specs.Standing.{PlaceClaim, BadPlaceClaim}
+use Rattle.graph.specs.QueryRefusals.{RefusalsClaim}
 use Rattle.graph.proofs.Names as names
 use Rattle.graph.proofs.Accepted as accepted
 use Rattle.graph.proofs.Calls as calls
@@ -13,6 +14,7 @@ use Rattle.graph.proofs.Refusals as refusals
 use Rattle.graph.proofs.Onwards as onwards
 use Rattle.graph.proofs.Budget as budget
 use Rattle.graph.proofs.Standing as standing
+use Rattle.graph.proofs.QueryRefusals as query-refusals
 use Rattle.graph.proofs.Scans as scans
 use Rattle.graph.proofs.Unseen as unseen
 use Rattle.graph.proofs.Writes as writes
@@ -41,6 +43,9 @@ place-stands = standing.place-stands
 
 pub bad-place : BadPlaceClaim
 bad-place = standing.bad-place
+
+pub refused-in-order : RefusalsClaim
+refused-in-order = query-refusals.refused-in-order
 
 pub refusals-bare : RefusalsBare
 refusals-bare = refusals.refusals-bare

@@ -17,8 +17,8 @@ use Rattle.store.specs.Scan.{openOf, nextOf}
 use Rattle.store.specs.Soundness.{Sound}
 use Rattle.store.specs.History.{Store, store, capacitiesOf, callStore, storeReplies, storeAfter}
 use Rattle.store.specs.Claims.{listsOf, reclaimsIn}
-use Rattle.graph.specs.Words.{maxPatterns, variables, firstVariable, wordsOk, patternsOf, Bindings, unbound}
-use Rattle.graph.specs.Place.{placeOf, startCursor}
+use Rattle.graph.specs.Words.{wordsOk, patternsOf, Bindings, unbound}
+use Rattle.graph.specs.Place.{finish, placeOf, startCursor}
 use Rattle.graph.specs.Work.{workOf, scanWorkOf}
 use Rattle.graph.specs.Query.{placeOk, openQueryOf, nextQueryOf}
 use Rattle.graph.specs.Values.{QueryValues, queryValues, queryOpenedValues}
@@ -134,8 +134,8 @@ ReadingClaim = (c : Counters) (m : Tables) → Sound c m → (ws : List ℕ) →
 pub record Accepts (r : ℕ) (ws : List ℕ) : Type 0 where
   pub patterns : ℕ
   pub three-each : length ws ≡ 3 * patterns
-  pub few : patterns ≤ maxPatterns
-  pub each : (w : ℕ) → List·Memᴰ w ws → ((0 < w) × (w ≤ r)) ⊎ ((v : ℕ) × (v < variables) × (w ≡ firstVariable + v))
+  pub few : patterns ≤ 8
+  pub each : (w : ℕ) → List·Memᴰ w ws → ((0 < w) × (w ≤ r)) ⊎ ((v : ℕ) × (v < 16) × (w ≡ 2147483648 + v))
 
 abbrev pub WordsClaim : Type 0
 WordsClaim = (r : ℕ) (ws : List ℕ) → wordsOk r ws ≡ true ↔ Accepts r ws
@@ -151,13 +151,13 @@ accepted c m ws q = eqb (q .generation) (c .generation)
 abbrev pub onwardsFrom : Counters → Tables → List ℕ → List Bindings → QueryCursor → List Bindings
 onwardsFrom c m ws ss q = onwardsOf (statementNumbers c m ws) ss (placeOf q)
 
--- found: the first of those at or after the place, the others from now on; ended: there are none; spent: the budget is visited and the same
--- are left
+-- found: the first of those at or after the place, the others from now on; ended: there are none, and the place is the end; spent: the
+-- budget is visited and the same are left
 pub record Answers (c : Counters) (m : Tables) (ws : List ℕ) (ss : List Bindings) (q : QueryCursor) (b : ℕ) (v : QueryValues) : Type 0 where
   pub unrefused : v .refusal ≡ 0
   pub status : (v .status ≡ 1) ⊎ ((v .status ≡ 2) ⊎ (v .status ≡ 3))
   pub found : v .status ≡ 1 → onwardsFrom c m ws ss q ≡ v .solution .values ∷ onwardsFrom c m ws ss (v .cursor)
-  pub ended : v .status ≡ 2 → (onwardsFrom c m ws ss q ≡ []) × (onwardsFrom c m ws ss (v .cursor) ≡ [])
+  pub ended : v .status ≡ 2 → (onwardsFrom c m ws ss q ≡ []) × (placeOf (v .cursor) ≡ finish) × (onwardsFrom c m ws ss (v .cursor) ≡ [])
   pub spent : v .status ≡ 3 → (onwardsFrom c m ws ss q ≡ onwardsFrom c m ws ss (v .cursor)) × (v .visits ≡ b)
   pub kept : accepted c m ws (v .cursor) ≡ true
 

@@ -8,5 +8,6 @@ pub mod Order
 pub mod Meaning
 pub mod Graph
 pub mod Standing
+pub mod QueryRefusals
 pub mod Claims
 pub mod LiveClaims
