@@ -346,6 +346,7 @@ trail-back : {s : List ℕ} → (std.WS ▸ maybe std.COMMENT) s → All comment
 trail-back (_▸_.pair {t = t} w c) f = spaced t w (λ h. comment-after-dot c h) f
 
 back : {l : List ℕ} (e : std.Triple l) → InSubset e → Triple l
+unfolding commentByte
 back e h =
     record {
       before = e .before;
@@ -368,7 +369,7 @@ back e h =
     }
 
 pub subset-of-standard : SubsetOfStandard
-unfolding forth back
+unfolding forth back commentByte
 subset-of-standard l = (
   λ d. (
     forth d,

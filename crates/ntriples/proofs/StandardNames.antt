@@ -301,11 +301,11 @@ byte-suffix : (c : ℕ) (s : List ℕ) → b.textByte c ≡ true → suffixFrom 
 byte-suffix c s e = skip-char c s (plain c e .0) (plain c e .1)
 
 pair-pairs : (c : ℕ) (s : List ℕ) → b.pairByte c ≡ true → fourPairs false (92 ∷ (c ∷ s)) ≡ fourPairs false s
-unfolding fourPairs
+unfolding fourPairs b.pairByte
 pair-pairs c s e = rw e
 
 pub pair-only : (c : ℕ) (s : List ℕ) → fourPairs false (92 ∷ (c ∷ s)) ≡ true → b.pairByte c ≡ true
-unfolding fourPairs
+unfolding fourPairs b.pairByte
 pair-only c s h =
     cases (λ x. x ≡ true) (b.pairByte c) (fourPairs false s) false (λ e _. e) (λ _ z. never z) h
 
@@ -382,11 +382,11 @@ after-pair c s e f =
     }
 
 pub no-u : {C : Type 0} (s : List ℕ) → fourPairs false (92 ∷ (117 ∷ s)) ≡ true → C
-unfolding fourPairs b.pairByte among
+unfolding fourPairs among
 no-u s h = never h
 
 pub no-U : {C : Type 0} (s : List ℕ) → fourPairs false (92 ∷ (85 ∷ s)) ≡ true → C
-unfolding fourPairs b.pairByte among
+unfolding fourPairs among
 no-U s h = never h
 
 text-back : {s : List ℕ} (t : List ℕ) → many (one std.stringChar ∣ std.ECHAR ∣ std.UCHAR) s → Fit ((s ++ (34 ∷ [])) ++ t)

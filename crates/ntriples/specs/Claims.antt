@@ -1,12 +1,12 @@
 -- What is proved of reading a line (paper 01, "Names", last paragraph, and "Read a line"; paper 02, note 7), for every limit m of a
 -- term's bytes from 1 up; the paper's is 255. Each claim is a type, and `proofs/` has a value of each. Assumes nothing.
-use Rattle.term.specs.Prelude.{ℕ, _+_, _≤_, _<_, _≡_, List, _⊎_, _↔_, length, drop}
-use Rattle.term.specs.Bytes.{All}
+use Rattle.term.specs.Prelude.{ℕ, _+_, _≤_, _<_, _≡_, List, true, cond, _⊎_, _↔_, eqb, length, drop}
+use Rattle.term.specs.Bytes.{between, All}
 use Rattle.term.specs.Grammar.{Name}
 use Rattle.term.specs.Scanner.{kindOf}
 use Rattle.term.specs.Canonical.{canonical}
 use Rattle.ntriples.specs.declared.Span.{Span}
-use Rattle.ntriples.specs.Grammar.{span, commentByte, Trail, Triple, subjectSpan, predicateSpan, objectSpan, Within, Longest}
+use Rattle.ntriples.specs.Grammar.{span, Trail, Triple, subjectSpan, predicateSpan, objectSpan, Within, Longest}
 use Rattle.ntriples.specs.Grammar.{FirstLine, bytesOf, Values, values, noPart, valuesOf}
 use Rattle.ntriples.specs.Standard as standard
 use Rattle.ntriples.specs.Standard.{stringsOf, iri, iriOf, subjectTerm, objectTerm}
@@ -87,7 +87,7 @@ pub record InSubset {l : List ℕ} (e : standard.Triple l) : Type 0 where
   pub subject : (k : ℕ) × Name k (e .subject)
   pub predicate : (k : ℕ) × Name k (e .predicate)
   pub object : (k : ℕ) × Name k (e .object)
-  pub after : All commentByte (e .after)
+  pub after : All (λ c. cond (eqb c 9) true (between 32 126 c)) (e .after)
 
 -- A line's derivations in the paper's grammar are, string for string, its derivations in the standard's that lie in the subset.
 abbrev pub SubsetOfStandard : Type 0

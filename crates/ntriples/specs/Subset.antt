@@ -1,7 +1,9 @@
--- What the paper leaves out of the standard's terms, said of bytes alone, both ways: so a grammar of the standard that were too wide
--- within ASCII would be refused. Proved in `proofs/StandardNames.antt`. Assumes nothing.
+-- What the paper leaves out of the standard's terms, as conditions on bytes alone: the paper's names are exactly the standard's terms
+-- that meet them. So a name more or less in the paper's grammar would be refused, and in the standard's a term more or less that meets
+-- them. Of terms that do not (as with other escapes, with control characters, with `:` in a label) nothing is said here: there the
+-- standard's grammar is to be read. Proved in `proofs/StandardNames.antt`. Assumes nothing.
 use Rattle.term.specs.Prelude.{ℕ, _≡_, List, [], _∷_, Bool, true, false, cond, _↔_, leb, eqb, drop}
-use Rattle.term.specs.Bytes.{between, pairByte, All}
+use Rattle.term.specs.Bytes.{between, among, All}
 use Rattle.term.specs.Grammar.{Iri, Blank, Literal}
 use Rattle.ntriples.specs.Standard as standard
 use Rattle.ntriples.specs.TermOf.{suffixFrom}
@@ -24,7 +26,7 @@ BlanksOfStandard = (s : List ℕ) → Blank s ↔ (standard.BLANK-NODE-LABEL s �
 -- space, `\`, and the empty datatype.
 unfoldable pub fourPairs : Bool → List ℕ → Bool
 fourPairs escaped [] = true
-fourPairs true (c ∷ s) = cond (pairByte c) (fourPairs false s) false
+fourPairs true (c ∷ s) = cond (among (34 ∷ 92 ∷ 110 ∷ 114 ∷ []) c) (fourPairs false s) false
 fourPairs false (c ∷ s) = fourPairs (eqb c 92) s
 
 abbrev pub visible : ℕ → Bool
