@@ -27,10 +27,11 @@ use Rattle.store.specs.Shared.{below, head0, wellFormed, nameOf, lookupN
 use Rattle.store.specs.Tables.{Tables, fits, word, offsetAt}
 use Rattle.store.specs.Model.{internModel}
 use Rattle.store.specs.Reading.{inRange, zeroFrom, spanTo, nameSpanOf}
-use Rattle.store.specs.Dictionary.{findOf, internOf}
-use Rattle.store.specs.Names.{storable, Named, joined}
+use Rattle.store.specs.Dictionary.{foundAt, findOf, internOf}
+use Rattle.store.specs.Names.{storable, Named, joined, namesUpTo}
+use Rattle.store.specs.Values.{numbered, lookupValues}
 use Rattle.store.specs.Soundness.{Sound}
-use Rattle.store.specs.NameClaims.{NamedAs, RoundTrips, SpellingsAgree}
+use Rattle.store.specs.NameClaims.{NamedAs, RoundTrips, FindMeans, SpellingsAgree}
 use Rattle.store.proofs.Tests.{decide, three, and-l, and-r, and-of}
 use Rattle.store.proofs.Falling.{head-unique}
 use Rattle.store.proofs.Form.{clean, form-clean, form-short, storable-formed, storable-plain, storable-kept}
@@ -217,6 +218,18 @@ module _ (c : Counters) (m : Tables) (S : Sound c m) where
       let T = named-as y (r .0) (r .1) in
       let s = span-start _ _ _ _ (sym (T .answer) ∙ W .answer) in
       (r .0, r .1, sym (T .bytes) ∙ ap₂ (λ (o l : ℕ). take l (drop o (m .text))) (s .0) (s .1) ∙ W .bytes)
+
+-- find, by values
+found-values : (n : ℕ) → lookupValues (foundAt n) ≡ numbered n
+found-values zero = refl
+found-values (suc n) = refl
+
+pub find-means : FindMeans
+unfolding findOf
+find-means c m S w = (
+  λ f. rw (S .capacity, f),
+  λ f. rw (S .capacity, f) (found-values (lookupName (canonical w) (namesUpTo m (c .resources)))),
+)
 
 pub round-trips : RoundTrips
 round-trips c m S = record {
