@@ -2,38 +2,28 @@
 -- nothing.
 use mathlib.Core.Path.{_≡_, refl, sym, ap, _∙_}
 use mathlib.Core.Logic.{_≢_, _⊎_, inl, inr}
-use mathlib.Core.Bool.{true, false, _&&_}
+use mathlib.Core.Bool.{Bool, true, false, _&&_, true≢false}
+use mathlib.Core.List.{List}
 use mathlib.Core.Option.{Option, none, some}
 use Prim.Native.Nat.{ℕ, _+_, _-_, _≤_, _<_}
 use native.Mathlib.Omega.{arith}
-use lib.ListN.{length}
-use lib.Dec.{leb, ltb}
-use borrow.Author.Tests.{lt-ltb, le-leb, ltb-true, leb-true}
+use lib.Dec.{leb}
+use borrow.Author.Tests.{le-leb, leb-true}
 use Rattle.store.specs.declared.Counters.{Counters}
-use Rattle.store.specs.declared.Position.{Position}
 use Rattle.store.specs.declared.ResourceId.{ResourceId}
 use Rattle.store.specs.declared.StatementId.{StatementId}
-use Rattle.store.specs.declared.NameRead.{NameRead}
-use Rattle.store.specs.Shared.{at, known}
+use Rattle.store.specs.Shared.{known}
 use Rattle.store.specs.Tables.{Tables, fits, tripleAt, flagAt, offsetAt}
 use Rattle.store.specs.Values.{StatementValues, statementValues, NameValues, nameValues}
 use Rattle.store.specs.Reading.{inRange, nameWindow, zeroFrom, spanTo, statementOf, nameSpanOf}
 use Rattle.store.specs.Soundness.{Sound}
-use Rattle.store.specs.RefusalClaims.{ReadInOrder, ReadRefuses, NamedInOrder, NameRefuses}
-use Rattle.store.proofs.Tests.{decide, three, and-l, and-r, and-of, known-of}
+use Rattle.store.specs.RefusalClaims.{InRange, ReadRefuses, NameRefuses}
+use Rattle.store.proofs.Tests.{decide, three, and-l, and-r, and-of, range-of, range-in, known-low, known-high, known-of}
 use Rattle.store.proofs.Words.{triple-at}
 use Rattle.store.proofs.NamesAgree.{name-at}
 use Rattle.store.proofs.RoundTrips.{span-of}
 
--- ---- numbers in range
-
-range-of : (n x : ℕ) → 0 < x → x ≤ n → inRange n x ≡ true
-unfolding inRange
-range-of n x a b = and-of _ _ (lt-ltb 0 x a) (le-leb x n b)
-
-range-in : (n x : ℕ) → inRange n x ≡ true → (0 < x) × (x ≤ n)
-unfolding inRange
-range-in n x e = (ltb-true 0 x (and-l _ _ e), leb-true x n (and-r (ltb 0 x) _ e))
+-- ---- numbers out of range
 
 range-out : (n x : ℕ) → inRange n x ≡ false → (x ≡ 0) ⊎ (n < x)
 range-out n x e =
@@ -51,13 +41,37 @@ out-of n x (inr h) = decide (inRange n x) (λ e. let r = range-in n x e in absur
 
 -- ---- a statement
 
+abbrev whole : ℕ → List ℕ → ℕ → Bool
+whole r stm i = known r (tripleAt stm i) && leb (flagAt stm i) 1
+
+whole-of : (r : ℕ) (stm : List ℕ) (i : ℕ) → InRange r stm i → whole r stm i ≡ true
+whole-of r stm i W =
+    and-of _ _
+    (known-of r (tripleAt stm i) (λ p. rw (triple-at stm p i) (W .low p)) (λ p. rw (triple-at stm p i) (W .high p)))
+    (le-leb (flagAt stm i) 1 (W .flag))
+
+whole-in : (r : ℕ) (stm : List ℕ) (i : ℕ) → whole r stm i ≡ true → InRange r stm i
+whole-in r stm i e =
+    let k = and-l _ _ e in
+    record {
+      low = λ p. rw (triple-at stm p i) at (known-low r (tripleAt stm i) k p);
+      high = λ p. rw (triple-at stm p i) at (known-high r (tripleAt stm i) k p);
+      flag = leb-true (flagAt stm i) 1 (and-r (known r (tripleAt stm i)) _ e);
+    }
+
+whole-not : (r : ℕ) (stm : List ℕ) (i : ℕ) → whole r stm i ≡ false → InRange r stm i → ⊥
+whole-not r stm i e W = true≢false (sym (whole-of r stm i W) ∙ e)
+
+not-whole : (r : ℕ) (stm : List ℕ) (i : ℕ) → (InRange r stm i → ⊥) → whole r stm i ≡ false
+not-whole r stm i n = decide (whole r stm i) (λ e. absurd (n (whole-in r stm i e))) (λ e. e)
+
 module _ (c : Counters) (m : Tables) (n : StatementId) where
   read-one : (statementValues (statementOf c m n)) .refusal ≡ 1 → fits c m ≡ false
   unfolding statementOf
   read-one =
       decide (fits c m)
       (λ a. rw a (decide (inRange (c .statements) (n .0))
-      (λ b. rw b (decide (known (c .resources) (tripleAt (m .statements) (n .0 - 1)) && leb (flagAt (m .statements) (n .0 - 1)) 1)
+      (λ b. rw b (decide (whole (c .resources) (m .statements) (n .0 - 1))
       (λ k. rw k (λ h. absurd (omega (arith, h))))
       (λ k. rw k (λ h. absurd (omega (arith, h))))))
       (λ b. rw b (λ h. absurd (omega (arith, h))))))
@@ -68,22 +82,30 @@ module _ (c : Counters) (m : Tables) (n : StatementId) where
   read-four =
       decide (fits c m)
       (λ a. rw a (decide (inRange (c .statements) (n .0))
-      (λ b. rw b (decide (known (c .resources) (tripleAt (m .statements) (n .0 - 1)) && leb (flagAt (m .statements) (n .0 - 1)) 1)
+      (λ b. rw b (decide (whole (c .resources) (m .statements) (n .0 - 1))
       (λ k. rw k (λ h. absurd (omega (arith, h))))
       (λ k. rw k (λ h. absurd (omega (arith, h))))))
       (λ b. rw b (λ h. (refl, refl)))))
       (λ a. rw a (λ h. absurd (omega (arith, h))))
 
-  sound-record : Sound c m → 0 < n .0 → n .0 ≤ c .statements
-      → known (c .resources) (tripleAt (m .statements) (n .0 - 1)) && leb (flagAt (m .statements) (n .0 - 1)) 1 ≡ true
-  sound-record S a b =
-      let i = n .0 - 1 in
-      let h : i < c .statements = omega arith in
-      and-of _ _
-      (known-of (c .resources) (tripleAt (m .statements) i)
-      (λ p. rw (triple-at (m .statements) p i) (S .linked .low p i h))
-      (λ p. rw (triple-at (m .statements) p i) (S .linked .high p i h)))
-      (le-leb (flagAt (m .statements) i) 1 (S .linked .flag i h))
+  read-nine : (statementValues (statementOf c m n)) .refusal ≡ 9
+      → (fits c m ≡ true) × (inRange (c .statements) (n .0) ≡ true) × (whole (c .resources) (m .statements) (n .0 - 1) ≡ false)
+  unfolding statementOf
+  read-nine =
+      decide (fits c m)
+      (λ a. rw a (decide (inRange (c .statements) (n .0))
+      (λ b. rw b (decide (whole (c .resources) (m .statements) (n .0 - 1))
+      (λ k. rw k (λ h. absurd (omega (arith, h))))
+      (λ k. rw k (λ h. (refl, refl, refl)))))
+      (λ b. rw b (λ h. absurd (omega (arith, h))))))
+      (λ a. rw a (λ h. absurd (omega (arith, h))))
+
+sound-whole : (c : Counters) (m : Tables) (i : ℕ) → Sound c m → i < c .statements → InRange (c .resources) (m .statements) i
+sound-whole c m i S h = record {
+  low = λ p. S .linked .low p i h;
+  high = λ p. S .linked .high p i h;
+  flag = S .linked .flag i h;
+}
 
 pub read-refuses : ReadRefuses
 unfolding statementOf
@@ -93,7 +115,23 @@ read-refuses c m n = record {
     λ h. let r = read-four c m n (ap (λ (v : StatementValues). v .refusal) h) in (r .0, range-out (c .statements) (n .0) (r .1)),
     λ h. rw (h .0, out-of (c .statements) (n .0) (h .1)),
   );
-  answered = λ S a b. rw (S .capacity, range-of (c .statements) (n .0) a b, sound-record c m n S a b);
+  nine = (
+    λ h.
+        let r = read-nine c m n (ap (λ (v : StatementValues). v .refusal) h) in
+        let b = range-in (c .statements) (n .0) (r .1) in
+        (r .0, b .0, b .1, whole-not (c .resources) (m .statements) (n .0 - 1) (r .2)),
+    λ h. rw (
+      h .0,
+      range-of (c .statements) (n .0) (h .1) (h .2),
+      not-whole (c .resources) (m .statements) (n .0 - 1) (h .3),
+    ),
+  );
+  answered = λ S a b.
+      rw (
+        S .capacity,
+        range-of (c .statements) (n .0) a b,
+        whole-of (c .resources) (m .statements) (n .0 - 1) (sound-whole c m (n .0 - 1) S (omega arith)),
+      );
 }
 
 -- ---- a name

@@ -1,7 +1,7 @@
 -- What is claimed of refusals on any tables (demand 1), as types: 1 before all else, nothing written and zeros beside a refusal, 6 and 13 of
--- a listing, 9 for live counts, 1 and 4 of a statement read and of a name read, 1, 14 and 9 of a reclaim. Assumes nothing.
+-- a listing, 9 for live counts, 1, 4 and 9 of a statement read, 1 and 4 of a name read, 1, 14 and 9 of a reclaim. Assumes nothing.
 use Rattle.store.specs.Prelude.{_≡_, _≢_, _↔_, true, false, some, ℕ, suc, _≤_, _<_, Counters, Position, All, By, Triple, ScanCursor}
-use Rattle.store.specs.Prelude.{_⊎_, _-_, length, ResourceId, StatementId, Reclaimed}
+use Rattle.store.specs.Prelude.{_⊎_, List, _-_, length, ResourceId, StatementId, Reclaimed}
 use Rattle.store.specs.Shared.{at, known, kindsPermitted}
 use Rattle.store.specs.Tables.{Tables, fits, tripleAt, offsetAt, flagAt, countAt, kindAt, liveAt, resourceCapacity, statementCapacity}
 use Rattle.store.specs.Tables.{textCapacity, termAt}
@@ -73,10 +73,18 @@ unread r = record { refusal = r; spo = noTriple; flag = 0 }
 abbrev pub unnamed : ℕ → NameValues
 unnamed r = record { refusal = r; start = 0; size = 0 }
 
--- Read a statement: on any tables 1, then 4 for 0 and above T; on a sound store its triple and its flag.
+-- no resource of entry i is outside 1..r, nor is its flag above 1
+pub record InRange (r : ℕ) (stm : List ℕ) (i : ℕ) : Type 0 where
+  pub low : (p : Position) → 0 < termAt stm p i
+  pub high : (p : Position) → termAt stm p i ≤ r
+  pub flag : flagAt stm i ≤ 1
+
+-- Read a statement: on any tables 1, then 4 for 0 and above T, then 9 for a resource outside 1..R or a flag above 1; on a sound store its triple and its flag.
 pub record ReadInOrder (c : Counters) (m : Tables) (n : StatementId) : Type 0 where
   pub one : statementValues (statementOf c m n) ≡ unread 1 ↔ fits c m ≡ false
   pub four : statementValues (statementOf c m n) ≡ unread 4 ↔ (fits c m ≡ true) × ((n .0 ≡ 0) ⊎ (c .statements < n .0))
+  pub nine : statementValues (statementOf c m n) ≡ unread 9
+      ↔ (fits c m ≡ true) × (0 < n .0) × (n .0 ≤ c .statements) × (InRange (c .resources) (m .statements) (n .0 - 1) → ⊥)
   pub answered : Sound c m → 0 < n .0 → n .0 ≤ c .statements → statementValues (statementOf c m n)
       ≡ record { refusal = 0; spo = tripleAt (m .statements) (n .0 - 1); flag = flagAt (m .statements) (n .0 - 1) }
 
