@@ -103,8 +103,7 @@ damaged c m x p h =
 
 pub live-above-count : LiveAboveCount
 live-above-count c m x p a b h =
-    let r = retract-damaged c m x a b (damaged c m x p h) in
-    (
+    let r = retract-damaged c m x a b (damaged c m x p h) in (
       ap (λ (z : Tables × Retracted). retractedValues (z .1)) r,
       ap (λ (z : Tables × Retracted). z .0) r,
       λ d f.

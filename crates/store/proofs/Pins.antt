@@ -17,8 +17,8 @@ use Rattle.store.specs.declared.Chain.the-variants.{All, By}
 use Rattle.store.specs.declared.Triple.{Triple}
 use Rattle.store.specs.Shared.{at, all3, known, within, same, agrees, kindsPermitted, below, Entry, matches, pick, lookupName}
 use Rattle.store.specs.Tables.{off}
-use Rattle.store.specs.Pins.{KnownMeans, WithinMeans, SameMeans, MatchesMeans, KindsPermittedMeans, BelowMeans, BelowFromOne, LimitsAre}
-use Rattle.store.specs.Pins.{FirstIsHighest, BytesMean, LookupMeans}
+use Rattle.store.specs.Pins.{KnownMeans, WithinMeans, SameMeans, MatchesMeans, KindsPermittedMeans, BelowMeans}
+use Rattle.store.specs.Pins.{BelowFromOne, FirstIsHighest, LimitsAre, BytesMean, LookupMeans}
 use Rattle.store.specs.Pins.{LeastBound, PicksLeast}
 use Rattle.store.proofs.Tests.{decide, off-lt, and-l, and-r, and-of, all3-at, all3-of, known-low, known-high}
 use Rattle.store.proofs.Tests.{known-of, within-high, within-of, same-is, same-self}

@@ -1,6 +1,7 @@
--- What stands on both sides of the claims (`Shared`) is pinned here by what it means, as types. Assumes nothing.
+-- What stands on both sides of the claims (`Shared`) and the byte order of names are pinned here by what they mean, as types. Assumes
+-- nothing.
 use Rattle.store.specs.Prelude.{_≡_, _≢_, _↔_, Bool, true, false, List, [], _∷_, List·Memᴰ, ℕ, suc, _≤_, _<_, length, getD, Position}
-use Rattle.store.specs.Prelude.{Chain, All, By, Triple, _⊎_, _++_}
+use Rattle.store.specs.Prelude.{_⊎_, _++_, Chain, All, By, Triple}
 use Rattle.term.specs.Bytes.{eqBytes}
 use Rattle.term.specs.Grammar.{nameLimit}
 use Rattle.store.specs.Shared.{at, known, within, same, kindsPermitted, below, head0, Entry, matches, pick, lookupName}

@@ -79,7 +79,8 @@ pub record InRange (r : ℕ) (stm : List ℕ) (i : ℕ) : Type 0 where
   pub high : (p : Position) → termAt stm p i ≤ r
   pub flag : flagAt stm i ≤ 1
 
--- Read a statement: on any tables 1, then 4 for 0 and above T, then 9 for a resource outside 1..R or a flag above 1; on a sound store its triple and its flag.
+-- Read a statement: on any tables 1, then 4 for 0 and above T, then 9 for a resource outside 1..R or a flag above 1; on a sound store
+-- its triple and its flag.
 pub record ReadInOrder (c : Counters) (m : Tables) (n : StatementId) : Type 0 where
   pub one : statementValues (statementOf c m n) ≡ unread 1 ↔ fits c m ≡ false
   pub four : statementValues (statementOf c m n) ≡ unread 4 ↔ (fits c m ≡ true) × ((n .0 ≡ 0) ⊎ (c .statements < n .0))
