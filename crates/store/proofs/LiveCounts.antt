@@ -1,6 +1,6 @@
 -- The live counts: what the three words after a resource's kind say, what assert and retract refuse for them, and that a listing does
 -- not look at them. Assumes nothing.
-use mathlib.Core.Path.{_≡_, refl, _∙_}
+use mathlib.Core.Path.{_≡_, refl, ap, _∙_}
 use mathlib.Core.Logic.{_≢_}
 use mathlib.Core.Bool.{true, false, cond, not, _&&_, false≢true}
 use mathlib.Core.List.{List, [], _∷_, _++_}
@@ -16,10 +16,15 @@ use Rattle.store.specs.declared.Position.the-variants.{Subject, Predicat
 use Rattle.store.specs.declared.Chain.{Chain}
 use Rattle.store.specs.declared.Chain.the-variants.{All, By}
 use Rattle.store.specs.declared.Triple.{Triple}
+use Rattle.store.specs.declared.Refusal.the-variants.{Damaged}
+use Rattle.store.specs.declared.Asserted.{Asserted}
+use Rattle.store.specs.declared.Retracted.{Retracted}
+use Rattle.store.specs.declared.Retracted.the-variants.{Refused as NotRetracted}
 use Rattle.store.specs.Shared.{at, below, Entry}
-use Rattle.store.specs.Tables.{Tables, off, fits, flagAt, firstAt, countAt, liveAt}
+use Rattle.store.specs.Tables.{Tables, after, off, fits, flagAt, firstAt, countAt, liveAt}
 use Rattle.store.specs.Walk.{entryAt, pickChain, pickable, startOf}
-use Rattle.store.specs.Statement.{countable, locate, counting, retracting}
+use Rattle.store.specs.Values.{assertedValues, retractedValues}
+use Rattle.store.specs.Statement.{countable, locate, counting, retracting, retractOf}
 use Rattle.store.specs.Scan.{openOf, cursorOk, walkFrom, nextOf}
 use Rattle.store.specs.Soundness.{holding, living}
 use Rattle.store.specs.Claims.{entriesUpTo}
@@ -98,13 +103,21 @@ damaged c m x p h =
 
 pub live-above-count : LiveAboveCount
 live-above-count c m x p a b h =
-    (retract-damaged c m x a b (damaged c m x p h), λ d f. assert-damaged c m x a b d f (damaged c m x p h))
+    let r = retract-damaged c m x a b (damaged c m x p h) in (
+      ap (λ (z : Tables × Retracted). retractedValues (z .1)) r,
+      ap (λ (z : Tables × Retracted). z .0) r,
+      λ d f.
+          let s = assert-damaged c m x a b d f (damaged c m x p h) in
+          (ap (λ (z : Tables × Asserted). assertedValues (z .1)) s, ap (λ (z : Tables × Asserted). z .0) s),
+    )
 
 pub live-count-of-zero : LiveCountOfZero
 unfolding retracting
 live-count-of-zero c m x p i a b f e z =
     let n : flagAt (m .statements) i ≢ 1 = omega arith in
-    retract-located c m x a b (suc i) f ∙ rw (ne-eqb (flagAt (m .statements) i) 1 n, counting-none (m .resources) x p z)
+    let r : retractOf c m x ≡ after m (NotRetracted Damaged) =
+    retract-located c m x a b (suc i) f ∙ rw (ne-eqb (flagAt (m .statements) i) 1 n, counting-none (m .resources) x p z) in
+    (ap (λ (z : Tables × Retracted). retractedValues (z .1)) r, ap (λ (z : Tables × Retracted). z .0) r)
 
 -- ---- on any tables: a listing
 

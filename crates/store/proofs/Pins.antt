@@ -18,7 +18,7 @@ use Rattle.store.specs.declared.Triple.{Triple}
 use Rattle.store.specs.Shared.{at, all3, known, within, same, agrees, kindsPermitted, below, Entry, matches, pick, lookupName}
 use Rattle.store.specs.Tables.{off}
 use Rattle.store.specs.Pins.{KnownMeans, WithinMeans, SameMeans, MatchesMeans, KindsPermittedMeans, BelowMeans}
-use Rattle.store.specs.Pins.{FirstIsHighest, BytesMean, LookupMeans}
+use Rattle.store.specs.Pins.{BelowFromOne, FirstIsHighest, LimitsAre, BytesMean, LookupMeans}
 use Rattle.store.specs.Pins.{LeastBound, PicksLeast}
 use Rattle.store.proofs.Tests.{decide, off-lt, and-l, and-r, and-of, all3-at, all3-of, known-low, known-high}
 use Rattle.store.proofs.Tests.{known-of, within-high, within-of, same-is, same-self}
@@ -82,9 +82,15 @@ below-means f n i = (
   λ h. below-in f n i (h .0) (h .1),
 )
 
+pub below-from-one : BelowFromOne
+below-from-one f n m = let r = below-out f n 0 m in omega (arith, r .1)
+
 pub first-is-highest : FirstIsHighest
 first-is-highest f n i m =
     let r = below-out f n i m in omega (arith, r .1, head-most f n (r .0) (r .2) (r .3))
+
+pub limits-are : LimitsAre
+limits-are = (refl, refl, refl, refl, refl)
 
 -- ---- names
 

@@ -10,8 +10,8 @@ use native.Mathlib.Omega.{arith}
 use native.Mathlib.Numerals.{add-one}
 use lib.ListN.{length, getD, take, drop}
 use lib.Seq.{getD-drop, drop-drop, take-append-seam}
-use lib.Dec.{eqb, leb, ltb}
-use borrow.Author.Tests.{eq-eqb, ne-eqb, leb-true, ltb-true, lt-ltb, le-leb}
+use lib.Dec.{eqb, ltb}
+use borrow.Author.Tests.{eq-eqb, ne-eqb, lt-ltb}
 use Rattle.term.specs.Bytes.{eqBytes}
 use Rattle.term.specs.Grammar.{nameLimit}
 use Rattle.term.specs.Canonical.{writesString, canonical}
@@ -27,11 +27,12 @@ use Rattle.store.specs.Shared.{below, head0, wellFormed, nameOf, lookupN
 use Rattle.store.specs.Tables.{Tables, fits, word, offsetAt}
 use Rattle.store.specs.Model.{internModel}
 use Rattle.store.specs.Reading.{inRange, zeroFrom, spanTo, nameSpanOf}
-use Rattle.store.specs.Dictionary.{findOf, internOf}
-use Rattle.store.specs.Names.{storable, Named, joined}
+use Rattle.store.specs.Dictionary.{foundAt, findOf, internOf}
+use Rattle.store.specs.Names.{storable, Named, joined, namesUpTo}
+use Rattle.store.specs.Values.{numbered, lookupValues}
 use Rattle.store.specs.Soundness.{Sound}
-use Rattle.store.specs.NameClaims.{NamedAs, RoundTrips, SpellingsAgree}
-use Rattle.store.proofs.Tests.{decide, three, and-l, and-r, and-of}
+use Rattle.store.specs.NameClaims.{NamedAs, RoundTrips, FindMeans, SpellingsAgree}
+use Rattle.store.proofs.Tests.{decide, range-of, range-in}
 use Rattle.store.proofs.Falling.{head-unique}
 use Rattle.store.proofs.Form.{clean, form-clean, form-short, storable-formed, storable-plain, storable-kept}
 use Rattle.store.proofs.Text.{text-at, bytes-take}
@@ -106,7 +107,7 @@ module _ (c : Counters) (m : Tables) (S : Sound c m) where
   -- name of a number answers its span
   pub span-of : (y : ResourceId) → 0 < y .0 → y .0 ≤ c .resources
       → nameSpanOf c m y ≡ Span (offsetAt (m .resources) (y .0)) (length (nameOf ns (y .0)))
-  unfolding nameSpanOf inRange
+  unfolding nameSpanOf
   span-of y a b =
       let o = offsetAt (m .resources) (y .0) in
       let l = length (nameOf ns (y .0)) in
@@ -115,7 +116,7 @@ module _ (c : Counters) (m : Tables) (S : Sound c m) where
       (bytes-at (y .0) a b)
       (omega (arith, form-short _ (name-formed (y .0) a b))) (name-ends (y .0) a b) in
       let d : o + l - o ≡ l = omega arith in
-      rw (S .capacity, lt-ltb 0 (y .0) a, le-leb (y .0) (c .resources) b, z, d)
+      rw (S .capacity, range-of (c .resources) (y .0) a b, z, d)
 
   -- and its bytes are the name
   pub named-as : (y : ResourceId) → 0 < y .0 → y .0 ≤ c .resources → NamedAs c m y (nameOf ns (y .0))
@@ -204,11 +205,8 @@ module _ (c : Counters) (m : Tables) (S : Sound c m) where
   in-range : (y : ResourceId) (a n : ℕ) → nameSpanOf c m y ≡ Span a n → (0 < y .0) × (y .0 ≤ c .resources)
   in-range y a n e =
       decide (inRange (c .resources) (y .0))
-      (λ d. (ltb-true 0 (y .0) (and-l _ _ (bits d)), leb-true (y .0) (c .resources) (and-r (ltb 0 (y .0)) _ (bits d))))
+      (range-in (c .resources) (y .0))
       (λ d. let z = out-of-range y d in absurd (let q : _≡_ {A = ℕ} 0 1 = cc in omega arith))
-    where
-      bits : inRange (c .resources) (y .0) ≡ true → ltb 0 (y .0) && leb (y .0) (c .resources) ≡ true
-      bits d = unfold inRange in d
 
   pub named-is : (y : ResourceId) (w : List ℕ) → NamedAs c m y w
       → (0 < y .0) × (y .0 ≤ c .resources) × (nameOf ns (y .0) ≡ w)
@@ -217,6 +215,18 @@ module _ (c : Counters) (m : Tables) (S : Sound c m) where
       let T = named-as y (r .0) (r .1) in
       let s = span-start _ _ _ _ (sym (T .answer) ∙ W .answer) in
       (r .0, r .1, sym (T .bytes) ∙ ap₂ (λ (o l : ℕ). take l (drop o (m .text))) (s .0) (s .1) ∙ W .bytes)
+
+-- find, by values
+found-values : (n : ℕ) → lookupValues (foundAt n) ≡ numbered n
+found-values zero = refl
+found-values (suc n) = refl
+
+pub find-means : FindMeans
+unfolding findOf
+find-means c m S w = (
+  λ f. rw (S .capacity, f),
+  λ f. rw (S .capacity, f) (found-values (lookupName (canonical w) (namesUpTo m (c .resources)))),
+)
 
 pub round-trips : RoundTrips
 round-trips c m S = record {

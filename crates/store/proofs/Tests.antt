@@ -14,6 +14,7 @@ use Rattle.store.specs.declared.Triple.{Triple}
 use Rattle.store.specs.declared.Counters.{Counters}
 use Rattle.store.specs.Shared.{at, triple, all3, known, within, same, kindsPermitted, maxReclaims}
 use Rattle.store.specs.Tables.{Tables, off, fits, resourceCapacity, statementCapacity, textCapacity}
+use Rattle.store.specs.Reading.{inRange}
 -- Every law stands on this file, and so on the closed runs: a definition that changes an answer is refused there first.
 use Rattle.store.proofs.Runs as runs
 
@@ -117,6 +118,14 @@ same-is x t e =
     ap (λ (n : ℕ). triple n (t .predicate .0) (t .object .0)) (same-at x t e Subject)
     ∙ ap (λ (n : ℕ). triple (x .subject .0) n (t .object .0)) (same-at x t e Predicate)
     ∙ ap (λ (n : ℕ). triple (x .subject .0) (x .predicate .0) n) (same-at x t e Object)
+
+pub range-of : (n x : ℕ) → 0 < x → x ≤ n → inRange n x ≡ true
+unfolding inRange
+range-of n x a b = and-of _ _ (lt-ltb 0 x a) (le-leb x n b)
+
+pub range-in : (n x : ℕ) → inRange n x ≡ true → (0 < x) × (x ≤ n)
+unfolding inRange
+range-in n x e = (ltb-true 0 x (and-l _ _ e), leb-true x n (and-r (ltb 0 x) _ e))
 
 -- ---- refusal 1, test by test
 

@@ -5,16 +5,16 @@ use Rattle.store.specs.History.{store, freshStore, capacitiesOf, storeAf
 use Rattle.store.specs.Claims.{listsOf, HistoriesAgree, HistoriesStaySound, SoundStoresAgree, FreshIsSound}
 use Rattle.store.specs.RefusalClaims.{RefusalsChangeNothing}
 use Rattle.store.specs.Claims.{Finds, EndsOrSpends, VisitsAddUp}
-use Rattle.store.specs.NameClaims.{RoundTrips, SpellingsAgree}
+use Rattle.store.specs.NameClaims.{RoundTrips, FindMeans, SpellingsAgree}
 use Rattle.store.specs.Pins.{KnownMeans}
 use Rattle.store.specs.Pins.{WithinMeans, SameMeans, MatchesMeans, KindsPermittedMeans, BelowMeans, PicksLeast}
 use Rattle.store.specs.RefusalClaims.{RefusalsAreBare, StaleRefused}
 use Rattle.store.specs.Claims.{NoneIsMissed, ReadsOnWithBudget, StaleAfterReclaim}
 use Rattle.store.specs.Pins.{FirstIsHighest}
 use Rattle.store.specs.RefusalClaims.{BadRefused}
-use Rattle.store.specs.Pins.{BelowFalls, BytesMean, LookupMeans}
+use Rattle.store.specs.Pins.{BelowFromOne, BelowFalls, LimitsAre, BytesMean, OrderMeans, LookupMeans}
 use Rattle.store.specs.LiveClaims.{LiveCountsShown, LiveCountsAgree, ScansDoNotLook}
-use Rattle.store.specs.RefusalClaims.{LiveAboveCount, LiveCountOfZero}
+use Rattle.store.specs.RefusalClaims.{LiveAboveCount, LiveCountOfZero, ReadRefuses, NameRefuses}
 use Rattle.store.specs.ReclaimClaims.{ReclaimKeeps, ReclaimWords, ForgetsRetracted, RoomAgain, NumberCounts}
 use Rattle.store.specs.RefusalClaims.{FitsMeans, CapacityFirst}
 use Rattle.store.specs.ReclaimClaims.{UnretractedMeans}
@@ -32,6 +32,8 @@ use Rattle.store.proofs.Refusals as refusals
 use Rattle.store.proofs.LiveCounts as live
 use Rattle.store.proofs.RoundTrips as trips
 use Rattle.store.proofs.Pins as pins
+use Rattle.store.proofs.Order as order
+use Rattle.store.proofs.Answers as answers
 
 -- ---- histories
 
@@ -110,6 +112,14 @@ live-count-of-zero = live.live-count-of-zero
 pub scans-do-not-look : ScansDoNotLook
 scans-do-not-look = live.scans-do-not-look
 
+-- ---- a statement read, a name read
+
+pub read-refuses : ReadRefuses
+read-refuses = answers.read-refuses
+
+pub name-refuses : NameRefuses
+name-refuses = answers.name-refuses
+
 -- ---- reclaim
 
 pub number-counts : NumberCounts
@@ -138,6 +148,9 @@ room-again = reclaims.room-again
 pub round-trips : RoundTrips
 round-trips = trips.round-trips
 
+pub find-means : FindMeans
+find-means = trips.find-means
+
 pub spellings-agree : SpellingsAgree
 spellings-agree = trips.spellings-agree
 
@@ -161,14 +174,23 @@ kinds-permitted-means = pins.kinds-permitted-means
 pub below-means : BelowMeans
 below-means = pins.below-means
 
+pub below-from-one : BelowFromOne
+below-from-one = pins.below-from-one
+
 pub below-falls : BelowFalls
 below-falls = falling.below-falling
 
 pub first-is-highest : FirstIsHighest
 first-is-highest = pins.first-is-highest
 
+pub limits-are : LimitsAre
+limits-are = pins.limits-are
+
 pub bytes-mean : BytesMean
 bytes-mean = pins.bytes-mean
+
+pub order-means : OrderMeans
+order-means = order.order-means
 
 pub lookup-means : LookupMeans
 lookup-means = pins.lookup-means

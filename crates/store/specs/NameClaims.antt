@@ -3,10 +3,11 @@ use Rattle.store.specs.Prelude.{_≡_, _↔_, true, false, List, ℕ, _�
 use Rattle.term.specs.Canonical.{writesString, canonical}
 use Rattle.store.specs.Tables.{Tables}
 use Rattle.store.specs.Model.{Model, Capacities, internModel}
-use Rattle.store.specs.Shared.{wellFormed}
+use Rattle.store.specs.Shared.{wellFormed, lookupName}
+use Rattle.store.specs.Values.{refusedWith, numbered, lookupValues}
 use Rattle.store.specs.Reading.{nameSpanOf}
 use Rattle.store.specs.Dictionary.{findOf, internOf}
-use Rattle.store.specs.Names.{nameAt}
+use Rattle.store.specs.Names.{nameAt, namesUpTo}
 use Rattle.store.specs.Soundness.{Sound}
 
 -- name of a number answers a span of the text, and its bytes are w
@@ -30,6 +31,13 @@ pub record BothWays (c : Counters) (m : Tables) : Type 0 where
 -- On a sound store numbers and names go both ways.
 abbrev pub RoundTrips : Type 0
 RoundTrips = (c : Counters) (m : Tables) → Sound c m → BothWays c m
+
+-- On a sound store find refuses 2 a name that is not well formed, and answers the number of another among the names 1 .. R, 0 if it is
+-- absent (`LookupMeans`).
+abbrev pub FindMeans : Type 0
+FindMeans = (c : Counters) (m : Tables) → Sound c m → (w : List ℕ)
+    → (wellFormed w ≡ false → lookupValues (findOf c m w) ≡ refusedWith 2)
+    × (wellFormed w ≡ true → lookupValues (findOf c m w) ≡ numbered (lookupName (canonical w) (namesUpTo m (c .resources))))
 
 -- v and w have one answer of find's definition and of enter's, on any tables, and one of the plain lists' enter
 pub record Alike (v w : List ℕ) : Type 0 where

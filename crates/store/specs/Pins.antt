@@ -1,9 +1,13 @@
--- What stands on both sides of the claims (`Shared`) is pinned here by what it means, as types. Assumes nothing.
+-- What stands on both sides of the claims (`Shared`) and the byte order of names are pinned here by what they mean, as types. Assumes
+-- nothing.
 use Rattle.store.specs.Prelude.{_≡_, _≢_, _↔_, Bool, true, false, List, [], _∷_, List·Memᴰ, ℕ, suc, _≤_, _<_, length, getD, Position}
-use Rattle.store.specs.Prelude.{Chain, All, By, Triple}
+use Rattle.store.specs.Prelude.{_⊎_, _++_, Chain, All, By, Triple}
 use Rattle.term.specs.Bytes.{eqBytes}
+use Rattle.term.specs.Grammar.{nameLimit}
 use Rattle.store.specs.Shared.{at, known, within, same, kindsPermitted, below, head0, Entry, matches, pick, lookupName}
+use Rattle.store.specs.Shared.{maxResources, maxStatements, maxText, maxReclaims}
 use Rattle.store.specs.Tables.{off}
+use Rattle.store.specs.Names.{less, equal, compareBytes}
 
 -- a number in 1..n at each position
 abbrev pub KnownMeans : Type 0
@@ -31,6 +35,10 @@ KindsPermittedMeans = (kind : ℕ → ℕ) (x : Triple)
 abbrev pub BelowMeans : Type 0
 BelowMeans = (f : ℕ → Bool) (n i : ℕ) → List·Memᴰ (suc i) (below f n) ↔ (i < n) × (f i ≡ true)
 
+-- and 0 is none of them
+abbrev pub BelowFromOne : Type 0
+BelowFromOne = (f : ℕ → Bool) (n : ℕ) → List·Memᴰ 0 (below f n) → ⊥
+
 -- each is above all that follow it
 abbrev pub Falling : List ℕ → Type 0
 Falling [] = Unit {0}
@@ -44,9 +52,36 @@ BelowFalls = (f : ℕ → Bool) (n : ℕ) → Falling (below f n)
 abbrev pub FirstIsHighest : Type 0
 FirstIsHighest = (f : ℕ → Bool) (n i : ℕ) → List·Memᴰ i (below f n) → i ≤ head0 (below f n)
 
+-- the limits, by number
+abbrev pub LimitsAre : Type 0
+LimitsAre =
+    (maxResources ≡ 65535) × (maxStatements ≡ 65535) × (maxText ≡ 1048576) × (nameLimit ≡ 255) × (maxReclaims ≡ 65535)
+
 -- names are equal exactly if their bytes are
 abbrev pub BytesMean : Type 0
 BytesMean = (v w : List ℕ) → eqBytes v w ≡ true ↔ v ≡ w
+
+-- v is a beginning of w, and w goes on
+pub record ProperBeginning (v w : List ℕ) : Type 0 where
+  pub next : ℕ
+  pub rest : List ℕ
+  pub longer : w ≡ v ++ next ∷ rest
+
+-- at the first byte where they differ v's is lower
+pub record LowerByte (v w : List ℕ) : Type 0 where
+  pub common : List ℕ
+  pub low : ℕ
+  pub high : ℕ
+  pub rest : List ℕ
+  pub other : List ℕ
+  pub lower : low < high
+  pub left : v ≡ common ++ low ∷ rest
+  pub right : w ≡ common ++ high ∷ other
+
+-- the byte order of names
+abbrev pub OrderMeans : Type 0
+OrderMeans = (v w : List ℕ)
+    → (compareBytes v w ≡ less ↔ (ProperBeginning v w ⊎ LowerByte v w)) × (compareBytes v w ≡ equal ↔ v ≡ w)
 
 -- the position of a listed name is that of the name, and 0 says that it is not listed
 abbrev pub LookupMeans : Type 0

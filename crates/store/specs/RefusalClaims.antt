@@ -1,11 +1,14 @@
 -- What is claimed of refusals on any tables (demand 1), as types: 1 before all else, nothing written and zeros beside a refusal, 6 and 13 of
--- a listing, 9 for live counts, 1, 14 and 9 of a reclaim. Assumes nothing.
+-- a listing, 9 for live counts, 1, 4 and 9 of a statement read, 1 and 4 of a name read, 1, 14 and 9 of a reclaim. Assumes nothing.
 use Rattle.store.specs.Prelude.{_≡_, _≢_, _↔_, true, false, some, ℕ, suc, _≤_, _<_, Counters, Position, All, By, Triple, ScanCursor}
-use Rattle.store.specs.Prelude.{Damaged, NotAsserted, NotRetracted, Reclaimed}
+use Rattle.store.specs.Prelude.{_⊎_, List, _-_, length, ResourceId, StatementId, Reclaimed}
 use Rattle.store.specs.Shared.{at, known, kindsPermitted}
-use Rattle.store.specs.Tables.{Tables, after, fits, flagAt, countAt, kindAt, liveAt, resourceCapacity, statementCapacity}
+use Rattle.store.specs.Tables.{Tables, fits, tripleAt, offsetAt, flagAt, countAt, kindAt, liveAt, resourceCapacity, statementCapacity}
 use Rattle.store.specs.Tables.{textCapacity, termAt}
-use Rattle.store.specs.Values.{refusedWith, scannedValues, reclaimedValues}
+use Rattle.store.specs.Names.{nameAt}
+use Rattle.store.specs.Values.{refusedWith, assertedValues, retractedValues, scannedValues, reclaimedValues}
+use Rattle.store.specs.Values.{noTriple, StatementValues, statementValues, NameValues, nameValues}
+use Rattle.store.specs.Reading.{statementOf, nameSpanOf}
 use Rattle.store.specs.Model.{Call, next}
 use Rattle.store.specs.Statement.{locate, kindsOk, assertOf, retractOf}
 use Rattle.store.specs.Scan.{nextOf}
@@ -53,15 +56,51 @@ StaleRefused = (c : Counters) (m : Tables) (q : ScanCursor) (b : ℕ)
 abbrev pub LiveAboveCount : Type 0
 LiveAboveCount = (c : Counters) (m : Tables) (x : Triple) (p : Position) → fits c m ≡ true → known (c .resources) x ≡ true
     → countAt (m .resources) p (at p x) < liveAt (m .resources) p (at p x)
-    → (retractOf c m x ≡ after m (NotRetracted Damaged))
+    → (retractedValues (retractOf c m x .1) ≡ refusedWith 9) × (retractOf c m x .0 ≡ m)
     × (kindsOk (m .resources) x ≡ true → kindsPermitted (kindAt (m .resources)) x ≡ true
-    → assertOf c m x ≡ after m (NotAsserted Damaged))
+    → (assertedValues (assertOf c m x .1) ≡ refusedWith 9) × (assertOf c m x .0 ≡ m))
 
 -- On any tables a live count of 0, at any position of the triple, is refused 9 where retract has found a live record.
 abbrev pub LiveCountOfZero : Type 0
 LiveCountOfZero = (c : Counters) (m : Tables) (x : Triple) (p : Position) (i : ℕ) → fits c m ≡ true → known (c .resources) x ≡ true
     → locate c m x ≡ some (suc i) → flagAt (m .statements) i ≡ 0 → liveAt (m .resources) p (at p x) ≡ 0
-    → retractOf c m x ≡ after m (NotRetracted Damaged)
+    → (retractedValues (retractOf c m x .1) ≡ refusedWith 9) × (retractOf c m x .0 ≡ m)
+
+-- a refusal's number and zeros, where a statement or a name is read
+abbrev pub unread : ℕ → StatementValues
+unread r = record { refusal = r; spo = noTriple; flag = 0 }
+
+abbrev pub unnamed : ℕ → NameValues
+unnamed r = record { refusal = r; start = 0; size = 0 }
+
+-- no resource of entry i is outside 1..r, nor is its flag above 1
+pub record InRange (r : ℕ) (stm : List ℕ) (i : ℕ) : Type 0 where
+  pub low : (p : Position) → 0 < termAt stm p i
+  pub high : (p : Position) → termAt stm p i ≤ r
+  pub flag : flagAt stm i ≤ 1
+
+-- Read a statement: on any tables 1, then 4 for 0 and above T, then 9 for a resource outside 1..R or a flag above 1; on a sound store
+-- its triple and its flag.
+pub record ReadInOrder (c : Counters) (m : Tables) (n : StatementId) : Type 0 where
+  pub one : statementValues (statementOf c m n) ≡ unread 1 ↔ fits c m ≡ false
+  pub four : statementValues (statementOf c m n) ≡ unread 4 ↔ (fits c m ≡ true) × ((n .0 ≡ 0) ⊎ (c .statements < n .0))
+  pub nine : statementValues (statementOf c m n) ≡ unread 9
+      ↔ (fits c m ≡ true) × (0 < n .0) × (n .0 ≤ c .statements) × (InRange (c .resources) (m .statements) (n .0 - 1) → ⊥)
+  pub answered : Sound c m → 0 < n .0 → n .0 ≤ c .statements → statementValues (statementOf c m n)
+      ≡ record { refusal = 0; spo = tripleAt (m .statements) (n .0 - 1); flag = flagAt (m .statements) (n .0 - 1) }
+
+abbrev pub ReadRefuses : Type 0
+ReadRefuses = (c : Counters) (m : Tables) (n : StatementId) → ReadInOrder c m n
+
+-- Name of a number: on any tables 1, then 4 for 0 and above R; on a sound store where its bytes stand and how many they are.
+pub record NamedInOrder (c : Counters) (m : Tables) (y : ResourceId) : Type 0 where
+  pub one : nameValues (nameSpanOf c m y) ≡ unnamed 1 ↔ fits c m ≡ false
+  pub four : nameValues (nameSpanOf c m y) ≡ unnamed 4 ↔ (fits c m ≡ true) × ((y .0 ≡ 0) ⊎ (c .resources < y .0))
+  pub answered : Sound c m → 0 < y .0 → y .0 ≤ c .resources → nameValues (nameSpanOf c m y)
+      ≡ record { refusal = 0; start = offsetAt (m .resources) (y .0); size = length (nameAt m (y .0)) }
+
+abbrev pub NameRefuses : Type 0
+NameRefuses = (c : Counters) (m : Tables) (y : ResourceId) → NamedInOrder c m y
 
 -- What is refused, on any tables, by the paper's numbers and in its order: 1, 14, 9; nothing is written then.
 pub record RefusedInOrder (c : Counters) (m m′ : Tables) (a : Reclaimed) : Type 0 where
