@@ -6,7 +6,7 @@ use Prim.Native.Nat.{ℕ, suc, _+_, _-_}
 use lib.ListN.{replicate}
 use Rattle.store.specs.declared.Chain.the-variants.{All, By}
 use Rattle.store.specs.declared.Position.the-variants.{Object}
-use Rattle.store.specs.Shared.{known, better, pick}
+use Rattle.store.specs.Shared.{known, better, pick, allBelow}
 use Rattle.store.specs.Tables.{Tables, tables, fits, termAt, nextAt, flagAt, tripleAt, firstAt, countAt}
 use Rattle.store.specs.Walk.{pickChain, pickable, startOf, linkOf, holdsResource, visitable}
 use Rattle.store.specs.Scan.{chainOk, recordOk}
@@ -16,7 +16,6 @@ use Rattle.graph.specs.Place.{level, noLevel, levelsOf, insideOf, placeAs, writ
 use Rattle.graph.specs.Words.{patternsOf, wordOk, allOk, wordsOk, valueOf, under, maxPatterns, variables}
 use Rattle.graph.specs.Query.{intact, anyRetracted, pruned, backtrack, remains, nextPattern, binds, asked, enteredOk, placeOk, enter, hit}
 use Rattle.graph.specs.Query.{tried, visit, walk, begun, resume, answerOf, openQueryOf, packed, stale, nextQueryOf}
-use Rattle.integrity.specs.Tests.{allBelow}
 use Rattle.capi_calls.specs.Words.{ifShort}
 use Rattle.capi_calls.specs.QueryWords.{queryCursorWords, queryReplyWords, queryCursorOf, levelsFrom, spelt, nextQueryFrom, levelWords, numbersFrom}
 use Rattle.capi_calls.specs.QueryCalls.{queryOpenCall, queryNextCall}

@@ -28,7 +28,7 @@ use Rattle.capi_calls.specs.QueryWords.{queryCursorWords, queryReplyWord
 use Rattle.capi_calls.specs.QueryCalls.{queryNextCall}
 use Rattle.capi_calls.specs.Claims.{StaleWords, StaleQueryWords, Reclaims, AnsweredReclaim}
 use Rattle.capi_calls.proofs.ReadBack.{counters-read-back}
-use Rattle.capi_calls.proofs.Unanswered.{refuses}
+use Rattle.store.proofs.Numbers.{refuses}
 
 -- ---- a listing's words
 

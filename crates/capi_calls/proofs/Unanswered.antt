@@ -8,7 +8,6 @@ use Prim.Native.Nat.{ℕ}
 use lib.ListN.{length}
 use lib.Dec.{eqb, ltb}
 use Rattle.store.specs.declared.Refusal.{Refusal}
-use Rattle.store.specs.declared.Refusal.the-variants.{Capacity, Malformed, Full, UnknownNumber, KindNotPermitted, BadCursor, NoBudget, BadQuery, Damaged, BadLine, StaleCursor, ReclaimLimit}
 use Rattle.store.specs.declared.Lookup.{Lookup}
 use Rattle.store.specs.declared.Lookup.the-variants.{Number, Absent, Refused as NotFound}
 use Rattle.store.specs.declared.NameRead.{NameRead}
@@ -38,10 +37,11 @@ use Rattle.graph.specs.declared.QueryAnswer.{QueryAnswer}
 use Rattle.graph.specs.Query.{Answer, refused, found, ended, spent, packed, answerOf, openQueryOf, stale, nextQueryOf}
 use Rattle.graph.specs.Place.{placeOf}
 use Rattle.graph.specs.Values.{queryOpenedValues}
-use borrow.Author.Tests.{ne-eqb, ltb-true, ltb-false}
+use native.Mathlib.Omega.{arith}
+use borrow.Author.Tests.{ltb-true, ltb-false}
 use Rattle.store.proofs.Cases.{assert-refused, retract-refused}
 use Rattle.store.proofs.Limits.{reclaim-refuses}
-use Rattle.graph.proofs.Refusals.{refusal-positive}
+use Rattle.store.proofs.Numbers.{refuses, not-beyond}
 use Rattle.capi_calls.proofs.Runs as runs
 use Rattle.capi_calls.specs.Words.{tooShort, counterWords, cursorWords, countersOf, ifShort, longEnough, done, wrote, one, two, four}
 use Rattle.capi_calls.specs.Words.{lookupAnswer, nameAnswer, statementAnswer, retractAs, openedAs, scannedAs, assertAs, enteredAs}
@@ -53,24 +53,9 @@ use Rattle.capi_calls.specs.QueryWords.{queryCursorWords, queryReplyWord
 use Rattle.capi_calls.specs.QueryCalls.{queryOpenedAs, queryOpenCall, queryAnsweredAs, queryNextCall}
 use Rattle.term.proofs.Names.{never}
 
--- no refusal has the number 0
-pub refuses : (e : Refusal) → eqb (refusalNumber e) 0 ≡ false
-refuses e = ne-eqb (refusalNumber e) 0 (refusal-positive e)
-
--- nor the number of a slice too short
+-- no refusal has the number of a slice too short
 not-short : (e : Refusal) → eqb (refusalNumber e) tooShort ≡ false
-not-short Capacity = refl
-not-short Malformed = refl
-not-short Full = refl
-not-short UnknownNumber = refl
-not-short KindNotPermitted = refl
-not-short BadCursor = refl
-not-short NoBudget = refl
-not-short BadQuery = refl
-not-short Damaged = refl
-not-short BadLine = refl
-not-short StaleCursor = refl
-not-short ReclaimLimit = refl
+not-short e = not-beyond tooShort e (omega arith)
 
 -- what holds of both, holds of a call
 both : {A : Type 0} (P : A → Type 0) (b : Bool) {s a : A} → P s → P a → P (cond b s a)

@@ -11,7 +11,7 @@ use store::Triple;
 ghost use mathlib.Core.Path.{_≡_};
 ghost use Prim.Native.Nat.{_≤_};
 ghost use lib.ListN.{length};
-ghost use Rattle.store.specs.Tables.{tables};
+ghost use Rattle.store.specs.Tables.{lent};
 ghost use Rattle.store.specs.Shared.{triple};
 ghost use Rattle.capi_calls.specs.Words.{counterWords, cursorWords, countersOf, withCounters, cursorFrom, withCursor, nextFrom};
 
@@ -90,7 +90,8 @@ pub fn next_from(
     budget: u32,
 ) -> Scanned
     requires { ⌜ cursorWords ≤ length (now words) ⌝ }
-    ensures { λ r. ⌜ r ≡ nextFrom c (tables (now (resources .entry)) (now (statements .entry)) (now (index .entry)) (now (text .entry))) (now (words .entry)) budget ⌝ }
+    ensures { λ r. ⌜ r ≡ nextFrom c (lent (resources .entry) (statements .entry) (index .entry) (text .entry))
+        (now (words .entry)) budget ⌝ }
 {
     if words[3] > 3 {
         if !table::fits(c, resources, statements, index, text) {

@@ -8,7 +8,7 @@ use store::Reclaimed;
 use store::Refusal;
 ghost use mathlib.Core.Path.{_≡_};
 ghost use Prim.Native.Nat.{_≤_};
-ghost use Rattle.store.specs.Tables.{tables};
+ghost use Rattle.store.specs.Tables.{lent};
 ghost use Rattle.store.specs.Shared.{maxStatements};
 ghost use Rattle.store.specs.Soundness.{Linked};
 ghost use Rattle.store.specs.Reclaim.{swept, ReclaimAnswer};
@@ -37,8 +37,8 @@ pub fn reclaim(
     index: &[u32],
     text: &[u8],
 ) -> Reclaimed
-    ensures { λ r. ⌜ ReclaimAnswer c (tables (now (resources .entry)) (now (statements .entry)) (now (index .entry)) (now (text .entry)))
-        (tables (now (resources .exit)) (now (statements .exit)) (now (index .entry)) (now (text .entry))) r ⌝ }
+    ensures { λ r. ⌜ ReclaimAnswer c (lent (resources .entry) (statements .entry) (index .entry) (text .entry))
+        (lent (resources .exit) (statements .exit) (index .entry) (text .entry)) r ⌝ }
 {
     if !table::fits(c, resources, statements, index, text) {
         return Reclaimed::Refused(Refusal::Capacity);

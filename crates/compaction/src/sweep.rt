@@ -2,8 +2,8 @@
 use statement_record::record::link_record;
 use statement_record::record::write_record;
 use store::StatementId;
-use table::inner::flag_at;
-use table::inner::triple_at;
+use table::word::flag_at;
+use table::word::triple_at;
 ghost use mathlib.Core.Path.{_≡_};
 ghost use Prim.Native.Nat.{_-_};
 ghost use Rattle.store.specs.Reclaim.{swept, sweepOne, sweep};

@@ -14,11 +14,11 @@ use store::Refusal;
 use store::ResourceId;
 use table::fits;
 use term::name_kind;
-ghost use Rattle.store.specs.Tables.{tables};
+ghost use Rattle.store.specs.Tables.{lent};
 ghost use Rattle.store.specs.Dictionary.{FindAnswer, InternAnswer};
 
 mod extend;
-pub mod inner;
+pub mod search;
 
 // The bytes at an offset of the text against a name: less, the same, more, or unreadable: it needs a byte past the
 // text in use, or the index word is no number.
@@ -38,7 +38,7 @@ pub fn find(
     text: &[u8],
     name: &[u8],
 ) -> Lookup
-    ensures { λ a. ⌜ FindAnswer c (tables (now (resources .entry)) (now (statements .entry)) (now (index .entry)) (now (text .entry)))
+    ensures { λ a. ⌜ FindAnswer c (lent (resources .entry) (statements .entry) (index .entry) (text .entry))
         (now (name .entry)) a ⌝ }
 {
     if !fits(c, resources, statements, index, text) {
@@ -48,7 +48,7 @@ pub fn find(
         return Lookup::Refused(Refusal::Malformed);
     }
     let short = term::canonical(name);
-    match inner::search(c, resources, index, text, short) {
+    match search::search(c, resources, index, text, short) {
         IndexPlace::At(n, _) => Lookup::Number(n),
         IndexPlace::Before(_) => Lookup::Absent,
         IndexPlace::OutOfRange => Lookup::Refused(Refusal::Damaged),
@@ -64,8 +64,8 @@ pub fn intern(
     text: &mut [u8],
     name: &[u8],
 ) -> Interned
-    ensures { λ a. ⌜ InternAnswer c (tables (now (resources .entry)) (now (statements .entry)) (now (index .entry)) (now (text .entry)))
-        (tables (now (resources .exit)) (now (statements .entry)) (now (index .exit)) (now (text .exit))) (now (name .entry)) a ⌝ }
+    ensures { λ a. ⌜ InternAnswer c (lent (resources .entry) (statements .entry) (index .entry) (text .entry))
+        (lent (resources .exit) (statements .entry) (index .exit) (text .exit)) (now (name .entry)) a ⌝ }
 {
     if !fits(c, resources, statements, index, text) {
         return Interned::Refused(Refusal::Capacity);
@@ -75,7 +75,7 @@ pub fn intern(
         return Interned::Refused(Refusal::Malformed);
     }
     let short = term::canonical(name);
-    match inner::search(c, resources, index, text, short) {
+    match search::search(c, resources, index, text, short) {
         IndexPlace::At(n, _) => Interned::Number(n, c),
         IndexPlace::OutOfRange => Interned::Refused(Refusal::Damaged),
         IndexPlace::Before(at) => {

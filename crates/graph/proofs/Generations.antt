@@ -18,7 +18,8 @@ use Rattle.graph.specs.Place.{Place, start, inside, finish, placeOf, cur
 use Rattle.graph.specs.Words.{wordsOk}
 use Rattle.graph.specs.Values.{queryValues}
 use Rattle.graph.specs.Claims.{StaleClaim}
-use Rattle.graph.proofs.Refusals.{answer-not, refusal-positive, number-not}
+use Rattle.graph.proofs.Refusals.{answer-not, number-not}
+use Rattle.store.proofs.Numbers.{refusal-positive}
 
 pub cursor-number : (g : ℕ) (q : Place) → (cursorAt g q) .generation ≡ g
 unfolding cursorAt

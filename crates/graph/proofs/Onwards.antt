@@ -28,7 +28,8 @@ use Rattle.graph.specs.Place.{Place, start, inside, finish, placeAs, pla
 use Rattle.graph.specs.Words.{wordsOk, patternsOf, Bindings, unbound}
 use Rattle.graph.specs.Query.{placeOk, enter, visit, walk, begun, resume, answerOf, packed, stale, openQueryOf, nextQueryOf}
 use Rattle.graph.specs.Values.{QueryValues, queryOpenedValues, queryValues}
-use Rattle.graph.specs.Order.{numbersOn, atOrAfter, keep, onwardsOf}
+use Rattle.graph.specs.Order.{numbersOn, atOrAfter, onwardsOf}
+use Rattle.store.specs.Shared.{keep}
 use Rattle.graph.specs.Claims.{statementNumbers, accepted, onwardsFrom, Answers, NextClaim}
 use Rattle.graph.specs.Claims.{KeptClaim, ReclaimedClaim, moreVisits, SplitClaim}
 use Rattle.graph.proofs.Laws.{Shallow, place-cursor, walk-ended, walk-bad, walk-go, walk-whole}

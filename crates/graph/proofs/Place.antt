@@ -14,7 +14,7 @@ use borrow.Author.Tests.{eqb-true, eqb-false, eq-eqb, ne-eqb, le-leb, lt-ltb, le
 use Rattle.store.specs.declared.Chain.{Chain}
 use Rattle.store.specs.declared.Chain.the-variants.{All, By}
 use Rattle.store.specs.declared.Triple.{Triple}
-use Rattle.store.specs.Shared.{at, prev, Entry}
+use Rattle.store.specs.Shared.{at, prev, Entry, keep}
 use Rattle.store.specs.Tables.{tripleAt, termAt, flagAt}
 use Rattle.store.specs.Model.{onChain}
 use Rattle.store.specs.Walk.{entryAt, linkOf, holdsResource}
@@ -30,7 +30,7 @@ use Rattle.graph.specs.Query.{match, Answer, refused, found, ended, spen
 use Rattle.graph.specs.Place.{Place, start, inside, finish}
 use Rattle.graph.specs.Words.{variables, Bindings, unbound, pattern, under}
 use Rattle.graph.specs.Query.{intact, anyRetracted, pruned, nextPattern, binds, asked, enteredOk, placeOk, resume}
-use Rattle.graph.specs.Order.{atOrAfter, keep, numbersOn}
+use Rattle.graph.specs.Order.{atOrAfter, numbersOn}
 use Rattle.graph.proofs.Laws.{entered-tests, place-tests}
 use Rattle.graph.proofs.Bind.{or-l, or-r, some-orElse, Known3, match-matched}
 use Rattle.graph.proofs.Solve.{down, each, solve, AllFit, hit-some, hit-of, statements, numberOf}

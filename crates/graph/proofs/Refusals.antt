@@ -5,14 +5,11 @@ use mathlib.Core.Logic.{_≢_, _⊎_, inl, inr}
 use mathlib.Core.Bool.{Bool, true, false, true≢false}
 use mathlib.Core.List.{List, [], _∷_}
 use Prim.Native.Nat.{ℕ, zero, suc, _+_}
-use native.Mathlib.Omega.{arith}
 use lib.ListN.{length}
 use lib.Dec.{eqb}
 use borrow.Author.Tests.{eq-eqb, ne-eqb}
 use Rattle.store.specs.declared.Counters.{Counters}
 use Rattle.store.specs.declared.Refusal.{Refusal}
-use Rattle.store.specs.declared.Refusal.the-variants.{Capacity, Malformed, Full, UnknownNumber, KindNotPermitted}
-use Rattle.store.specs.declared.Refusal.the-variants.{BadCursor, NoBudget, BadQuery, Damaged, BadLine, StaleCursor, ReclaimLimit}
 use Rattle.store.specs.Tables.{Tables, fits}
 use Rattle.store.specs.Values.{refusalNumber}
 use Rattle.store.proofs.Tests.{decide}
@@ -93,20 +90,6 @@ module _ (k : ℕ) (nine : 9 ≢ k) where
         refused-place o (inr n) = n
 
 -- ---- the number, and zeros beside it
-
-pub refusal-positive : (e : Refusal) → refusalNumber e ≢ 0
-refusal-positive Capacity d = omega arith
-refusal-positive Malformed d = omega arith
-refusal-positive Full d = omega arith
-refusal-positive UnknownNumber d = omega arith
-refusal-positive KindNotPermitted d = omega arith
-refusal-positive BadCursor d = omega arith
-refusal-positive NoBudget d = omega arith
-refusal-positive BadQuery d = omega arith
-refusal-positive Damaged d = omega arith
-refusal-positive BadLine d = omega arith
-refusal-positive StaleCursor d = omega arith
-refusal-positive ReclaimLimit d = omega arith
 
 pub number-not : (k g : ℕ) (a : Answer) → 0 ≢ k → says k a ≡ false → (queryValues (packed g a)) .refusal ≢ k
 unfolding packed

@@ -2,7 +2,7 @@
 -- the first difference decides, higher numbers first. Assumes nothing.
 use Rattle.store.specs.Prelude.{_≡_, _⊎_, Bool, true, cond, _&&_, _||_, List, [], _∷_, List·Memᴰ, ℕ, _<_, eqb, ltb}
 use Rattle.graph.specs.Prelude.{Triple, QueryPattern, Level}
-use Rattle.store.specs.Shared.{same, below, head0}
+use Rattle.store.specs.Shared.{same, below, head0, keep}
 use Rattle.store.specs.Tables.{tripleAt}
 use Rattle.graph.specs.Place.{Place, start, inside, finish}
 use Rattle.graph.specs.Words.{Bindings, under}
@@ -43,10 +43,6 @@ unfoldable pub atOrAfter : List ℕ → List ℕ → Bool
 atOrAfter [] ts = true
 atOrAfter (n ∷ ns) [] = true
 atOrAfter (n ∷ ns) (t ∷ ts) = ltb t n || (eqb t n && atOrAfter ns ts)
-
-unfoldable pub keep : {A : Type 0} → (A → Bool) → List A → List A
-keep f [] = []
-keep f (x ∷ xs) = cond (f x) (x ∷ keep f xs) (keep f xs)
 
 -- of a list of solutions with their numbers, those at or after the place: all at the start, none at the end
 unfoldable pub onwardsOf : (Bindings → List ℕ) → List Bindings → Place → List Bindings

@@ -11,7 +11,7 @@ use lib.Dec.{eqb, leb}
 use borrow.Author.Tests.{eqb-true, eq-eqb, leb-true, le-leb}
 use Rattle.store.specs.declared.Counters.{Counters}
 use Rattle.store.specs.declared.Position.{Position}
-use Rattle.store.specs.Shared.{at, all3, known, kindsPermitted, freshCounters, nameOf}
+use Rattle.store.specs.Shared.{at, all3, known, kindsPermitted, freshCounters, nameOf, allBelow}
 use Rattle.store.specs.Tables.{Tables, fits, resourceWords, statementWords, nextAt, flagAt, tripleAt, firstAt, countAt, kindAt, liveAt}
 use Rattle.store.specs.Names.{Named, Indexed}
 use Rattle.store.specs.Soundness.{holding, isLive, Linked, Sound}
@@ -20,7 +20,7 @@ use Rattle.store.proofs.Theorems.{fresh-is-sound, histories-stay-sound}
 use Rattle.store.proofs.Tests.{and-l, and-r, and-of, all3-at, all3-of, known-low, known-high, known-of}
 use Rattle.store.proofs.Words.{triple-at}
 use Rattle.table.proofs.Capacity.{fits-room}
-use Rattle.integrity.specs.Tests.{allBelow, sumTo, chainLength, chainLive, isCount}
+use Rattle.integrity.specs.Tests.{sumTo, chainLength, chainLive, isCount}
 use Rattle.integrity.specs.Names.{namesOk}
 use Rattle.integrity.specs.Index.{indexOk}
 use Rattle.integrity.specs.Records.{recordOk, chainCounts, chainSound, chainsSound, standsOnce, recordsOk}

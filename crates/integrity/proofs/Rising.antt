@@ -13,7 +13,7 @@ use Rattle.store.specs.Reading.{inRange}
 use Rattle.store.specs.Names.{less, compareBytes, isLess, Indexed}
 use Rattle.store.proofs.Tests.{and-l, and-r, and-of}
 use Rattle.store.proofs.Order.{compare-trans, is-less}
-use Rattle.integrity.specs.Tests.{allBelow}
+use Rattle.store.specs.Shared.{allBelow}
 use Rattle.integrity.specs.Names.{nameFrom}
 use Rattle.integrity.specs.Index.{entryOk, nameLess, neighboursRise, indexOk}
 use Rattle.integrity.proofs.Ranges.{all-at, all-of}

@@ -5,11 +5,6 @@ use mathlib.Core.Option.{Option, none, some}
 use Prim.Native.Nat.{ℕ, zero, suc, _+_}
 use lib.Dec.{eqb, leb}
 
--- a test of 0 .. n - 1
-unfoldable pub allBelow : (ℕ → Bool) → ℕ → Bool
-allBelow f zero = true
-allBelow f (suc n) = f n && allBelow f n
-
 -- the sum over 1 .. r
 unfoldable pub sumTo : (ℕ → ℕ) → ℕ → ℕ
 sumTo g zero = 0

@@ -29,15 +29,15 @@ fn chain_counts(
     let mut alive: u32 = 0;
     // The chain from `first` down to n, n not included, falls and holds y; it has `met` records, `alive` of them live.
     while n.0 != 0 {
-        if table::inner::term_at(statements, n, p).0 != y.0 {
+        if table::word::term_at(statements, n, p).0 != y.0 {
             return false;
         }
-        let m = table::inner::next_at(statements, n, p);
+        let m = table::word::next_at(statements, n, p);
         if m.0 >= n.0 {
             return false;
         }
         met += 1;
-        alive += (table::inner::flag_at(statements, n) == 0) as u32;
+        alive += (table::word::flag_at(statements, n) == 0) as u32;
         n = m;
     }
     met == count && alive == live
@@ -57,12 +57,12 @@ fn chain_sound(
     requires { ⌜ (1 ≤ y .0) × (y .0 ≤ r) ⌝ }
     ensures { λ b. ⌜ b ≡ chainSound t (now (resources .entry)) (now (statements .entry)) p (y .0) ⌝ }
 {
-    let first = table::inner::first_at(resources, y, p);
+    let first = table::word::first_at(resources, y, p);
     if first.0 > t {
         return false;
     }
-    let count = table::inner::count_at(resources, y, p);
-    let live = table::inner::live_at(resources, y, p);
+    let count = table::word::count_at(resources, y, p);
+    let live = table::word::live_at(resources, y, p);
     chain_counts(statements, t, p, y, first, count, live)
 }
 
@@ -80,7 +80,7 @@ fn chains_sound(resources: &[u32], statements: &[u32], r: u32, t: u32, p: Positi
         if !chain_sound(resources, statements, r, t, p, y) {
             return false;
         }
-        total += crate::wide(table::inner::count_at(resources, y, p));
+        total += crate::wide(table::word::count_at(resources, y, p));
         done += 1;
     }
     total == crate::wide(t)

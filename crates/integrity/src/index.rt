@@ -4,7 +4,7 @@ ghost use mathlib.Core.Path.{_≡_};
 ghost use Prim.Native.Nat.{_+_, _-_, _≤_, _<_};
 ghost use lib.ListN.{length, getD};
 ghost use Rattle.integrity.specs.Held.{ResourcesHeld};
-ghost use Rattle.integrity.specs.Tests.{allBelow};
+ghost use Rattle.store.specs.Shared.{allBelow};
 ghost use Rattle.integrity.specs.Index.{entryOk, EntriesKnown, nameLess, neighboursRise, indexOk};
 
 // A byte of the text; 0 past its end, as if the last name were closed there.
@@ -50,8 +50,8 @@ fn neighbours_rise(resources: &[u32], index: &[u32], used: &[u8], r: u32, i: usi
 {
     let x = ResourceId(index[i]);
     let y = ResourceId(index[i + 1]);
-    let a = crate::wide(table::inner::offset_at(resources, x));
-    let b = crate::wide(table::inner::offset_at(resources, y));
+    let a = crate::wide(table::word::offset_at(resources, x));
+    let b = crate::wide(table::word::offset_at(resources, y));
     name_less(used, a, b)
 }
 

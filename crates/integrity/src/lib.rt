@@ -16,7 +16,7 @@ ghost use mathlib.Core.Path.{_≡_};
 ghost use mathlib.Core.Bool.{true};
 ghost use mathlib.Core.Logic.{_↔_};
 ghost use Prim.Native.Nat.{_<_};
-ghost use Rattle.store.specs.Tables.{tables};
+ghost use Rattle.store.specs.Tables.{tables, lent};
 ghost use Rattle.store.specs.Soundness.{Sound};
 ghost use Rattle.integrity.specs.Held.{ResourcesHeld, StatementsHeld};
 ghost use Rattle.integrity.specs.Records.{recordsOk};
@@ -52,7 +52,7 @@ fn records_ok(resources: &[u32], statements: &[u32], r: u32, t: u32) -> bool
 
 // All tests, in order.
 fn verdict(c: Counters, resources: &[u32], statements: &[u32], index: &[u32], text: &[u8]) -> bool
-    ensures { λ b. ⌜ b ≡ checkOf c (tables (now (resources .entry)) (now (statements .entry)) (now (index .entry)) (now (text .entry))) ⌝ }
+    ensures { λ b. ⌜ b ≡ checkOf c (lent (resources .entry) (statements .entry) (index .entry) (text .entry)) ⌝ }
 {
     if !table::fits(c, resources, statements, index, text) {
         return false;
@@ -70,7 +70,7 @@ fn verdict(c: Counters, resources: &[u32], statements: &[u32], index: &[u32], te
 
 // The check: true exactly if the store is sound. It refuses nothing.
 pub fn check(c: Counters, resources: &[u32], statements: &[u32], index: &[u32], text: &[u8]) -> bool
-    ensures { λ b. ⌜ (b ≡ true) ↔ Sound c (tables (now (resources .entry)) (now (statements .entry)) (now (index .entry)) (now (text .entry))) ⌝ }
+    ensures { λ b. ⌜ (b ≡ true) ↔ Sound c (lent (resources .entry) (statements .entry) (index .entry) (text .entry)) ⌝ }
 {
     verdict(c, resources, statements, index, text)
 }

@@ -32,7 +32,7 @@ fn name_ok(resources: &[u32], used: &[u8], y: ResourceId, from: usize, end: usiz
     if end == used.len() {
         return false;
     }
-    if crate::wide(table::inner::offset_at(resources, y)) != from {
+    if crate::wide(table::word::offset_at(resources, y)) != from {
         return false;
     }
     let kind = term::name_kind(&used[from..end]);
@@ -42,7 +42,7 @@ fn name_ok(resources: &[u32], used: &[u8], y: ResourceId, from: usize, end: usiz
     if term::writes_string(&used[from..end]) {
         return false;
     }
-    table::inner::kind_at(resources, y) == kind
+    table::word::kind_at(resources, y) == kind
 }
 
 // Whether the used text is exactly the names of the r resources, with right offsets and kinds.

@@ -4,10 +4,9 @@ use store::Triple;
 ghost use mathlib.Core.Path.{_≡_};
 ghost use mathlib.Core.Bool.{true};
 ghost use Prim.Native.Nat.{_-_, _≤_, _<_};
-ghost use Rattle.store.specs.Shared.{known, kindsPermitted};
+ghost use Rattle.store.specs.Shared.{known, kindsPermitted, allBelow};
 ghost use Rattle.store.specs.Tables.{kindAt};
 ghost use Rattle.integrity.specs.Held.{ResourcesHeld, StatementsHeld};
-ghost use Rattle.integrity.specs.Tests.{allBelow};
 ghost use Rattle.integrity.specs.Records.{recordOk};
 
 // Whether the subject is no literal and the predicate is an IRI.
@@ -16,10 +15,10 @@ fn kinds_permitted(resources: &[u32], r: u32, x: Triple) -> bool
     requires { ⌜ known r x ≡ true ⌝ }
     ensures { λ b. ⌜ b ≡ kindsPermitted (kindAt (now (resources .entry))) x ⌝ }
 {
-    if table::inner::kind_at(resources, x.subject) == 3 {
+    if table::word::kind_at(resources, x.subject) == 3 {
         return false;
     }
-    table::inner::kind_at(resources, x.predicate) == 1
+    table::word::kind_at(resources, x.predicate) == 1
 }
 
 // Whether record n is right by itself.
@@ -29,14 +28,14 @@ fn record_ok(resources: &[u32], statements: &[u32], r: u32, n: StatementId) -> b
     requires { ⌜ 1 ≤ n .0 ⌝ }
     ensures { λ b. ⌜ b ≡ recordOk r (now (resources .entry)) (now (statements .entry)) (n .0 - 1) ⌝ }
 {
-    let x = table::inner::triple_at(statements, n);
+    let x = table::word::triple_at(statements, n);
     if !table::known(r, x) {
         return false;
     }
     if !kinds_permitted(resources, r, x) {
         return false;
     }
-    table::inner::flag_at(statements, n) <= 1
+    table::word::flag_at(statements, n) <= 1
 }
 
 // Whether each of the t records is right by itself.

@@ -5,10 +5,9 @@ use store::Triple;
 ghost use mathlib.Core.Path.{_≡_};
 ghost use mathlib.Core.Bool.{true};
 ghost use Prim.Native.Nat.{_-_, _≤_};
-ghost use Rattle.store.specs.Shared.{known, same};
+ghost use Rattle.store.specs.Shared.{known, same, allBelow};
 ghost use Rattle.store.specs.Tables.{tripleAt};
 ghost use Rattle.integrity.specs.Held.{ResourcesHeld, StatementsHeld};
-ghost use Rattle.integrity.specs.Tests.{allBelow};
 ghost use Rattle.integrity.specs.Records.{recordOk, shortest, standsOnceOn, standsOnce};
 
 // The position of a triple's shortest chain.
@@ -17,9 +16,9 @@ fn shortest(resources: &[u32], r: u32, x: Triple) -> Position
     requires { ⌜ known r x ≡ true ⌝ }
     ensures { λ p. ⌜ p ≡ shortest (now (resources .entry)) x ⌝ }
 {
-    let s = table::inner::count_at(resources, x.subject, Position::Subject);
-    let p = table::inner::count_at(resources, x.predicate, Position::Predicate);
-    let o = table::inner::count_at(resources, x.object, Position::Object);
+    let s = table::word::count_at(resources, x.subject, Position::Subject);
+    let p = table::word::count_at(resources, x.predicate, Position::Predicate);
+    let o = table::word::count_at(resources, x.object, Position::Object);
     if p < s {
         if o < p {
             return Position::Object;
@@ -51,18 +50,18 @@ fn stands_once_on(statements: &[u32], n: StatementId, p: Position) -> bool
     requires { ⌜ 1 ≤ n .0 ⌝ }
     ensures { λ b. ⌜ b ≡ standsOnceOn (now (statements .entry)) p (n .0 - 1) ⌝ }
 {
-    let x = table::inner::triple_at(statements, n);
+    let x = table::word::triple_at(statements, n);
     let mut above = n;
     // On its chain at p no record below n, down to `above`, has its triple.
     loop {
-        let m = table::inner::next_at(statements, above, p);
+        let m = table::word::next_at(statements, above, p);
         if m.0 >= above.0 {
             return false;
         }
         if m.0 == 0 {
             return true;
         }
-        if same(x, table::inner::triple_at(statements, m)) {
+        if same(x, table::word::triple_at(statements, m)) {
             return false;
         }
         above = m;
@@ -77,7 +76,7 @@ fn stands_once(resources: &[u32], statements: &[u32], r: u32, n: StatementId) ->
     requires { ⌜ 1 ≤ n .0 ⌝ }
     ensures { λ b. ⌜ b ≡ standsOnce (now (resources .entry)) (now (statements .entry)) (n .0 - 1) ⌝ }
 {
-    let x = table::inner::triple_at(statements, n);
+    let x = table::word::triple_at(statements, n);
     let p = shortest(resources, r, x);
     stands_once_on(statements, n, p)
 }

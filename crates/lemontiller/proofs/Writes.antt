@@ -31,7 +31,7 @@ use Rattle.capi_calls.specs.declared.Answer.{Answer}
 use Rattle.capi_calls.specs.Words.{tooShort, counterWords, countersOf, cursorWords, retractAnswer, withCursor, ifShort, done, wrote}
 use Rattle.capi_calls.specs.Words.{nextFrom, scannedAnswer, assertAnswer, enterAnswer, withCounters}
 use Rattle.capi_calls.specs.Calls.{retractCall, openCall, nextCall, assertCall, enterAs, EnterCall, reclaimAs, ReclaimCall}
-use Rattle.capi_calls.proofs.Unanswered.{refuses}
+use Rattle.store.proofs.Numbers.{refuses}
 use Rattle.lemontiller.proofs.Lengths.{no-counters, no-reply, some-room}
 
 pub retract-done : (cw w : List ℕ) (m : Tables) {m′ : Tables} {r : Retracted} {c : Counters} {x y : Triple} {a : Answer}

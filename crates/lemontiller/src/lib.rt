@@ -31,7 +31,7 @@ use store::ScanOpened;
 use store::StatementId;
 use store::refusal_number;
 ghost use mathlib.Core.Path.{_≡_};
-ghost use Rattle.store.specs.Tables.{tables};
+ghost use Rattle.store.specs.Tables.{tables, lent};
 ghost use Rattle.store.specs.Shared.{triple};
 ghost use Rattle.capi_calls.specs.Words.{done, wrote};
 ghost use Rattle.capi_calls.specs.Calls.{kindCall, CheckCall, FindCall, nameCall, statementCall, lineCall, retractCall, openCall, nextCall, assertCall, EnterCall};
@@ -62,7 +62,8 @@ pub extern "C" fn lt_check(
     text: &[u8],
     reply: &mut [u32],
 ) -> u32
-    ensures { λ r. ⌜ CheckCall (now (counters .entry)) (tables (now (resources .entry)) (now (statements .entry)) (now (index .entry)) (now (text .entry))) (now (reply .entry)) (done r (now (reply .exit))) ⌝ }
+    ensures { λ r. ⌜ CheckCall (now (counters .entry)) (lent (resources .entry) (statements .entry) (index .entry) (text .entry))
+        (now (reply .entry)) (done r (now (reply .exit))) ⌝ }
 {
     if counters.len() < COUNTER_WORDS {
         return TOO_SHORT;
@@ -87,7 +88,8 @@ pub extern "C" fn lt_find(
     name: &[u8],
     reply: &mut [u32],
 ) -> u32
-    ensures { λ r. ⌜ FindCall (now (counters .entry)) (tables (now (resources .entry)) (now (statements .entry)) (now (index .entry)) (now (text .entry))) (now (name .entry)) (now (reply .entry)) (done r (now (reply .exit))) ⌝ }
+    ensures { λ r. ⌜ FindCall (now (counters .entry)) (lent (resources .entry) (statements .entry) (index .entry) (text .entry))
+        (now (name .entry)) (now (reply .entry)) (done r (now (reply .exit))) ⌝ }
 {
     if counters.len() < COUNTER_WORDS {
         return TOO_SHORT;
@@ -112,7 +114,8 @@ pub extern "C" fn lt_name(
     number: u32,
     reply: &mut [u32],
 ) -> u32
-    ensures { λ r. ⌜ done r (now (reply .exit)) ≡ nameCall (now (counters .entry)) (tables (now (resources .entry)) (now (statements .entry)) (now (index .entry)) (now (text .entry))) number (now (reply .entry)) ⌝ }
+    ensures { λ r. ⌜ done r (now (reply .exit)) ≡ nameCall (now (counters .entry))
+        (lent (resources .entry) (statements .entry) (index .entry) (text .entry)) number (now (reply .entry)) ⌝ }
 {
     if counters.len() < COUNTER_WORDS {
         return TOO_SHORT;
@@ -139,7 +142,8 @@ pub extern "C" fn lt_statement(
     number: u32,
     reply: &mut [u32],
 ) -> u32
-    ensures { λ r. ⌜ done r (now (reply .exit)) ≡ statementCall (now (counters .entry)) (tables (now (resources .entry)) (now (statements .entry)) (now (index .entry)) (now (text .entry))) number (now (reply .entry)) ⌝ }
+    ensures { λ r. ⌜ done r (now (reply .exit)) ≡ statementCall (now (counters .entry))
+        (lent (resources .entry) (statements .entry) (index .entry) (text .entry)) number (now (reply .entry)) ⌝ }
 {
     if counters.len() < COUNTER_WORDS {
         return TOO_SHORT;
@@ -192,7 +196,9 @@ pub extern "C" fn lt_retract(
     object: u32,
     reply: &mut [u32],
 ) -> u32
-    ensures { λ r. ⌜ wrote r (tables (now (resources .exit)) (now (statements .exit)) (now (index .entry)) (now (text .entry))) (now (reply .exit)) ≡ retractCall (now (counters .entry)) (tables (now (resources .entry)) (now (statements .entry)) (now (index .entry)) (now (text .entry))) (triple subject predicate object) (now (reply .entry)) ⌝ }
+    ensures { λ r. ⌜ wrote r (lent (resources .exit) (statements .exit) (index .entry) (text .entry)) (now (reply .exit))
+        ≡ retractCall (now (counters .entry)) (lent (resources .entry) (statements .entry) (index .entry) (text .entry))
+        (triple subject predicate object) (now (reply .entry)) ⌝ }
 {
     if counters.len() < COUNTER_WORDS {
         return TOO_SHORT;
@@ -220,7 +226,9 @@ pub extern "C" fn lt_scan_open(
     object: u32,
     cursor: &mut [u32],
 ) -> u32
-    ensures { λ r. ⌜ done r (now (cursor .exit)) ≡ openCall (now (counters .entry)) (tables (now (resources .entry)) (now (statements .entry)) (now (index .entry)) (now (text .entry))) (triple subject predicate object) (now (cursor .entry)) ⌝ }
+    ensures { λ r. ⌜ done r (now (cursor .exit)) ≡ openCall (now (counters .entry))
+        (lent (resources .entry) (statements .entry) (index .entry) (text .entry)) (triple subject predicate object)
+        (now (cursor .entry)) ⌝ }
 {
     if counters.len() < COUNTER_WORDS {
         return TOO_SHORT;
@@ -251,7 +259,9 @@ pub extern "C" fn lt_scan_next(
     budget: u32,
     reply: &mut [u32],
 ) -> u32
-    ensures { λ r. ⌜ (r, (now (cursor .exit), now (reply .exit))) ≡ nextCall (now (counters .entry)) (tables (now (resources .entry)) (now (statements .entry)) (now (index .entry)) (now (text .entry))) (now (cursor .entry)) budget (now (reply .entry)) ⌝ }
+    ensures { λ r. ⌜ (r, (now (cursor .exit), now (reply .exit)))
+        ≡ nextCall (now (counters .entry)) (lent (resources .entry) (statements .entry) (index .entry) (text .entry))
+        (now (cursor .entry)) budget (now (reply .entry)) ⌝ }
 {
     if counters.len() < COUNTER_WORDS {
         return TOO_SHORT;
@@ -289,7 +299,15 @@ pub extern "C" fn lt_assert(
     object: u32,
     reply: &mut [u32],
 ) -> u32
-    ensures { λ r. ⌜ (r, (now (counters .exit), (tables (now (resources .exit)) (now (statements .exit)) (now (index .entry)) (now (text .entry)), now (reply .exit)))) ≡ assertCall (now (counters .entry)) (tables (now (resources .entry)) (now (statements .entry)) (now (index .entry)) (now (text .entry))) (triple subject predicate object) (now (reply .entry)) ⌝ }
+    ensures { λ r. ⌜ (
+      r,
+      (
+        now (counters .exit),
+        (lent (resources .exit) (statements .exit) (index .entry) (text .entry), now (reply .exit)),
+      ),
+    )
+        ≡ assertCall (now (counters .entry)) (lent (resources .entry) (statements .entry) (index .entry) (text .entry))
+        (triple subject predicate object) (now (reply .entry)) ⌝ }
 {
     if counters.len() < COUNTER_WORDS {
         return TOO_SHORT;
@@ -322,7 +340,9 @@ pub extern "C" fn lt_enter(
     name: &[u8],
     reply: &mut [u32],
 ) -> u32
-    ensures { λ r. ⌜ EnterCall (now (counters .entry)) (tables (now (resources .entry)) (now (statements .entry)) (now (index .entry)) (now (text .entry))) (tables (now (resources .exit)) (now (statements .entry)) (now (index .exit)) (now (text .exit))) (now (name .entry)) (now (reply .entry)) (r, (now (counters .exit), now (reply .exit))) ⌝ }
+    ensures { λ r. ⌜ EnterCall (now (counters .entry)) (lent (resources .entry) (statements .entry) (index .entry) (text .entry))
+        (lent (resources .exit) (statements .entry) (index .exit) (text .exit)) (now (name .entry)) (now (reply .entry))
+        (r, (now (counters .exit), now (reply .exit))) ⌝ }
 {
     if counters.len() < COUNTER_WORDS {
         return TOO_SHORT;

@@ -22,7 +22,7 @@ use store::Refusal;
 ghost use mathlib.Core.Path.{_≡_};
 ghost use Prim.Native.Nat.{_≤_};
 ghost use lib.ListN.{length};
-ghost use Rattle.store.specs.Tables.{tables};
+ghost use Rattle.store.specs.Tables.{tables, lent};
 ghost use Rattle.capi_calls.specs.Words.{done};
 ghost use Rattle.capi_calls.specs.QueryWords.{queryCursorWords, nextQueryFrom};
 ghost use Rattle.capi_calls.specs.QueryCalls.{queryOpenCall, queryNextCall};
@@ -39,7 +39,8 @@ fn query_from(
     budget: u32,
 ) -> QueryAnswer
     requires { ⌜ queryCursorWords ≤ length (now cursor) ⌝ }
-    ensures { λ a. ⌜ a ≡ nextQueryFrom c (tables (now (resources .entry)) (now (statements .entry)) (now (index .entry)) (now (text .entry))) (now (words .entry)) (now (cursor .entry)) budget ⌝ }
+    ensures { λ a. ⌜ a ≡ nextQueryFrom c (lent (resources .entry) (statements .entry) (index .entry) (text .entry))
+        (now (words .entry)) (now (cursor .entry)) budget ⌝ }
 {
     if spelt(cursor) {
         let q = query_cursor_of(cursor);
@@ -69,7 +70,8 @@ pub extern "C" fn lt_query_open(
     words: &[u32],
     cursor: &mut [u32],
 ) -> u32
-    ensures { λ r. ⌜ done r (now (cursor .exit)) ≡ queryOpenCall (now (counters .entry)) (tables (now (resources .entry)) (now (statements .entry)) (now (index .entry)) (now (text .entry))) (now (words .entry)) (now (cursor .entry)) ⌝ }
+    ensures { λ r. ⌜ done r (now (cursor .exit)) ≡ queryOpenCall (now (counters .entry))
+        (lent (resources .entry) (statements .entry) (index .entry) (text .entry)) (now (words .entry)) (now (cursor .entry)) ⌝ }
 {
     if counters.len() < COUNTER_WORDS {
         return TOO_SHORT;
@@ -103,7 +105,9 @@ pub extern "C" fn lt_query_next(
     budget: u32,
     reply: &mut [u32],
 ) -> u32
-    ensures { λ r. ⌜ (r, (now (cursor .exit), now (reply .exit))) ≡ queryNextCall (now (counters .entry)) (tables (now (resources .entry)) (now (statements .entry)) (now (index .entry)) (now (text .entry))) (now (words .entry)) (now (cursor .entry)) budget (now (reply .entry)) ⌝ }
+    ensures { λ r. ⌜ (r, (now (cursor .exit), now (reply .exit)))
+        ≡ queryNextCall (now (counters .entry)) (lent (resources .entry) (statements .entry) (index .entry) (text .entry))
+        (now (words .entry)) (now (cursor .entry)) budget (now (reply .entry)) ⌝ }
 {
     if counters.len() < COUNTER_WORDS {
         return TOO_SHORT;

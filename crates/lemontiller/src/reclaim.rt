@@ -8,7 +8,7 @@ use capi_words::words::counters_of;
 use capi_words::words::put_counters;
 use store::Reclaimed;
 use store::refusal_number;
-ghost use Rattle.store.specs.Tables.{tables};
+ghost use Rattle.store.specs.Tables.{tables, lent};
 ghost use Rattle.capi_calls.specs.Words.{done};
 ghost use Rattle.capi_calls.specs.Calls.{ReclaimCall};
 
@@ -21,7 +21,8 @@ pub extern "C" fn lt_reclaim(
     index: &[u32],
     text: &[u8],
 ) -> u32
-    ensures { λ r. ⌜ ReclaimCall (now (counters .entry)) (tables (now (resources .entry)) (now (statements .entry)) (now (index .entry)) (now (text .entry))) (tables (now (resources .exit)) (now (statements .exit)) (now (index .entry)) (now (text .entry))) (done r (now (counters .exit))) ⌝ }
+    ensures { λ r. ⌜ ReclaimCall (now (counters .entry)) (lent (resources .entry) (statements .entry) (index .entry) (text .entry))
+        (lent (resources .exit) (statements .exit) (index .entry) (text .entry)) (done r (now (counters .exit))) ⌝ }
 {
     if counters.len() < COUNTER_WORDS {
         return TOO_SHORT;

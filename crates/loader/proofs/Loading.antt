@@ -10,7 +10,7 @@ use native.Mathlib.Numerals.{add-one}
 use lib.ListN.{length, take, drop, getD, set}
 use lib.Seq.{drop-cons, take-suc-set, take-all}
 use lib.Dec.{eqb}
-use borrow.Author.Tests.{ne-eqb, le-leb, lt-leb}
+use borrow.Author.Tests.{le-leb, lt-leb}
 use Rattle.term.specs.Grammar.{nameLimit}
 use Rattle.store.specs.declared.Counters.{Counters}
 use Rattle.store.specs.declared.ResourceId.{ResourceId}
@@ -36,7 +36,7 @@ use Rattle.ntriples.specs.declared.Line.the-variants as answer
 use Rattle.ntriples.specs.Grammar.{bytesOf}
 use Rattle.ntriples.specs.Reader.{readOf}
 use Rattle.graph.specs.Claims.{loading, loadOf}
-use Rattle.graph.proofs.Refusals.{refusal-positive}
+use Rattle.store.proofs.Numbers.{refuses}
 use Rattle.graph.proofs.Theorems.{graph-writes}
 use Rattle.lines.specs.Claims.{namesIn}
 use Rattle.loader.specs.declared.Outcome.{Outcome}
@@ -51,10 +51,6 @@ Ready c m = Sound c m ⊎ (fits c m ≡ false)
 
 abbrev answered : Store → Values → Store × Values
 answered s v = (s, v)
-
--- no refusal has the number 0
-refuses : (e : Refusal) → eqb (refusalNumber e) 0 ≡ false
-refuses e = ne-eqb (refusalNumber e) 0 (refusal-positive e)
 
 pub assert-refused : (c : Counters) (e : Refusal) → refusedLine c e ≡ assertedLine c (NotAsserted e)
 assert-refused c e = rw (refuses e)

@@ -7,7 +7,7 @@
 ghost use mathlib.Core.Path.{_≡_};
 ghost use Prim.Native.Nat.{ℕ, _≤_};
 ghost use lib.ListN.{length};
-ghost use Rattle.store.specs.Tables.{tables};
+ghost use Rattle.store.specs.Tables.{tables, lent};
 ghost use Rattle.loader.specs.Lines.{contentOf, lineAt, Loads, LoadsLines};
 ghost use Rattle.loader.specs.Steps.{Takes, LineInside, Ends, ReadAt, refusedLine, assertedLine};
 use ntriples::Line;
@@ -116,8 +116,8 @@ fn load_triple(
     object: Span,
 ) -> LineLoaded
     requires { ⌜ LineInside (now source) (Line.Triple subject predicate object) ⌝ }
-    ensures { λ r. ⌜ Loads c (tables (now (resources .entry)) (now (statements .entry)) (now (index .entry)) (now (text .entry)))
-        (tables (now (resources .exit)) (now (statements .exit)) (now (index .exit)) (now (text .exit)))
+    ensures { λ r. ⌜ Loads c (lent (resources .entry) (statements .entry) (index .entry) (text .entry))
+        (lent (resources .exit) (statements .exit) (index .exit) (text .exit))
         (now (source .entry)) (Line.Triple subject predicate object) r ⌝ }
 {
     let parts = [subject, predicate, object];
@@ -157,8 +157,8 @@ fn load_read(
     line: Line,
 ) -> LineLoaded
     requires { ⌜ LineInside (now source) line ⌝ }
-    ensures { λ r. ⌜ Loads c (tables (now (resources .entry)) (now (statements .entry)) (now (index .entry)) (now (text .entry)))
-        (tables (now (resources .exit)) (now (statements .exit)) (now (index .exit)) (now (text .exit)))
+    ensures { λ r. ⌜ Loads c (lent (resources .entry) (statements .entry) (index .entry) (text .entry))
+        (lent (resources .exit) (statements .exit) (index .exit) (text .exit))
         (now (source .entry)) line r ⌝ }
 {
     match line {
@@ -216,8 +216,8 @@ fn load_line(
     next: usize,
 ) -> LineLoaded
     requires { ⌜ ReadAt (now source) from line next ⌝ }
-    ensures { λ r. ⌜ Loads c (tables (now (resources .entry)) (now (statements .entry)) (now (index .entry)) (now (text .entry)))
-        (tables (now (resources .exit)) (now (statements .exit)) (now (index .exit)) (now (text .exit)))
+    ensures { λ r. ⌜ Loads c (lent (resources .entry) (statements .entry) (index .entry) (text .entry))
+        (lent (resources .exit) (statements .exit) (index .exit) (text .exit))
         (now (source .entry)) (lineAt (now (source .entry)) from) r ⌝ }
 {
     if content(source, from, next) > LINE_LIMIT {
@@ -249,8 +249,8 @@ fn take_line(
 ) -> Load
     requires { ⌜ ReadAt (now source) from line next ⌝ }
     ensures { λ r. ⌜ Takes (l .counters)
-        (tables (now (resources .entry)) (now (statements .entry)) (now (index .entry)) (now (text .entry)))
-        (tables (now (resources .exit)) (now (statements .exit)) (now (index .exit)) (now (text .exit)))
+        (lent (resources .entry) (statements .entry) (index .entry) (text .entry))
+        (lent (resources .exit) (statements .exit) (index .exit) (text .exit))
         (now (source .entry)) from (r .counters) ⌝ }
 {
     let c = l.counters;
@@ -286,8 +286,8 @@ fn load_lines(
     source: &[u8],
 ) -> Load
     ensures { λ r. ⌜ LoadsLines (l .counters)
-        (tables (now (resources .entry)) (now (statements .entry)) (now (index .entry)) (now (text .entry)))
-        (tables (now (resources .exit)) (now (statements .exit)) (now (index .exit)) (now (text .exit)))
+        (lent (resources .entry) (statements .entry) (index .entry) (text .entry))
+        (lent (resources .exit) (statements .exit) (index .exit) (text .exit))
         (now (source .entry)) (r .counters) ⌝ }
 {
     let mut m = l;

@@ -3,7 +3,7 @@
 //
 // A function that takes, makes or holds a `NamePart` is proved by a walk of its code, since the struct holds a reference.
 ghost use mathlib.Core.Path.{_≡_};
-ghost use Rattle.store.specs.Tables.{tables};
+ghost use Rattle.store.specs.Tables.{lent};
 ghost use Rattle.store.specs.Reading.{nameSpanOf};
 ghost use Rattle.store.specs.Values.{nameValues};
 ghost use Rattle.name_part.specs.Part.{partOf, Inside, NameReply};
@@ -54,8 +54,8 @@ pub fn name<'t>(
     text: &'t [u8],
     n: ResourceId,
 ) -> NamePart<'t>
-    ensures { λ a. ⌜ NameReply (now (text .entry)) (nameSpanOf c (tables (now (resources .entry)) (now (statements .entry))
-        (now (index .entry)) (now (text .entry))) n) (a .refusal) (now (a .part)) ⌝ }
+    ensures { λ a. ⌜ NameReply (now (text .entry)) (nameSpanOf c
+        (lent (resources .entry) (statements .entry) (index .entry) (text .entry)) n) (a .refusal) (now (a .part)) ⌝ }
 {
     let a = table::name_span(c, resources, statements, index, text, n);
     let refusal = refusal_of(a);

@@ -16,7 +16,7 @@ use store::Counters;
 use store::Refusal;
 use table::fits;
 ghost use mathlib.Core.Path.{_≡_};
-ghost use Rattle.store.specs.Tables.{tables};
+ghost use Rattle.store.specs.Tables.{tables, lent};
 ghost use Rattle.graph.specs.Query.{openQueryOf, nextQueryOf};
 
 pub mod resume;
@@ -31,8 +31,8 @@ pub fn query_open(
     text: &[u8],
     words: &[u32],
 ) -> QueryOpened
-    ensures { λ a. ⌜ a ≡ openQueryOf c (tables (now (resources .entry)) (now (statements .entry))
-        (now (index .entry)) (now (text .entry))) (now (words .entry)) ⌝ }
+    ensures { λ a. ⌜ a ≡ openQueryOf c (lent (resources .entry) (statements .entry) (index .entry) (text .entry))
+        (now (words .entry)) ⌝ }
 {
     if !fits(c, resources, statements, index, text) {
         return QueryOpened {
@@ -64,8 +64,8 @@ pub fn query_next(
     q: QueryCursor,
     budget: u32,
 ) -> QueryAnswer
-    ensures { λ a. ⌜ a ≡ nextQueryOf c (tables (now (resources .entry)) (now (statements .entry))
-        (now (index .entry)) (now (text .entry))) (now (words .entry)) q budget ⌝ }
+    ensures { λ a. ⌜ a ≡ nextQueryOf c (lent (resources .entry) (statements .entry) (index .entry) (text .entry))
+        (now (words .entry)) q budget ⌝ }
 {
     if !fits(c, resources, statements, index, text) {
         return refused(Refusal::Capacity);

@@ -29,7 +29,7 @@ use store::Chain;
 use store::Refusal;
 use store::StatementId;
 use store::Triple;
-use table::inner::triple_at;
+use table::word::triple_at;
 ghost use mathlib.Core.Path.{_≡_};
 ghost use mathlib.Core.List.{[]};
 ghost use Prim.Native.Nat.{_-_, _<_, _≤_};

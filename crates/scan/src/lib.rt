@@ -23,7 +23,7 @@ use table::fits;
 ghost use mathlib.Core.Path.{_≡_};
 ghost use Prim.Native.Nat.{ℕ, _*_, _≤_};
 ghost use lib.ListN.{length};
-ghost use Rattle.store.specs.Tables.{tables, statementWords};
+ghost use Rattle.store.specs.Tables.{tables, lent, statementWords};
 ghost use Rattle.store.specs.Scan.{cursorIn, openOf, nextOf};
 ghost use Rattle.scan.specs.Cursors.{CursorTested};
 
@@ -37,7 +37,7 @@ pub fn scan_open(
     x: Triple,
 ) -> ScanOpened
     ensures { λ r. ⌜ r
-        ≡ openOf c (tables (now (resources .entry)) (now (statements .entry)) (now (index .entry)) (now (text .entry))) x ⌝ }
+        ≡ openOf c (lent (resources .entry) (statements .entry) (index .entry) (text .entry)) x ⌝ }
 {
     if !fits(c, resources, statements, index, text) {
         return ScanOpened::Refused(Refusal::Capacity);
@@ -98,7 +98,7 @@ pub fn scan_next(
     budget: u32,
 ) -> Scanned
     ensures { λ r. ⌜ r
-        ≡ nextOf c (tables (now (resources .entry)) (now (statements .entry)) (now (index .entry)) (now (text .entry))) q budget ⌝ }
+        ≡ nextOf c (lent (resources .entry) (statements .entry) (index .entry) (text .entry)) q budget ⌝ }
 {
     if !fits(c, resources, statements, index, text) {
         return Scanned::Refused(Refusal::Capacity);

@@ -15,7 +15,7 @@ use store::Counters;
 use store::Retracted;
 use store::Triple;
 ghost use mathlib.Core.Path.{_≡_};
-ghost use Rattle.store.specs.Tables.{after, tables};
+ghost use Rattle.store.specs.Tables.{after, tables, lent};
 ghost use Rattle.store.specs.Statement.{assertOf, retractOf, countersAfter};
 ghost use Rattle.statement.specs.Updating.{AssertedUpdating, RetractedUpdating};
 
@@ -28,8 +28,8 @@ pub fn assert(
     text: &[u8],
     x: Triple,
 ) -> Asserted
-    ensures { λ r. ⌜ after (tables (now (resources .exit)) (now (statements .exit)) (now (index .entry)) (now (text .entry))) r
-        ≡ assertOf c (tables (now (resources .entry)) (now (statements .entry)) (now (index .entry)) (now (text .entry))) x ⌝ }
+    ensures { λ r. ⌜ after (lent (resources .exit) (statements .exit) (index .entry) (text .entry)) r
+        ≡ assertOf c (lent (resources .entry) (statements .entry) (index .entry) (text .entry)) x ⌝ }
 {
     match assert_target(c, resources, statements, index, text, x) {
         Located::Refused(e) => Asserted::Refused(e),
@@ -51,8 +51,8 @@ pub fn retract(
     text: &[u8],
     x: Triple,
 ) -> Retracted
-    ensures { λ r. ⌜ after (tables (now (resources .exit)) (now (statements .exit)) (now (index .entry)) (now (text .entry))) r
-        ≡ retractOf c (tables (now (resources .entry)) (now (statements .entry)) (now (index .entry)) (now (text .entry))) x ⌝ }
+    ensures { λ r. ⌜ after (lent (resources .exit) (statements .exit) (index .entry) (text .entry)) r
+        ≡ retractOf c (lent (resources .entry) (statements .entry) (index .entry) (text .entry)) x ⌝ }
 {
     match retract_target(c, resources, statements, index, text, x) {
         Located::Refused(e) => Retracted::Refused(e),

@@ -14,10 +14,10 @@ use store::StatementId;
 use store::Triple;
 use table::fits;
 use table::in_range;
-use table::inner::count_at;
-use table::inner::kind_at;
-use table::inner::live_at;
 use table::known;
+use table::word::count_at;
+use table::word::kind_at;
+use table::word::live_at;
 ghost use mathlib.Core.Path.{_≡_};
 ghost use mathlib.Core.Bool.{_&&_};
 ghost use mathlib.Core.List.{[]};
@@ -25,7 +25,7 @@ ghost use Prim.Native.Nat.{ℕ, _*_, _≤_};
 ghost use lib.ListN.{length};
 ghost use lib.Dec.{leb};
 ghost use Rattle.store.specs.Shared.{kindsPermitted};
-ghost use Rattle.store.specs.Tables.{tables, statementWords, countAt, kindAt, liveAt};
+ghost use Rattle.store.specs.Tables.{tables, lent, statementWords, countAt, kindAt, liveAt};
 ghost use Rattle.store.specs.Walk.{pickable};
 ghost use Rattle.store.specs.Statement.{countable, locate, kindsOk};
 ghost use Rattle.table.specs.Held.{ResourceHeld, TripleHeld};
@@ -144,7 +144,7 @@ pub fn assert_target(
     x: Triple,
 ) -> Located
     ensures { λ r. ⌜ r
-        ≡ assertTarget c (tables (now (resources .entry)) (now (statements .entry)) (now (index .entry)) (now (text .entry))) x ⌝ }
+        ≡ assertTarget c (lent (resources .entry) (statements .entry) (index .entry) (text .entry)) x ⌝ }
 {
     if !fits(c, resources, statements, index, text) {
         return Located::Refused(Refusal::Capacity);
@@ -171,7 +171,7 @@ pub fn retract_target(
     x: Triple,
 ) -> Located
     ensures { λ r. ⌜ r
-        ≡ retractTarget c (tables (now (resources .entry)) (now (statements .entry)) (now (index .entry)) (now (text .entry))) x ⌝ }
+        ≡ retractTarget c (lent (resources .entry) (statements .entry) (index .entry) (text .entry)) x ⌝ }
 {
     if !fits(c, resources, statements, index, text) {
         return Located::Refused(Refusal::Capacity);

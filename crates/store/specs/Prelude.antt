@@ -27,7 +27,8 @@ pub use Rattle.store.specs.declared.Reclaimed.{Reclaimed}
 pub use Rattle.store.specs.declared.Reclaimed.the-variants.{Done, Refused as NotReclaimed}
 pub use Rattle.store.specs.declared.Refusal.{Refusal}
 pub use Rattle.store.specs.declared.Refusal.the-variants.{Capacity, Malformed, Full, Damaged, UnknownNumber, ReclaimLimit, BadCursor}
-pub use Rattle.store.specs.declared.Refusal.the-variants.{NoBudget, StaleCursor, KindNotPermitted, BadQuery, BadLine}
+pub use Rattle.store.specs.declared.Refusal.the-variants.{NoBudget, StaleCursor, KindNotPermitted, BadQuery, BadLine, ExportSpace, NoTimes}
+pub use Rattle.store.specs.declared.Refusal.the-variants.{BadPath, PathSpace, BadGroup}
 pub use Rattle.store.specs.declared.ResourceId.{ResourceId}
 pub use Rattle.store.specs.declared.Retracted.{Retracted}
 pub use Rattle.store.specs.declared.Retracted.the-variants.{Refused as NotRetracted, Number as WasLive, Absent as NotLive}

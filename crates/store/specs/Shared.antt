@@ -1,7 +1,7 @@
 -- What the plain lists and the tables' definitions share: limits, refusals in their order, triples of numbers at a position in general,
 -- listed triples, the position picked, names, and the falling positions of a list's entries that pass a test. What its tests and searches
 -- mean is pinned in `Pins`. Assumes nothing.
-use Rattle.store.specs.Prelude.{Bool, cond, not, _&&_, _||_, List, [], _∷_, ℕ, zero, suc, _+_, _-_, length, getD, eqb, leb, ltb}
+use Rattle.store.specs.Prelude.{Bool, true, cond, not, _&&_, _||_, List, [], _∷_, ℕ, zero, suc, _+_, _-_, length, getD, eqb, leb, ltb}
 use Rattle.store.specs.Prelude.{Counters, Position, Subject, Predicate, Object, Chain, All, By, Triple}
 use Rattle.term.specs.Bytes.{eqBytes}
 use Rattle.term.specs.Grammar.{nameLimit}
@@ -82,6 +82,18 @@ better x cost q (By p) = cond (eqb (at q x) 0) (By p) (cond (ltb (cost q) (cost 
 -- the bound position of least cost, ties to subject, then predicate, then object; All if nothing is bound
 unfoldable pub pick : Triple → (Position → ℕ) → Chain
 pick x cost = better x cost Object (better x cost Predicate (better x cost Subject All))
+
+-- ---- tests of a range and of a list
+
+-- a test of 0 .. n - 1
+unfoldable pub allBelow : (ℕ → Bool) → ℕ → Bool
+allBelow f zero = true
+allBelow f (suc n) = f n && allBelow f n
+
+-- what passes a test, in order
+unfoldable pub keep : {A : Type 0} → (A → Bool) → List A → List A
+keep f [] = []
+keep f (x ∷ xs) = cond (f x) (x ∷ keep f xs) (keep f xs)
 
 -- ---- falling positions
 

@@ -1,5 +1,6 @@
 -- The tables and counters (paper 01, "Tables and counters"; 02, notes 5 and 6): widths and offsets of the records, their words at a position
 -- in general, capacities, refusal 1. Total on any words: a word past a table's end is 0. Assumes nothing.
+use denote.Ref.{RefT, now}
 use Rattle.store.specs.Prelude.{Bool, _&&_, List, ℕ, _+_, _*_, _-_, _/_, min, length, getD, leb, Counters, Position, Subject}
 use Rattle.store.specs.Prelude.{Predicate, Object, Triple}
 use Rattle.store.specs.Shared.{triple, maxResources, maxStatements, maxText, maxReclaims}
@@ -24,6 +25,10 @@ pub record Tables : Type 0 where
 
 abbrev pub tables : List ℕ → List ℕ → List ℕ → List ℕ → Tables
 tables res stm idx text = record { resources = res; statements = stm; index = idx; text = text }
+
+-- what four lent tables hold
+abbrev pub lent : RefT (List ℕ) → RefT (List ℕ) → RefT (List ℕ) → RefT (List ℕ) → Tables
+lent res stm idx text = tables (now res) (now stm) (now idx) (now text)
 
 -- the tables after a call, and its reply
 abbrev pub after : {A : Type 0} → Tables → A → Tables × A

@@ -1,7 +1,8 @@
 -- The paper's number and values for each case of each reply (paper 01, "Operations and refusals"; 02, note 6): what a promise compares. Every
 -- field that a case does not name is 0, and beside a refusal's number all are. Assumes nothing.
 use Rattle.store.specs.Prelude.{ℕ, Counters, Triple, All, ScanCursor, Refusal, Capacity, Malformed, Full, UnknownNumber}
-use Rattle.store.specs.Prelude.{KindNotPermitted, BadCursor, NoBudget, BadQuery, Damaged, BadLine, StaleCursor, ReclaimLimit}
+use Rattle.store.specs.Prelude.{KindNotPermitted, BadCursor, NoBudget, BadQuery, Damaged, BadLine, ExportSpace, NoTimes, StaleCursor}
+use Rattle.store.specs.Prelude.{ReclaimLimit, BadPath, PathSpace, BadGroup}
 use Rattle.store.specs.Prelude.{StatementRead, Is, NotRead, NameRead, Span, NotNamed, Lookup, Number, Absent, NotFound, Interned, Id}
 use Rattle.store.specs.Prelude.{NotInterned, Asserted, New, Already, Revived, NotAsserted, Retracted, WasLive, NotLive, NotRetracted}
 use Rattle.store.specs.Prelude.{Reclaimed, Done, NotReclaimed, ScanOpened, Cursor, NotOpened, Scanned, Found, Ended, Spent}
@@ -19,8 +20,13 @@ refusalNumber NoBudget = 7
 refusalNumber BadQuery = 8
 refusalNumber Damaged = 9
 refusalNumber BadLine = 10
+refusalNumber ExportSpace = 11
+refusalNumber NoTimes = 12
 refusalNumber StaleCursor = 13
 refusalNumber ReclaimLimit = 14
+refusalNumber BadPath = 15
+refusalNumber PathSpace = 16
+refusalNumber BadGroup = 17
 
 abbrev pub noTriple : Triple
 noTriple = triple 0 0 0

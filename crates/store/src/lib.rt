@@ -73,7 +73,8 @@ pub struct ScanCursor {
     pub generation: u32,
 }
 
-// Why an operation refuses; `specs/Values.antt` gives the paper's number of each.
+// Why an operation refuses; `specs/Values.antt` gives the paper's number of each. No operation answers 11, 12 or 15 to 17 yet: they are
+// those of the paper's notes 1, 2, 9 and 12.
 pub enum Refusal {
     // 1: a counter exceeds its capacity.
     Capacity,
@@ -95,10 +96,20 @@ pub enum Refusal {
     Damaged,
     // 10: bytes that are no line.
     BadLine,
+    // 11: no room in the caller's bytes for the file.
+    ExportSpace,
+    // 12: no times to sum up.
+    NoTimes,
     // 13: a cursor with another number of reclaims than the counters.
     StaleCursor,
     // 14: a reclaim past the maximum.
     ReclaimLimit,
+    // 15: words that are no path.
+    BadPath,
+    // 16: no room in the caller's words for the work of a path.
+    PathSpace,
+    // 17: words that are no group of scans.
+    BadGroup,
 }
 
 // The paper's number of a refusal.
@@ -116,8 +127,13 @@ pub fn refusal_number(e: Refusal) -> u32
         Refusal::BadQuery => 8,
         Refusal::Damaged => 9,
         Refusal::BadLine => 10,
+        Refusal::ExportSpace => 11,
+        Refusal::NoTimes => 12,
         Refusal::StaleCursor => 13,
         Refusal::ReclaimLimit => 14,
+        Refusal::BadPath => 15,
+        Refusal::PathSpace => 16,
+        Refusal::BadGroup => 17,
     }
 }
 

@@ -7,7 +7,7 @@
 // | index      | 1      | a resource's number, in rising byte order of name                                                   |
 // | text       | bytes  | names in resource order, each closed by a zero byte                                                 |
 //
-// Records are numbered from 1. A record's words are read and written through `inner`, for a position in general.
+// Records are numbered from 1. A record's words are read and written through `word`, for a position in general.
 use store::Counters;
 use store::NameRead;
 use store::Refusal;
@@ -17,10 +17,10 @@ use store::StatementRead;
 use store::Triple;
 ghost use mathlib.Core.Path.{_≡_};
 ghost use Rattle.store.specs.Shared.{known};
-ghost use Rattle.store.specs.Tables.{tables, fits};
+ghost use Rattle.store.specs.Tables.{lent, fits};
 ghost use Rattle.store.specs.Reading.{inRange, statementOf, nameSpanOf};
 
-pub mod inner;
+pub mod word;
 
 pub const RESOURCE_WORDS: usize = 11;
 
@@ -45,7 +45,7 @@ pub const NAME_WINDOW: usize = Counters::MAX_NAME as usize + 1;
 
 // Whether no counter exceeds its capacity, nor the reclaims so far their maximum. Every operation of the store refuses 1 where this is false.
 pub fn fits(c: Counters, resources: &[u32], statements: &[u32], index: &[u32], text: &[u8]) -> bool
-    ensures { λ b. ⌜ b ≡ fits c (tables (now (resources .entry)) (now (statements .entry)) (now (index .entry)) (now (text .entry))) ⌝ }
+    ensures { λ b. ⌜ b ≡ fits c (lent (resources .entry) (statements .entry) (index .entry) (text .entry)) ⌝ }
 {
     let r = c.resources as usize;
     let t = c.statements as usize;
@@ -106,7 +106,7 @@ pub fn read_statement(
     text: &[u8],
     n: StatementId,
 ) -> StatementRead
-    ensures { λ r. ⌜ r ≡ statementOf c (tables (now (resources .entry)) (now (statements .entry)) (now (index .entry)) (now (text .entry))) n ⌝ }
+    ensures { λ r. ⌜ r ≡ statementOf c (lent (resources .entry) (statements .entry) (index .entry) (text .entry)) n ⌝ }
 {
     if !fits(c, resources, statements, index, text) {
         return StatementRead::Refused(Refusal::Capacity);
@@ -114,11 +114,11 @@ pub fn read_statement(
     if !in_range(c.statements, n.0) {
         return StatementRead::Refused(Refusal::UnknownNumber);
     }
-    let spo = inner::triple_at(statements, n);
+    let spo = word::triple_at(statements, n);
     if !known(c.resources, spo) {
         return StatementRead::Refused(Refusal::Damaged);
     }
-    let flag = inner::flag_at(statements, n);
+    let flag = word::flag_at(statements, n);
     if flag > 1 {
         return StatementRead::Refused(Refusal::Damaged);
     }
@@ -135,7 +135,7 @@ pub fn name_span(
     text: &[u8],
     n: ResourceId,
 ) -> NameRead
-    ensures { λ r. ⌜ r ≡ nameSpanOf c (tables (now (resources .entry)) (now (statements .entry)) (now (index .entry)) (now (text .entry))) n ⌝ }
+    ensures { λ r. ⌜ r ≡ nameSpanOf c (lent (resources .entry) (statements .entry) (index .entry) (text .entry)) n ⌝ }
 {
     if !fits(c, resources, statements, index, text) {
         return NameRead::Refused(Refusal::Capacity);
@@ -143,6 +143,6 @@ pub fn name_span(
     if !in_range(c.resources, n.0) {
         return NameRead::Refused(Refusal::UnknownNumber);
     }
-    let from = inner::offset_at(resources, n);
-    inner::span_at(text, c.text, from)
+    let from = word::offset_at(resources, n);
+    word::span_at(text, c.text, from)
 }

@@ -9,7 +9,7 @@ use Rattle.dictionary.proofs.find.Statement.{statement}
 use Rattle.dictionary.proofs.find.Tie as tie
 use Rattle.dictionary.proofs.find.Reads as reads
 use Rattle.dictionary.proofs.find.Lts as lts
-use Rattle.dictionary.proofs.inner.search.Reads as search-reads
+use Rattle.dictionary.proofs.search.search.Reads as search-reads
 use Rattle.table.proofs.fits.Reads as fits-reads
 use Rattle.term.proofs.canonical.Reads as canonical-reads
 use Rattle.term.proofs.name_kind.Reads as name-kind-reads

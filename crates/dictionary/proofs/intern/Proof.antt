@@ -15,7 +15,7 @@ use Rattle.dictionary.proofs.intern.Reads as reads
 use Rattle.dictionary.proofs.intern.Lts as lts
 use Rattle.dictionary.proofs.extend.append.Reads as append-reads
 use Rattle.dictionary.proofs.extend.one_name_more.Reads as one-name-more-reads
-use Rattle.dictionary.proofs.inner.search.Reads as search-reads
+use Rattle.dictionary.proofs.search.search.Reads as search-reads
 use Rattle.table.proofs.fits.Reads as fits-reads
 use Rattle.term.proofs.canonical.Reads as canonical-reads
 use Rattle.term.proofs.name_kind.Reads as name-kind-reads

@@ -13,8 +13,8 @@ use Rattle.table.proofs.name_span.Reads as reads
 use Rattle.table.proofs.name_span.Lts as lts
 use Rattle.table.proofs.fits.Reads as fits-reads
 use Rattle.table.proofs.in_range.Reads as in-range-reads
-use Rattle.table.proofs.inner.offset_at.Reads as offset-at-reads
-use Rattle.table.proofs.inner.span_at.Reads as span-at-reads
+use Rattle.table.proofs.word.offset_at.Reads as offset-at-reads
+use Rattle.table.proofs.word.span_at.Reads as span-at-reads
 
 fits-requires : tie.Need-fits-requires
 fits-requires c κs = search needs

@@ -12,8 +12,8 @@ use Rattle.table.proofs.read_statement.Reads as reads
 use Rattle.table.proofs.read_statement.Lts as lts
 use Rattle.table.proofs.fits.Reads as fits-reads
 use Rattle.table.proofs.in_range.Reads as in-range-reads
-use Rattle.table.proofs.inner.flag_at.Reads as flag-at-reads
-use Rattle.table.proofs.inner.triple_at.Reads as triple-at-reads
+use Rattle.table.proofs.word.flag_at.Reads as flag-at-reads
+use Rattle.table.proofs.word.triple_at.Reads as triple-at-reads
 use Rattle.table.proofs.known.Reads as known-reads
 
 fits-requires : tie.Need-fits-requires

@@ -1,7 +1,7 @@
 -- `capi_query_words::queries::chains_spelt` meets its contract. Assumes nothing.
 use Rattle.capi_calls.specs.QueryWords.{chainSpelt}
 use Rattle.integrity.proofs.Ranges.{all-none, all-more, all-fails}
-use Rattle.integrity.specs.Tests.{allBelow}
+use Rattle.store.specs.Shared.{allBelow}
 use borrow.Author.Tests.{le-leb, lt-leb}
 use native.Mathlib.Omega.{arith}
 use mathlib.Core.Bool.{true}

@@ -6,8 +6,8 @@ use Rattle.chain.proofs.pick.pickable_at.Tie as tie
 use Rattle.chain.proofs.pick.pickable_at.Reads as reads
 use Rattle.chain.proofs.pick.pickable_at.Lts as lts
 use Rattle.chain.proofs.triple.at.Reads as at-reads
-use Rattle.table.proofs.inner.count_at.Reads as count-at-reads
-use Rattle.table.proofs.inner.first_at.Reads as first-at-reads
+use Rattle.table.proofs.word.count_at.Reads as count-at-reads
+use Rattle.table.proofs.word.first_at.Reads as first-at-reads
 
 at-requires : tie.Need-at-requires
 at-requires c κs = search needs

@@ -4,7 +4,7 @@ use Rattle.chain_walk.proofs.walk.link_of.Statement.{statement}
 use Rattle.chain_walk.proofs.walk.link_of.Tie as tie
 use Rattle.chain_walk.proofs.walk.link_of.Reads as reads
 use Rattle.chain_walk.proofs.walk.link_of.Lts as lts
-use Rattle.table.proofs.inner.next_at.Reads as next-at-reads
+use Rattle.table.proofs.word.next_at.Reads as next-at-reads
 
 enum-told : tie.Need-enum-told
 enum-told c = search needs

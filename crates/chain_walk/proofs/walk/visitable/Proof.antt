@@ -11,8 +11,8 @@ use Rattle.chain_walk.proofs.walk.visitable.Lts as lts
 use Rattle.chain_walk.proofs.walk.link_of.Reads as link-of-reads
 use Rattle.chain_walk.proofs.walk.holds_resource.Reads as holds-resource-reads
 use Rattle.table.proofs.known.Reads as known-reads
-use Rattle.table.proofs.inner.flag_at.Reads as flag-at-reads
-use Rattle.table.proofs.inner.triple_at.Reads as triple-at-reads
+use Rattle.table.proofs.word.flag_at.Reads as flag-at-reads
+use Rattle.table.proofs.word.triple_at.Reads as triple-at-reads
 
 triple-at-requires : tie.Need-triple-at-requires
 triple-at-requires c κs = search needs

@@ -9,8 +9,8 @@ use Rattle.compaction.proofs.sweep.sweep_one.Reads as reads
 use Rattle.compaction.proofs.sweep.sweep_one.Lts as lts
 use Rattle.statement_record.proofs.record.link_record.Reads as link-record-reads
 use Rattle.statement_record.proofs.record.write_record.Reads as write-record-reads
-use Rattle.table.proofs.inner.flag_at.Reads as flag-at-reads
-use Rattle.table.proofs.inner.triple_at.Reads as triple-at-reads
+use Rattle.table.proofs.word.flag_at.Reads as flag-at-reads
+use Rattle.table.proofs.word.triple_at.Reads as triple-at-reads
 
 flag-at-requires : tie.Need-flag-at-requires
 flag-at-requires c κs = search needs

@@ -10,9 +10,9 @@ use Rattle.integrity.proofs.chains.chain_counts.Statement.{statement}
 use Rattle.integrity.proofs.chains.chain_counts.Tie as tie
 use Rattle.integrity.proofs.chains.chain_counts.Reads as reads
 use Rattle.integrity.proofs.chains.chain_counts.Lts as lts
-use Rattle.table.proofs.inner.flag_at.Reads as flag-at-reads
-use Rattle.table.proofs.inner.next_at.Reads as next-at-reads
-use Rattle.table.proofs.inner.term_at.Reads as term-at-reads
+use Rattle.table.proofs.word.flag_at.Reads as flag-at-reads
+use Rattle.table.proofs.word.next_at.Reads as next-at-reads
+use Rattle.table.proofs.word.term_at.Reads as term-at-reads
 
 abbrev Inv-loop : tie.InvT-loop
 Inv-loop statements t p y count live first met₀ alive₀ n met alive =

@@ -8,9 +8,9 @@ use Rattle.integrity.proofs.chains.chain_sound.Tie as tie
 use Rattle.integrity.proofs.chains.chain_sound.Reads as reads
 use Rattle.integrity.proofs.chains.chain_sound.Lts as lts
 use Rattle.integrity.proofs.chains.chain_counts.Reads as chain-counts-reads
-use Rattle.table.proofs.inner.count_at.Reads as count-at-reads
-use Rattle.table.proofs.inner.first_at.Reads as first-at-reads
-use Rattle.table.proofs.inner.live_at.Reads as live-at-reads
+use Rattle.table.proofs.word.count_at.Reads as count-at-reads
+use Rattle.table.proofs.word.first_at.Reads as first-at-reads
+use Rattle.table.proofs.word.live_at.Reads as live-at-reads
 
 first-at-requires : tie.Need-first-at-requires
 first-at-requires c κs = search needs

@@ -11,7 +11,7 @@ use Rattle.integrity.proofs.chains.chains_sound.Reads as reads
 use Rattle.integrity.proofs.chains.chains_sound.Lts as lts
 use Rattle.integrity.proofs.chains.chain_sound.Reads as chain-sound-reads
 use Rattle.integrity.proofs.wide.Reads as wide-reads
-use Rattle.table.proofs.inner.count_at.Reads as count-at-reads
+use Rattle.table.proofs.word.count_at.Reads as count-at-reads
 
 abbrev Inv-loop : tie.InvT-loop
 Inv-loop resources statements r t p done₀ total₀ done total =

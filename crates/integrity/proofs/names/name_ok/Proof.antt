@@ -10,8 +10,8 @@ use Rattle.integrity.proofs.names.name_ok.Tie as tie
 use Rattle.integrity.proofs.names.name_ok.Reads as reads
 use Rattle.integrity.proofs.names.name_ok.Lts as lts
 use Rattle.integrity.proofs.wide.Reads as wide-reads
-use Rattle.table.proofs.inner.kind_at.Reads as kind-at-reads
-use Rattle.table.proofs.inner.offset_at.Reads as offset-at-reads
+use Rattle.table.proofs.word.kind_at.Reads as kind-at-reads
+use Rattle.table.proofs.word.offset_at.Reads as offset-at-reads
 use Rattle.term.proofs.name_kind.Reads as name-kind-reads
 use Rattle.term.proofs.writes_string.Reads as writes-string-reads
 

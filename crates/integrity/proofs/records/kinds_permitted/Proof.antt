@@ -7,7 +7,7 @@ use Rattle.integrity.proofs.records.kinds_permitted.Statement.{statemen
 use Rattle.integrity.proofs.records.kinds_permitted.Tie as tie
 use Rattle.integrity.proofs.records.kinds_permitted.Reads as reads
 use Rattle.integrity.proofs.records.kinds_permitted.Lts as lts
-use Rattle.table.proofs.inner.kind_at.Reads as kind-at-reads
+use Rattle.table.proofs.word.kind_at.Reads as kind-at-reads
 
 kind-at-requires : tie.Need-kind-at-requires
 kind-at-requires c κs =

@@ -8,8 +8,8 @@ use Rattle.integrity.proofs.records.record_ok.Reads as reads
 use Rattle.integrity.proofs.records.record_ok.Lts as lts
 use Rattle.table.proofs.known.Reads as known-reads
 use Rattle.integrity.proofs.records.kinds_permitted.Reads as kinds-permitted-reads
-use Rattle.table.proofs.inner.flag_at.Reads as flag-at-reads
-use Rattle.table.proofs.inner.triple_at.Reads as triple-at-reads
+use Rattle.table.proofs.word.flag_at.Reads as flag-at-reads
+use Rattle.table.proofs.word.triple_at.Reads as triple-at-reads
 
 triple-at-requires : tie.Need-triple-at-requires
 triple-at-requires c κs = search needs

@@ -9,7 +9,7 @@ use Rattle.integrity.proofs.unique.shortest.Statement.{statement}
 use Rattle.integrity.proofs.unique.shortest.Tie as tie
 use Rattle.integrity.proofs.unique.shortest.Reads as reads
 use Rattle.integrity.proofs.unique.shortest.Lts as lts
-use Rattle.table.proofs.inner.count_at.Reads as count-at-reads
+use Rattle.table.proofs.word.count_at.Reads as count-at-reads
 
 count-at-requires : tie.Need-count-at-requires
 count-at-requires c κs =

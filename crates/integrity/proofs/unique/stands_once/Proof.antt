@@ -7,7 +7,7 @@ use Rattle.integrity.proofs.unique.stands_once.Reads as reads
 use Rattle.integrity.proofs.unique.stands_once.Lts as lts
 use Rattle.integrity.proofs.unique.stands_once_on.Reads as stands-once-on-reads
 use Rattle.integrity.proofs.unique.shortest.Reads as shortest-reads
-use Rattle.table.proofs.inner.triple_at.Reads as triple-at-reads
+use Rattle.table.proofs.word.triple_at.Reads as triple-at-reads
 
 triple-at-requires : tie.Need-triple-at-requires
 triple-at-requires c κs = search needs

@@ -10,8 +10,8 @@ use Rattle.integrity.proofs.unique.stands_once_on.Tie as tie
 use Rattle.integrity.proofs.unique.stands_once_on.Reads as reads
 use Rattle.integrity.proofs.unique.stands_once_on.Lts as lts
 use Rattle.integrity.proofs.unique.same.Reads as same-reads
-use Rattle.table.proofs.inner.next_at.Reads as next-at-reads
-use Rattle.table.proofs.inner.triple_at.Reads as triple-at-reads
+use Rattle.table.proofs.word.next_at.Reads as next-at-reads
+use Rattle.table.proofs.word.triple_at.Reads as triple-at-reads
 
 abbrev Inv-loop : tie.InvT-loop
 Inv-loop statements p x n above =

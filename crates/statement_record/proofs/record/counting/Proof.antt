@@ -8,7 +8,7 @@ use Rattle.statement_record.proofs.record.counting.Statement.{statement
 use Rattle.statement_record.proofs.record.counting.Tie as tie
 use Rattle.statement_record.proofs.record.counting.Reads as reads
 use Rattle.statement_record.proofs.record.counting.Lts as lts
-use Rattle.table.proofs.inner.live_at.Reads as live-at-reads
+use Rattle.table.proofs.word.live_at.Reads as live-at-reads
 
 live-at-requires : tie.Need-live-at-requires
 live-at-requires c κs = c .before .pre .each Subject

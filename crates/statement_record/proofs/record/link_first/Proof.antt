@@ -9,9 +9,9 @@ use Rattle.statement_record.proofs.record.link_first.Statement.{stateme
 use Rattle.statement_record.proofs.record.link_first.Tie as tie
 use Rattle.statement_record.proofs.record.link_first.Reads as reads
 use Rattle.statement_record.proofs.record.link_first.Lts as lts
-use Rattle.table.proofs.inner.count_at.Reads as count-at-reads
-use Rattle.table.proofs.inner.live_at.Reads as live-at-reads
-use Rattle.table.proofs.inner.offset.Reads as offset-reads
+use Rattle.table.proofs.word.count_at.Reads as count-at-reads
+use Rattle.table.proofs.word.live_at.Reads as live-at-reads
+use Rattle.table.proofs.word.offset.Reads as offset-reads
 
 count-at-requires : tie.Need-count-at-requires
 count-at-requires c κs = search needs

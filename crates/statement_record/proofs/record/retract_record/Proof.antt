@@ -10,7 +10,7 @@ use Rattle.statement_record.proofs.record.retract_record.Lts as lts
 use Rattle.statement_record.proofs.record.counting.Reads as counting-reads
 use Rattle.statement_record.proofs.record.set_flag.Reads as set-flag-reads
 use Rattle.statement_record.proofs.record.tally.Reads as tally-reads
-use Rattle.table.proofs.inner.flag_at.Reads as flag-at-reads
+use Rattle.table.proofs.word.flag_at.Reads as flag-at-reads
 
 returns : tie.Need-returns
 returns c = let a = c .before .before .before .before .args in record { leaves = λ i t. retracted-none (now (a .resources)) (now (a .statements)) i t (a .x) (a .n .0) (c .if1 .taken) }

@@ -8,7 +8,7 @@ use Rattle.statement_record.proofs.record.revive.Reads as reads
 use Rattle.statement_record.proofs.record.revive.Lts as lts
 use Rattle.statement_record.proofs.record.set_flag.Reads as set-flag-reads
 use Rattle.statement_record.proofs.record.tally.Reads as tally-reads
-use Rattle.table.proofs.inner.flag_at.Reads as flag-at-reads
+use Rattle.table.proofs.word.flag_at.Reads as flag-at-reads
 
 flag-at-requires : tie.Need-flag-at-requires
 flag-at-requires c κs = search needs

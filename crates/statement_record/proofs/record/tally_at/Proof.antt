@@ -4,8 +4,8 @@ use Rattle.statement_record.proofs.record.tally_at.Statement.{statement
 use Rattle.statement_record.proofs.record.tally_at.Tie as tie
 use Rattle.statement_record.proofs.record.tally_at.Reads as reads
 use Rattle.statement_record.proofs.record.tally_at.Lts as lts
-use Rattle.table.proofs.inner.live_at.Reads as live-at-reads
-use Rattle.table.proofs.inner.offset.Reads as offset-reads
+use Rattle.table.proofs.word.live_at.Reads as live-at-reads
+use Rattle.table.proofs.word.offset.Reads as offset-reads
 use Rattle.statement_record.proofs.record.moved.Reads as moved-reads
 
 live-at-requires : tie.Need-live-at-requires

@@ -10,7 +10,7 @@ use Rattle.statement_record.proofs.record.write_record.Statement.{state
 use Rattle.statement_record.proofs.record.write_record.Tie as tie
 use Rattle.statement_record.proofs.record.write_record.Reads as reads
 use Rattle.statement_record.proofs.record.write_record.Lts as lts
-use Rattle.table.proofs.inner.first_at.Reads as first-at-reads
+use Rattle.table.proofs.word.first_at.Reads as first-at-reads
 
 first-at-requires : tie.Need-first-at-requires
 first-at-requires c κs = c .before .before .pre .0 .each Subject

@@ -8,7 +8,7 @@ use Rattle.statement_target.proofs.target.kinds_ok.Tie as tie
 use Rattle.statement_target.proofs.target.kinds_ok.Reads as reads
 use Rattle.statement_target.proofs.target.kinds_ok.Lts as lts
 use Rattle.table.proofs.in_range.Reads as in-range-reads
-use Rattle.table.proofs.inner.kind_at.Reads as kind-at-reads
+use Rattle.table.proofs.word.kind_at.Reads as kind-at-reads
 
 kind-at-requires : tie.Need-kind-at-requires
 kind-at-requires c κs = c .before .pre .each Subject

@@ -5,7 +5,7 @@ use Rattle.statement_target.proofs.target.kinds_permitted.Statement.{st
 use Rattle.statement_target.proofs.target.kinds_permitted.Tie as tie
 use Rattle.statement_target.proofs.target.kinds_permitted.Reads as reads
 use Rattle.statement_target.proofs.target.kinds_permitted.Lts as lts
-use Rattle.table.proofs.inner.kind_at.Reads as kind-at-reads
+use Rattle.table.proofs.word.kind_at.Reads as kind-at-reads
 
 kind-at-requires : tie.Need-kind-at-requires
 kind-at-requires c κs = c .before .pre .each Subject

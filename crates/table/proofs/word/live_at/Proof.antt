@@ -1,10 +1,10 @@
 use borrow.Author.Needs.{needs}
 use Rattle.store.specs.Tables.{liveAt}
-use Rattle.table.proofs.inner.live_at.Statement.{statement}
-use Rattle.table.proofs.inner.live_at.Tie as tie
-use Rattle.table.proofs.inner.live_at.Reads as reads
-use Rattle.table.proofs.inner.live_at.Lts as lts
-use Rattle.table.proofs.inner.offset.Reads as offset-reads
+use Rattle.table.proofs.word.live_at.Statement.{statement}
+use Rattle.table.proofs.word.live_at.Tie as tie
+use Rattle.table.proofs.word.live_at.Reads as reads
+use Rattle.table.proofs.word.live_at.Lts as lts
+use Rattle.table.proofs.word.offset.Reads as offset-reads
 
 sub-i : tie.Need-sub-i
 sub-i c = search needs

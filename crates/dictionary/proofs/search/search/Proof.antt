@@ -5,11 +5,11 @@ use native.Mathlib.Omega.{arith}
 use mathlib.Core.Path.{_≡_, refl, sym, ap, _∙_}
 use Prim.Native.Nat.{ℕ, suc, _+_, _-_, _*_, _≤_, _<_}
 use borrow.Author.Needs.{needs}
-use Rattle.dictionary.proofs.inner.search.Statement.{statement}
-use Rattle.dictionary.proofs.inner.search.Tie as tie
-use Rattle.dictionary.proofs.inner.search.Reads as reads
-use Rattle.dictionary.proofs.inner.search.Lts as lts
-use Rattle.dictionary.proofs.inner.probe.Reads as probe-reads
+use Rattle.dictionary.proofs.search.search.Statement.{statement}
+use Rattle.dictionary.proofs.search.search.Tie as tie
+use Rattle.dictionary.proofs.search.search.Reads as reads
+use Rattle.dictionary.proofs.search.search.Lts as lts
+use Rattle.dictionary.proofs.search.probe.Reads as probe-reads
 
 abbrev Inv-loop : tie.InvT-loop
 Inv-loop c resources index text name lo₀ hi₀ lo hi =

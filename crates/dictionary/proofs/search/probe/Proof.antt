@@ -6,13 +6,13 @@ use native.Mathlib.Omega.{arith}
 use mathlib.Core.Path.{_≡_, refl, sym, ap, _∙_}
 use Prim.Native.Nat.{ℕ, suc, _+_, _-_, _*_, _≤_, _<_}
 use borrow.Author.Needs.{needs}
-use Rattle.dictionary.proofs.inner.probe.Statement.{statement}
-use Rattle.dictionary.proofs.inner.probe.Tie as tie
-use Rattle.dictionary.proofs.inner.probe.Reads as reads
-use Rattle.dictionary.proofs.inner.probe.Lts as lts
-use Rattle.dictionary.proofs.inner.compare.Reads as compare-reads
+use Rattle.dictionary.proofs.search.probe.Statement.{statement}
+use Rattle.dictionary.proofs.search.probe.Tie as tie
+use Rattle.dictionary.proofs.search.probe.Reads as reads
+use Rattle.dictionary.proofs.search.probe.Lts as lts
+use Rattle.dictionary.proofs.search.compare.Reads as compare-reads
 use Rattle.table.proofs.in_range.Reads as in-range-reads
-use Rattle.table.proofs.inner.offset_at.Reads as offset-at-reads
+use Rattle.table.proofs.word.offset_at.Reads as offset-at-reads
 
 mul-t10 : tie.Need-mul-t10
 mul-t10 c = search needs

@@ -1,9 +1,9 @@
 use borrow.Author.Needs.{needs}
 use Rattle.store.specs.Tables.{flagAt}
-use Rattle.table.proofs.inner.flag_at.Statement.{statement}
-use Rattle.table.proofs.inner.flag_at.Tie as tie
-use Rattle.table.proofs.inner.flag_at.Reads as reads
-use Rattle.table.proofs.inner.flag_at.Lts as lts
+use Rattle.table.proofs.word.flag_at.Statement.{statement}
+use Rattle.table.proofs.word.flag_at.Tie as tie
+use Rattle.table.proofs.word.flag_at.Reads as reads
+use Rattle.table.proofs.word.flag_at.Lts as lts
 
 sub-i : tie.Need-sub-i
 sub-i c = search needs

@@ -19,7 +19,7 @@ pub fn compare(text: &[u8], end: u32, from: u32, name: &[u8]) -> Compared
     if start >= stop {
         return Compared::Unreadable;
     }
-    let n = table::inner::lesser(name.len(), stop - start);
+    let n = table::word::lesser(name.len(), stop - start);
     let mut i = 0;
     // The first i bytes are the same.
     while i < n {
@@ -59,7 +59,7 @@ pub fn probe(
     if !table::in_range(c.resources, y.0) {
         return Compared::Unreadable;
     }
-    let from = table::inner::offset_at(resources, y);
+    let from = table::word::offset_at(resources, y);
     compare(text, c.text, from, name)
 }
 

@@ -1,10 +1,10 @@
 use borrow.Author.Needs.{needs}
-use Rattle.store.specs.Tables.{termAt}
-use Rattle.table.proofs.inner.term_at.Statement.{statement}
-use Rattle.table.proofs.inner.term_at.Tie as tie
-use Rattle.table.proofs.inner.term_at.Reads as reads
-use Rattle.table.proofs.inner.term_at.Lts as lts
-use Rattle.table.proofs.inner.offset.Reads as offset-reads
+use Rattle.store.specs.Tables.{firstAt}
+use Rattle.table.proofs.word.first_at.Statement.{statement}
+use Rattle.table.proofs.word.first_at.Tie as tie
+use Rattle.table.proofs.word.first_at.Reads as reads
+use Rattle.table.proofs.word.first_at.Lts as lts
+use Rattle.table.proofs.word.offset.Reads as offset-reads
 
 sub-i : tie.Need-sub-i
 sub-i c = search needs
@@ -25,13 +25,13 @@ shared-slice-read-t10 : tie.Need-shared-slice-read-t10
 shared-slice-read-t10 c = search needs
 
 returns : tie.Need-returns
-unfolding termAt
+unfolding firstAt
 returns c = cc
 
 cast-i : tie.Need-cast-i
 cast-i c = search needs
 
-pub term-at-spec : {M : Type 1} → statement M
-term-at-spec =
+pub first-at-spec : {M : Type 1} → statement M
+first-at-spec =
     tie.close
     (tie.spec cast-i sub-i mul-i offset-requires add-i mul-t5 shared-slice-read-t10 returns)

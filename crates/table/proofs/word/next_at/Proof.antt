@@ -1,10 +1,10 @@
 use borrow.Author.Needs.{needs}
 use Rattle.store.specs.Tables.{nextAt}
-use Rattle.table.proofs.inner.next_at.Statement.{statement}
-use Rattle.table.proofs.inner.next_at.Tie as tie
-use Rattle.table.proofs.inner.next_at.Reads as reads
-use Rattle.table.proofs.inner.next_at.Lts as lts
-use Rattle.table.proofs.inner.offset.Reads as offset-reads
+use Rattle.table.proofs.word.next_at.Statement.{statement}
+use Rattle.table.proofs.word.next_at.Tie as tie
+use Rattle.table.proofs.word.next_at.Reads as reads
+use Rattle.table.proofs.word.next_at.Lts as lts
+use Rattle.table.proofs.word.offset.Reads as offset-reads
 
 sub-i : tie.Need-sub-i
 sub-i c = search needs

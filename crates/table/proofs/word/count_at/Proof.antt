@@ -1,10 +1,10 @@
 use borrow.Author.Needs.{needs}
 use Rattle.store.specs.Tables.{countAt}
-use Rattle.table.proofs.inner.count_at.Statement.{statement}
-use Rattle.table.proofs.inner.count_at.Tie as tie
-use Rattle.table.proofs.inner.count_at.Reads as reads
-use Rattle.table.proofs.inner.count_at.Lts as lts
-use Rattle.table.proofs.inner.offset.Reads as offset-reads
+use Rattle.table.proofs.word.count_at.Statement.{statement}
+use Rattle.table.proofs.word.count_at.Tie as tie
+use Rattle.table.proofs.word.count_at.Reads as reads
+use Rattle.table.proofs.word.count_at.Lts as lts
+use Rattle.table.proofs.word.offset.Reads as offset-reads
 
 sub-i : tie.Need-sub-i
 sub-i c = search needs

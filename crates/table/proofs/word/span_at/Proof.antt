@@ -5,11 +5,11 @@ use denote.Ref.{now}
 use Rattle.store.specs.Reading.{zeroFrom, spanTo}
 use Rattle.table.proofs.Zero.{zero-here, zero-on, zero-none}
 use borrow.Author.Needs.{needs}
-use Rattle.table.proofs.inner.span_at.Statement.{statement}
-use Rattle.table.proofs.inner.span_at.Tie as tie
-use Rattle.table.proofs.inner.span_at.Reads as reads
-use Rattle.table.proofs.inner.span_at.Lts as lts
-use Rattle.table.proofs.inner.lesser.Reads as lesser-reads
+use Rattle.table.proofs.word.span_at.Statement.{statement}
+use Rattle.table.proofs.word.span_at.Tie as tie
+use Rattle.table.proofs.word.span_at.Reads as reads
+use Rattle.table.proofs.word.span_at.Lts as lts
+use Rattle.table.proofs.word.lesser.Reads as lesser-reads
 
 abbrev Inv-loop : tie.InvT-loop
 Inv-loop text end from start stop at₀ at =
