@@ -66,8 +66,13 @@ enum lt_result {
     LT_BAD_QUERY = 8,          /* words that are no query */
     LT_DAMAGED = 9,            /* a word that a step needs is out of range; for lt_reclaim: the store is not sound */
     LT_BAD_LINE = 10,          /* bytes that are no line */
+    LT_EXPORT_SPACE = 11,      /* memory too short for the canonical file; no function gives it yet, nor 12 and 15 to 17 */
+    LT_NO_TIMES = 12,          /* no match carries a time */
     LT_STALE_CURSOR = 13,      /* a cursor whose number of reclaims is not the counters' */
     LT_RECLAIM_LIMIT = 14,     /* a reclaim after LT_MAX_RECLAIMS of them */
+    LT_BAD_PATH = 15,          /* a text that is no property path */
+    LT_PATH_SPACE = 16,        /* working memory or answer space shorter than a path needs */
+    LT_BAD_GROUP = 17,         /* no group of scans, or an allowance below the number not ended */
     LT_TOO_SHORT = 100         /* a lent counters, cursor or reply slice has fewer words than are named here */
 };
 
@@ -134,8 +139,13 @@ static inline const char *lt_strerror(uint32_t result)
     case LT_BAD_QUERY: return "the words are no query";
     case LT_DAMAGED: return "the tables are damaged";
     case LT_BAD_LINE: return "the line cannot be read";
+    case LT_EXPORT_SPACE: return "the memory is too short for the file";
+    case LT_NO_TIMES: return "no match carries a time";
     case LT_STALE_CURSOR: return "the cursor has another number of reclaims than the store";
     case LT_RECLAIM_LIMIT: return "no more reclaims";
+    case LT_BAD_PATH: return "the text is no path";
+    case LT_PATH_SPACE: return "the memory is too short for the path";
+    case LT_BAD_GROUP: return "the scans are no group, or the allowance is below their number";
     case LT_TOO_SHORT: return "a lent slice is too short";
     default: return "not a result of the store";
     }

@@ -3,11 +3,11 @@
 //
 // Each function asks that the records it reads lie in their tables, and nothing of what they hold: a word out of range
 // is an answer.
-use crate::triple::at;
 use store::Chain;
 use store::Position;
 use store::StatementId;
 use store::Triple;
+use table::triple::at;
 use table::word::count_at;
 use table::word::first_at;
 ghost use mathlib.Core.Path.{_≡_};

@@ -3,13 +3,13 @@
 // Assert, retract and the scan take the same visit and the same walk; `Sought` says what ends the walk. Each function
 // asks that the records it reads lie in the statement table, and nothing of what they hold: a word out of range is an
 // answer.
-use chain::triple::agrees;
-use chain::triple::at;
-use chain::triple::same;
 use store::Chain;
 use store::StatementId;
 use store::Triple;
 use table::known;
+use table::triple::agrees;
+use table::triple::at;
+use table::triple::same;
 use table::word::flag_at;
 use table::word::next_at;
 use table::word::term_at;

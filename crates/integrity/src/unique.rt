@@ -5,7 +5,7 @@ use store::Triple;
 ghost use mathlib.Core.Path.{_≡_};
 ghost use mathlib.Core.Bool.{true};
 ghost use Prim.Native.Nat.{_-_, _≤_};
-ghost use Rattle.store.specs.Shared.{known, same, allBelow};
+ghost use Rattle.store.specs.Shared.{known, allBelow};
 ghost use Rattle.store.specs.Tables.{tripleAt};
 ghost use Rattle.integrity.specs.Held.{ResourcesHeld, StatementsHeld};
 ghost use Rattle.integrity.specs.Records.{recordOk, shortest, standsOnceOn, standsOnce};
@@ -31,19 +31,6 @@ fn shortest(resources: &[u32], r: u32, x: Triple) -> Position
     Position::Subject
 }
 
-// Whether two triples have the same three numbers.
-fn same(x: Triple, t: Triple) -> bool
-    ensures { λ b. ⌜ b ≡ same x t ⌝ }
-{
-    if t.subject.0 != x.subject.0 {
-        return false;
-    }
-    if t.predicate.0 != x.predicate.0 {
-        return false;
-    }
-    t.object.0 == x.object.0
-}
-
 // Whether no record below record n on its chain at p has its triple.
 fn stands_once_on(statements: &[u32], n: StatementId, p: Position) -> bool
     requires { ⌜ StatementsHeld (now statements) (n .0) ⌝ }
@@ -61,7 +48,7 @@ fn stands_once_on(statements: &[u32], n: StatementId, p: Position) -> bool
         if m.0 == 0 {
             return true;
         }
-        if same(x, table::word::triple_at(statements, m)) {
+        if table::triple::same(x, table::word::triple_at(statements, m)) {
             return false;
         }
         above = m;

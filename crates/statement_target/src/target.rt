@@ -17,6 +17,7 @@ use table::in_range;
 use table::known;
 use table::word::count_at;
 use table::word::kind_at;
+use table::word::kinds_permitted;
 use table::word::live_at;
 ghost use mathlib.Core.Path.{_≡_};
 ghost use mathlib.Core.Bool.{_&&_};
@@ -24,17 +25,11 @@ ghost use mathlib.Core.List.{[]};
 ghost use Prim.Native.Nat.{ℕ, _*_, _≤_};
 ghost use lib.ListN.{length};
 ghost use lib.Dec.{leb};
-ghost use Rattle.store.specs.Shared.{kindsPermitted};
 ghost use Rattle.store.specs.Tables.{tables, lent, statementWords, countAt, kindAt, liveAt};
 ghost use Rattle.store.specs.Walk.{pickable};
 ghost use Rattle.store.specs.Statement.{countable, locate, kindsOk};
 ghost use Rattle.table.specs.Held.{ResourceHeld, TripleHeld};
 ghost use Rattle.statement_target.specs.Targets.{locatedAs, assertTarget, retractTarget};
-
-// Kinds of names: an IRI is 1, a literal 3, a blank node between them.
-const IRI: u32 = 1;
-
-const LITERAL: u32 = 3;
 
 // Where the record with a triple is: its number, 0 for none; or why the operation refuses.
 pub enum Located {
@@ -110,28 +105,15 @@ pub fn kinds_ok(resources: &[u32], x: Triple) -> bool
     ensures { λ b. ⌜ b ≡ kindsOk (now (resources .entry)) x ⌝ }
 {
     let s = kind_at(resources, x.subject);
-    if !in_range(LITERAL, s) {
+    if !in_range(store::LITERAL, s) {
         return false;
     }
     let p = kind_at(resources, x.predicate);
-    if !in_range(LITERAL, p) {
+    if !in_range(store::LITERAL, p) {
         return false;
     }
     let o = kind_at(resources, x.object);
-    in_range(LITERAL, o)
-}
-
-// Whether the subject is no literal and the predicate is an IRI.
-pub fn kinds_permitted(resources: &[u32], x: Triple) -> bool
-    requires { ⌜ TripleHeld (now resources) x ⌝ }
-    ensures { λ b. ⌜ b ≡ kindsPermitted (kindAt (now (resources .entry))) x ⌝ }
-{
-    let s = kind_at(resources, x.subject);
-    if s == LITERAL {
-        return false;
-    }
-    let p = kind_at(resources, x.predicate);
-    p == IRI
+    in_range(store::LITERAL, o)
 }
 
 // What assert finds before it writes: the record with the triple, or a refusal.

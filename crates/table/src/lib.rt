@@ -20,6 +20,7 @@ ghost use Rattle.store.specs.Shared.{known};
 ghost use Rattle.store.specs.Tables.{lent, fits};
 ghost use Rattle.store.specs.Reading.{inRange, statementOf, nameSpanOf};
 
+pub mod triple;
 pub mod word;
 
 pub const RESOURCE_WORDS: usize = 11;

@@ -6,11 +6,12 @@ use store::ResourceId;
 use store::StatementId;
 use store::Triple;
 ghost use mathlib.Core.Path.{_≡_};
-ghost use Prim.Native.Nat.{ℕ, _-_, _<_, _≤_, min};
+ghost use Prim.Native.Nat.{ℕ, _+_, _*_, _-_, _<_, _≤_, min};
 ghost use lib.ListN.{length};
-ghost use Rattle.store.specs.Tables.{off, termAt, nextAt, flagAt, tripleAt, firstAt, countAt, offsetAt, kindAt, liveAt};
+ghost use Rattle.store.specs.Shared.{kindsPermitted};
+ghost use Rattle.store.specs.Tables.{resourceWords, statementWords, off, word, termAt, nextAt, flagAt, tripleAt, firstAt, countAt, offsetAt, kindAt, liveAt};
 ghost use Rattle.store.specs.Reading.{nameWindow, zeroFrom, spanTo};
-ghost use Rattle.table.specs.Held.{StatementHeld, ResourceHeld};
+ghost use Rattle.table.specs.Held.{StatementHeld, ResourceHeld, TripleHeld};
 
 // A position's word within a group of three.
 pub fn offset(p: Position) -> usize
@@ -23,13 +24,32 @@ pub fn offset(p: Position) -> usize
     }
 }
 
+// Word k of the record of statement n.
+fn statement_word(statements: &[u32], n: StatementId, k: usize) -> u32
+    requires { ⌜ StatementHeld (now statements) (n .0) ⌝ }
+    requires { ⌜ k < statementWords ⌝ }
+    ensures { λ r. ⌜ r ≡ word (now (statements .entry)) (statementWords * (n .0 - 1) + k) ⌝ }
+{
+    let i = crate::STATEMENT_WORDS * (n.0 as usize - 1) + k;
+    statements[i]
+}
+
+// Word k of the record of resource y.
+fn resource_word(resources: &[u32], y: ResourceId, k: usize) -> u32
+    requires { ⌜ ResourceHeld (now resources) (y .0) ⌝ }
+    requires { ⌜ k < resourceWords ⌝ }
+    ensures { λ r. ⌜ r ≡ word (now (resources .entry)) (resourceWords * (y .0 - 1) + k) ⌝ }
+{
+    let i = crate::RESOURCE_WORDS * (y.0 as usize - 1) + k;
+    resources[i]
+}
+
 // The resource of statement n at a position.
 pub fn term_at(statements: &[u32], n: StatementId, p: Position) -> ResourceId
     requires { ⌜ StatementHeld (now statements) (n .0) ⌝ }
     ensures { λ r. ⌜ r .0 ≡ termAt (now (statements .entry)) p (n .0 - 1) ⌝ }
 {
-    let i = crate::STATEMENT_WORDS * (n.0 as usize - 1) + offset(p);
-    ResourceId(statements[i])
+    ResourceId(statement_word(statements, n, offset(p)))
 }
 
 // The next statement after n with the same resource at a position.
@@ -37,8 +57,7 @@ pub fn next_at(statements: &[u32], n: StatementId, p: Position) -> StatementId
     requires { ⌜ StatementHeld (now statements) (n .0) ⌝ }
     ensures { λ r. ⌜ r .0 ≡ nextAt (now (statements .entry)) p (n .0 - 1) ⌝ }
 {
-    let i = crate::STATEMENT_WORDS * (n.0 as usize - 1) + (crate::NEXT + offset(p));
-    StatementId(statements[i])
+    StatementId(statement_word(statements, n, crate::NEXT + offset(p)))
 }
 
 // The flag of statement n.
@@ -46,8 +65,7 @@ pub fn flag_at(statements: &[u32], n: StatementId) -> u32
     requires { ⌜ StatementHeld (now statements) (n .0) ⌝ }
     ensures { λ r. ⌜ r ≡ flagAt (now (statements .entry)) (n .0 - 1) ⌝ }
 {
-    let i = crate::STATEMENT_WORDS * (n.0 as usize - 1) + crate::FLAG;
-    statements[i]
+    statement_word(statements, n, crate::FLAG)
 }
 
 // The three resources of statement n.
@@ -67,8 +85,7 @@ pub fn first_at(resources: &[u32], y: ResourceId, p: Position) -> StatementId
     requires { ⌜ ResourceHeld (now resources) (y .0) ⌝ }
     ensures { λ r. ⌜ r .0 ≡ firstAt (now (resources .entry)) p (y .0) ⌝ }
 {
-    let i = crate::RESOURCE_WORDS * (y.0 as usize - 1) + offset(p);
-    StatementId(resources[i])
+    StatementId(resource_word(resources, y, offset(p)))
 }
 
 // How many statements hold resource y at a position, live or not.
@@ -76,8 +93,7 @@ pub fn count_at(resources: &[u32], y: ResourceId, p: Position) -> u32
     requires { ⌜ ResourceHeld (now resources) (y .0) ⌝ }
     ensures { λ r. ⌜ r ≡ countAt (now (resources .entry)) p (y .0) ⌝ }
 {
-    let i = crate::RESOURCE_WORDS * (y.0 as usize - 1) + (crate::COUNT + offset(p));
-    resources[i]
+    resource_word(resources, y, crate::COUNT + offset(p))
 }
 
 // How many live statements hold resource y at a position.
@@ -85,8 +101,7 @@ pub fn live_at(resources: &[u32], y: ResourceId, p: Position) -> u32
     requires { ⌜ ResourceHeld (now resources) (y .0) ⌝ }
     ensures { λ r. ⌜ r ≡ liveAt (now (resources .entry)) p (y .0) ⌝ }
 {
-    let i = crate::RESOURCE_WORDS * (y.0 as usize - 1) + (crate::LIVE + offset(p));
-    resources[i]
+    resource_word(resources, y, crate::LIVE + offset(p))
 }
 
 // Where the name of resource y starts in the text.
@@ -94,8 +109,7 @@ pub fn offset_at(resources: &[u32], y: ResourceId) -> u32
     requires { ⌜ ResourceHeld (now resources) (y .0) ⌝ }
     ensures { λ r. ⌜ r ≡ offsetAt (now (resources .entry)) (y .0) ⌝ }
 {
-    let i = crate::RESOURCE_WORDS * (y.0 as usize - 1) + crate::OFFSET;
-    resources[i]
+    resource_word(resources, y, crate::OFFSET)
 }
 
 // The kind of resource y.
@@ -103,8 +117,20 @@ pub fn kind_at(resources: &[u32], y: ResourceId) -> u32
     requires { ⌜ ResourceHeld (now resources) (y .0) ⌝ }
     ensures { λ r. ⌜ r ≡ kindAt (now (resources .entry)) (y .0) ⌝ }
 {
-    let i = crate::RESOURCE_WORDS * (y.0 as usize - 1) + crate::KIND;
-    resources[i]
+    resource_word(resources, y, crate::KIND)
+}
+
+// Whether the subject is no literal and the predicate is an IRI.
+pub fn kinds_permitted(resources: &[u32], x: Triple) -> bool
+    requires { ⌜ TripleHeld (now resources) x ⌝ }
+    ensures { λ b. ⌜ b ≡ kindsPermitted (kindAt (now (resources .entry))) x ⌝ }
+{
+    let s = kind_at(resources, x.subject);
+    if s == store::LITERAL {
+        return false;
+    }
+    let p = kind_at(resources, x.predicate);
+    p == store::IRI
 }
 
 // The lesser of two numbers.

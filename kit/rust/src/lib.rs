@@ -8,7 +8,7 @@
 //!
 //! `include/lemontiller.h` has the layout of the tables and what each refusal means.
 
-use std::fmt;
+use std::{fmt, mem};
 
 pub mod ffi;
 
@@ -57,70 +57,69 @@ pub enum Error {
     BadLine {
         offset: usize,
     },
+    ExportSpace,
+    NoTimes,
     /// The cursor has another number of reclaims than the store: open it again.
     StaleCursor,
     ReclaimLimit,
+    BadPath,
+    PathSpace,
+    BadGroup,
     TooShort,
 }
 
+/// Every refusal: the number that the paper and the C header give to it, and its text.
+const REFUSALS: [(Error, u32, &str); 18] = [
+    (Error::Capacity, 1, "a counter exceeds its capacity"),
+    (Error::Malformed, 2, "the name is not well formed or too long"),
+    (Error::Full, 3, "no room for one more"),
+    (Error::UnknownNumber, 4, "the number names nothing"),
+    (Error::KindNotPermitted, 5, "a literal as subject, or a predicate that is no IRI"),
+    (Error::BadCursor, 6, "the cursor does not fit the store or the pattern"),
+    (Error::NoBudget, 7, "a budget of 0"),
+    (Error::BadQuery, 8, "the words are no query"),
+    (Error::Damaged, 9, "the tables are damaged"),
+    (Error::BadLine { offset: 0 }, 10, "the line cannot be read"),
+    (Error::ExportSpace, 11, "the memory is too short for the file"),
+    (Error::NoTimes, 12, "no match carries a time"),
+    (Error::StaleCursor, 13, "the cursor has another number of reclaims than the store"),
+    (Error::ReclaimLimit, 14, "no more reclaims"),
+    (Error::BadPath, 15, "the text is no path"),
+    (Error::PathSpace, 16, "the memory is too short for the path"),
+    (Error::BadGroup, 17, "the scans are no group, or the allowance is below their number"),
+    (Error::TooShort, 100, "a lent slice is too short"),
+];
+
 impl Error {
+    fn row(self) -> &'static (Error, u32, &'static str) {
+        let same = |row: &&(Error, u32, &str)| mem::discriminant(&row.0) == mem::discriminant(&self);
+        REFUSALS.iter().find(same).expect("every refusal has a row")
+    }
+
     /// The number that the paper and the C header give to this refusal.
     pub fn number(self) -> u32 {
-        match self {
-            Error::Capacity => 1,
-            Error::Malformed => 2,
-            Error::Full => 3,
-            Error::UnknownNumber => 4,
-            Error::KindNotPermitted => 5,
-            Error::BadCursor => 6,
-            Error::NoBudget => 7,
-            Error::BadQuery => 8,
-            Error::Damaged => 9,
-            Error::BadLine { .. } => 10,
-            Error::StaleCursor => 13,
-            Error::ReclaimLimit => 14,
-            Error::TooShort => 100,
-        }
+        self.row().1
     }
 
     /// What a function of the store gave back. `offset` matters to 10 alone.
     fn result_of(number: u32, offset: usize) -> Result<(), Error> {
-        Err(match number {
-            0 => return Ok(()),
-            1 => Error::Capacity,
-            2 => Error::Malformed,
-            3 => Error::Full,
-            4 => Error::UnknownNumber,
-            5 => Error::KindNotPermitted,
-            6 => Error::BadCursor,
-            7 => Error::NoBudget,
-            8 => Error::BadQuery,
-            9 => Error::Damaged,
-            10 => Error::BadLine { offset },
-            13 => Error::StaleCursor,
-            14 => Error::ReclaimLimit,
-            100 => Error::TooShort,
-            _ => unreachable!("the store gives no result {number}"),
-        })
+        if number == 0 {
+            return Ok(());
+        }
+        match REFUSALS.iter().find(|row| row.1 == number) {
+            Some((Error::BadLine { .. }, ..)) => Err(Error::BadLine { offset }),
+            Some((refusal, ..)) => Err(*refusal),
+            None => unreachable!("the store gives no result {number}"),
+        }
     }
 }
 
 impl fmt::Display for Error {
     fn fmt(&self, f: &mut fmt::Formatter<'_>) -> fmt::Result {
+        f.write_str(self.row().2)?;
         match self {
-            Error::Capacity => write!(f, "a counter exceeds its capacity"),
-            Error::Malformed => write!(f, "the name is not well formed or too long"),
-            Error::Full => write!(f, "no room for one more"),
-            Error::UnknownNumber => write!(f, "the number names nothing"),
-            Error::KindNotPermitted => write!(f, "a literal as subject, or a predicate that is no IRI"),
-            Error::BadCursor => write!(f, "the cursor does not fit the store or the pattern"),
-            Error::NoBudget => write!(f, "a budget of 0"),
-            Error::BadQuery => write!(f, "the words are no query"),
-            Error::Damaged => write!(f, "the tables are damaged"),
-            Error::BadLine { offset } => write!(f, "the line cannot be read, byte {offset}"),
-            Error::StaleCursor => write!(f, "the cursor has another number of reclaims than the store"),
-            Error::ReclaimLimit => write!(f, "no more reclaims"),
-            Error::TooShort => write!(f, "a lent slice is too short"),
+            Error::BadLine { offset } => write!(f, ", byte {offset}"),
+            _ => Ok(()),
         }
     }
 }

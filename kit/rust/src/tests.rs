@@ -387,13 +387,13 @@ fn the_substation_fits() {
 #[test]
 fn every_refusal_has_its_number_and_text() {
     let mut texts = Vec::new();
-    for number in (1..=10).chain([13, 14, 100]) {
+    for number in (1..=17).chain([100]) {
         let error = Error::result_of(number, 0).unwrap_err();
         assert_eq!(error.number(), number);
         texts.push(error.to_string());
     }
     texts.sort();
     texts.dedup();
-    assert_eq!(texts.len(), 13);
+    assert_eq!(texts.len(), 18);
     assert_eq!(Error::result_of(0, 0), Ok(()));
 }

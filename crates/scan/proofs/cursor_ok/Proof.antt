@@ -8,7 +8,7 @@ use Rattle.scan.proofs.cursor_ok.Reads as reads
 use Rattle.scan.proofs.cursor_ok.Lts as lts
 use Rattle.chain.proofs.pick.chain_ok.Reads as chain-ok-reads
 use Rattle.chain_walk.proofs.walk.record_ok.Reads as record-ok-reads
-use Rattle.chain.proofs.triple.within.Reads as within-reads
+use Rattle.table.proofs.triple.within.Reads as within-reads
 
 within-requires : tie.Need-within-requires
 within-requires c κs = search needs

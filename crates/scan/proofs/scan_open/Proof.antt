@@ -12,7 +12,7 @@ use Rattle.scan.proofs.scan_open.Lts as lts
 use Rattle.chain.proofs.pick.pick_chain.Reads as pick-chain-reads
 use Rattle.chain.proofs.pick.pickable.Reads as pickable-reads
 use Rattle.chain.proofs.pick.start_of.Reads as start-of-reads
-use Rattle.chain.proofs.triple.within.Reads as within-reads
+use Rattle.table.proofs.triple.within.Reads as within-reads
 use Rattle.table.proofs.fits.Reads as fits-reads
 
 fits-requires : tie.Need-fits-requires

@@ -8,7 +8,7 @@ use Rattle.chain.proofs.pick.better.Statement.{statement}
 use Rattle.chain.proofs.pick.better.Tie as tie
 use Rattle.chain.proofs.pick.better.Reads as reads
 use Rattle.chain.proofs.pick.better.Lts as lts
-use Rattle.chain.proofs.triple.at.Reads as at-reads
+use Rattle.table.proofs.triple.at.Reads as at-reads
 use Rattle.table.proofs.word.count_at.Reads as count-at-reads
 
 at-requires : tie.Need-at-requires

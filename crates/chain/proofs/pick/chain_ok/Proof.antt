@@ -6,7 +6,7 @@ use Rattle.chain.proofs.pick.chain_ok.Statement.{statement}
 use Rattle.chain.proofs.pick.chain_ok.Tie as tie
 use Rattle.chain.proofs.pick.chain_ok.Reads as reads
 use Rattle.chain.proofs.pick.chain_ok.Lts as lts
-use Rattle.chain.proofs.triple.at.Reads as at-reads
+use Rattle.table.proofs.triple.at.Reads as at-reads
 
 enum-told : tie.Need-enum-told
 enum-told c = search needs

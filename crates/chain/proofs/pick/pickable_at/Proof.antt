@@ -5,7 +5,7 @@ use Rattle.chain.proofs.pick.pickable_at.Statement.{statement}
 use Rattle.chain.proofs.pick.pickable_at.Tie as tie
 use Rattle.chain.proofs.pick.pickable_at.Reads as reads
 use Rattle.chain.proofs.pick.pickable_at.Lts as lts
-use Rattle.chain.proofs.triple.at.Reads as at-reads
+use Rattle.table.proofs.triple.at.Reads as at-reads
 use Rattle.table.proofs.word.count_at.Reads as count-at-reads
 use Rattle.table.proofs.word.first_at.Reads as first-at-reads
 

@@ -5,7 +5,7 @@ use Rattle.chain.proofs.pick.start_of.Statement.{statement}
 use Rattle.chain.proofs.pick.start_of.Tie as tie
 use Rattle.chain.proofs.pick.start_of.Reads as reads
 use Rattle.chain.proofs.pick.start_of.Lts as lts
-use Rattle.chain.proofs.triple.at.Reads as at-reads
+use Rattle.table.proofs.triple.at.Reads as at-reads
 use Rattle.table.proofs.word.first_at.Reads as first-at-reads
 
 enum-told : tie.Need-enum-told

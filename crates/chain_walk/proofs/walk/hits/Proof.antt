@@ -7,8 +7,8 @@ use Rattle.chain_walk.proofs.walk.hits.Statement.{statement}
 use Rattle.chain_walk.proofs.walk.hits.Tie as tie
 use Rattle.chain_walk.proofs.walk.hits.Reads as reads
 use Rattle.chain_walk.proofs.walk.hits.Lts as lts
-use Rattle.chain.proofs.triple.agrees.Reads as agrees-reads
-use Rattle.chain.proofs.triple.same.Reads as same-reads
+use Rattle.table.proofs.triple.agrees.Reads as agrees-reads
+use Rattle.table.proofs.triple.same.Reads as same-reads
 use Rattle.table.proofs.word.flag_at.Reads as flag-at-reads
 use Rattle.table.proofs.word.triple_at.Reads as triple-at-reads
 

@@ -4,7 +4,7 @@ use Rattle.chain_walk.proofs.walk.holds_resource.Statement.{statement}
 use Rattle.chain_walk.proofs.walk.holds_resource.Tie as tie
 use Rattle.chain_walk.proofs.walk.holds_resource.Reads as reads
 use Rattle.chain_walk.proofs.walk.holds_resource.Lts as lts
-use Rattle.chain.proofs.triple.at.Reads as at-reads
+use Rattle.table.proofs.triple.at.Reads as at-reads
 use Rattle.table.proofs.word.term_at.Reads as term-at-reads
 
 enum-told : tie.Need-enum-told

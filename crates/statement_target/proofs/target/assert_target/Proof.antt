@@ -12,7 +12,7 @@ use Rattle.statement_target.proofs.target.assert_target.Reads as reads
 use Rattle.statement_target.proofs.target.assert_target.Lts as lts
 use Rattle.statement_target.proofs.target.kinds_ok.Reads as kinds-ok-reads
 use Rattle.statement_target.proofs.target.locate.Reads as locate-reads
-use Rattle.statement_target.proofs.target.kinds_permitted.Reads as kinds-permitted-reads
+use Rattle.table.proofs.word.kinds_permitted.Reads as kinds-permitted-reads
 use Rattle.table.proofs.known.Reads as known-reads
 use Rattle.table.proofs.fits.Reads as fits-reads
 

@@ -5,33 +5,17 @@ use Rattle.table.proofs.word.first_at.Tie as tie
 use Rattle.table.proofs.word.first_at.Reads as reads
 use Rattle.table.proofs.word.first_at.Lts as lts
 use Rattle.table.proofs.word.offset.Reads as offset-reads
-
-sub-i : tie.Need-sub-i
-sub-i c = search needs
-
-mul-i : tie.Need-mul-i
-mul-i c = search needs
+use Rattle.table.proofs.word.resource_word.Reads as resource-word-reads
 
 offset-requires : tie.Need-offset-requires
 offset-requires c κs = search needs
 
-add-i : tie.Need-add-i
-add-i c = search needs
-
-mul-t5 : tie.Need-mul-t5
-mul-t5 c = search needs
-
-shared-slice-read-t10 : tie.Need-shared-slice-read-t10
-shared-slice-read-t10 c = search needs
+resource-word-requires : tie.Need-resource-word-requires
+resource-word-requires c κs = search needs
 
 returns : tie.Need-returns
 unfolding firstAt
 returns c = cc
 
-cast-i : tie.Need-cast-i
-cast-i c = search needs
-
 pub first-at-spec : {M : Type 1} → statement M
-first-at-spec =
-    tie.close
-    (tie.spec cast-i sub-i mul-i offset-requires add-i mul-t5 shared-slice-read-t10 returns)
+first-at-spec = tie.close (tie.spec offset-requires resource-word-requires returns)

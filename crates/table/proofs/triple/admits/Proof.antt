@@ -1,8 +1,8 @@
 use borrow.Author.Tests.{eq-eqb, ne-eqb}
-use Rattle.chain.proofs.triple.admits.Statement.{statement}
-use Rattle.chain.proofs.triple.admits.Tie as tie
-use Rattle.chain.proofs.triple.admits.Reads as reads
-use Rattle.chain.proofs.triple.admits.Lts as lts
+use Rattle.table.proofs.triple.admits.Statement.{statement}
+use Rattle.table.proofs.triple.admits.Tie as tie
+use Rattle.table.proofs.triple.admits.Reads as reads
+use Rattle.table.proofs.triple.admits.Lts as lts
 
 returns : tie.Need-returns
 returns c = simp (eq-eqb _ _ (c .if1 .taken))

@@ -1,9 +1,9 @@
 use Rattle.store.specs.Shared.{same}
 use borrow.Author.Tests.{eq-eqb, ne-eqb}
-use Rattle.chain.proofs.triple.same.Statement.{statement}
-use Rattle.chain.proofs.triple.same.Tie as tie
-use Rattle.chain.proofs.triple.same.Reads as reads
-use Rattle.chain.proofs.triple.same.Lts as lts
+use Rattle.table.proofs.triple.same.Statement.{statement}
+use Rattle.table.proofs.triple.same.Tie as tie
+use Rattle.table.proofs.triple.same.Reads as reads
+use Rattle.table.proofs.triple.same.Lts as lts
 
 returns : tie.Need-returns
 unfolding same

@@ -1,11 +1,11 @@
 use Rattle.table.proofs.Branches.{failed, passed}
 use Rattle.store.specs.Shared.{agrees}
 use borrow.Author.Needs.{needs}
-use Rattle.chain.proofs.triple.agrees.Statement.{statement}
-use Rattle.chain.proofs.triple.agrees.Tie as tie
-use Rattle.chain.proofs.triple.agrees.Reads as reads
-use Rattle.chain.proofs.triple.agrees.Lts as lts
-use Rattle.chain.proofs.triple.admits.Reads as admits-reads
+use Rattle.table.proofs.triple.agrees.Statement.{statement}
+use Rattle.table.proofs.triple.agrees.Tie as tie
+use Rattle.table.proofs.triple.agrees.Reads as reads
+use Rattle.table.proofs.triple.agrees.Lts as lts
+use Rattle.table.proofs.triple.admits.Reads as admits-reads
 
 admits-requires : tie.Need-admits-requires
 admits-requires c κs = search needs
