@@ -12,7 +12,6 @@ use table::word::count_at;
 use table::word::first_at;
 ghost use mathlib.Core.Path.{_≡_};
 ghost use mathlib.Core.Bool.{true, _&&_, _||_};
-ghost use Prim.Native.Nat.{ℕ};
 ghost use lib.Dec.{eqb, leb};
 ghost use Rattle.store.specs.Shared.{at, better};
 ghost use Rattle.store.specs.Tables.{firstAt, countAt};

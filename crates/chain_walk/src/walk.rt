@@ -15,7 +15,7 @@ use table::word::next_at;
 use table::word::term_at;
 use table::word::triple_at;
 ghost use mathlib.Core.Path.{_≡_};
-ghost use Prim.Native.Nat.{ℕ, _-_, _*_, _≤_};
+ghost use Prim.Native.Nat.{_-_, _*_, _≤_};
 ghost use lib.ListN.{length};
 ghost use Rattle.store.specs.Tables.{statementWords};
 ghost use Rattle.store.specs.Walk.{linkOf, holdsResource, visitable, walk};

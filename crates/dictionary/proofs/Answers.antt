@@ -2,31 +2,29 @@
 -- one law for each way out of the code. Assumes nothing.
 use mathlib.Core.Path.{_≡_, refl, sym, ap, _∙_, subst}
 use mathlib.Core.Logic.{_≢_, _⊎_, inl, inr}
-use mathlib.Core.Bool.{Bool, true, false, cond, _&&_, false≢true, true≢false, and-true}
-use mathlib.Core.List.{List, [], _∷_, _++_}
-use Prim.Native.Nat.{ℕ, suc, zero, _+_, _-_, _*_, _/_, _<_, _≤_}
+use mathlib.Core.Bool.{true, false, true≢false, and-true}
+use mathlib.Core.List.{List}
+use Prim.Native.Nat.{ℕ, suc, zero, _+_, _-_, _<_, _≤_}
 use native.Mathlib.Omega.{arith}
 use lib.ListN.{length}
-use lib.Seq.{sets}
-use lib.Dec.{eqb, leb, ltb}
-use borrow.Author.Tests.{lt-ltb, le-ltb, ltb-true, ltb-false, le-leb}
+use lib.Dec.{leb, ltb}
+use borrow.Author.Tests.{lt-ltb, le-ltb, ltb-true, le-leb}
 use Rattle.term.specs.Scanner.{kindOf, firstKindOf}
 use Rattle.term.specs.Canonical.{canonical}
 use Rattle.store.specs.declared.Counters.{Counters}
-use Rattle.store.specs.declared.Refusal.{Refusal}
 use Rattle.store.specs.declared.Refusal.the-variants.{Capacity, Malformed, Full, Damaged}
 use Rattle.store.specs.declared.IndexPlace.{IndexPlace}
 use Rattle.store.specs.declared.IndexPlace.the-variants.{At, Before, OutOfRange}
 use Rattle.store.specs.declared.Lookup.{Lookup}
-use Rattle.store.specs.declared.Lookup.the-variants.{Number, Absent, Refused as NotFound}
+use Rattle.store.specs.declared.Lookup.the-variants.{Number, Refused as NotFound}
 use Rattle.store.specs.declared.Interned.{Interned}
 use Rattle.store.specs.declared.Interned.the-variants.{Number as Id, Refused as NotInterned}
-use Rattle.store.specs.Tables.{Tables, tables, after, fits, word, resourceCapacity, statementCapacity, textCapacity, resourceWords}
-use Rattle.store.specs.Shared.{maxResources, maxReclaims, wellFormed, lookupName}
+use Rattle.store.specs.Tables.{Tables, tables, after, fits, word, resourceCapacity, statementCapacity, textCapacity}
+use Rattle.store.specs.Shared.{maxReclaims, wellFormed, lookupName}
 use Rattle.store.specs.Reading.{inRange}
 use Rattle.store.specs.Dictionary.{PlaceWithin, indexPlaceOf, foundAt, findOf, FindAnswer, roomFor, oneNameMore}
 use Rattle.store.specs.Names.{Named, namesUpTo}
-use Rattle.store.specs.Dictionary.{freshRecord, withName, internAs, internOf, InternWrites, InternAnswer}
+use Rattle.store.specs.Dictionary.{internAs, internOf, InternWrites, InternAnswer}
 use Rattle.store.proofs.Tests.{decide, and-l, and-r}
 use Rattle.store.proofs.Form.{form-clean, form-short, canonical-formed, canonical-kind}
 use Rattle.store.proofs.Interning.{writes-nothing, intern-as-writes, intern-as-refused}
@@ -34,7 +32,7 @@ use Rattle.store.proofs.NamesAgree.{place-listed, place-unlisted}
 use Rattle.store.proofs.Held.{named-names}
 use Rattle.table.proofs.Capacity.{fits-room}
 use Rattle.table.proofs.Held.{from-one, up-to}
-use Rattle.dictionary.specs.Search.{Readable, compareOf, probeOf, middle, searchOf, searched, foundAs}
+use Rattle.dictionary.specs.Search.{Readable, probeOf, middle, searchOf, searched, foundAs}
 use Rattle.dictionary.specs.Extend.{HasRoom, Extended}
 use Rattle.dictionary.specs.declared.Compared.{Compared}
 use Rattle.dictionary.specs.declared.Compared.the-variants.{Less, Same, More, Unreadable}

@@ -2,24 +2,23 @@
 -- the entry's name, and halving keeps what is less below and what is more above. Assumes nothing.
 use mathlib.Core.Path.{_≡_, refl, sym, ap, _∙_}
 use mathlib.Core.Logic.{_≢_}
-use mathlib.Core.Bool.{Bool, true, false, cond, _&&_}
+use mathlib.Core.Bool.{true}
 use mathlib.Core.List.{List, [], _∷_, _++_}
-use Prim.Native.Nat.{ℕ, suc, zero, _+_, _-_, _*_, _/_, _<_, _≤_}
+use Prim.Native.Nat.{ℕ, suc, zero, _+_, _-_, _<_, _≤_}
 use native.Mathlib.Omega.{arith}
 use lib.ListN.{length, take, drop, getD}
 use lib.Seq.{getD-drop, drop-drop}
-use lib.Dec.{eqb, leb, ltb}
+use lib.Dec.{eqb, ltb}
 use borrow.Author.Tests.{eq-eqb, ne-eqb, lt-ltb, le-ltb, le-leb, ltb-true, ltb-false, eqb-true, eqb-false}
 use Rattle.term.proofs.Booleans.{eqBytes-not}
 use Rattle.store.specs.declared.Counters.{Counters}
-use Rattle.store.specs.declared.IndexPlace.{IndexPlace}
-use Rattle.store.specs.declared.IndexPlace.the-variants.{At, Before, OutOfRange}
-use Rattle.store.specs.Tables.{Tables, word, offsetAt}
+use Rattle.store.specs.declared.IndexPlace.the-variants.{At, Before}
+use Rattle.store.specs.Tables.{Tables, word}
 use Rattle.store.specs.Shared.{maxResources, nameOf, textBytes}
 use Rattle.store.specs.Reading.{inRange}
 use Rattle.store.specs.Dictionary.{rank, placeAt, indexPlaceOf}
 use Rattle.store.specs.Names.{ByteOrdering, less, equal, more, compareBytes, isLess, Named, nameAt}
-use Rattle.store.proofs.Tests.{decide, three, and-of}
+use Rattle.store.proofs.Tests.{decide, three}
 use Rattle.store.proofs.Order.{flip, compare-less as order-less, compare-more as order-more, compare-tail, compare-refl, compare-flip}
 use Rattle.store.proofs.Order.{compare-equal, compare-trans, eqBytes-compare, less-not-equal}
 use Rattle.store.proofs.Form.{clean, form-clean, storable-formed}
@@ -28,7 +27,7 @@ use Rattle.store.proofs.Index.{rank-is}
 use Rattle.store.proofs.NamesAgree.{name-indexed}
 use Rattle.dictionary.specs.Search.{compareOf, probeOf, middle, searchOf, searched}
 use Rattle.dictionary.specs.declared.Compared.{Compared}
-use Rattle.dictionary.specs.declared.Compared.the-variants.{Less, Same, More, Unreadable}
+use Rattle.dictionary.specs.declared.Compared.the-variants.{Less, Same, More}
 use Rattle.dictionary.proofs.Steps.{pow2}
 
 -- ---- the comparison is the byte order

@@ -1,9 +1,9 @@
 -- The binary search of the index as the code runs it, exact on any tables (paper 01, "Find a name"): a comparison in the text, a probe
 -- of one entry, the halving, and what find answers by it. Nothing here assumes that the index rises or that the text holds names.
 -- Assumes nothing.
-use mathlib.Core.Bool.{Bool, true, false, cond}
+use mathlib.Core.Bool.{true, false, cond}
 use mathlib.Core.List.{List, [], _∷_}
-use Prim.Native.Nat.{ℕ, zero, suc, _+_, _-_, _*_, _/_, _≤_, _<_}
+use Prim.Native.Nat.{ℕ, zero, suc, _+_, _-_, _*_, _/_, _≤_}
 use lib.ListN.{length}
 use lib.Dec.{eqb, ltb}
 use Rattle.store.specs.declared.Counters.{Counters}

@@ -5,7 +5,7 @@ use store::Counters;
 use store::IndexPlace;
 use store::ResourceId;
 ghost use mathlib.Core.Path.{_≡_};
-ghost use Prim.Native.Nat.{ℕ, _≤_, _<_};
+ghost use Prim.Native.Nat.{_≤_, _<_};
 ghost use lib.ListN.{length};
 ghost use Rattle.dictionary.specs.Search.{Readable, compareOf, probeOf, searched};
 

@@ -1,19 +1,17 @@
 -- The ten marked examples (paper 01, "Bench examples") as one table: what is asked of the store, in turn, after the sample load, and what
 -- is answered. The rows are data; `Marked` says that the definitions answer each row so. Assumes nothing.
 use mathlib.Core.Path.{_≡_}
-use mathlib.Core.Bool.{Bool, true, false, cond, _&&_}
+use mathlib.Core.Bool.{Bool, true, false}
 use mathlib.Core.List.{List, [], _∷_, _++_}
 use Prim.Native.Nat.{ℕ, zero, suc, _+_, _*_}
-use lib.ListN.{length, getD, replicate}
+use lib.ListN.{length, replicate}
 use lib.Dec.{eqb}
 use Rattle.store.specs.declared.Triple.{Triple}
 use Rattle.store.specs.declared.Position.the-variants.{Subject, Predicate, Object}
 use Rattle.store.specs.Shared.{triple, prev}
-use Rattle.store.specs.Tables.{Tables, tables, nextAt, resourceWords, statementWords}
-use Rattle.store.specs.Values.{Values}
+use Rattle.store.specs.Tables.{Tables, tables, nextAt, resourceWords}
 use Rattle.store.specs.Model.{Call, intern, assert, retract, open′, next, byValue}
 use Rattle.store.specs.History.{Store, freshStore, callStore, storeAfter}
-use Rattle.graph.specs.declared.QueryAnswer.{QueryAnswer}
 use Rattle.graph.specs.declared.QueryStep.{QueryStep}
 use Rattle.graph.specs.declared.QueryStep.the-variants.{Found, Ended, Spent, Refused}
 use Rattle.graph.specs.declared.QueryCursor.{QueryCursor}

@@ -1,7 +1,7 @@
 -- The refusals of a query's two operations, each exactly (`RefusalsClaim`): the tests in their order give the number, and the numbers
 -- differ. Assumes nothing.
 use mathlib.Core.Path.{_≡_, refl, sym, _∙_}
-use mathlib.Core.Logic.{_≢_, _⊎_, _↔_, inl, inr}
+use mathlib.Core.Logic.{_≢_, _⊎_, inl, inr}
 use mathlib.Core.Bool.{true, false, true≢false}
 use mathlib.Core.List.{List}
 use Prim.Native.Nat.{ℕ, _<_}
@@ -16,7 +16,6 @@ use Rattle.graph.specs.Words.{wordsOk, patternsOf}
 use Rattle.graph.specs.Place.{placeOf}
 use Rattle.graph.specs.Query.{Answer, placeOk, resume, answerOf, packed, stale, openQueryOf, nextQueryOf}
 use Rattle.graph.specs.Values.{queryValues, queryOpenedValues}
-use Rattle.graph.specs.Standing.{PlaceStands}
 use Rattle.graph.specs.QueryRefusals.{OpenRefused, Admitted, NextRefused, RefusalsClaim}
 use Rattle.graph.proofs.Refusals.{says, resume-not, number-not}
 use Rattle.graph.proofs.Generations.{own-number, read-on, stale-number}

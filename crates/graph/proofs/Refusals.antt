@@ -9,7 +9,6 @@ use lib.ListN.{length}
 use lib.Dec.{eqb}
 use borrow.Author.Tests.{eq-eqb, ne-eqb}
 use Rattle.store.specs.declared.Counters.{Counters}
-use Rattle.store.specs.declared.Refusal.{Refusal}
 use Rattle.store.specs.Tables.{Tables, fits}
 use Rattle.store.specs.Values.{refusalNumber}
 use Rattle.store.proofs.Tests.{decide}

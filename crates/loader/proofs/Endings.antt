@@ -2,18 +2,13 @@
 -- nothing.
 use mathlib.Core.Path.{_≡_, refl, sym, ap, _∙_}
 use mathlib.Core.Logic.{_≢_}
-use mathlib.Core.Bool.{Bool, true, false}
 use mathlib.Core.List.{List, [], _∷_, _++_}
 use Prim.Native.Nat.{ℕ, zero, suc, _+_, _-_, _<_}
 use native.Mathlib.Omega.{arith}
-use lib.Dec.{eqb}
 use lib.ListN.{length, take, drop, getD, List·getD-append}
 use lib.Seq.{take-all, take-suc, getD-drop, getD-append-seam, getD-append-add}
-use borrow.Author.Tests.{eqb-true, eqb-false}
-use Rattle.term.specs.Grammar.{nameLimit}
-use Rattle.term.proofs.Names.{never}
+use borrow.Author.Tests.{eqb-false}
 use Rattle.ntriples.specs.Grammar.{Unbroken, FirstLine}
-use Rattle.ntriples.specs.Reader.{readOf}
 use Rattle.ntriples.proofs.Lines.{line-found, line-exists}
 use Rattle.ntriples.proofs.Claims.{reads-a-line}
 use Rattle.loader.specs.Lines.{contentOf}

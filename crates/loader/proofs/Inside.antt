@@ -1,5 +1,5 @@
 -- The parts of a line that was read lie in the text, and the position after it is further on. Assumes nothing.
-use mathlib.Core.Path.{_≡_, refl, sym, ap, _∙_}
+use mathlib.Core.Path.{_≡_, sym, ap, _∙_}
 use mathlib.Core.Logic.{_⊎_, inl, inr}
 use mathlib.Core.List.{List, [], _∷_, _++_}
 use Prim.Native.Nat.{ℕ, zero, suc, _≤_, _<_}
@@ -11,7 +11,6 @@ use Rattle.term.proofs.Shortened.{canonical-short}
 use Rattle.ntriples.specs.declared.Span.{Span}
 use Rattle.ntriples.specs.declared.Line.{Line}
 use Rattle.ntriples.specs.declared.Line.the-variants as answer
-use Rattle.ntriples.specs.declared.LineRead.{LineRead}
 use Rattle.ntriples.specs.Grammar.{subjectSpan, predicateSpan, Values, valuesOf}
 use Rattle.ntriples.specs.Reader.{readOf}
 use Rattle.ntriples.specs.Claims.{objectPart, Derived}

@@ -1,13 +1,10 @@
 -- All lines of a source, one after another: what holds before a line holds after it, at the next, and at the source's end. Assumes nothing.
 use mathlib.Core.Path.{_≡_, refl, sym, ap, _∙_}
-use mathlib.Core.Bool.{false, true}
 use mathlib.Core.List.{List, []}
 use Prim.Native.Nat.{ℕ, zero, suc, _+_, _≤_}
 use native.Mathlib.Omega.{arith}
-use lib.Dec.{ltb}
 use lib.ListN.{length}
 use borrow.Author.Tests.{lt-ltb, le-ltb}
-use Rattle.term.specs.Grammar.{nameLimit}
 use Rattle.store.specs.declared.Counters.{Counters}
 use Rattle.store.specs.declared.ScanCursor.{ScanCursor}
 use Rattle.store.specs.Tables.{Tables}
@@ -15,7 +12,6 @@ use Rattle.store.specs.Soundness.{Sound}
 use Rattle.store.specs.History.{Store, store}
 use Rattle.ntriples.specs.declared.Line.{Line}
 use Rattle.ntriples.specs.declared.Line.the-variants as answer
-use Rattle.ntriples.specs.Reader.{readOf}
 use Rattle.graph.specs.Claims.{SoundStore}
 use Rattle.graph.proofs.Theorems.{line-loads}
 use Rattle.lines.specs.Claims.{namesIn}

@@ -2,13 +2,12 @@
 use mathlib.Core.Path.{_≡_, refl, sym, ap, _∙_}
 use mathlib.Core.Bool.{Bool, true, false, cond}
 use mathlib.Core.List.{[]}
-use Prim.Native.Nat.{ℕ}
 use lib.Dec.{eqb}
 use borrow.Author.Tests.{eqb-true}
 use Rattle.store.specs.Values.{Values}
 use Rattle.store.specs.History.{Store, store}
 use Rattle.store.proofs.Tests.{decide}
-use Rattle.graph.specs.Claims.{loadOf, canonicalTriple, Loaded}
+use Rattle.graph.specs.Claims.{loadOf}
 use Rattle.graph.proofs.Theorems.{line-loads}
 use Rattle.lines.specs.Claims.{namesIn}
 use Rattle.loader.specs.declared.Outcome.{Outcome}

@@ -5,7 +5,7 @@
 // of output, `NUMBER new|already N` or `NUMBER refused N`; a blank or comment line by none. Names are entered once the whole line is
 // read, subject first; those entered before a refusal remain.
 ghost use mathlib.Core.Path.{_≡_};
-ghost use Prim.Native.Nat.{ℕ, _≤_};
+ghost use Prim.Native.Nat.{_≤_};
 ghost use lib.ListN.{length};
 ghost use Rattle.store.specs.Tables.{tables, lent};
 ghost use Rattle.loader.specs.Lines.{contentOf, lineAt, Loads, LoadsLines};

@@ -1,5 +1,4 @@
 // The lines that a load writes to standard output: one for each statement line, and the totals. Each is written at once.
-ghost use Prim.Native.Nat.{ℕ, _≤_};
 ghost use Rattle.io.specs.Counts.{Counts};
 use crate::Outcome;
 use crate::within;

@@ -1,15 +1,12 @@
 -- The claims of specs/Claims.antt, and laws of the object's part without the string ending. Assumes nothing.
-use Prim.Native.Nat.{ℕ, zero, suc, _+_, _-_, _≤_, _<_, min}
+use Prim.Native.Nat.{ℕ, _+_, _-_, _≤_, _<_}
 use mathlib.Core.Path.{_≡_, refl, sym, _∙_, ap, subst}
 use mathlib.Core.List.{List, [], _∷_, _++_, append-assoc}
-use mathlib.Core.Bool.{Bool, true, false, cond}
 use mathlib.Core.Logic.{_⊎_, ⊎-elim, inl, inr, _↔_}
-use lib.Dec.{leb, ltb, eqb}
 use lib.ListN.{length, take, drop, length-append, length-take, length-drop, take-append-drop}
 use lib.Seq.{drop-drop, drop-append-seam, take-append-seam}
 use native.Mathlib.Omega.{arith}
 use borrow.Author.Tests.{le-leb, lt-leb}
-use Rattle.term.specs.Bytes.{among}
 use Rattle.term.specs.Scanner.{kindOf}
 use Rattle.term.specs.Grammar as g
 use Rattle.term.specs.Canonical.{canonical}
@@ -37,7 +34,7 @@ use Rattle.ntriples.specs.Grammar.{
   Viable,
   Longest,
 }
-use Rattle.ntriples.specs.Reader.{Outcome, Empty, Terms, Fails, Begin, stateOf, lineOf}
+use Rattle.ntriples.specs.Reader.{Outcome, Empty, Terms, Fails, lineOf}
 use Rattle.ntriples.specs.Reader.{answerOf, readSpelled, shortPart, shortLine, readOf}
 use Rattle.ntriples.specs.Grammar.{FirstLine, bytesOf, Values, values, noPart, valuesOf}
 use Rattle.ntriples.specs.TermOf.{termOf}
@@ -55,8 +52,8 @@ use Rattle.ntriples.specs.Claims.{
   OneFirstLine,
   OneDerivation,
 }
-use Rattle.ntriples.proofs.Rest.{Rest, Derives, ShortParts, ShortOutcome}
-use Rattle.ntriples.proofs.Reading.{broken, continued, answered, reads, unique, Stopped, stopped}
+use Rattle.ntriples.proofs.Rest.{Derives, ShortParts}
+use Rattle.ntriples.proofs.Reading.{continued, answered, reads, unique, Stopped, stopped}
 use Rattle.ntriples.proofs.Derivation.{partsOf, rest-of, derivation, within-back, within-forth, viable-is}
 use Rattle.ntriples.proofs.Lines.{line-found, line-exists, line-first}
 use Rattle.ntriples.proofs.Terms.{canonical-term}

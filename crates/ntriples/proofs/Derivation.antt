@@ -1,11 +1,10 @@
 -- The grammar of specs/Grammar.antt and that of proofs/Rest.antt derive the same lines with the same parts, and so with terms
 -- equally long. Assumes nothing.
-use Prim.Native.Nat.{ℕ, zero, suc, _+_, _-_, _≤_, _<_, min}
-use mathlib.Core.Path.{_≡_, refl, sym, _∙_, ap}
+use Prim.Native.Nat.{ℕ, suc, _+_, _-_}
+use mathlib.Core.Path.{_≡_, refl, _∙_, ap}
 use mathlib.Core.List.{List, [], _∷_, _++_}
-use mathlib.Core.Bool.{Bool, true, false}
+use mathlib.Core.Bool.{true}
 use mathlib.Core.Logic.{_⊎_, ⊎-elim, inl, inr, _↔_}
-use lib.Dec.{leb, ltb, eqb}
 use lib.ListN.{length, length-append}
 use native.Mathlib.Omega.{arith}
 use Rattle.term.specs.Bytes.{All}
@@ -29,11 +28,10 @@ use Rattle.ntriples.specs.Grammar.{
   Within,
   Viable,
 }
-use Rattle.ntriples.specs.Reader.{Outcome, Empty, Terms, Fails, kindAllowed}
+use Rattle.ntriples.specs.Reader.{Outcome, Empty, Terms, kindAllowed}
 use Rattle.ntriples.proofs.Rest.{Rest, Derives, ShortParts, ShortOutcome, Continued}
 use Rattle.ntriples.proofs.Residual.{shift, plus-zero}
 use Rattle.ntriples.proofs.Forth.{Fit}
-use Rattle.ntriples.proofs.Reading.{fit-short}
 
 -- a name of a kind that a place permits, and the place's own production
 pub record Permitted (n : ℕ) (t : List ℕ) : Type 0 where

@@ -5,11 +5,10 @@ use mathlib.Core.Path.{_≡_, refl, sym, _∙_, ap}
 use mathlib.Core.List.{List, [], _∷_, _++_}
 use mathlib.Core.Bool.{Bool, true, false, cond}
 use mathlib.Core.Logic.{_⊎_, ⊎-elim, inl, inr}
-use lib.Dec.{leb, ltb, eqb}
+use lib.Dec.{ltb, eqb}
 use lib.ListN.{length, getD}
 use lib.Seq.{slice}
 use native.Mathlib.Omega.{arith}
-use native.Mathlib.Numerals.{add-one}
 use borrow.Author.Tests.{ltb-true, ltb-false, eqb-true, eqb-false, eq-eqb, lt-ltb, le-ltb}
 use Rattle.term.specs.Scanner.{stepOf, wholeOf, isBad, haltOf}
 use Rattle.term.specs.declared.Scan.{Scan}
@@ -39,7 +38,7 @@ use Rattle.term.proofs.Names.{never}
 use Rattle.ntriples.specs.declared.Span.{Span}
 use Rattle.ntriples.specs.declared.TermEnd.the-variants as term
 use Rattle.ntriples.specs.declared.ObjectEnd.the-variants as object
-use Rattle.ntriples.specs.Grammar.{span, white}
+use Rattle.ntriples.specs.Grammar.{span}
 use Rattle.ntriples.specs.Reader.{
   Outcome,
   Empty,
@@ -66,7 +65,7 @@ use Rattle.ntriples.specs.Reader.{
   endOf,
 }
 use Rattle.ntriples.specs.Productions.{TermAt, onward, cutOf, TermEnds, ObjectEnds}
-use Rattle.ntriples.proofs.Residual.{to-dot, dotted-facts}
+use Rattle.ntriples.proofs.Residual.{dotted-facts}
 use Rattle.ntriples.proofs.Forth.{opens-alive, on-go, on-leave, gap-enter, is-dot}
 use Rattle.ntriples.proofs.Reading.{stays}
 use Rattle.ntriples.proofs.Runs.{slice-next, slice-none, onward-next, onward-end}

@@ -1,16 +1,16 @@
 -- A reading keeps to good places, every place can be completed to a line, and so: the reader reads exactly the lines of the
 -- grammar, and refuses at the end of the longest prefix that some line continues. Assumes nothing.
-use Prim.Native.Nat.{ℕ, zero, suc, _+_, _-_, _≤_, _<_, min}
+use Prim.Native.Nat.{ℕ, zero, suc, _+_, _-_, _≤_, _<_}
 use mathlib.Core.Path.{_≡_, refl, sym, _∙_, ap}
-use mathlib.Core.List.{List, [], _∷_, _++_, append-nil, append-assoc}
+use mathlib.Core.List.{List, [], _∷_, _++_, append-nil}
 use mathlib.Core.Bool.{Bool, true, false, cond}
 use mathlib.Core.Logic.{_⊎_, ⊎-elim, inl, inr, _↔_}
-use lib.Dec.{leb, ltb, eqb}
+use lib.Dec.{ltb, eqb}
 use lib.ListN.{length}
 use native.Mathlib.Omega.{arith}
-use borrow.Author.Tests.{eqb-true, eq-eqb, ltb-true, ltb-false, lt-ltb, le-ltb}
+use borrow.Author.Tests.{ltb-true}
 use Rattle.term.specs.Bytes.{among, iriByte, textByte, pairByte, firstByte, labelByte, letter, alnum}
-use Rattle.term.specs.Scanner.{stepOf, runOf, wholeOf, isBad, firstKindOf}
+use Rattle.term.specs.Scanner.{stepOf, runOf, wholeOf, isBad}
 use Rattle.term.specs.Grammar.{Name}
 use Rattle.term.specs.Grammar as names
 use Rattle.term.specs.declared.Scan.{Scan}
@@ -35,9 +35,9 @@ use Rattle.term.specs.declared.Scan.the-variants.{
   Carets,
   Bad,
 }
-use Rattle.term.proofs.Names.{Accepts, never, bad, name-back, name-forth, name-kind}
+use Rattle.term.proofs.Names.{Accepts, never}
 use Rattle.ntriples.specs.declared.Span.{Span}
-use Rattle.ntriples.specs.Grammar.{span, white, commentByte, Trail, Short}
+use Rattle.ntriples.specs.Grammar.{span, white, commentByte, Trail}
 use Rattle.ntriples.proofs.Rest.{Rest, Derives, ShortParts, ShortOutcome, Continued}
 use Rattle.ntriples.specs.Reader.{
   Outcome,

@@ -1,17 +1,16 @@
 -- What may follow at each place of a reading, in the grammar's words, and that one byte more leads from one to the next.
 -- Assumes nothing.
-use Prim.Native.Nat.{ℕ, zero, suc, _+_, _-_, _≤_, _<_, min}
+use Prim.Native.Nat.{ℕ, zero, suc, _+_, _-_}
 use mathlib.Core.Path.{_≡_, refl, sym, _∙_, ap}
 use mathlib.Core.List.{List, [], _∷_, _++_, append-nil, append-assoc}
 use mathlib.Core.Bool.{Bool, true, false, cond}
 use mathlib.Core.Logic.{_⊎_, ⊎-elim, inl, inr}
-use lib.Dec.{leb, ltb, eqb}
+use lib.Dec.{ltb, eqb}
 use lib.ListN.{length}
 use native.Mathlib.Omega.{arith}
-use borrow.Author.Tests.{eqb-true, eq-eqb, ltb-true, ltb-false, lt-ltb, le-ltb}
-use Rattle.term.specs.Bytes.{among, iriByte, textByte, pairByte, firstByte, labelByte, letter, alnum, All}
+use borrow.Author.Tests.{eqb-true}
+use Rattle.term.specs.Bytes.{iriByte, textByte, pairByte, firstByte, labelByte, letter, alnum, All}
 use Rattle.term.specs.Scanner.{stepOf, runOf, wholeOf, isBad, firstKindOf}
-use Rattle.term.specs.Grammar.{Name}
 use Rattle.term.specs.declared.Scan.{Scan}
 use Rattle.term.specs.declared.Scan.the-variants.{
   Start,
@@ -34,10 +33,10 @@ use Rattle.term.specs.declared.Scan.the-variants.{
   Carets,
   Bad,
 }
-use Rattle.term.proofs.Names.{Accepts, never, bad, name-back, name-forth, name-kind}
+use Rattle.term.proofs.Names.{Accepts, never, name-back}
 use Rattle.ntriples.specs.declared.Span.{Span}
-use Rattle.ntriples.specs.Grammar.{span, white, commentByte, Trail, Short}
-use Rattle.ntriples.proofs.Rest.{Rest, Derives, ShortParts, ShortOutcome, Continued}
+use Rattle.ntriples.specs.Grammar.{span, white, commentByte, Trail}
+use Rattle.ntriples.proofs.Rest.{Rest, Derives}
 use Rattle.ntriples.specs.Reader.{
   Outcome,
   Empty,

@@ -1,15 +1,14 @@
 -- Runs of one class of bytes, and reading on, one byte at a time. Assumes nothing.
-use Prim.Native.Nat.{ℕ, zero, suc, _+_, _-_, _≤_, _<_}
-use mathlib.Core.Path.{_≡_, refl, sym, _∙_, ap}
-use mathlib.Core.List.{List, [], _∷_, _++_}
+use Prim.Native.Nat.{ℕ, _+_, _-_, _≤_, _<_}
+use mathlib.Core.Path.{_≡_}
+use mathlib.Core.List.{List, [], _∷_}
 use mathlib.Core.Bool.{Bool, true, false}
-use mathlib.Core.Logic.{_⊎_, ⊎-elim, inl, inr}
-use lib.ListN.{length, getD, take, drop, drop-of-length-le, length-take}
-use lib.Seq.{slice, slice-cons, slice-empty}
+use lib.ListN.{length, getD, take, drop-of-length-le, length-take}
+use lib.Seq.{slice, slice-cons}
 use native.Mathlib.Omega.{arith}
 use native.Mathlib.Numerals.{add-one}
-use Rattle.ntriples.specs.Reader.{Outcome, State, advanceOf, stateOf, endOf}
-use Rattle.ntriples.specs.Productions.{Inline, RunEnd, runEnd, onward}
+use Rattle.ntriples.specs.Reader.{State, advanceOf, stateOf, endOf}
+use Rattle.ntriples.specs.Productions.{runEnd, onward}
 
 -- the bytes from i up to `stop`, one at a time
 pub slice-next : (text : List ℕ) (i stop : ℕ) → i < stop → stop ≤ length text

@@ -2,20 +2,20 @@
 use Prim.Native.Nat.{ℕ, zero, suc, _+_, _-_, _≤_, _<_}
 use mathlib.Core.Path.{_≡_, refl, sym, _∙_, ap}
 use mathlib.Core.List.{List, [], _∷_, _++_}
-use mathlib.Core.Bool.{Bool, true, false, cond}
+use mathlib.Core.Bool.{Bool, true, false}
 use mathlib.Core.Logic.{_⊎_, ⊎-elim, inl, inr}
-use lib.Dec.{leb, ltb, eqb}
+use lib.Dec.{eqb}
 use lib.ListN.{length, getD, take, drop, take-append-drop}
 use lib.Seq.{slice, slice-empty, length-slice, length-take-le, take-all, take-suc, take-take, drop-cons, drop-append-le}
 use native.Mathlib.Omega.{arith}
 use native.Mathlib.Numerals.{add-one}
-use borrow.Author.Tests.{ltb-true, ltb-false, eqb-true, eqb-false, eq-eqb, ne-eqb}
+use borrow.Author.Tests.{eqb-true, eqb-false, eq-eqb, ne-eqb}
 use Rattle.ntriples.specs.declared.Span.{Span}
 use Rattle.ntriples.specs.declared.TermEnd.{TermEnd}
 use Rattle.ntriples.specs.declared.TermEnd.the-variants as term
 use Rattle.ntriples.specs.declared.ObjectEnd.{ObjectEnd}
 use Rattle.ntriples.specs.declared.ObjectEnd.the-variants as object
-use Rattle.ntriples.specs.Grammar.{span, white, commentByte}
+use Rattle.ntriples.specs.Grammar.{white, commentByte}
 use Rattle.ntriples.specs.Reader.{
   Outcome,
   Empty,
@@ -43,7 +43,7 @@ use Rattle.ntriples.specs.Reader.{answerOf, readSpelled}
 use Rattle.ntriples.specs.Productions.{Inline, NotWhite, RunEnd, runEnd, onward, TermEnds, ObjectEnds, crDropped, EolAt}
 use Rattle.ntriples.proofs.Forth.{gap-space}
 use Rattle.ntriples.proofs.Halts.{decide, strictly, step-to, at-end, onward-broken}
-use Rattle.ntriples.proofs.Runs.{slice-next, slice-none, run-turn, run-out, run-end, onward-next, onward-end}
+use Rattle.ntriples.proofs.Runs.{run-turn, run-out, run-end}
 use Rattle.ntriples.proofs.Lines.{endsInCr, ends-snoc, no-cr}
 use Rattle.ntriples.proofs.Claims.{read-at}
 

@@ -6,7 +6,7 @@ use mathlib.Core.Bool.{Bool, true, false, cond}
 use lib.Dec.{T, leb, eqb}
 use lib.ListN.{drop}
 use native.Mathlib.Omega.{arith}
-use borrow.Author.Tests.{eqb-true, leb-true, le-leb}
+use borrow.Author.Tests.{eqb-true, leb-true}
 use Rattle.term.specs.Bytes as b
 use Rattle.term.specs.Bytes.{between, among, All}
 use Rattle.term.specs.Grammar as g
@@ -14,7 +14,7 @@ use Rattle.term.proofs.Names.{never}
 use Rattle.term.proofs.Table.{spans, at-range, eqBool, same-bool}
 use Rattle.ntriples.specs.TermOf.{suffixFrom}
 use Rattle.ntriples.specs.Standard as std
-use Rattle.ntriples.specs.Standard.{one, the, _▸_, _∣_, maybe, many, except}
+use Rattle.ntriples.specs.Standard.{one, the, _▸_, _∣_, maybe, many}
 use Rattle.ntriples.specs.Subset.{bare, unmarked, fourPairs, visible, Plain, IrisOfStandard, BlanksOfStandard, LiteralsOfStandard}
 use Rattle.ntriples.proofs.Residual.{cases}
 use Rattle.ntriples.proofs.Terms.{plain, pair-cases}

@@ -2,17 +2,17 @@
 use Prim.Native.Nat.{ℕ}
 use mathlib.Core.Path.{_≡_, refl, sym, _∙_, ap}
 use mathlib.Core.List.{List, [], _∷_, _++_, append-assoc}
-use mathlib.Core.Bool.{Bool, true, false, cond}
+use mathlib.Core.Bool.{Bool, false}
 use lib.ListN.{drop}
 use Rattle.term.specs.Bytes.{All}
 use Rattle.term.specs.Grammar as g
 use Rattle.term.proofs.Names.{never}
 use Rattle.ntriples.specs.Standard as std
 use Rattle.ntriples.specs.Standard.{one, the, _▸_, _∣_, maybe, many}
-use Rattle.ntriples.specs.Standard.{RdfTerm, iri, blank, literal, tagged, unescaped, iriChars, iriOf, stringChars, suffixed}
-use Rattle.ntriples.specs.Standard.{literalOf, subjectTerm, objectTerm}
+use Rattle.ntriples.specs.Standard.{iri, blank, literal, unescaped, iriChars, iriOf, stringChars, suffixed}
+use Rattle.ntriples.specs.Standard.{literalOf, subjectTerm}
 use Rattle.ntriples.specs.TermOf.{inner, lexicalFrom, suffixFrom, literalWith, termOf}
-use Rattle.ntriples.specs.Subset.{bare, visible, Plain}
+use Rattle.ntriples.specs.Subset.{bare, visible}
 use Rattle.ntriples.specs.Claims.{TermOfStandard}
 use Rattle.ntriples.proofs.Terms.{plain}
 use Rattle.ntriples.proofs.Standard.{iri-back, literal-back}

@@ -1,7 +1,7 @@
 -- The standard's grammar gives a line one derivation at most (specs/Claims.antt). A run of one class of characters ends where the next
 -- character is of another: so white space, labels and tags end, and what stands between `<` and `>`; a string ends at its first
 -- quote that no `\` precedes. Assumes nothing.
-use Prim.Native.Nat.{ℕ, _≤_}
+use Prim.Native.Nat.{ℕ}
 use mathlib.Core.Path.{_≡_, refl, sym, _∙_, ap}
 use mathlib.Core.List.{List, [], _∷_, _++_, append-assoc}
 use mathlib.Core.Bool.{Bool, true, false, cond}

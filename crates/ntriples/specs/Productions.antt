@@ -1,11 +1,11 @@
 -- What the functions of the productions promise one another: where a run of one class of bytes ends, and that reading on from
 -- a production's end gives what reading on from its beginning gives. The line is the text from a position up to `stop`.
 -- Assumes nothing.
-use Prim.Native.Nat.{ℕ, zero, suc, _+_, _-_, _≤_, _<_}
+use Prim.Native.Nat.{ℕ, suc, _+_, _-_, _≤_, _<_}
 use mathlib.Core.Path.{_≡_}
 use mathlib.Core.List.{List, [], _∷_, _++_}
 use mathlib.Core.Bool.{Bool, true, false, cond}
-use lib.Dec.{leb, ltb, eqb}
+use lib.Dec.{ltb, eqb}
 use lib.ListN.{length, getD}
 use lib.Seq.{slice}
 use Rattle.term.specs.Grammar.{nameLimit}

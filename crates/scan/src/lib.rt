@@ -21,7 +21,7 @@ use store::Triple;
 use table::fits;
 use table::triple::within;
 ghost use mathlib.Core.Path.{_≡_};
-ghost use Prim.Native.Nat.{ℕ, _*_, _≤_};
+ghost use Prim.Native.Nat.{_*_, _≤_};
 ghost use lib.ListN.{length};
 ghost use Rattle.store.specs.Tables.{tables, lent, statementWords};
 ghost use Rattle.store.specs.Scan.{cursorIn, openOf, nextOf};

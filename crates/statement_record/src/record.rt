@@ -24,7 +24,7 @@ use table::word::live_at;
 use table::word::offset;
 ghost use mathlib.Core.Path.{_≡_};
 ghost use mathlib.Core.Bool.{true};
-ghost use Prim.Native.Nat.{ℕ, suc, _-_, _*_, _/_, _≤_, min};
+ghost use Prim.Native.Nat.{suc, _-_, _*_, _/_, _≤_, min};
 ghost use lib.ListN.{length};
 ghost use lib.Dec.{ltb};
 ghost use Rattle.store.specs.Tables.{statementWords};

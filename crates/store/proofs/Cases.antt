@@ -1,20 +1,18 @@
 -- Assert, retract and reclaim, case by case in the paper's order, and that a refused one writes nothing. Assumes nothing.
-use mathlib.Core.Path.{_≡_, refl, sym, ap, _∙_}
-use mathlib.Core.Bool.{Bool, true, false, cond}
-use mathlib.Core.List.{List}
+use mathlib.Core.Path.{_≡_, refl}
+use mathlib.Core.Bool.{true, false}
 use mathlib.Core.Option.{Option, none, some}
 use Prim.Native.Nat.{ℕ, zero, suc}
 use lib.Dec.{eqb, ltb}
 use Rattle.store.specs.declared.Counters.{Counters}
 use Rattle.store.specs.declared.Triple.{Triple}
 use Rattle.store.specs.declared.Refusal.{Refusal}
-use Rattle.store.specs.declared.Refusal.the-variants.{Capacity, Full, UnknownNumber, KindNotPermitted, Damaged}
+use Rattle.store.specs.declared.Refusal.the-variants.{Capacity, UnknownNumber, KindNotPermitted, Damaged}
 use Rattle.store.specs.declared.Asserted.{Asserted}
-use Rattle.store.specs.declared.Asserted.the-variants.{New, Already, Revived, Refused as NotAsserted}
+use Rattle.store.specs.declared.Asserted.the-variants.{Refused as NotAsserted}
 use Rattle.store.specs.declared.Retracted.{Retracted}
-use Rattle.store.specs.declared.Retracted.the-variants.{Number as WasLive, Absent as NotLive}
 use Rattle.store.specs.declared.Retracted.the-variants.{Refused as NotRetracted}
-use Rattle.store.specs.declared.Reclaimed.the-variants.{Done, Refused as NotReclaimed}
+use Rattle.store.specs.declared.Reclaimed.the-variants.{Refused as NotReclaimed}
 use Rattle.store.specs.Shared.{known, kindsPermitted, maxReclaims}
 use Rattle.store.specs.Tables.{Tables, fits, statementCapacity, flagAt, kindAt}
 use Rattle.store.specs.Statement.{locate, kindsOk, asserting, assertOf, counting, retracting, retractOf}

@@ -2,20 +2,20 @@
 -- above its count, a walk along a chain never meets a damaged record and comes to what taking positions off the chain comes to. Assumes nothing.
 use mathlib.Core.Path.{_≡_, refl, sym, ap, _∙_}
 use mathlib.Core.Logic.{_≢_}
-use mathlib.Core.Bool.{Bool, true, false, cond, _&&_, _||_}
-use mathlib.Core.List.{List, [], _∷_}
-use mathlib.Core.Option.{Option, none, some}
-use Prim.Native.Nat.{ℕ, zero, suc, _≤_, _<_}
+use mathlib.Core.Bool.{Bool, true, _&&_, _||_}
+use mathlib.Core.List.{List}
+use mathlib.Core.Option.{some}
+use Prim.Native.Nat.{ℕ, _≤_, _<_}
 use native.Mathlib.Omega.{arith}
 use lib.ListN.{length}
-use lib.Dec.{eqb, leb, ltb}
-use borrow.Author.Tests.{eqb-true, eqb-false, eq-eqb, lt-ltb, le-leb}
+use lib.Dec.{eqb, leb}
+use borrow.Author.Tests.{eqb-true, eqb-false, eq-eqb, le-leb}
 use Rattle.store.specs.declared.Position.{Position}
 use Rattle.store.specs.declared.Chain.{Chain}
 use Rattle.store.specs.declared.Chain.the-variants.{All, By}
 use Rattle.store.specs.declared.Triple.{Triple}
-use Rattle.store.specs.Shared.{at, all3, known, below, head0}
-use Rattle.store.specs.Tables.{termAt, nextAt, flagAt, tripleAt, firstAt, countAt, liveAt}
+use Rattle.store.specs.Shared.{at, known, below, head0}
+use Rattle.store.specs.Tables.{termAt, flagAt, tripleAt, firstAt, countAt, liveAt}
 use Rattle.store.specs.Model.{onChain, readRest}
 use Rattle.store.specs.Walk.{pickChain, pickable, startOf, linkOf, holdsResource, visitable, walk}
 use Rattle.store.specs.Statement.{countable}

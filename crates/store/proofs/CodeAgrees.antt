@@ -1,25 +1,20 @@
 -- A run of the code is the run of the claims: where a store agrees with plain lists, each contract leaves one store and one reply, those of
 -- `callStore`. Assumes nothing.
-use mathlib.Core.Path.{_≡_, refl, sym, ap, ap₂, _∙_, subst}
-use mathlib.Core.Bool.{true, false}
+use mathlib.Core.Path.{_≡_, sym, ap, ap₂, _∙_, subst}
 use mathlib.Core.List.{List, [], _∷_}
-use Prim.Native.Nat.{ℕ, _<_}
 use native.Mathlib.Omega.{arith}
-use lib.ListN.{getD}
 use lib.Dec.{ltb}
 use borrow.Author.Tests.{ltb-true, ltb-false}
 use Rattle.store.specs.declared.Counters.{Counters}
-use Rattle.store.specs.declared.Refusal.the-variants.{ReclaimLimit}
 use Rattle.store.specs.declared.Interned.{Interned}
 use Rattle.store.specs.declared.Asserted.{Asserted}
 use Rattle.store.specs.declared.Retracted.{Retracted}
 use Rattle.store.specs.declared.Reclaimed.{Reclaimed}
-use Rattle.store.specs.declared.Reclaimed.the-variants.{Refused as NotReclaimed}
 use Rattle.store.specs.declared.ScanOpened.{ScanOpened}
 use Rattle.store.specs.declared.Scanned.{Scanned}
 use Rattle.store.specs.Shared.{maxReclaims}
-use Rattle.store.specs.Tables.{Tables, after, fits}
-use Rattle.store.specs.Values.{Values, noCursor, internedValues, assertedValues, retractedValues, openedValues, scannedValues}
+use Rattle.store.specs.Tables.{Tables, after}
+use Rattle.store.specs.Values.{Values, internedValues, assertedValues, retractedValues, openedValues, scannedValues}
 use Rattle.store.specs.Values.{reclaimedValues}
 use Rattle.store.specs.Model.{Model, Capacities, Call, byValue, updating, intern, assert, retract, open′, next, reclaim, freshModel}
 use Rattle.store.specs.Model.{callModel, modelAfter}

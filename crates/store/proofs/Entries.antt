@@ -1,6 +1,6 @@
 -- The plain lists only grow between reclaims: a listed triple keeps its position whatever else is called. Assumes nothing.
-use mathlib.Core.Path.{_≡_, refl, sym, ap, _∙_}
-use mathlib.Core.Bool.{Bool, true, false, cond, _&&_}
+use mathlib.Core.Path.{_≡_, refl, _∙_}
+use mathlib.Core.Bool.{Bool, true, false, _&&_}
 use mathlib.Core.List.{List, [], _∷_, _++_}
 use Prim.Native.Nat.{ℕ, zero, suc, _+_, _≤_, _<_}
 use native.Mathlib.Omega.{arith}
@@ -8,7 +8,6 @@ use lib.ListN.{length, getD, length-append, List·getD-append}
 use lib.Dec.{eqb, leb, ltb}
 use Rattle.term.specs.Scanner.{firstKindOf}
 use Rattle.term.specs.Canonical.{canonical}
-use Rattle.store.specs.declared.Triple.{Triple}
 use Rattle.store.specs.Shared.{known, within, kindsPermitted, Entry, wellFormed, nameOf, textBytes, maxReclaims, lookupName}
 use Rattle.store.specs.Model.{Model, Capacities, Call, intern, assert, retract, open′, next, reclaim}
 use Rattle.store.specs.Model.{internName, internModel, entry, lookup, mark, put}

@@ -1,7 +1,7 @@
 -- What the store needs of well-formed names: no zero byte, a kind from 1 to 3 by the first byte, at most 255 bytes; and what is left of
 -- them without the string ending. Assumes nothing.
 use mathlib.Core.Path.{_≡_, refl, sym, ap, _∙_}
-use mathlib.Core.Bool.{Bool, true, false, cond, not}
+use mathlib.Core.Bool.{Bool, true, false, not}
 use mathlib.Core.List.{List, [], _∷_}
 use Prim.Native.Nat.{ℕ, zero, suc, _≤_, _<_}
 use native.Mathlib.Omega.{arith}

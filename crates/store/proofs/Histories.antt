@@ -1,12 +1,11 @@
 -- Whole lists of calls: from states that agree every reply is the same and the states at the end agree; fresh counters
 -- over any tables agree with empty lists. Assumes nothing.
-use mathlib.Core.Path.{_≡_, refl, sym, ap, ap₂, _∙_}
+use mathlib.Core.Path.{_≡_, refl, ap₂}
 use mathlib.Core.List.{List, [], _∷_}
-use Prim.Native.Nat.{ℕ, zero, suc, _≤_, _<_}
 use native.Mathlib.Omega.{arith}
 use Rattle.store.specs.Shared.{below, textBytes}
 use Rattle.store.specs.Tables.{Tables}
-use Rattle.store.specs.Model.{Model, Capacities, Form, byValue, updating, Call, intern, assert, retract, open′, next, reclaim}
+use Rattle.store.specs.Model.{Model, Capacities, byValue, updating, Call, intern, assert, retract, open′, next, reclaim}
 use Rattle.store.specs.Model.{freshModel, callModel, modelReplies, modelAfter}
 use Rattle.store.specs.Statement.{assertUpdatingOf, retractUpdatingOf}
 use Rattle.store.specs.Names.{joined}

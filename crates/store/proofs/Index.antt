@@ -1,18 +1,17 @@
 -- The index: complete since it rises; a listed name stands at its rank; one name more keeps it rising. Assumes nothing.
-use mathlib.Core.Path.{_≡_, refl, sym, ap, ap₂, _∙_}
+use mathlib.Core.Path.{_≡_, refl, sym, ap, _∙_}
 use mathlib.Core.Logic.{_≢_}
-use mathlib.Core.Bool.{Bool, true, false, cond, false≢true}
+use mathlib.Core.Bool.{true, false, false≢true}
 use mathlib.Core.List.{List, [], _∷_}
 use Prim.Native.Nat.{ℕ, zero, suc, _+_, _-_, _≤_, _<_}
 use native.Mathlib.Omega.{arith}
-use lib.ListN.{length, getD}
-use Rattle.store.specs.Shared.{below}
+use lib.ListN.{length}
 use Rattle.store.specs.Tables.{word}
 use Rattle.store.specs.Dictionary.{rank, bring, insertAt}
 use Rattle.store.specs.Names.{ByteOrdering, less, equal, more, compareBytes, isLess, Indexed}
-use Rattle.store.proofs.Tests.{decide, three}
+use Rattle.store.proofs.Tests.{three}
 use Rattle.store.proofs.Falling.{length-le, Closed, rank-below, rank-above, rank-unique}
-use Rattle.store.proofs.Order.{flip, compare-refl, compare-flip, compare-equal, compare-trans, is-less}
+use Rattle.store.proofs.Order.{flip, compare-refl, compare-flip, compare-trans, is-less}
 use Rattle.store.proofs.Order.{less-not-equal}
 use Rattle.store.proofs.Pigeonhole.{Hit, Distinct, pigeonhole1}
 

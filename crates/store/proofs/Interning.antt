@@ -1,26 +1,19 @@
 -- What intern writes on any tables, by where its search ended: only the index, the new record and the text past B; a
 -- refusal writes nothing (paper 01, the checklist's first point). Assumes nothing.
-use mathlib.Core.Path.{_≡_, refl, sym, ap, _∙_}
-use mathlib.Core.Bool.{Bool, true, false, cond, _&&_}
+use mathlib.Core.Path.{_≡_, refl}
 use mathlib.Core.List.{List, [], _∷_, _++_}
-use Prim.Native.Nat.{ℕ, zero, suc, _+_, _-_, _*_, _≤_, _<_}
-use native.Mathlib.Omega.{arith}
-use lib.ListN.{length}
-use lib.Seq.{sets, length-sets}
+use Prim.Native.Nat.{ℕ, suc, _+_, _-_}
+use lib.Seq.{length-sets}
 use Rattle.term.specs.Scanner.{firstKindOf}
 use Rattle.term.specs.Canonical.{canonical}
 use Rattle.store.specs.declared.Counters.{Counters}
 use Rattle.store.specs.declared.Refusal.{Refusal}
-use Rattle.store.specs.declared.Refusal.the-variants.{Capacity, Malformed, Full, Damaged}
 use Rattle.store.specs.declared.IndexPlace.{IndexPlace}
 use Rattle.store.specs.declared.IndexPlace.the-variants.{At, Before, OutOfRange}
-use Rattle.store.specs.declared.Interned.{Interned}
-use Rattle.store.specs.declared.Interned.the-variants.{Number as Id, Refused as NotInterned}
-use Rattle.store.specs.Tables.{Tables, fits, word, resourceWords}
+use Rattle.store.specs.declared.Interned.the-variants.{Refused as NotInterned}
+use Rattle.store.specs.Tables.{Tables, fits}
 use Rattle.store.specs.Shared.{wellFormed}
-use Rattle.store.specs.Dictionary.{roomFor, withName, internAs, internOf, InternWrites, indexPlaceOf, freshRecord}
-use Rattle.store.specs.Dictionary.{PlaceWithin, rank, placeAt}
-use Rattle.store.specs.Names.{nameAt}
+use Rattle.store.specs.Dictionary.{roomFor, withName, internAs, internOf, InternWrites, indexPlaceOf}
 use Rattle.store.proofs.Tests.{decide}
 use Rattle.store.proofs.Words.{grow-length, grow-before, grow-after, getD-sets-before}
 use Rattle.store.proofs.Index.{insert-length}

@@ -1,22 +1,19 @@
 -- What the plain lists keep: known numbers, permitted kinds, no triple twice; so a store that agrees with them is
 -- sound after any list of calls. Assumes nothing.
-use mathlib.Core.Path.{_≡_, refl, sym, ap, ap₂, _∙_}
+use mathlib.Core.Path.{_≡_, refl, _∙_}
 use mathlib.Core.Logic.{_≢_}
-use mathlib.Core.Bool.{Bool, true, false, cond, _&&_}
+use mathlib.Core.Bool.{Bool, true, false, _&&_}
 use mathlib.Core.List.{List, [], _∷_, _++_}
-use Prim.Native.Nat.{ℕ, zero, suc, _+_, _-_, _≤_, _<_}
+use Prim.Native.Nat.{ℕ, zero, suc, _+_, _-_, _<_}
 use native.Mathlib.Omega.{arith}
-use lib.ListN.{length, getD, set, length-append, List·getD-append}
+use lib.ListN.{length, getD, length-append, List·getD-append}
 use lib.Seq.{getD-append-seam}
 use lib.Dec.{eqb, leb, ltb}
-use borrow.Author.Tests.{leb-true}
 use Rattle.term.specs.Scanner.{firstKindOf}
 use Rattle.term.specs.Canonical.{canonical}
-use Rattle.store.specs.declared.Counters.{Counters}
-use Rattle.store.specs.declared.Position.the-variants.{Subject, Predicate, Object}
+use Rattle.store.specs.declared.Position.the-variants.{Subject, Predicate}
 use Rattle.store.specs.declared.Triple.{Triple}
-use Rattle.store.specs.Shared.{at, known, within, same, kindsPermitted, below, head0, maxReclaims, Entry, wellFormed, nameOf}
-use Rattle.store.specs.Tables.{Tables, fits, resourceCapacity, statementCapacity, textCapacity, tripleAt, kindAt}
+use Rattle.store.specs.Shared.{at, known, within, same, kindsPermitted, maxReclaims, Entry, wellFormed, nameOf}
 use Rattle.store.specs.Model.{Listing, Model, Capacities, Call, intern, assert, retract, open′, next, reclaim}
 use Rattle.store.specs.Model.{internName, internModel, entry, lookup}
 use Rattle.store.specs.Shared.{textBytes, lookupName}

@@ -2,8 +2,8 @@
 use mathlib.Core.Path.{_≡_, refl, sym, ap, _∙_}
 use mathlib.Core.Logic.{_≢_}
 use mathlib.Core.Bool.{Bool, true, false, cond, _&&_}
-use mathlib.Core.List.{List, [], _∷_}
-use Prim.Native.Nat.{ℕ, zero, suc, _+_, _-_, _*_, _≤_, _<_}
+use mathlib.Core.List.{List, []}
+use Prim.Native.Nat.{ℕ, suc, _+_, _-_, _*_, _≤_, _<_}
 use native.Mathlib.Omega.{arith}
 use lib.ListN.{length, set, length-set}
 use lib.Seq.{sets}
@@ -11,8 +11,8 @@ use lib.Dec.{eqb}
 use borrow.Author.Tests.{eqb-true, eqb-false, ne-eqb}
 use Rattle.store.specs.declared.Position.{Position}
 use Rattle.store.specs.declared.Triple.{Triple}
-use Rattle.store.specs.Shared.{at, below, head0}
-use Rattle.store.specs.Tables.{off, statementWords, resourceWords, termAt, nextAt, flagAt, firstAt, countAt, liveAt}
+use Rattle.store.specs.Shared.{at, below}
+use Rattle.store.specs.Tables.{off, statementWords, resourceWords, termAt, flagAt, firstAt, countAt, liveAt}
 use Rattle.store.specs.Statement.{appendRecord, linkRecord, tally}
 use Rattle.store.specs.Dictionary.{freshRecord}
 use Rattle.store.specs.Soundness.{holding, living, Linked}

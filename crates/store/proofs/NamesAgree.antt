@@ -2,13 +2,13 @@
 -- the states after it agree. Assumes nothing.
 use mathlib.Core.Path.{_≡_, refl, sym, ap, ap₂, _∙_}
 use mathlib.Core.Logic.{_≢_}
-use mathlib.Core.Bool.{Bool, true, false, cond, _&&_}
+use mathlib.Core.Bool.{true, false, _&&_}
 use mathlib.Core.List.{List, [], _∷_, _++_}
 use Prim.Native.Nat.{ℕ, zero, suc, _+_, _*_, _-_, _≤_, _<_}
 use native.Mathlib.Omega.{arith}
-use lib.ListN.{length, getD, take}
-use lib.Seq.{sets, length-sets, take-append-le, take-at}
-use lib.Dec.{eqb, leb, ltb}
+use lib.ListN.{length, getD}
+use lib.Seq.{length-sets, take-append-le, take-at}
+use lib.Dec.{leb, ltb}
 use borrow.Author.Tests.{leb-true, ltb-true, lt-ltb}
 use Rattle.term.specs.Bytes.{eqBytes}
 use Rattle.term.specs.Scanner.{firstKindOf}
@@ -16,15 +16,14 @@ use Rattle.term.specs.Canonical.{canonical}
 use Rattle.term.proofs.Booleans.{eqBytes-is, eqBytes-refl}
 use Rattle.store.specs.declared.Counters.{Counters}
 use Rattle.store.specs.declared.Interned.{Interned}
-use Rattle.store.specs.declared.IndexPlace.{IndexPlace}
-use Rattle.store.specs.declared.IndexPlace.the-variants.{At, Before, OutOfRange}
+use Rattle.store.specs.declared.IndexPlace.the-variants.{At, Before}
 use Rattle.store.specs.Shared.{wellFormed, nameOf, textBytes, lookupName}
 use Rattle.store.specs.Tables.{Tables, word, resourceWords, resourceCapacity, textCapacity, offsetAt, kindAt}
 use Rattle.store.specs.Values.{Values, counted, internedValues}
 use Rattle.store.specs.Model.{Model, Capacities, totals, withNames, internName, internModel}
 use Rattle.store.specs.Dictionary.{PlaceWithin, rank, placeAt, indexPlaceOf}
-use Rattle.store.specs.Names.{storable, compareBytes, equal, isLess, Indexed, Named, nameAt}
-use Rattle.store.specs.Dictionary.{roomFor, oneNameMore, freshRecord, insertAt, withName, internAs, internOf}
+use Rattle.store.specs.Names.{storable, compareBytes, equal, isLess, Named, nameAt}
+use Rattle.store.specs.Dictionary.{roomFor, oneNameMore, withName, internAs, internOf}
 use Rattle.store.specs.History.{Store, store, internedCounters}
 use Rattle.store.proofs.Tests.{decide, upto-one, and-l, and-r, and-of}
 use Rattle.store.proofs.Falling.{below-cong}

@@ -3,27 +3,26 @@
 -- reclaim there is no more to take: StaleAfterReclaim. Assumes nothing.
 use mathlib.Core.Path.{_≡_, refl, sym, ap, ap₂, _∙_, subst}
 use mathlib.Core.Logic.{_≢_, _↔_, ⊎-elim}
-use mathlib.Core.Bool.{Bool, true, false, cond, not, true≢false}
+use mathlib.Core.Bool.{Bool, true, false, not, true≢false}
 use mathlib.Core.List.{List, [], _∷_, _++_, map, List·Memᴰ}
 use Prim.Native.Nat.{ℕ, zero, suc, _+_, _-_, _≤_, _<_}
 use native.Mathlib.Omega.{arith}
-use lib.ListN.{length, getD, take, drop, length-append}
+use lib.ListN.{length, drop, length-append}
 use lib.Seq.{getD-append-seam}
 use lib.Dec.{eqb}
 use borrow.Author.Tests.{eq-eqb, ne-eqb, eqb-true, eqb-false}
-use Rattle.store.specs.declared.Position.{Position}
 use Rattle.store.specs.declared.Chain.{Chain}
 use Rattle.store.specs.declared.Chain.the-variants.{All, By}
 use Rattle.store.specs.declared.Triple.{Triple}
-use Rattle.store.specs.Shared.{at, within, agrees, below, prev, Entry, matches, pick}
-use Rattle.store.specs.Values.{Values, placed, refusedWith, stepped}
+use Rattle.store.specs.Shared.{at, within, agrees, prev, Entry, matches, pick}
+use Rattle.store.specs.Values.{Values, placed, refusedWith}
 use Rattle.store.specs.Model.{Listing, Model, Capacities, Taken, found as took, ended as emptied}
-use Rattle.store.specs.Model.{spent as stopped, Call, open′, next, freshModel, entry, onChain, holders}
+use Rattle.store.specs.Model.{spent as stopped, open′, next, freshModel, entry, onChain, holders}
 use Rattle.store.specs.Model.{pickModel, listing, cursorOf, noListing, leaving, readRest, takenValues}
 use Rattle.store.specs.Model.{takeFrom, turn, openModel, nextModel, callModel, modelReplies, modelAfter}
-use Rattle.store.specs.History.{Store, freshStore, capacitiesOf, callStore, storeReplies, storeAfter}
+use Rattle.store.specs.History.{freshStore, capacitiesOf}
 use Rattle.store.specs.Claims.{Opening, storeThen, opened, Accepted, openingNumber, chainThen, storeNow, visitsOf}
-use Rattle.store.specs.Claims.{visitsSoFar, restNow, reached, liveNow, nextNow, Latest, NoneOf, Exhausts}
+use Rattle.store.specs.Claims.{visitsSoFar, restNow, reached, liveNow, nextNow, Latest, Exhausts}
 use Rattle.store.specs.Pins.{Falling}
 use Rattle.store.specs.Claims.{Shortest, unbound, bound, statementsIn, Finds, EndsOrSpends, VisitsAddUp}
 use Rattle.store.specs.Claims.{takenSoFar, reclaimsIn, reclaimsSince, Unreclaimed, NoneIsMissed, ReadsOnWithBudget, StaleAfterReclaim}

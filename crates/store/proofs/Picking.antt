@@ -1,9 +1,9 @@
 -- The pick (`pick`, paper 01, "Open a listing"): it depends on the costs of bound positions alone; what it gives is
 -- bound, of least cost, and of those the first; all records exactly where nothing is bound. Assumes nothing.
-use mathlib.Core.Path.{_≡_, refl, sym, ap, _∙_}
+use mathlib.Core.Path.{_≡_, refl, ap, _∙_}
 use mathlib.Core.Logic.{_≢_}
-use mathlib.Core.Bool.{Bool, true, false, cond, _&&_}
-use Prim.Native.Nat.{ℕ, zero, suc, _≤_, _<_}
+use mathlib.Core.Bool.{true}
+use Prim.Native.Nat.{ℕ, suc, _≤_, _<_}
 use native.Mathlib.Omega.{arith}
 use lib.Dec.{eqb, ltb}
 use borrow.Author.Tests.{eqb-true, eqb-false, eq-eqb, ltb-true, ltb-false, lt-ltb}
@@ -12,7 +12,7 @@ use Rattle.store.specs.declared.Position.the-variants.{Subject, Predicat
 use Rattle.store.specs.declared.Chain.{Chain}
 use Rattle.store.specs.declared.Chain.the-variants.{All, By}
 use Rattle.store.specs.declared.Triple.{Triple}
-use Rattle.store.specs.Shared.{at, all3, better, pick}
+use Rattle.store.specs.Shared.{at, better, pick}
 use Rattle.store.specs.Tables.{off}
 use Rattle.store.specs.Scan.{chainOk}
 use Rattle.store.proofs.Tests.{decide, off-lt, off-inj, all3-of}

@@ -1,13 +1,13 @@
 -- What stands on both sides of the claim about histories, said another way: tests of triples, matching, permitted
 -- kinds, falling positions, names and their positions, the pick. Assumes nothing.
 use mathlib.Core.Path.{_≡_, refl, sym, ap, _∙_}
-use mathlib.Core.Logic.{_≢_, _↔_, ⊎-elim}
-use mathlib.Core.Bool.{Bool, true, false, cond, not, _&&_, _||_, true≢false, false≢true}
+use mathlib.Core.Logic.{_≢_, ⊎-elim}
+use mathlib.Core.Bool.{Bool, true, false, not, _||_, false≢true}
 use mathlib.Core.List.{List, [], _∷_, List·Memᴰ, List·Memᴰ·head, List·Memᴰ·tail, List·Memᴰ·not-nil, List·Memᴰ·cases-cons, Memᴰ·cast}
-use Prim.Native.Nat.{ℕ, zero, suc, _≤_, _<_}
+use Prim.Native.Nat.{ℕ, zero, suc, _<_}
 use native.Mathlib.Omega.{arith}
 use lib.ListN.{length, getD}
-use lib.Dec.{eqb, leb, ltb}
+use lib.Dec.{eqb}
 use borrow.Author.Tests.{eqb-true, eqb-false, eq-eqb, ne-eqb}
 use Rattle.term.specs.Bytes.{eqBytes}
 use Rattle.term.proofs.Booleans.{eqBytes-is, eqBytes-refl}
@@ -15,8 +15,7 @@ use Rattle.store.specs.declared.Position.{Position}
 use Rattle.store.specs.declared.Chain.{Chain}
 use Rattle.store.specs.declared.Chain.the-variants.{All, By}
 use Rattle.store.specs.declared.Triple.{Triple}
-use Rattle.store.specs.Shared.{at, all3, known, within, same, agrees, kindsPermitted, below, Entry, matches, pick, lookupName}
-use Rattle.store.specs.Tables.{off}
+use Rattle.store.specs.Shared.{at, agrees, kindsPermitted, matches, pick, lookupName}
 use Rattle.store.specs.Pins.{KnownMeans, WithinMeans, SameMeans, MatchesMeans, KindsPermittedMeans, BelowMeans}
 use Rattle.store.specs.Pins.{BelowFromOne, FirstIsHighest, LimitsAre, BytesMean, LookupMeans}
 use Rattle.store.specs.Pins.{LeastBound, PicksLeast}

@@ -1,12 +1,10 @@
 -- A refused call leaves the whole store as it was, and its reply is the refusal's number and zeros, on any store.
 -- Assumes nothing.
-use mathlib.Core.Path.{_≡_, refl, sym, ap, ap₂, _∙_}
+use mathlib.Core.Path.{_≡_, refl, ap}
 use mathlib.Core.Logic.{_≢_}
-use mathlib.Core.List.{List}
 use Prim.Native.Nat.{ℕ}
 use lib.ListN.{getD}
 use Rattle.store.specs.declared.Counters.{Counters}
-use Rattle.store.specs.declared.ScanCursor.{ScanCursor}
 use Rattle.store.specs.declared.Refusal.{Refusal}
 use Rattle.store.specs.declared.Interned.{Interned}
 use Rattle.store.specs.declared.Interned.the-variants.{Number as Id, Refused as NotInterned}
@@ -22,9 +20,9 @@ use Rattle.store.specs.declared.Reclaimed.the-variants.{Done, Refused as
 use Rattle.store.specs.declared.Scanned.{Scanned}
 use Rattle.store.specs.declared.Scanned.the-variants.{Found, Ended, Spent, Refused as NotScanned}
 use Rattle.store.specs.Tables.{Tables}
-use Rattle.store.specs.Values.{Values, noCursor, refusedWith, internedValues, assertedValues, retractedValues}
+use Rattle.store.specs.Values.{noCursor, refusedWith, internedValues, assertedValues, retractedValues}
 use Rattle.store.specs.Values.{openedValues, scannedValues, reclaimedValues}
-use Rattle.store.specs.Model.{Form, byValue, updating, Call, intern, assert, retract, open′, next, reclaim}
+use Rattle.store.specs.Model.{byValue, updating, intern, assert, retract, open′, next, reclaim}
 use Rattle.store.specs.Statement.{assertOf, retractOf, countersAfter, assertUpdatingOf, retractUpdatingOf}
 use Rattle.store.specs.Scan.{openOf, nextOf}
 use Rattle.store.specs.Dictionary.{internOf}

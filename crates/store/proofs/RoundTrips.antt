@@ -2,15 +2,13 @@
 -- number, and distinct numbers have distinct names. Assumes nothing.
 use mathlib.Core.Path.{_≡_, refl, sym, ap, ap₂, _∙_, subst}
 use mathlib.Core.Logic.{_≢_}
-use mathlib.Core.Bool.{Bool, true, false, cond, _&&_}
+use mathlib.Core.Bool.{true, false}
 use mathlib.Core.List.{List, [], _∷_, _++_}
-use mathlib.Core.Option.{Option, none, some}
+use mathlib.Core.Option.{some}
 use Prim.Native.Nat.{ℕ, zero, suc, _+_, _-_, _≤_, _<_}
 use native.Mathlib.Omega.{arith}
-use native.Mathlib.Numerals.{add-one}
 use lib.ListN.{length, getD, take, drop}
 use lib.Seq.{getD-drop, drop-drop, take-append-seam}
-use lib.Dec.{eqb, ltb}
 use borrow.Author.Tests.{eq-eqb, ne-eqb, lt-ltb}
 use Rattle.term.specs.Bytes.{eqBytes}
 use Rattle.term.specs.Grammar.{nameLimit}
@@ -18,15 +16,13 @@ use Rattle.term.specs.Canonical.{writesString, canonical}
 use Rattle.term.proofs.Booleans.{eqBytes-refl, eqBytes-not}
 use Rattle.store.specs.declared.Counters.{Counters}
 use Rattle.store.specs.declared.ResourceId.{ResourceId}
-use Rattle.store.specs.declared.Refusal.the-variants.{Capacity, Malformed, UnknownNumber, Damaged}
-use Rattle.store.specs.declared.NameRead.{NameRead}
+use Rattle.store.specs.declared.Refusal.the-variants.{Malformed, UnknownNumber}
 use Rattle.store.specs.declared.NameRead.the-variants.{Span, Refused as NotNamed}
-use Rattle.store.specs.declared.Lookup.{Lookup}
 use Rattle.store.specs.declared.Lookup.the-variants.{Number, Absent, Refused as NotFound}
-use Rattle.store.specs.Shared.{below, head0, wellFormed, nameOf, lookupName}
-use Rattle.store.specs.Tables.{Tables, fits, word, offsetAt}
+use Rattle.store.specs.Shared.{wellFormed, nameOf, lookupName}
+use Rattle.store.specs.Tables.{Tables, word, offsetAt}
 use Rattle.store.specs.Model.{internModel}
-use Rattle.store.specs.Reading.{inRange, zeroFrom, spanTo, nameSpanOf}
+use Rattle.store.specs.Reading.{inRange, zeroFrom, nameSpanOf}
 use Rattle.store.specs.Dictionary.{foundAt, findOf, internOf}
 use Rattle.store.specs.Names.{storable, Named, joined, namesUpTo}
 use Rattle.store.specs.Values.{numbered, lookupValues}

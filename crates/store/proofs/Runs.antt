@@ -19,7 +19,7 @@ use Rattle.store.specs.Shared.{triple, known, within, same, agrees, kind
 use Rattle.store.specs.Tables.{Tables, tables, fits, termAt, nextAt, flagAt, tripleAt, firstAt, countAt, offsetAt}
 use Rattle.store.specs.Tables.{kindAt, liveAt, resourceWords}
 use Rattle.store.specs.Values.{Values, refusedWith, numbered, counted, placed, stepped}
-use Rattle.store.specs.Model.{Call, intern, assert, retract, open′, next, reclaim, byValue, updating, Capacities, freshModel}
+use Rattle.store.specs.Model.{Call, intern, assert, retract, open′, next, reclaim, byValue, updating, freshModel}
 use Rattle.store.specs.Model.{internName, internModel}
 use Rattle.store.specs.Shared.{better, lookupName, pick}
 use Rattle.store.specs.Model.{lookup, mark, put, assertModel, retractEntry, retractModel, onChain}

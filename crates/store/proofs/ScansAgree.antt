@@ -1,29 +1,28 @@
 -- Open and next of a pattern scan on states that agree: the same values, and the states after them agree. Assumes
 -- nothing.
-use mathlib.Core.Path.{_≡_, refl, sym, ap, ap₂, _∙_}
-use mathlib.Core.Bool.{Bool, true, false, cond, _&&_}
+use mathlib.Core.Path.{_≡_, refl, sym, ap, _∙_}
+use mathlib.Core.Bool.{true}
 use mathlib.Core.List.{List, [], _∷_, _++_, map}
-use mathlib.Core.Option.{Option, none, some}
-use Prim.Native.Nat.{ℕ, zero, suc, _≤_, _<_}
+use mathlib.Core.Option.{some}
+use Prim.Native.Nat.{ℕ, zero, suc, _≤_}
 use native.Mathlib.Omega.{arith}
 use lib.ListN.{length, getD, set, List·getD-map}
-use lib.Dec.{eqb, leb, ltb}
+use lib.Dec.{eqb}
 use borrow.Author.Tests.{eqb-true, le-leb}
 use Rattle.store.specs.declared.Counters.{Counters}
 use Rattle.store.specs.declared.Position.{Position}
-use Rattle.store.specs.declared.Chain.{Chain}
 use Rattle.store.specs.declared.Triple.{Triple}
 use Rattle.store.specs.declared.ScanCursor.{ScanCursor}
 use Rattle.store.specs.declared.ScanOpened.{ScanOpened}
 use Rattle.store.specs.declared.Scanned.{Scanned}
-use Rattle.store.specs.Shared.{at, within, below, head0, Entry, matches}
+use Rattle.store.specs.Shared.{at, within, below, head0, matches}
 use Rattle.store.specs.Tables.{Tables}
 use Rattle.store.specs.Values.{Values, noCursor, placed, openedValues, scannedValues}
 use Rattle.store.specs.Model.{Listing, Model, Capacities, Taken, found as took, ended as emptied}
 use Rattle.store.specs.Model.{spent as stopped, entry, holders, pickModel, listing, cursorOf}
-use Rattle.store.specs.Model.{withListings, openModel, readRest, noListing, leaving, restOf, takenValues, takeFrom, turn, nextModel}
+use Rattle.store.specs.Model.{withListings, openModel, noListing, leaving, restOf, takenValues, takeFrom, turn, nextModel}
 use Rattle.store.specs.Walk.{entryAt, pickChain, startOf}
-use Rattle.store.specs.Scan.{cursorIn, openOf, chainOk, recordOk, cursorOk, walkFrom, scannedAs, nextOf}
+use Rattle.store.specs.Scan.{cursorIn, openOf, recordOk, cursorOk, walkFrom, scannedAs, nextOf}
 use Rattle.store.specs.History.{Store, store, openedCursors, movedCursors}
 use Rattle.store.proofs.Tests.{and-of, within-high, within-of}
 use Rattle.store.proofs.Falling.{head-le, head-passes}

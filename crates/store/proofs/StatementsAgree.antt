@@ -1,9 +1,7 @@
 -- Assert and retract on states that agree: the same values, and the states after them agree. Assumes nothing.
 use mathlib.Core.Path.{_≡_, refl, sym, ap, ap₂, _∙_}
-use mathlib.Core.Logic.{_≢_}
 use mathlib.Core.Bool.{Bool, true, false, cond, _&&_}
 use mathlib.Core.List.{List, [], _∷_, _++_}
-use mathlib.Core.Option.{Option, none, some}
 use Prim.Native.Nat.{ℕ, zero, suc, _+_, _*_, _-_, _≤_, _<_}
 use native.Mathlib.Omega.{arith}
 use lib.ListN.{length, getD, set, length-set, length-append, List·getD-append}
@@ -13,20 +11,20 @@ use borrow.Author.Tests.{eq-eqb, eqb-true, eqb-false, ltb-true, lt-ltb, le-leb}
 use Rattle.term.specs.Scanner.{firstKindOf}
 use Rattle.store.specs.declared.Counters.{Counters}
 use Rattle.store.specs.declared.Position.{Position}
-use Rattle.store.specs.declared.Position.the-variants.{Subject, Predicate, Object}
+use Rattle.store.specs.declared.Position.the-variants.{Subject, Predicate}
 use Rattle.store.specs.declared.Triple.{Triple}
 use Rattle.store.specs.declared.Asserted.{Asserted}
 use Rattle.store.specs.declared.Refusal.the-variants.{Damaged}
 use Rattle.store.specs.declared.Retracted.{Retracted}
 use Rattle.store.specs.declared.Retracted.the-variants.{Number as WasLive, Refused as NotRetracted}
-use Rattle.store.specs.Shared.{at, all3, known, kindsPermitted, Entry, nameOf}
-use Rattle.store.specs.Tables.{Tables, statementCapacity, statementWords, resourceWords, termAt, flagAt, tripleAt}
-use Rattle.store.specs.Tables.{offsetAt, kindAt, liveAt}
+use Rattle.store.specs.Shared.{at, known, kindsPermitted, nameOf}
+use Rattle.store.specs.Tables.{Tables, statementCapacity, statementWords, resourceWords, termAt, flagAt}
+use Rattle.store.specs.Tables.{kindAt, liveAt}
 use Rattle.store.specs.Values.{Values, numbered, counted, assertedValues, retractedValues}
 use Rattle.store.specs.Model.{Model, Capacities, entry, lookup, mark, totals, withEntries}
 use Rattle.store.specs.Model.{put, assertModel, retractEntry, retractModel}
 use Rattle.store.specs.Walk.{entryAt}
-use Rattle.store.specs.Statement.{tally, withFlag, counting, appendRecord, linkRecord, appended, kindsOk, oneStatementMore}
+use Rattle.store.specs.Statement.{tally, withFlag, counting, appended, kindsOk, oneStatementMore}
 use Rattle.store.specs.Statement.{madeRetracted, asserting, assertOf, retracting, retractOf, countersAfter}
 use Rattle.store.specs.Names.{Named}
 use Rattle.store.specs.Soundness.{Linked}
@@ -37,7 +35,6 @@ use Rattle.store.proofs.Words.{append-term, append-flag, linked-length,
 use Rattle.store.proofs.Words.{flag-same, flag-other, triple-at, tally-length, tally-offset, tally-kind}
 use Rattle.store.proofs.Links.{append-linked, one-less-live, revived-linked, retracted-linked}
 use Rattle.store.proofs.Form.{form-kind, kind-high, storable-formed}
-use Rattle.store.proofs.Text.{length-snoc}
 use Rattle.store.proofs.Represented.{Agreeing, Same, same-cond, fits-agrees, totals-agree, mark-agrees}
 use Rattle.store.proofs.Represented.{lookup-le, locate-agrees, mark-length, mark-same, mark-other, mark-spo}
 use Rattle.store.proofs.Represented.{standing-grow, found-holds}

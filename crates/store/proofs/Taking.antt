@@ -5,11 +5,11 @@ use mathlib.Core.Bool.{Bool, true, false, true≢false}
 use mathlib.Core.List.{List, [], _∷_, List·Memᴰ, List·Memᴰ·head, List·Memᴰ·tail, List·Memᴰ·not-nil}
 use mathlib.Core.List.{List·Memᴰ·cases-cons}
 use mathlib.Core.Logic.{_⊎_, ⊎-elim, inl, inr}
-use Prim.Native.Nat.{ℕ, zero, suc, _+_, _≤_, _<_}
+use Prim.Native.Nat.{ℕ, zero, suc, _≤_, _<_}
 use native.Mathlib.Omega.{arith}
 use lib.ListN.{length, take, drop}
 use Rattle.store.specs.Shared.{prev}
-use Rattle.store.specs.Model.{Taken, found as took, ended as emptied, spent as stopped, oneMore, readRest, restOf}
+use Rattle.store.specs.Model.{found as took, ended as emptied, spent as stopped, oneMore, readRest, restOf}
 use Rattle.store.specs.Claims.{Latest, NoneOf}
 use Rattle.store.specs.Pins.{Falling}
 use Rattle.store.proofs.Tests.{decide}

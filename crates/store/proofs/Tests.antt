@@ -1,18 +1,18 @@
 -- Boolean tests: a case split with its equation, conjunctions, tests of each position, numbers in range, refusal 1.
 -- Assumes nothing.
-use mathlib.Core.Path.{_≡_, refl, sym, ap, ap₂, _∙_}
+use mathlib.Core.Path.{_≡_, refl, ap, _∙_}
 use mathlib.Core.Logic.{_≢_}
-use mathlib.Core.Bool.{Bool, true, false, cond, not, _&&_, _||_, true≢false}
-use Prim.Native.Nat.{ℕ, zero, suc, _≤_, _<_}
+use mathlib.Core.Bool.{Bool, true, false, cond, _&&_}
+use Prim.Native.Nat.{ℕ, suc, _≤_, _<_}
 use native.Mathlib.Omega.{arith}
 use lib.Dec.{eqb, leb, ltb}
-use borrow.Author.Tests.{eqb-true, eqb-false, eq-eqb, ne-eqb, leb-true, ltb-true, ltb-false, lt-ltb, le-leb, le-ltb}
+use borrow.Author.Tests.{eqb-true, eqb-false, eq-eqb, leb-true, ltb-true, ltb-false, lt-ltb, le-leb}
 pub use Rattle.term.proofs.Booleans.{decide, and-l, and-r, and-of}
 use Rattle.store.specs.declared.Position.{Position}
 use Rattle.store.specs.declared.Position.the-variants.{Subject, Predicate, Object}
 use Rattle.store.specs.declared.Triple.{Triple}
 use Rattle.store.specs.declared.Counters.{Counters}
-use Rattle.store.specs.Shared.{at, triple, all3, known, within, same, kindsPermitted, maxReclaims}
+use Rattle.store.specs.Shared.{at, triple, all3, known, within, same, maxReclaims}
 use Rattle.store.specs.Tables.{Tables, off, fits, resourceCapacity, statementCapacity, textCapacity}
 use Rattle.store.specs.Reading.{inRange}
 -- Every law stands on this file, and so on the closed runs: a definition that changes an answer is refused there first.

@@ -1,5 +1,5 @@
 -- Every claim of this crate's `specs/` with its proof: a declaration of each type. Assumes nothing.
-use mathlib.Core.List.{List, []}
+use mathlib.Core.List.{[]}
 use Rattle.store.specs.Model.{freshModel}
 use Rattle.store.specs.History.{store, freshStore, capacitiesOf, storeAfter}
 use Rattle.store.specs.Claims.{listsOf, HistoriesAgree, HistoriesStaySound, SoundStoresAgree, FreshIsSound}

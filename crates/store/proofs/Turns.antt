@@ -1,10 +1,10 @@
 -- A walk in the form of a loop: the visits made so far counted up, the budget left counted down, one law for each way
 -- out of a turn and one for the next turn. Assumes nothing.
-use mathlib.Core.Path.{_≡_, refl, sym, ap, _∙_}
+use mathlib.Core.Path.{_≡_, refl, ap, _∙_}
 use mathlib.Core.Logic.{_≢_}
 use mathlib.Core.Bool.{Bool, true, false}
 use mathlib.Core.Option.{Option, none, some}
-use Prim.Native.Nat.{ℕ, zero, suc, _+_, _-_, _≤_, _<_}
+use Prim.Native.Nat.{ℕ, zero, suc, _+_, _-_}
 use native.Mathlib.Omega.{arith}
 use Rattle.store.specs.Walk.{Step, found, ended, spent, afterVisit, walk}
 use Rattle.store.proofs.Walks.{walk-end, walk-out, walk-damaged, walk-hit, walk-miss}

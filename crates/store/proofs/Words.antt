@@ -1,10 +1,10 @@
 -- Words of the tables after a store: what was written is read back, every other word stays, for a position in general.
 -- One new statement record, its links in three resource records, one flag, three live counts, one new resource record.
 -- Assumes nothing.
-use mathlib.Core.Path.{_≡_, refl, sym, ap, _∙_}
+use mathlib.Core.Path.{_≡_, refl, _∙_}
 use mathlib.Core.Logic.{_≢_}
-use mathlib.Core.Bool.{Bool, true, false, cond}
-use mathlib.Core.List.{List, [], _∷_, _++_}
+use mathlib.Core.Bool.{cond}
+use mathlib.Core.List.{List, [], _∷_}
 use Prim.Native.Nat.{ℕ, zero, suc, _+_, _-_, _*_, _≤_, _<_}
 use native.Mathlib.Omega.{arith}
 use native.Mathlib.Nat.{add-zero, add-suc, suc-add}
@@ -15,7 +15,7 @@ use borrow.Author.Tests.{eqb-true, eqb-false}
 use Rattle.store.specs.declared.Position.{Position}
 use Rattle.store.specs.declared.Position.the-variants.{Subject, Predicate, Object}
 use Rattle.store.specs.declared.Triple.{Triple}
-use Rattle.store.specs.Shared.{at, triple}
+use Rattle.store.specs.Shared.{at}
 use Rattle.store.specs.Tables.{word, off, statementWords, resourceWords, termAt, nextAt, flagAt, tripleAt}
 use Rattle.store.specs.Tables.{firstAt, countAt, offsetAt, kindAt, liveAt}
 use Rattle.store.specs.Statement.{recordWords, appendRecord, linkFirst, linkRecord, tallyAt, tally}

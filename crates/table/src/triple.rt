@@ -5,7 +5,6 @@ use store::ResourceId;
 use store::Triple;
 ghost use mathlib.Core.Path.{_≡_};
 ghost use mathlib.Core.Bool.{_||_};
-ghost use Prim.Native.Nat.{ℕ};
 ghost use lib.Dec.{eqb};
 ghost use Rattle.store.specs.Shared.{at, within, same, agrees};
 

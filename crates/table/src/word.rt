@@ -6,7 +6,7 @@ use store::ResourceId;
 use store::StatementId;
 use store::Triple;
 ghost use mathlib.Core.Path.{_≡_};
-ghost use Prim.Native.Nat.{ℕ, _+_, _*_, _-_, _<_, _≤_, min};
+ghost use Prim.Native.Nat.{_+_, _*_, _-_, _<_, _≤_, min};
 ghost use lib.ListN.{length};
 ghost use Rattle.store.specs.Shared.{kindsPermitted};
 ghost use Rattle.store.specs.Tables.{resourceWords, statementWords, off, word, termAt, nextAt, flagAt, tripleAt, firstAt, countAt, offsetAt, kindAt, liveAt};

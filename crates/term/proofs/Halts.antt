@@ -1,6 +1,6 @@
 -- Where a scan halts: the bytes before begin a name, one byte more begins none; and the longest name before the halt.
 -- Assumes nothing.
-use Prim.Native.Nat.{ℕ, zero, suc, _+_, _≤_, _<_}
+use Prim.Native.Nat.{ℕ, zero, suc, _+_, _≤_}
 use mathlib.Core.Path.{_≡_, refl, sym, ap, _∙_}
 use mathlib.Core.List.{List, [], _∷_, _++_}
 use mathlib.Core.Bool.{Bool, true, false, cond}
@@ -12,14 +12,14 @@ use native.Mathlib.Omega.{arith}
 use Rattle.term.specs.Bytes.{among, iriByte, textByte, pairByte, firstByte, labelByte, letter, alnum}
 use Rattle.term.specs.Grammar.{Name}
 use Rattle.term.specs.Scanner.{stepOf, runOf, wholeOf, isBad, haltOf, firstKindOf, longestOf}
-use Rattle.term.specs.Halting.{Begins, Breaks, LongestName, HaltIsFirstBreak, BeginningHasOneKind}
+use Rattle.term.specs.Halting.{Begins, HaltIsFirstBreak, BeginningHasOneKind}
 use Rattle.term.specs.Halting.{LongestIsLongest, LongestEndsByHalt, WholeAtHalt, WholeBeforeDot}
 use Rattle.term.specs.declared.Scan.{Scan}
 use Rattle.term.specs.declared.Halt.{Halt}
 use Rattle.term.specs.declared.Scan.the-variants.{Start, IriOpen, Iri, Closed, Under, Colon, Label, Dot, Dots}
 use Rattle.term.specs.declared.Scan.the-variants.{Text, Escape, Quote, At, Tag, Hyphen, Group, Caret, Carets, Bad}
 use Rattle.term.proofs.Names.{Accepts, never, bad, name-back, name-forth, name-kind}
-use Rattle.term.proofs.Runs.{bad-only, run-bad, run-append, halt-first, halt-first-bad}
+use Rattle.term.proofs.Runs.{bad-only, run-append, halt-first, halt-first-bad}
 
 -- ---- the bytes before the halt begin a name
 

@@ -3,10 +3,10 @@
 use Prim.Native.Nat.{ℕ}
 use mathlib.Core.Path.{_≡_, refl, sym, ap, _∙_}
 use mathlib.Core.List.{List, [], _∷_, _++_}
-use mathlib.Core.Bool.{Bool, true, false}
+use mathlib.Core.Bool.{true}
 use lib.ListN.{getD}
 use native.Mathlib.Omega.{arith}
-use Rattle.term.specs.Bytes.{textByte, pairByte, among}
+use Rattle.term.specs.Bytes.{textByte, among}
 use Rattle.term.specs.Grammar as g
 use Rattle.term.specs.Spelling.{Piece, AllAllowed, spelling, SpelledLiteral, LiteralIsSpelled, TextReadOneWay, LiteralReadOneWay}
 use Rattle.term.proofs.Names.{never}

@@ -1,7 +1,7 @@
 -- What follows of the kind that the scanner finds: well-formed names, refusals, and that a name has no byte 0.
 -- Assumes nothing.
 use Prim.Native.Nat.{ℕ, zero, suc, _≤_}
-use mathlib.Core.Path.{_≡_, refl, sym, ap, _∙_}
+use mathlib.Core.Path.{_≡_, refl, sym}
 use mathlib.Core.List.{List, [], _∷_}
 use mathlib.Core.Bool.{Bool, true, false, cond}
 use lib.Dec.{leb, eqb}
@@ -12,8 +12,7 @@ use Rattle.term.specs.Scanner.{stepOf, runOf, wholeOf, firstKindOf, kind
 use Rattle.term.specs.Theorems.{KindIsWellFormed, RefusedIsMalformed}
 use Rattle.term.specs.Halting.{KindAtMostThree, clean, NameIsClean, NameHasTwoBytes}
 use Rattle.term.specs.declared.Scan.{Scan}
-use Rattle.term.specs.declared.Scan.the-variants.{Start, IriOpen, Under, Text, Bad}
-use Rattle.term.specs.declared.NameKind.{NameKind}
+use Rattle.term.specs.declared.Scan.the-variants.{Start, IriOpen, Under, Text}
 use Rattle.term.specs.declared.NameKind.the-variants.{Iri, Blank, Literal, Malformed}
 use Rattle.term.proofs.Names.{Accepts, never, bad, case, case-or-bad, name-forth, kinds}
 use Rattle.term.proofs.Turn.{no-zero}

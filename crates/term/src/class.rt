@@ -4,7 +4,7 @@ ghost use Prim.Native.Nat.{_<_};
 ghost use mathlib.Core.Path.{_≡_};
 ghost use mathlib.Core.Logic.{_⊎_};
 ghost use lib.ListN.{getD};
-ghost use Rattle.term.specs.Bytes.{iriByte, textByte, pairByte, firstByte, labelByte, letter, alnum};
+ghost use Rattle.term.specs.Bytes.{iriByte, textByte, pairByte, firstByte, letter, alnum};
 ghost use Rattle.term.specs.Spelling.{labelOrDot};
 
 // The byte at `i`, or 0 past the end.

@@ -3,7 +3,7 @@ use Rattle.dictionary.specs.Search.{foundAs}
 use Rattle.store.specs.Tables.{tables}
 use borrow.Author.Tests.{not-true, not-false}
 use denote.Ref.{now}
-use mathlib.Core.Path.{_≡_, refl, sym, ap, _∙_}
+use mathlib.Core.Path.{refl, sym, ap, _∙_}
 use borrow.Author.Needs.{needs}
 use Rattle.dictionary.proofs.find.Statement.{statement}
 use Rattle.dictionary.proofs.find.Tie as tie

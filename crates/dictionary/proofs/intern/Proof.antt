@@ -7,7 +7,7 @@ use Rattle.store.specs.Tables.{tables}
 use borrow.Author.Tests.{not-true, not-false}
 use denote.Ref.{now}
 use native.Mathlib.Omega.{arith}
-use mathlib.Core.Path.{_≡_, refl, sym, ap, _∙_}
+use mathlib.Core.Path.{refl, sym, ap, _∙_}
 use borrow.Author.Needs.{needs}
 use Rattle.dictionary.proofs.intern.Statement.{statement}
 use Rattle.dictionary.proofs.intern.Tie as tie

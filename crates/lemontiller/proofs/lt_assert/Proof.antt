@@ -3,9 +3,8 @@ use Rattle.lemontiller.proofs.Writes.{assert-refused, assert-answered}
 use Rattle.store.specs.Tables.{tables}
 use Rattle.capi_calls.specs.Words.{counterWords, ifShort}
 use Rattle.capi_calls.specs.Calls.{assertCall}
-use lib.ListN.{length, set, length-set}
-use borrow.Author.Tests.{lt-ltb, le-ltb, eq-eqb, ne-eqb}
-use mathlib.Core.Path.{_≡_, sym, ap, _∙_, refl}
+use lib.ListN.{length}
+use borrow.Author.Tests.{lt-ltb, le-ltb}
 use borrow.Author.Needs.{needs}
 use Rattle.lemontiller.proofs.lt_assert.Statement.{statement}
 use Rattle.lemontiller.proofs.lt_assert.Tie as tie

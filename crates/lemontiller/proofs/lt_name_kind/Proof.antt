@@ -1,8 +1,7 @@
 -- `capi::lt_name_kind` meets its contract. Assumes nothing.
 use Rattle.capi_calls.specs.Calls.{kindCall}
-use lib.ListN.{length, set, length-set}
-use borrow.Author.Tests.{lt-ltb, le-ltb, eq-eqb, ne-eqb}
-use mathlib.Core.Path.{_≡_, sym, ap, _∙_, refl}
+use lib.ListN.{length}
+use borrow.Author.Tests.{lt-ltb, le-ltb}
 use borrow.Author.Needs.{needs}
 use Rattle.lemontiller.proofs.lt_name_kind.Statement.{statement}
 use Rattle.lemontiller.proofs.lt_name_kind.Tie as tie

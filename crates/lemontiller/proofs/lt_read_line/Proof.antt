@@ -1,9 +1,8 @@
 -- `capi::lt_read_line` meets its contract. Assumes nothing.
 use Rattle.capi_calls.specs.Calls.{lineCall}
 use native.Mathlib.Omega.{arith}
-use lib.ListN.{length, set, length-set}
-use borrow.Author.Tests.{lt-ltb, le-ltb, eq-eqb, ne-eqb}
-use mathlib.Core.Path.{_≡_, sym, ap, _∙_, refl}
+use lib.ListN.{length, length-set}
+use borrow.Author.Tests.{lt-ltb, le-ltb}
 use borrow.Author.Needs.{needs}
 use Rattle.lemontiller.proofs.lt_read_line.Statement.{statement}
 use Rattle.lemontiller.proofs.lt_read_line.Tie as tie

@@ -4,9 +4,8 @@ use Rattle.lemontiller.proofs.Writes.{next-refused, next-answered}
 use Rattle.store.specs.Tables.{tables}
 use Rattle.capi_calls.specs.Calls.{nextCall}
 use native.Mathlib.Omega.{arith}
-use lib.ListN.{length, set, length-set}
-use borrow.Author.Tests.{lt-ltb, le-ltb, eq-eqb, ne-eqb}
-use mathlib.Core.Path.{_≡_, sym, ap, _∙_, refl}
+use lib.ListN.{length, length-set}
+use borrow.Author.Tests.{lt-ltb, le-ltb}
 use borrow.Author.Needs.{needs}
 use Rattle.lemontiller.proofs.lt_scan_next.Statement.{statement}
 use Rattle.lemontiller.proofs.lt_scan_next.Tie as tie

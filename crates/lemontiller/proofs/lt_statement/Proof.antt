@@ -2,9 +2,8 @@
 use Rattle.capi_calls.specs.Words.{counterWords, ifShort}
 use Rattle.capi_calls.specs.Calls.{statementCall}
 use native.Mathlib.Omega.{arith}
-use lib.ListN.{length, set, length-set}
-use borrow.Author.Tests.{lt-ltb, le-ltb, eq-eqb, ne-eqb}
-use mathlib.Core.Path.{_≡_, sym, ap, _∙_, refl}
+use lib.ListN.{length, length-set}
+use borrow.Author.Tests.{lt-ltb, le-ltb}
 use borrow.Author.Needs.{needs}
 use Rattle.lemontiller.proofs.lt_statement.Statement.{statement}
 use Rattle.lemontiller.proofs.lt_statement.Tie as tie

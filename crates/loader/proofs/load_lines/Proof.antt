@@ -2,7 +2,7 @@
 -- Each turn reads its position, lends it to `read_line` for a lifetime that is made for the call, and lends the four tables again to `take_line`. All
 -- that the proof knows of a callee is that it meets its contract; that the loop ends is `line_reader`'s `moves`. Assumes nothing.
 use mathlib.Core.Path.{_≡_, refl, sym, ap, _∙_, subst}
-use mathlib.Core.Bool.{Bool, not}
+use mathlib.Core.Bool.{not}
 use mathlib.Core.WellFounded.{WellFounded, InvImage·wf}
 use Prim.Native.Nat.{ℕ, zero, suc, _-_, _≤_, _<_, _^_, zero-le}
 use native.Mathlib.Omega.{arith}

@@ -1,7 +1,6 @@
-use Prim.Native.Nat.{_+_, _-_, _≤_, _<_}
-use mathlib.Core.Path.{_≡_, refl}
-use mathlib.Core.Bool.{true, false}
-use lib.ListN.{length, getD}
+use Prim.Native.Nat.{_+_, _-_, _≤_}
+use mathlib.Core.Path.{_≡_}
+use mathlib.Core.Bool.{false}
 use lib.Seq.{slice}
 use native.Mathlib.Omega.{arith}
 use Rattle.ntriples.specs.Grammar.{Unbroken}

@@ -1,8 +1,7 @@
-use mathlib.Core.Path.{_≡_, refl, sym, _∙_, ap}
+use mathlib.Core.Path.{sym, ap}
 use native.Mathlib.Omega.{arith}
 use Rattle.ntriples.specs.Reader.{answerOf}
 use Rattle.ntriples.proofs.Sequence.{comment-line-end, comment-line-odd}
-use borrow.Author.Needs.{needs}
 use Rattle.ntriples.proofs.comment_line.Statement.{statement}
 use Rattle.ntriples.proofs.comment_line.Tie as tie
 use Rattle.ntriples.proofs.comment_line.Reads as reads

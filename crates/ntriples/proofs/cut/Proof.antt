@@ -1,5 +1,4 @@
-use Prim.Native.Nat.{_+_, _≤_, _<_}
-use mathlib.Core.Path.{_≡_, refl, sym, _∙_, ap}
+use mathlib.Core.Path.{sym}
 use native.Mathlib.Omega.{arith}
 use Rattle.ntriples.proofs.Halts.{cut-near, cut-long}
 use borrow.Author.Needs.{needs}

@@ -1,8 +1,6 @@
-use mathlib.Core.Path.{_≡_, refl, sym, _∙_, ap}
 use native.Mathlib.Omega.{arith}
 use borrow.Author.Tests.{eq-eqb, ne-eqb}
 use Rattle.ntriples.specs.Productions.{crDropped}
-use borrow.Author.Needs.{needs}
 use Rattle.ntriples.proofs.drop_cr.Statement.{statement}
 use Rattle.ntriples.proofs.drop_cr.Tie as tie
 use Rattle.ntriples.proofs.drop_cr.Reads as reads

@@ -1,6 +1,6 @@
 -- The line as spelled, its object's part cut where the string ending begins. Assumes nothing.
 use Prim.Native.Nat.{_+_, _≤_}
-use mathlib.Core.Path.{sym, _∙_, ap}
+use mathlib.Core.Path.{ap}
 use native.Mathlib.Omega.{arith}
 use lib.ListN.{length}
 use Rattle.ntriples.specs.Grammar.{bytesOf}

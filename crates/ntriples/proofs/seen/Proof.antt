@@ -1,5 +1,5 @@
 -- `ntriples::seen` meets its contract. Assumes nothing.
-use mathlib.Core.Path.{_≡_, sym}
+use mathlib.Core.Path.{sym}
 use mathlib.Core.Bool.{false≢true}
 use Rattle.ntriples.proofs.seen.Statement.{statement}
 use Rattle.ntriples.proofs.seen.Tie as tie

@@ -1,5 +1,5 @@
-use mathlib.Core.Path.{_≡_, refl, sym, _∙_, ap}
-use mathlib.Core.List.{[], _∷_}
+use mathlib.Core.Path.{sym, _∙_, ap}
+use mathlib.Core.List.{[]}
 use native.Mathlib.Omega.{arith}
 use Rattle.ntriples.specs.Reader.{answerOf}
 use Rattle.ntriples.specs.declared.TermEnd.the-variants.{Whole, Broken}

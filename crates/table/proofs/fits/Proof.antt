@@ -1,5 +1,5 @@
 use native.Mathlib.Omega.{arith}
-use mathlib.Core.Path.{sym, _∙_}
+use mathlib.Core.Path.{sym}
 use borrow.Author.Needs.{needs}
 use Rattle.table.proofs.Capacity.{over-resources, over-statements, over-text, reclaims-decide}
 use Rattle.table.proofs.fits.Statement.{statement}

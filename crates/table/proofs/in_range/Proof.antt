@@ -1,8 +1,6 @@
 use Rattle.store.specs.Reading.{inRange}
-use mathlib.Core.Path.{_≡_, refl, sym, ap, _∙_}
 use native.Mathlib.Omega.{arith}
-use borrow.Author.Tests.{eq-eqb, ne-eqb, lt-ltb, le-ltb, le-leb, lt-leb, not-true, not-false}
-use borrow.Author.Needs.{needs}
+use borrow.Author.Tests.{lt-ltb, le-ltb}
 use Rattle.table.proofs.in_range.Statement.{statement}
 use Rattle.table.proofs.in_range.Tie as tie
 use Rattle.table.proofs.in_range.Reads as reads

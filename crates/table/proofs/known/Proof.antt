@@ -1,8 +1,7 @@
 use Rattle.store.specs.Reading.{inRange}
 use Rattle.store.specs.Shared.{known}
-use mathlib.Core.Path.{_≡_, refl, sym, ap, _∙_}
-use native.Mathlib.Omega.{arith}
-use borrow.Author.Tests.{eq-eqb, ne-eqb, lt-ltb, le-ltb, le-leb, lt-leb, not-true, not-false}
+use mathlib.Core.Path.{sym, _∙_}
+use borrow.Author.Tests.{not-true, not-false}
 use borrow.Author.Needs.{needs}
 use Rattle.table.proofs.known.Statement.{statement}
 use Rattle.table.proofs.known.Tie as tie

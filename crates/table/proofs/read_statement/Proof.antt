@@ -1,10 +1,9 @@
 use Rattle.store.specs.Reading.{statementOf}
-use Rattle.table.proofs.Held.{statement-held, resource-held}
+use Rattle.table.proofs.Held.{statement-held}
 use Rattle.store.specs.Tables.{tables}
 use denote.Ref.{now}
-use mathlib.Core.Path.{_≡_, refl, sym, ap, _∙_}
-use native.Mathlib.Omega.{arith}
-use borrow.Author.Tests.{eq-eqb, ne-eqb, lt-ltb, le-ltb, le-leb, lt-leb, not-true, not-false}
+use mathlib.Core.Path.{sym, _∙_}
+use borrow.Author.Tests.{le-leb, lt-leb, not-true, not-false}
 use borrow.Author.Needs.{needs}
 use Rattle.table.proofs.read_statement.Statement.{statement}
 use Rattle.table.proofs.read_statement.Tie as tie

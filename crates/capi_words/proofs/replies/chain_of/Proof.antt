@@ -1,7 +1,5 @@
 -- `capi_words::replies::chain_of` meets its contract. Assumes nothing.
-use borrow.Author.Tests.{eq-eqb, ne-eqb, lt-leb, le-leb}
-use mathlib.Core.Path.{_≡_, sym, ap, _∙_, refl}
-use borrow.Author.Needs.{needs}
+use borrow.Author.Tests.{eq-eqb, ne-eqb}
 use Rattle.capi_words.proofs.replies.chain_of.Statement.{statement}
 use Rattle.capi_words.proofs.replies.chain_of.Tie as tie
 use Rattle.capi_words.proofs.replies.chain_of.Reads as reads

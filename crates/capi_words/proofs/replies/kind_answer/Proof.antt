@@ -1,6 +1,5 @@
 -- `capi_words::replies::kind_answer` meets its contract. Assumes nothing.
-use borrow.Author.Tests.{lt-ltb, le-ltb, eq-eqb, ne-eqb}
-use mathlib.Core.Path.{_≡_, sym, ap, _∙_, refl}
+use borrow.Author.Tests.{eq-eqb, ne-eqb}
 use borrow.Author.Needs.{needs}
 use Rattle.capi_words.proofs.replies.kind_answer.Statement.{statement}
 use Rattle.capi_words.proofs.replies.kind_answer.Tie as tie

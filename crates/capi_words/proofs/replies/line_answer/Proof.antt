@@ -1,5 +1,4 @@
 -- `capi_words::replies::line_answer` meets its contract. Assumes nothing.
-use mathlib.Core.Path.{_≡_, sym, ap, _∙_, refl}
 use borrow.Author.Needs.{needs}
 use Rattle.capi_words.proofs.replies.line_answer.Statement.{statement}
 use Rattle.capi_words.proofs.replies.line_answer.Tie as tie

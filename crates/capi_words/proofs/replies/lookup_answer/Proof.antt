@@ -1,6 +1,6 @@
 -- `capi_words::replies::lookup_answer` meets its contract. Assumes nothing.
 use Rattle.capi_calls.specs.Words.{lookupAnswer}
-use mathlib.Core.Path.{_≡_, sym, ap, _∙_, refl}
+use mathlib.Core.Path.{sym, ap, _∙_}
 use borrow.Author.Needs.{needs}
 use Rattle.capi_words.proofs.replies.lookup_answer.Statement.{statement}
 use Rattle.capi_words.proofs.replies.lookup_answer.Tie as tie

@@ -1,5 +1,4 @@
 -- `capi_words::replies::scanned_cursor` meets its contract. Assumes nothing.
-use mathlib.Core.Path.{_≡_, sym, ap, _∙_, refl}
 use borrow.Author.Needs.{needs}
 use Rattle.capi_words.proofs.replies.scanned_cursor.Statement.{statement}
 use Rattle.capi_words.proofs.replies.scanned_cursor.Tie as tie

@@ -1,6 +1,6 @@
 -- `capi_words::replies::statement_answer` meets its contract. Assumes nothing.
 use Rattle.capi_calls.specs.Words.{statementAnswer}
-use mathlib.Core.Path.{_≡_, sym, ap, _∙_, refl}
+use mathlib.Core.Path.{sym, ap}
 use borrow.Author.Needs.{needs}
 use Rattle.capi_words.proofs.replies.statement_answer.Statement.{statement}
 use Rattle.capi_words.proofs.replies.statement_answer.Tie as tie

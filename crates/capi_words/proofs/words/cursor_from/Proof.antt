@@ -1,5 +1,4 @@
 -- `capi_words::words::cursor_from` meets its contract. Assumes nothing.
-use mathlib.Core.Path.{_≡_, sym, ap, _∙_, refl}
 use borrow.Author.Needs.{needs}
 use Rattle.capi_words.proofs.words.cursor_from.Statement.{statement}
 use Rattle.capi_words.proofs.words.cursor_from.Tie as tie

@@ -2,7 +2,7 @@
 use Rattle.capi_calls.specs.Words.{misread, nextFrom}
 use Rattle.table.proofs.Branches.{passed, failed}
 use borrow.Author.Tests.{eq-eqb, ne-eqb, lt-leb, le-leb}
-use mathlib.Core.Path.{_≡_, sym, ap, _∙_, refl}
+use mathlib.Core.Path.{_≡_}
 use borrow.Author.Needs.{needs}
 use native.Mathlib.Omega.{arith}
 use mathlib.Core.Logic.{_≢_}

@@ -2,8 +2,8 @@ use Rattle.dictionary.proofs.Writes.{moved, move-start, move-turn, move
 use lib.ListN.{length, getD, length-set}
 use denote.Ref.{now}
 use native.Mathlib.Omega.{arith}
-use mathlib.Core.Path.{_≡_, refl, sym, ap, _∙_}
-use Prim.Native.Nat.{ℕ, suc, _+_, _-_, _*_, _≤_, _<_}
+use mathlib.Core.Path.{_≡_, refl, sym}
+use Prim.Native.Nat.{_-_, _<_}
 use borrow.Author.Needs.{needs}
 use Rattle.dictionary.proofs.extend.push_front.Statement.{statement}
 use Rattle.dictionary.proofs.extend.push_front.Tie as tie

@@ -3,8 +3,8 @@ use lib.Seq.{sets}
 use lib.ListN.{length, take, length-set}
 use denote.Ref.{now}
 use native.Mathlib.Omega.{arith}
-use mathlib.Core.Path.{_≡_, refl, sym, ap, _∙_}
-use Prim.Native.Nat.{ℕ, suc, _+_, _-_, _*_, _≤_, _<_}
+use mathlib.Core.Path.{_≡_, refl}
+use Prim.Native.Nat.{_-_, _≤_}
 use borrow.Author.Needs.{needs}
 use Rattle.dictionary.proofs.extend.write_name.Statement.{statement}
 use Rattle.dictionary.proofs.extend.write_name.Tie as tie

@@ -1,10 +1,9 @@
 use Rattle.dictionary.specs.Search.{probeOf}
 use Rattle.table.proofs.Held.{from-one, up-to}
 use borrow.Author.Tests.{not-true, not-false}
-use denote.Ref.{now}
 use native.Mathlib.Omega.{arith}
-use mathlib.Core.Path.{_≡_, refl, sym, ap, _∙_}
-use Prim.Native.Nat.{ℕ, suc, _+_, _-_, _*_, _≤_, _<_}
+use mathlib.Core.Path.{sym, _∙_}
+use Prim.Native.Nat.{_-_}
 use borrow.Author.Needs.{needs}
 use Rattle.dictionary.proofs.search.probe.Statement.{statement}
 use Rattle.dictionary.proofs.search.probe.Tie as tie

@@ -2,8 +2,8 @@ use Rattle.dictionary.proofs.Steps.{Going, search-end, search-less, sea
 use Rattle.dictionary.specs.Search.{searched}
 use denote.Ref.{now}
 use native.Mathlib.Omega.{arith}
-use mathlib.Core.Path.{_≡_, refl, sym, ap, _∙_}
-use Prim.Native.Nat.{ℕ, suc, _+_, _-_, _*_, _≤_, _<_}
+use mathlib.Core.Path.{refl, sym, _∙_}
+use Prim.Native.Nat.{_-_, _≤_}
 use borrow.Author.Needs.{needs}
 use Rattle.dictionary.proofs.search.search.Statement.{statement}
 use Rattle.dictionary.proofs.search.search.Tie as tie

@@ -3,7 +3,6 @@ use mathlib.Core.Path.{sym, _∙_}
 use Rattle.store.specs.declared.Position.the-variants.{Subject, Predicate, Object}
 use Rattle.store.proofs.LiveCounts.{counting-none}
 use Rattle.statement_record.proofs.Records.{counting-last}
-use borrow.Author.Needs.{needs}
 use Rattle.statement_record.proofs.record.counting.Statement.{statement}
 use Rattle.statement_record.proofs.record.counting.Tie as tie
 use Rattle.statement_record.proofs.record.counting.Reads as reads

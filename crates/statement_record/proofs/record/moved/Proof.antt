@@ -1,6 +1,5 @@
 use native.Mathlib.Omega.{arith}
 use Rattle.statement_record.proofs.Records.{moved-up, moved-down, movable-up, movable-down}
-use borrow.Author.Needs.{needs}
 use Rattle.statement_record.proofs.record.moved.Statement.{statement}
 use Rattle.statement_record.proofs.record.moved.Tie as tie
 use Rattle.statement_record.proofs.record.moved.Reads as reads

@@ -1,6 +1,5 @@
 use mathlib.Core.Path.{sym}
 use lib.ListN.{List·getD-eq-default}
-use native.Mathlib.Omega.{arith}
 use borrow.Author.Needs.{needs}
 use Rattle.term.proofs.class.byte_at.Statement.{statement}
 use Rattle.term.proofs.class.byte_at.Tie as tie

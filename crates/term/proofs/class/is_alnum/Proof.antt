@@ -1,10 +1,10 @@
 -- The class is a match on byte ranges: in each arm the definition is constant, which computing it shows.
 -- Assumes nothing.
 use mathlib.Core.Path.{sym}
-use mathlib.Core.List.{[], _∷_}
+use mathlib.Core.List.{[]}
 use native.Mathlib.Omega.{arith}
 use Rattle.term.specs.Bytes.{alnum, letter}
-use Rattle.term.proofs.Table.{at-keys, at-range, eqBool, same-bool}
+use Rattle.term.proofs.Table.{at-range, eqBool, same-bool}
 use Rattle.term.proofs.class.is_alnum.Statement.{statement}
 use Rattle.term.proofs.class.is_alnum.Tie as tie
 

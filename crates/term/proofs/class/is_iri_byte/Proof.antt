@@ -4,7 +4,6 @@ use mathlib.Core.List.{[]}
 use mathlib.Core.Logic.{⊎-elim, inl, inr}
 use native.Mathlib.Omega.{arith}
 use Rattle.term.proofs.Table.{at-range, eqBool, same-bool}
-use borrow.Author.Needs.{needs}
 use Rattle.term.specs.Bytes.{iriByte, among}
 use Rattle.term.proofs.class.is_iri_byte.Statement.{statement}
 use Rattle.term.proofs.class.is_iri_byte.Tie as tie

@@ -5,7 +5,6 @@ use mathlib.Core.List.{[], _∷_}
 use mathlib.Core.Logic.{⊎-elim}
 use native.Mathlib.Omega.{arith}
 use Rattle.term.proofs.Table.{at-keys, at-range, eqBool, same-bool}
-use borrow.Author.Needs.{needs}
 use Rattle.term.specs.Bytes.{iriByte, among}
 use Rattle.term.proofs.class.is_iri_high.Statement.{statement}
 use Rattle.term.proofs.class.is_iri_high.Tie as tie

@@ -3,7 +3,6 @@ use mathlib.Core.Path.{sym}
 use mathlib.Core.List.{[]}
 use native.Mathlib.Omega.{arith}
 use Rattle.term.proofs.Table.{at-range, at-test, eqBool, same-bool}
-use borrow.Author.Needs.{needs}
 use Rattle.term.specs.Bytes.{iriByte, among}
 use Rattle.term.proofs.class.is_iri_low.Statement.{statement}
 use Rattle.term.proofs.class.is_iri_low.Tie as tie

@@ -1,6 +1,5 @@
 use borrow.Author.Tests.{eq-eqb, ne-eqb}
 use Rattle.term.specs.Scanner.{labelPlaceOf}
-use borrow.Author.Needs.{needs}
 use Rattle.term.proofs.production.label_place.Statement.{statement}
 use Rattle.term.proofs.production.label_place.Tie as tie
 use Rattle.term.proofs.production.label_place.Reads as reads
