@@ -20,19 +20,22 @@ use Rattle.store.specs.Model.{Listing, Model, Capacities, Taken, found a
 use Rattle.store.specs.Model.{spent as stopped, open′, next, freshModel, entry, onChain, holders}
 use Rattle.store.specs.Model.{pickModel, listing, cursorOf, noListing, leaving, readRest, takenValues}
 use Rattle.store.specs.Model.{takeFrom, turn, openModel, nextModel, callModel, modelReplies, modelAfter}
-use Rattle.store.specs.History.{freshStore, capacitiesOf}
+use Rattle.store.specs.History.{freshStore, capacitiesOf, callStore}
 use Rattle.store.specs.Claims.{Opening, storeThen, opened, Accepted, openingNumber, chainThen, storeNow, visitsOf}
 use Rattle.store.specs.Claims.{visitsSoFar, restNow, reached, liveNow, nextNow, Latest, Exhausts}
 use Rattle.store.specs.Pins.{Falling}
 use Rattle.store.specs.Claims.{Shortest, unbound, bound, statementsIn, Finds, EndsOrSpends, VisitsAddUp}
-use Rattle.store.specs.Claims.{takenSoFar, reclaimsIn, reclaimsSince, Unreclaimed, NoneIsMissed, ReadsOnWithBudget, StaleAfterReclaim}
+use Rattle.store.specs.Claims.{takenSoFar, reclaimsIn, reclaimsSince, Unreclaimed, NoneIsMissed}
+use Rattle.store.specs.Claims.{ReadsOnWithBudget, StaleAfterReclaim}
 use Rattle.store.proofs.Tests.{decide, off-lt, and-r}
 use Rattle.store.proofs.Falling.{below-falling, below-in, all-pass}
 use Rattle.store.proofs.Picking.{Picked, pick-picks, Bound, pick-bound}
 use Rattle.store.proofs.Represented.{Agreeing, Same}
 use Rattle.store.proofs.Histories.{call-agrees, history-agrees, fresh-agrees}
 use Rattle.store.proofs.Taking.{Outcome, hits, ends, stops, outcome, falling-drop, mem-split}
-use Rattle.store.proofs.Visits.{openingOf, opening-after, visits-add, generation-call, generation-after}
+use Rattle.store.proofs.Visits.{opening-after, visits-add}
+use Rattle.store.proofs.Changes.{openingOf}
+use Rattle.store.proofs.Onward.{calls-onward}
 use Rattle.store.proofs.Held.{agreeing-statements}
 use Rattle.store.proofs.Entries.{Grown, grown-trans, grown-call, grown-history}
 use Rattle.store.proofs.Pins.{agrees-at}
@@ -165,13 +168,15 @@ module _ (o : Opening) (acc : Accepted o) where
   j-open = rw (lists-one, length-append) (omega (arith, j-is))
 
   at-opening : openingOf s1 j ≡ listing (s0 .generation) x (s0 .entries)
-  at-opening = rw (lists-one, j-is) (getD-append-seam (s0 .listings) (listing (s0 .generation) x (s0 .entries)) [] noListing)
+  at-opening =
+      rw (lists-one, j-is) (getD-append-seam (s0 .listings) (listing (s0 .generation) x (s0 .entries)) [] noListing)
 
   chain-is : chainThen o ≡ (listing (s0 .generation) x (s0 .entries)) .rest
   unfolding callModel
   chain-is =
       ap₂ (λ (c : Chain) (l : List Entry). holders c (o .pattern) l)
-      (ap (λ (v : Values). v .cursor .chain) (opened-same .0 ∙ open-values s0 x inside) ∙ chain-of (s0 .generation) x (s0 .entries))
+      (ap (λ (v : Values). v .cursor .chain) (opened-same .0 ∙ open-values s0 x inside)
+      ∙ chain-of (s0 .generation) x (s0 .entries))
       (agreeing-statements k (storeThen o) s0 R0)
       ∙ sym (rest-of (s0 .generation) (o .pattern) (s0 .entries))
 
@@ -185,11 +190,12 @@ module _ (o : Opening) (acc : Accepted o) where
   reclaims-same : reclaimsSince o ≡ reclaimsIn (o .since) (modelReplies k s1 (o .since))
   reclaims-same = ap (reclaimsIn (o .since)) (history-agrees k ((opened o) .0) s1 R1 (o .since) .0)
 
-  open-generation : s1 .generation ≡ s0 .generation
-  open-generation = omega (arith, generation-call k s0 (open′ x))
+  open-number : (opened o) .0 .counters .generation ≡ (storeThen o) .counters .generation
+  unfolding callStore
+  open-number = refl
 
   number-now : s2 .generation ≡ s0 .generation + reclaimsSince o
-  number-now = omega (arith, generation-after k s1 (o .since), reclaims-same, open-generation)
+  number-now = omega (arith, R0 .generation, R2 .generation, open-number, calls-onward ((opened o) .0) (o .since) .0)
 
   grown-now : Unreclaimed o → Grown (s0 .entries) (s2 .entries)
   grown-now u =
@@ -298,7 +304,8 @@ module _ (o : Opening) (acc : Accepted o) where
 
   -- ---- no match is missed
 
-  on-chain : Unreclaimed o → (n : ℕ) → 0 < n → n ≤ (storeThen o) .counters .statements → liveNow o n ≡ true → List·Memᴰ n (chainThen o)
+  on-chain : Unreclaimed o → (n : ℕ) → 0 < n → n ≤ (storeThen o) .counters .statements → liveNow o n ≡ true
+      → List·Memᴰ n (chainThen o)
   on-chain u n lo hi e =
       let i = n - 1 in
       let d : suc i ≡ n = omega arith in
