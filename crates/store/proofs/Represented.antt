@@ -18,7 +18,8 @@ use Rattle.store.specs.declared.Chain.{Chain}
 use Rattle.store.specs.declared.Chain.the-variants.{All, By}
 use Rattle.store.specs.declared.Triple.{Triple}
 use Rattle.store.specs.Shared.{at, known, same, below, head0, maxReclaims, Entry, textBytes}
-use Rattle.store.specs.Tables.{Tables, fits, resourceCapacity, statementCapacity, textCapacity, termAt, flagAt, tripleAt}
+use Rattle.store.specs.Tables.{Tables, fits, resourceCapacity, statementCapacity, textCapacity, termAt, flagAt}
+use Rattle.store.specs.Tables.{tripleAt}
 use Rattle.store.specs.Values.{Values}
 use Rattle.store.specs.Model.{Listing, Model, Capacities, entry, lookup, mark, onChain, holders}
 use Rattle.store.specs.Model.{pickModel, cursorOf, noListing, totals, readRest}
@@ -113,7 +114,8 @@ module _ (k : Capacities) (c : Store) (s : Model) (R : Agreeing k c s) where
 
   pub fits-agrees : fits (c .counters) (c .tables) ≡ true
   fits-agrees =
-      fits-of (c .counters) (c .tables) (rw (← R .room-resources) (R .in-resources)) (rw (← R .room-statements) (R .in-statements))
+      fits-of (c .counters) (c .tables) (rw (← R .room-resources) (R .in-resources))
+      (rw (← R .room-statements) (R .in-statements))
       (rw (← R .room-text) (R .in-text)) (R .in-generation)
 
   pub totals-agree : c .counters ≡ totals s
@@ -166,7 +168,8 @@ module _ (k : Capacities) (c : Store) (s : Model) (R : Agreeing k c s) where
       → locate (c .counters) (c .tables) x ≡ some (lookup x (s .entries))
   locate-agrees x e =
       let h = known-high r x e in
-      located (c .counters) (c .tables) x _ (pickable-linked _ _ _ _ (R .linked) x h) (countable-linked _ _ _ _ (R .linked) x e)
+      located (c .counters) (c .tables) x _ (pickable-linked _ _ _ _ (R .linked) x h)
+      (countable-linked _ _ _ _ (R .linked) x e)
       (seek-takes x h)
       ∙ ap some
       (found-as (readRest (λ i. same x (tripleAt stm i)) t (below (onWords stm (pickChain res x) x) t))
