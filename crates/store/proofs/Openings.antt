@@ -4,10 +4,10 @@
 use mathlib.Core.Path.{_≡_, refl, sym, ap, ap₂, _∙_, subst}
 use mathlib.Core.Logic.{_≢_, _↔_, ⊎-elim}
 use mathlib.Core.Bool.{Bool, true, false, not, true≢false}
-use mathlib.Core.List.{List, [], _∷_, _++_, map, List·Memᴰ}
+use mathlib.Core.List.{List, [], _∷_, _++_, List·Memᴰ}
 use Prim.Native.Nat.{ℕ, zero, suc, _+_, _-_, _≤_, _<_}
 use native.Mathlib.Omega.{arith}
-use lib.ListN.{length, drop, length-append}
+use lib.ListN.{length, drop, length-append, length-map}
 use lib.Seq.{getD-append-seam}
 use lib.Dec.{eqb}
 use borrow.Author.Tests.{eq-eqb, ne-eqb, eqb-true, eqb-false}
@@ -39,10 +39,6 @@ use Rattle.store.proofs.Onward.{calls-onward}
 use Rattle.store.proofs.Held.{agreeing-statements}
 use Rattle.store.proofs.Entries.{Grown, grown-trans, grown-call, grown-history}
 use Rattle.store.proofs.Pins.{agrees-at}
-
-length-map : {A B : Type 0} (f : A → B) (l : List A) → length (map f l) ≡ length l
-length-map f [] = refl
-length-map f (x ∷ l) = ap suc (length-map f l)
 
 -- ---- the plain lists' answers that are not refused
 
@@ -158,7 +154,7 @@ module _ (o : Opening) (acc : Accepted o) where
   j = openingNumber o
 
   j-is : j ≡ length (s0 .listings)
-  j-is = ap length (R0 .cursors) ∙ length-map cursorOf (s0 .listings)
+  j-is = ap length (R0 .cursors) ∙ length-map (s0 .listings) cursorOf
 
   lists-one : s1 .listings ≡ s0 .listings ++ listing (s0 .generation) x (s0 .entries) ∷ []
   unfolding callModel

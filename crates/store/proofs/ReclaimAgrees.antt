@@ -28,7 +28,7 @@ use Rattle.store.proofs.Tests.{decide}
 use Rattle.store.proofs.Words.{triple-at, append-length, append-word-before, append-word-after}
 use Rattle.store.proofs.Words.{append-term, append-flag, linked-length, linked-offset, linked-kind, linked-past}
 use Rattle.store.proofs.Links.{append-linked}
-use Rattle.store.proofs.Represented.{Agreeing, Same, same-cond, fits-agrees, totals-agree}
+use Rattle.store.proofs.Represented.{Agreeing, Same, same-cond, fits-agrees, totals-agree, named-stays}
 use Rattle.store.proofs.StatementsAgree.{entry-of}
 use Rattle.store.proofs.Unretracted.{unretracted-snoc}
 use Rattle.store.proofs.Swept.{unlinked-length, unlinked-past, unlinked-offset, unlinked-kind, unlinked-linked}
@@ -209,15 +209,7 @@ module _ (k : Capacities) (c : Store) (s : Model) (R : Agreeing k c s) where
   reclaimed-agrees g =
       let S = swept-all in
       record {
-        named = record {
-          size = R .named .size;
-          bytes = R .named .bytes;
-          spelled = R .named .spelled;
-          well = R .named .well;
-          offsets = λ y l q. S .offsets y l ∙ R .named .offsets y l q;
-          kinds = λ y l q. S .kinds y l ∙ R .named .kinds y l q;
-          index = R .named .index;
-        };
+        named = named-stays (s .names) n m (z .count) (suc (n .generation)) _ _ (S .offsets) (S .kinds) (R .named);
         size = sym (entries-length blank (z .count)) ∙ ap length entries-now;
         linked = same-linked (z .count) (z .statements) blank
             (blanked-before (z .count) (n .statements) (z .statements)) (n .resources) (z .resources)

@@ -277,7 +277,8 @@ nextsOf m h i =
 -- the paper's lines loaded
 loading : List Call
 loading =
-    intern r21 ∷ intern trips ∷ intern b4 ∷ assert byValue (triple 1 2 3) ∷ intern b7 ∷ assert byValue (triple 1 2 4) ∷ []
+    intern r21 ∷ intern trips ∷ intern b4 ∷ assert byValue (triple 1 2 3) ∷ intern b7
+    ∷ assert byValue (triple 1 2 4) ∷ []
 
 -- the records of the four resources, all their words, after the lines and further calls
 abbrev recordsAfter : List Call → List ℕ

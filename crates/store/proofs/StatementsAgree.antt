@@ -26,7 +26,6 @@ use Rattle.store.specs.Model.{put, assertModel, retractEntry, retractMod
 use Rattle.store.specs.Walk.{entryAt}
 use Rattle.store.specs.Statement.{tally, withFlag, counting, appended, kindsOk, oneStatementMore}
 use Rattle.store.specs.Statement.{madeRetracted, asserting, assertOf, retracting, retractOf, countersAfter}
-use Rattle.store.specs.Names.{Named}
 use Rattle.store.specs.Soundness.{Linked}
 use Rattle.store.specs.History.{Store, store}
 use Rattle.store.proofs.Tests.{decide, upto, and-of, all3-of, known-low, known-high}
@@ -37,7 +36,7 @@ use Rattle.store.proofs.Links.{append-linked, one-less-live, revived-li
 use Rattle.store.proofs.Form.{form-kind, form-kind-high, storable-formed}
 use Rattle.store.proofs.Represented.{Agreeing, Same, same-cond, fits-agrees, totals-agree, mark-agrees}
 use Rattle.store.proofs.Represented.{lookup-le, locate-agrees, mark-length, mark-same, mark-other, mark-spo}
-use Rattle.store.proofs.Represented.{standing-grow, found-holds}
+use Rattle.store.proofs.Represented.{standing-grow, found-holds, named-stays}
 
 -- an entry by its words
 pub entry-of : (stm : List ℕ) (i : ℕ) (x : Triple) (b : Bool) → ((p : Position) → termAt stm p i ≡ at p x)
@@ -95,15 +94,8 @@ module _ (k : Capacities) (c : Store) (s : Model) (R : Agreeing k c s) where
       let room : (p : Position) → resourceWords * at p x ≤ length (m .resources) =
       (λ p. omega (arith, known-high (n .resources) x kn p, R .linked .fit-resources)) in
       record {
-        named = record {
-          size = R .named .size;
-          bytes = R .named .bytes;
-          spelled = R .named .spelled;
-          well = R .named .well;
-          offsets = λ y l q. tally-offset f x (m .resources) pos room y l ∙ R .named .offsets y l q;
-          kinds = λ y l q. tally-kind f x (m .resources) pos room y l ∙ R .named .kinds y l q;
-          index = R .named .index;
-        };
+        named = named-stays (s .names) n m (n .statements) (n .generation) _ _ (tally-offset f x (m .resources) pos room)
+            (tally-kind f x (m .resources) pos room) (R .named);
         size = R .size ∙ sym (mark-length (s .entries) i b);
         linked = L;
         reads = λ j q. flag-entry i j v b h e q;
@@ -131,25 +123,14 @@ module _ (k : Capacities) (c : Store) (s : Model) (R : Agreeing k c s) where
     room-at : (p : Position) → resourceWords * at p x ≤ length (m .resources)
     room-at p = omega (arith, known-high (n .resources) x e p, R .linked .fit-resources)
 
-    names-stay : Named (s .names) (oneStatementMore n) (appended (n .statements) m x)
-    names-stay = record {
-      size = R .named .size;
-      bytes = R .named .bytes;
-      spelled = R .named .spelled;
-      well = R .named .well;
-      offsets = λ y h q. linked-offset (n .statements) x (m .resources) (known-low (n .resources) x e) room-at y h
-          ∙ R .named .offsets y h q;
-      kinds = λ y h q. linked-kind (n .statements) x (m .resources) (known-low (n .resources) x e) room-at y h
-          ∙ R .named .kinds y h q;
-      index = R .named .index;
-    }
-
     append-agrees : suc (n .statements) ≤ statementCapacity m
         → statementWords * suc (n .statements) ≤ length (m .statements)
         → Agreeing k (store (oneStatementMore n) (appended (n .statements) m x) (c .cursors))
         (withEntries s (s .entries ++ record { spo = x; retracted = false } ∷ []))
     append-agrees i h = record {
-      named = names-stay;
+      named = named-stays (s .names) n m (suc (n .statements)) (n .generation) _ _
+          (linked-offset (n .statements) x (m .resources) (known-low (n .resources) x e) room-at)
+          (linked-kind (n .statements) x (m .resources) (known-low (n .resources) x e) room-at) (R .named);
       size = rw length-append (omega (arith, R .size));
       linked = append-linked (n .resources) (n .statements) x (m .resources) (m .statements) (R .linked) h
           (known-low (n .resources) x e) (known-high (n .resources) x e);
