@@ -3,24 +3,15 @@
 use mathlib.Core.Path.{_≡_, refl}
 use mathlib.Core.Bool.{Bool, true, _&&_}
 use mathlib.Core.List.{List, [], _∷_}
-use Rattle.term.specs.Bytes.{among, letter, alnum, iriByte, textByte, pairByte, firstByte, labelByte, eqBytes}
-use Rattle.term.specs.Scanner.{kindOf, firstKindOf, runOf, stepOf, wholeOf}
-use Rattle.term.specs.Canonical.{writesString, canonical}
-use Rattle.store.specs.Shared.{known, within, same, agrees, kindsPermitted, below, wellFormed, matches, better, pick}
-use Rattle.store.specs.Tables.{fits, termAt, nextAt, flagAt, tripleAt, firstAt, countAt, offsetAt, kindAt, liveAt}
-use Rattle.store.specs.Walk.{entryAt, pickChain, pickable, startOf, linkOf, holdsResource, visitable, walk as walkChain}
-use Rattle.store.specs.Statement.{seek, countable, locate, tallyAt, tally, counting, appendRecord, linkFirst}
-use Rattle.store.specs.Statement.{linkRecord, kindsOk, asserting, assertOf, retracting, retractOf}
-use Rattle.store.specs.Scan.{openOf, chainOk, recordOk, cursorOk, walkFrom, nextOf}
-use Rattle.store.specs.Dictionary.{rank, placeAt, indexPlaceOf, roomFor, bring, insertAt, internAs, internOf}
-use Rattle.store.specs.Names.{compareBytes, nameAt}
-use Rattle.store.specs.History.{Store, callStore, storeAfter}
+use Rattle.term.specs.Bytes.{eqBytes}
+use Rattle.store.specs.History.{Store}
 use Rattle.graph.specs.Query.{bindWord, match, recordAt, past, levelRetracted, intact, anyRetracted, pruned, backtrack}
 use Rattle.graph.specs.Query.{remains, nextPattern, binds, asked, enteredOk, placeOk, enter, hit, tried, visit, walk}
 use Rattle.graph.specs.Query.{begun, resume, answerOf, packed, stale, nextQueryOf}
 use Rattle.graph.specs.Place.{levelsOf, insideOf, placeAs, written, cursorAt}
 use Rattle.graph.specs.Words.{patternsOf, wordOk, allOk, wordsOk, valueOf, under}
 use Rattle.term.proofs.Booleans.{eqBytes-is}
+use Rattle.store.proofs.Opened.{table-definitions}
 use Rattle.store.proofs.Tests.{and-l, and-r}
 use Rattle.examples.specs.Marked.{r21, trips, b4, b7, sampleLoad, sampleTables, sample, Row, readOn, solveOn}
 use Rattle.examples.specs.Marked.{answer, markedRows, Answered, Marked}
@@ -42,16 +33,10 @@ agreed s (r ∷ rows) e = (
 -- ---- the table
 
 test : agree sample markedRows ≡ true
-unfolding r21 trips b4 b7 sampleLoad sampleTables sample readOn solveOn answer markedRows agree writesString
-    canonical kindOf firstKindOf runOf stepOf wholeOf among letter alnum iriByte textByte pairByte firstByte labelByte
-    known within same agrees kindsPermitted below fits termAt nextAt flagAt tripleAt firstAt countAt offsetAt kindAt
-    liveAt wellFormed eqBytes matches better pick entryAt pickChain pickable startOf linkOf holdsResource visitable
-    walkChain seek countable locate tallyAt tally counting appendRecord linkFirst linkRecord kindsOk asserting assertOf
-    retracting retractOf openOf chainOk recordOk cursorOk walkFrom nextOf compareBytes nameAt rank placeAt indexPlaceOf
-    roomFor bring insertAt internAs internOf callStore storeAfter patternsOf wordOk allOk wordsOk valueOf under bindWord
-    match recordAt past levelRetracted intact anyRetracted pruned backtrack remains nextPattern binds asked enteredOk
-    placeOk enter hit tried visit walk begun resume answerOf levelsOf insideOf placeAs written cursorAt packed stale
-    nextQueryOf
+unfolding r21 trips b4 b7 sampleLoad sampleTables sample readOn solveOn answer markedRows agree table-definitions
+    patternsOf wordOk allOk wordsOk valueOf under bindWord match recordAt past levelRetracted intact anyRetracted pruned
+    backtrack remains nextPattern binds asked enteredOk placeOk enter hit tried visit walk begun resume answerOf
+    levelsOf insideOf placeAs written cursorAt packed stale nextQueryOf
 test = refl
 
 pub marked : Marked

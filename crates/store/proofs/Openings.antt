@@ -56,14 +56,6 @@ open-values : (s : Model) (x : Triple) → within (length (s .names)) x ≡ true
 unfolding openModel
 open-values s x e = rw e
 
-next-values : (s : Model) (j b : ℕ) → ((nextModel s j b) .1) .refusal ≡ 0
-    → (nextModel s j b) .1 ≡ takenValues (openingOf s j) (takeFrom (s .entries) (openingOf s j) b)
-unfolding nextModel turn
-next-values s j b =
-    decide (eqb ((openingOf s j) .generation) (s .generation))
-    (λ d. rw d (decide (eqb b 0) (λ e. rw e (λ h. absurd (omega (arith, h)))) (λ e. rw e (λ h. refl))))
-    (λ d. rw d (λ h. absurd (omega (arith, h))))
-
 taken-accepted : (g : Listing) (z : Taken) → (takenValues g z) .refusal ≡ 0
 taken-accepted g (took n v r) = refl
 taken-accepted g (emptied v) = refl
@@ -74,14 +66,24 @@ next-stale : (s : Model) (j b : ℕ) → (openingOf s j) .generation ≢ s .gene
 unfolding nextModel
 next-stale s j b h = rw (ne-eqb ((openingOf s j) .generation) (s .generation) h)
 
-next-accepted : (s : Model) (j b : ℕ) → ((nextModel s j b) .1) .refusal ≡ 0
-    → (0 < b) × ((openingOf s j) .generation ≡ s .generation)
-unfolding nextModel
-next-accepted s j b =
+-- what one says that is not
+record Answered (s : Model) (j b : ℕ) : Type 0 where
+  budget : 0 < b
+  number : (openingOf s j) .generation ≡ s .generation
+  values : (nextModel s j b) .1 ≡ takenValues (openingOf s j) (takeFrom (s .entries) (openingOf s j) b)
+
+next-answered : (s : Model) (j b : ℕ) → ((nextModel s j b) .1) .refusal ≡ 0 → Answered s j b
+unfolding nextModel turn
+next-answered s j b h =
     decide (eqb ((openingOf s j) .generation) (s .generation))
-    (λ d. rw d (decide (eqb b 0) (λ e. rw e (λ h. absurd (omega (arith, h))))
-    (λ e h. (omega (arith, eqb-false b 0 e), eqb-true ((openingOf s j) .generation) (s .generation) d))))
-    (λ d. rw d (λ h. absurd (omega (arith, h))))
+    (λ d. decide (eqb b 0)
+    (λ e. absurd (omega (arith, rw (d, e) at h)))
+    (λ e. record {
+      budget = omega (arith, eqb-false b 0 e);
+      number = eqb-true ((openingOf s j) .generation) (s .generation) d;
+      values = rw (d, e);
+    }))
+    (λ d. absurd (omega (arith, rw d at h)))
 
 next-budget : (s : Model) (j b : ℕ) → (0 < b) × ((openingOf s j) .generation ≡ s .generation)
     → ((nextModel s j b) .1) .refusal ≡ 0
@@ -220,7 +222,7 @@ module _ (o : Opening) (acc : Accepted o) where
   with-budget : (b : ℕ) → (nextNow o b) .refusal ≡ 0 ↔ (0 < b) × Unreclaimed o
   with-budget b =
       rw (next-same b) (
-        λ h. let z = next-accepted s2 j b h in (z .0, omega (arith, z .1, number-then, number-now)),
+        λ h. let z = next-answered s2 j b h in (z .budget, omega (arith, z .number, number-then, number-now)),
         λ h. next-budget s2 j b (h .0, omega (arith, h .1, number-then, number-now)),
       )
 
@@ -232,7 +234,7 @@ module _ (o : Opening) (acc : Accepted o) where
       → nextNow o b ≡ takenValues (openingOf s2 j) (readRest liveAt b (restNow o))
   next-is b h =
       next-same b
-      ∙ next-values s2 j b (sym (ap (λ (v : Values). v .refusal) (next-same b)) ∙ h)
+      ∙ next-answered s2 j b (sym (ap (λ (v : Values). v .refusal) (next-same b)) ∙ h) .values
       ∙ ap (takenValues (openingOf s2 j))
       (ap₂ (λ (l : List Entry) (g : Listing). takeFrom l g b) (sym (agreeing-statements k (storeNow o) s2 R2)) at-now
       ∙ take-from (s0 .generation) (statementsIn (storeNow o)) (o .pattern) (s0 .entries) (restNow o) b)
