@@ -1,5 +1,5 @@
--- On a sound store entering a name and reclaiming leave the graph, asserting adds exactly its triple, retracting takes exactly it away, and
--- a refusal leaves it (`WriteClaim`). Assumes nothing.
+-- On a sound store entering a name and reclaiming leave the graph, asserting adds exactly its triple, retracting takes
+-- exactly it away, and a refusal leaves it (`WriteClaim`). Assumes nothing.
 use mathlib.Core.Path.{_≡_, sym, ap, _∙_}
 use mathlib.Core.Logic.{_≢_, _⊎_, inl, inr}
 use mathlib.Core.Bool.{true, false}
@@ -118,6 +118,9 @@ module _ (c : Counters) (m : Tables) (S : Sound c m) where
   values : (a : Call) → (callStore here a) .1 ≡ (callModel k lists a) .1
   values a = call-agrees k here lists (sound-agrees c m S) a .0
 
+  refusals : (a : Call) → (callModel k lists a) .1 .refusal ≡ (callStore here a) .1 .refusal
+  refusals a = ap (λ (v : Values). v .refusal) (sym (values a))
+
   -- the graph after a call, by the lists
   graph-after : (a : Call) → SameGraph (graphIn ((callStore here a) .0)) (modelGraph ((callModel k lists a) .0))
   graph-after a = held-graph ((callStore here a) .0) ((callModel k lists a) .0) (after a)
@@ -155,7 +158,7 @@ module _ (c : Counters) (m : Tables) (S : Sound c m) where
           held-name _ _ A y a (omega (arith, E .longer)) ∙ E .kept y a (omega arith)
               ∙ sym (held-name here lists before y a b),
         );
-        answered = λ e. let r = E .answered (ap (λ (v : Values). v .refusal) (sym (values (intern w))) ∙ e) in
+        answered = λ e. let r = E .answered (refusals (intern w) ∙ e) in
             let q : (callStore here (intern w)) .1 .number ≡ (callModel k lists (intern w)) .1 .number =
             ap (λ (v : Values). v .number) (values (intern w)) in (
               rw q (r .0),
@@ -194,8 +197,7 @@ module _ (c : Counters) (m : Tables) (S : Sound c m) where
       → Added here ((callStore here a) .0) y ((callStore here a) .1)
   added-as a y M =
       let v = values a in
-      let r : (callModel k lists a) .1 .refusal ≡ (callStore here a) .1 .refusal =
-      ap (λ (v : Values). v .refusal) (sym v) in
+      let r = refusals a in
       record {
         sound = after a .sound;
         refused = λ n. same-after a (M .refused (λ e. n (sym r ∙ e)));
@@ -218,8 +220,7 @@ module _ (c : Counters) (m : Tables) (S : Sound c m) where
       → Removed here ((callStore here a) .0) y ((callStore here a) .1)
   removed-as a y M =
       let v = values a in
-      let r : (callModel k lists a) .1 .refusal ≡ (callStore here a) .1 .refusal =
-      ap (λ (v : Values). v .refusal) (sym v) in
+      let r = refusals a in
       record {
         sound = after a .sound;
         refused = λ n. same-after a (M .refused (λ e. n (sym r ∙ e)));
