@@ -1,21 +1,18 @@
 -- A call visits no more records than its budget, on any tables, words and cursor: the walk counts one visit a turn.
 -- Assumes nothing.
 use mathlib.Core.Path.{refl}
-use mathlib.Core.List.{List, []}
+use mathlib.Core.List.{List}
 use Prim.Native.Nat.{ℕ, zero, suc, _+_, _-_, _≤_}
 use native.Mathlib.Omega.{arith}
-use lib.ListN.{length}
-use lib.Dec.{eqb}
 use Rattle.store.proofs.Tests.{decide, cond-all}
 use Rattle.graph.specs.declared.QueryPattern.{QueryPattern}
 use Rattle.graph.specs.declared.Level.{Level}
-use Rattle.graph.specs.Query.{intact, pruned, remains}
-use Rattle.graph.specs.Place.{Place, start, inside, finish, placeOf}
+use Rattle.graph.specs.Query.{remains}
+use Rattle.graph.specs.Place.{Place, placeOf}
 use Rattle.graph.specs.Words.{patternsOf}
-use Rattle.graph.specs.Query.{Turn, bad, go, whole, Answer, enter, walk, begun, resume, packed, stale}
-use Rattle.graph.specs.Query.{nextQueryOf}
+use Rattle.graph.specs.Query.{Answer, walk, resume, packed, stale, nextQueryOf}
 use Rattle.graph.specs.Claims.{BudgetClaim}
-use Rattle.graph.proofs.Laws.{walk-over, walk-turn}
+use Rattle.graph.proofs.Laws.{walk-over, walk-turn, resume-cases}
 use Rattle.graph.proofs.Refusals.{answer-cases}
 
 abbrev Within : ℕ → ℕ → Answer → Type 0
@@ -31,20 +28,11 @@ module _ (g r t : ℕ) (res stm : List ℕ) (ps : List QueryPattern) where
       walk-turn r t res stm ps l up v (Within g (v + suc left)) left (λ e. omega arith) (λ n top e d. omega arith)
       (λ n top n′ top′ e d. omega (arith, walk-within left n′ top′ (v + 1))) (λ n top s n′ top′ e d. omega arith)
 
-  begun-within : (b : ℕ) (z : Turn) → Within g b (begun r t res stm ps b z)
-  unfolding begun packed
-  begun-within b bad = omega arith
-  begun-within b (go l up) = omega (arith, walk-within b l up 0)
-  begun-within b (whole s l up) = omega arith
-
   resume-within : (q : Place) (b : ℕ) → Within g b (resume r t res stm ps q b)
-  unfolding resume packed
-  resume-within start b =
-      decide (eqb (length ps) 0) (λ e. rw e (omega arith)) (λ e. rw e (begun-within b (enter r t res stm ps [])))
-  resume-within (inside l up) b = decide (intact stm up)
-      (λ e. rw e (omega (arith, walk-within b ((pruned stm l up) .0) ((pruned stm l up) .1) 0)))
-      (λ e. rw e (omega arith))
-  resume-within finish b = omega arith
+  unfolding packed
+  resume-within q b =
+      resume-cases r t res stm ps (Within g b) b (omega arith) (omega arith) (omega arith)
+      (λ l up. omega (arith, walk-within b l up 0)) q
 
 pub within-budget : BudgetClaim
 unfolding nextQueryOf packed

@@ -13,15 +13,15 @@ use borrow.Author.Tests.{eqb-true, eqb-false, eq-eqb, ne-eqb, leb-true, ltb-true
 use Rattle.store.specs.declared.Refusal.the-variants.{Damaged}
 use Rattle.store.specs.Shared.{known, prev}
 use Rattle.store.specs.Scan.{chainOk, recordOk}
-use Rattle.store.proofs.Tests.{decide, and-l, and-r, and-of}
+use Rattle.store.proofs.Tests.{decide, and-l, and-r, and-of, cond-all}
 use Rattle.graph.specs.declared.QueryPattern.{QueryPattern}
 use Rattle.graph.specs.declared.Level.{Level}
 use Rattle.graph.specs.Query.{Turn, bad, go, whole, Answer, refused, found, ended, spent}
-use Rattle.graph.specs.Query.{past, backtrack, remains, visit, walk}
+use Rattle.graph.specs.Query.{past, backtrack, remains, intact, pruned, enter, visit, walk, begun, resume}
 use Rattle.graph.specs.Query.{match, isSome, recordAt, nextPattern, binds, asked, enteredOk, placeOk}
 use Rattle.graph.specs.Place.{Place, start, inside, finish, noLevel, levelsOf, insideOf, placeAs, placeOf}
 use Rattle.graph.specs.Place.{written, cursorAt}
-use Rattle.graph.specs.Words.{patternsOf, pattern, maxPatterns, Bindings}
+use Rattle.graph.specs.Words.{patternsOf, pattern, maxPatterns, Bindings, unbound}
 -- Every law stands on this file, and so on the closed runs: a definition that changes an answer is refused there first.
 use Rattle.graph.proofs.Runs as runs
 
@@ -123,6 +123,22 @@ module _ (r t : ℕ) (res stm : List ℕ) (ps : List QueryPattern) (l : Level) (
       → (left ≡ 0 → ⊥) → backtrack stm l up ≡ n ∷ top → visit r t res stm ps n top ≡ whole s n′ top′
       → walk r t res stm ps left l up v ≡ found s (v + 1) (inside n′ top′)
   turn-whole left n top s n′ top′ h e d = more-left left h ∙ walk-whole (left - 1) n top s n′ top′ e d
+
+-- whatever holds of refusal 9, of the empty solution, of the end and of every walk holds of a call from any place
+module _ (r t : ℕ) (res stm : List ℕ) (ps : List QueryPattern) (P : Answer → Type 0) (b : ℕ)
+    (nine : P (refused Damaged)) (empty : P (found unbound 0 finish)) (over : P (ended 0))
+    (on : (l : Level) (up : List Level) → P (walk r t res stm ps b l up 0)) where
+  begun-cases : (g : Turn) → P (begun r t res stm ps b g)
+  unfolding begun
+  begun-cases bad = nine
+  begun-cases (go l up) = on l up
+  begun-cases (whole s l up) = nine
+
+  pub resume-cases : (q : Place) → P (resume r t res stm ps q b)
+  unfolding resume
+  resume-cases start = cond-all P (eqb (length ps) 0) _ _ empty (begun-cases (enter r t res stm ps []))
+  resume-cases (inside l up) = cond-all P (intact stm up) _ _ (on ((pruned stm l up) .0) ((pruned stm l up) .1)) nine
+  resume-cases finish = over
 
 -- ---- levels in an array
 

@@ -3,10 +3,9 @@
 use mathlib.Core.Path.{_≡_, refl, sym, _∙_}
 use mathlib.Core.Logic.{_≢_, _⊎_, inl, inr}
 use mathlib.Core.Bool.{Bool, true, false, true≢false}
-use mathlib.Core.List.{List, []}
+use mathlib.Core.List.{List}
 use Prim.Native.Nat.{ℕ, zero, suc, _+_, _<_}
 use native.Mathlib.Omega.{arith}
-use lib.ListN.{length}
 use lib.Dec.{eqb}
 use borrow.Author.Tests.{eqb-true, eqb-false, eq-eqb, ne-eqb}
 use Rattle.store.specs.declared.Counters.{Counters}
@@ -16,14 +15,14 @@ use Rattle.store.specs.Values.{refusalNumber}
 use Rattle.store.proofs.Tests.{decide}
 use Rattle.graph.specs.declared.QueryPattern.{QueryPattern}
 use Rattle.graph.specs.declared.Level.{Level}
-use Rattle.graph.specs.Query.{Turn, bad, go, whole, Answer, refused}
-use Rattle.graph.specs.Place.{Place, start, inside, finish}
+use Rattle.graph.specs.Query.{Answer, refused}
+use Rattle.graph.specs.Place.{Place}
 use Rattle.graph.specs.Words.{wordsOk, patternsOf}
-use Rattle.graph.specs.Query.{found, ended, spent, remains, intact, pruned, placeOk, enter, walk, begun, resume}
+use Rattle.graph.specs.Query.{found, ended, spent, remains, placeOk, walk, resume}
 use Rattle.graph.specs.Query.{answerOf, packed, openQueryOf, nextQueryOf}
 use Rattle.graph.specs.Values.{queryValues}
 use Rattle.graph.specs.Claims.{refusedQuery, RefusalsBare}
-use Rattle.graph.proofs.Laws.{walk-turn}
+use Rattle.graph.proofs.Laws.{walk-turn, resume-cases}
 
 -- the answer is the refusal of this number
 abbrev pub says : ℕ → Answer → Bool
@@ -78,20 +77,9 @@ module _ (k : ℕ) (nine : 9 ≢ k) where
         walk-turn r t res stm ps l up v (λ a. says k a ≡ false) b (λ e. refl) (λ n top e d. ne-eqb 9 k nine)
         (λ n top n′ top′ e d. walk-not b n′ top′ (v + 1)) (λ n top s n′ top′ e d. refl)
 
-    begun-not : (b : ℕ) (g : Turn) → says k (begun r t res stm ps b g) ≡ false
-    unfolding begun
-    begun-not b bad = ne-eqb 9 k nine
-    begun-not b (go l up) = walk-not b l up 0
-    begun-not b (whole s l up) = ne-eqb 9 k nine
-
     pub resume-not : (q : Place) (b : ℕ) → says k (resume r t res stm ps q b) ≡ false
-    unfolding resume
-    resume-not start b =
-        decide (eqb (length ps) 0) (λ e. rw e) (λ e. rw e (begun-not b (enter r t res stm ps [])))
-    resume-not (inside l up) b =
-        decide (intact stm up)
-        (λ e. rw e (walk-not b ((pruned stm l up) .0) ((pruned stm l up) .1) 0)) (λ e. rw e (ne-eqb 9 k nine))
-    resume-not finish b = refl
+    resume-not q b =
+        resume-cases r t res stm ps (λ a. says k a ≡ false) b (ne-eqb 9 k nine) refl refl (λ l up. walk-not b l up 0) q
 
   module _ (one : 1 ≢ k) (eight : 8 ≢ k) (seven : 7 ≢ k) where
     -- 1, 8, 7 and 9 are other numbers, and the place is accepted or 6 is another
