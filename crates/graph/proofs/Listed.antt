@@ -256,7 +256,7 @@ module _ (s : Model) (D : Tidy s)
     pub added : v .refusal ≡ 0 → (z : RdfTriple) → modelGraph s′ z ↔ (modelGraph s z ⊎ (z ≡ y))
     pub already : v .refusal ≡ 0 → (v .status ≡ 2) ↔ modelGraph s y
 
-  not-added : (y : RdfTriple) (v : Values) → v .refusal ≢ 0 → ModelAdded s y v
+  pub not-added : (y : RdfTriple) (v : Values) → v .refusal ≢ 0 → ModelAdded s y v
   not-added y v h = record {
     refused = λ n. graph-same (modelGraph s);
     added = λ e. absurd (h e);
@@ -309,7 +309,7 @@ module _ (s : Model) (D : Tidy s)
     pub removed : v .refusal ≡ 0 → (z : RdfTriple) → modelGraph s′ z ↔ (modelGraph s z × (z ≢ y))
     pub absent : v .refusal ≡ 0 → (v .number ≡ 0) ↔ (modelGraph s y → ⊥)
 
-  not-removed : (y : RdfTriple) (v : Values) → v .refusal ≢ 0 → ModelRemoved s y v
+  pub not-removed : (y : RdfTriple) (v : Values) → v .refusal ≢ 0 → ModelRemoved s y v
   not-removed y v h = record {
     refused = λ n. graph-same (modelGraph s);
     removed = λ e. absurd (h e);

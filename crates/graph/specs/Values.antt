@@ -6,7 +6,7 @@ use Rattle.graph.specs.Prelude.{Found, Ended, Spent, NotAnswered, QueryA
 use Rattle.store.specs.Values.{refusalNumber}
 use Rattle.graph.specs.Words.{unbound}
 
--- the refusal's number, or 0; 1 found, 2 ended, 3 spent, or 0; the visits; sixteen resources; the cursor
+-- the refusal's number, or 0; 1 found, 2 ended, 3 spent, or 0; the visits; a resource for each variable; the cursor
 pub record QueryValues : Type 0 where
   pub refusal : ℕ
   pub status : ℕ
