@@ -34,7 +34,8 @@ use Rattle.graph.specs.Meaning.{Term, RdfTriple}
 use Rattle.graph.specs.Graph.{named, graphOf}
 use Rattle.graph.specs.Claims.{graphIn, SameGraph, Entered, Added, Removed, Rebuilt, WriteClaim}
 use Rattle.graph.proofs.Listed.{nameTriple, modelGraph, graph-trans, model-enters, ModelAdded, not-added}
-use Rattle.graph.proofs.Listed.{model-asserts, ModelRemoved, not-removed, model-retracts, ModelRebuilt, model-reclaims}
+use Rattle.graph.proofs.Listed.{model-asserts, ModelRemoved, not-removed, model-retracts, ModelRebuilt}
+use Rattle.graph.proofs.Listed.{model-reclaims}
 
 -- ---- a store that holds plain lists
 
