@@ -94,8 +94,8 @@ module _ (k : Capacities) (c : Store) (s : Model) (R : Agreeing k c s) where
       let room : (p : Position) → resourceWords * at p x ≤ length (m .resources) =
       (λ p. omega (arith, known-high (n .resources) x kn p, R .linked .fit-resources)) in
       record {
-        named = named-stays (s .names) n m (n .statements) (n .generation) _ _ (tally-offset f x (m .resources) pos room)
-            (tally-kind f x (m .resources) pos room) (R .named);
+        named = named-stays (s .names) n m (n .statements) (n .generation) _ _
+            (tally-offset f x (m .resources) pos room) (tally-kind f x (m .resources) pos room) (R .named);
         size = R .size ∙ sym (mark-length (s .entries) i b);
         linked = L;
         reads = λ j q. flag-entry i j v b h e q;
