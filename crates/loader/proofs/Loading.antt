@@ -39,9 +39,9 @@ use Rattle.graph.specs.Claims.{loading, loadOf}
 use Rattle.store.proofs.Numbers.{refuses}
 use Rattle.graph.proofs.Theorems.{graph-writes}
 use Rattle.lines.specs.Claims.{namesIn}
-use Rattle.loader.specs.declared.Outcome.{Outcome}
-use Rattle.loader.specs.declared.Outcome.the-variants.{Nothing, Refused}
-use Rattle.loader.specs.declared.LineLoaded.{LineLoaded}
+use Rattle.loader.specs.declared.line.Outcome.{Outcome}
+use Rattle.loader.specs.declared.line.Outcome.the-variants.{Nothing, Refused}
+use Rattle.loader.specs.declared.line.LineLoaded.{LineLoaded}
 use Rattle.loader.proofs.Inside.{noPart}
 use Rattle.loader.specs.Lines.{lineLimit, contentOf, lineAt, ended, reported, loadLineOf, Loads}
 use Rattle.loader.specs.Steps.{refusedLine, assertedLine}

@@ -15,7 +15,7 @@ use Rattle.ntriples.specs.declared.Line.the-variants as answer
 use Rattle.graph.specs.Claims.{SoundStore}
 use Rattle.graph.proofs.Theorems.{line-loads}
 use Rattle.lines.specs.Claims.{namesIn}
-use Rattle.loader.specs.declared.Outcome.{Outcome}
+use Rattle.loader.specs.declared.line.Outcome.{Outcome}
 use Rattle.loader.specs.Lines.{lineAt, loadLineOf, linesFrom, loadLinesOf, LoadsLines}
 use Rattle.loader.specs.Steps.{Takes, Ends}
 use Rattle.loader.proofs.Inside.{read-moves}

@@ -1,11 +1,11 @@
 -- The line loaded is the line taken; what it comes to is in the output. Assumes nothing.
 use borrow.Author.Needs.{needs}
-use Rattle.loader.proofs.take_line.Statement.{statement}
-use Rattle.loader.proofs.take_line.Tie as tie
-use Rattle.loader.proofs.take_line.Reads as reads
-use Rattle.loader.proofs.take_line.Lts as lts
-use Rattle.loader.proofs.counted.Reads as counted-reads
-use Rattle.loader.proofs.load_line.Reads as load-line-reads
+use Rattle.loader.proofs.load.take_line.Statement.{statement}
+use Rattle.loader.proofs.load.take_line.Tie as tie
+use Rattle.loader.proofs.load.take_line.Reads as reads
+use Rattle.loader.proofs.load.take_line.Lts as lts
+use Rattle.loader.proofs.load.counted.Reads as counted-reads
+use Rattle.loader.proofs.line.load_line.Reads as load-line-reads
 use Rattle.loader.proofs.output.report.Reads as report-reads
 
 load-line-requires : tie.Need-load-line-requires

@@ -8,13 +8,13 @@ use borrow.Author.Needs.{needs}
 use Rattle.store.specs.Tables.{tables}
 use Rattle.loader.proofs.Loading.{Entering, entering-none, entering-more, loads-refused, loads-asserted}
 use Rattle.loader.proofs.Inside.{EachInside, each-inside}
-use Rattle.loader.proofs.load_triple.Statement.{statement}
-use Rattle.loader.proofs.load_triple.Tie as tie
-use Rattle.loader.proofs.load_triple.Reads as reads
-use Rattle.loader.proofs.load_triple.Lts as lts
+use Rattle.loader.proofs.line.load_triple.Statement.{statement}
+use Rattle.loader.proofs.line.load_triple.Tie as tie
+use Rattle.loader.proofs.line.load_triple.Reads as reads
+use Rattle.loader.proofs.line.load_triple.Lts as lts
 use Rattle.dictionary.proofs.intern.Reads as intern-reads
-use Rattle.loader.proofs.asserted.Reads as asserted-reads
-use Rattle.loader.proofs.refused.Reads as refused-reads
+use Rattle.loader.proofs.line.asserted.Reads as asserted-reads
+use Rattle.loader.proofs.line.refused.Reads as refused-reads
 use Rattle.statement.proofs.assert.Reads as assert-reads
 
 abbrev Inv-loop : tie.InvT-loop

@@ -3,11 +3,11 @@ use mathlib.Core.Path.{_≡_}
 use Prim.Native.Nat.{_-_, _≤_}
 use lib.ListN.{length}
 use borrow.Author.Needs.{needs}
-use Rattle.loader.proofs.keep_rest.Statement.{statement}
-use Rattle.loader.proofs.keep_rest.Tie as tie
-use Rattle.loader.proofs.keep_rest.Reads as reads
-use Rattle.loader.proofs.keep_rest.Lts as lts
-use Rattle.loader.proofs.within.Reads as within-reads
+use Rattle.loader.proofs.block.keep_rest.Statement.{statement}
+use Rattle.loader.proofs.block.keep_rest.Tie as tie
+use Rattle.loader.proofs.block.keep_rest.Reads as reads
+use Rattle.loader.proofs.block.keep_rest.Lts as lts
+use Rattle.table.proofs.word.lesser.Reads as lesser-reads
 
 abbrev Inv-loop : tie.InvT-loop
 Inv-loop buffer₀ from filled stop i₀ n₀ buffer i n =
@@ -16,8 +16,8 @@ Inv-loop buffer₀ from filled stop i₀ n₀ buffer i n =
 abbrev μ-loop : tie.MeasureT-loop
 μ-loop buffer₀ from filled stop i₀ n₀ buffer i n = stop - i
 
-within-requires : tie.Need-within-requires Inv-loop μ-loop
-within-requires c κs = search needs
+lesser-requires : tie.Need-lesser-requires Inv-loop μ-loop
+lesser-requires c κs = search needs
 
 loop-holds : tie.Need-loop-holds Inv-loop μ-loop
 loop-holds c = search needs
@@ -58,7 +58,7 @@ keep-rest-spec =
     (tie.spec
     Inv-loop
     μ-loop
-    within-requires
+    lesser-requires
     loop-holds
     same-length
     returns

@@ -3,10 +3,10 @@ use denote.Ref.{now}
 use native.Mathlib.Omega.{arith}
 use Rattle.loader.proofs.Inside.{read-moves}
 use Rattle.loader.proofs.Endings.{content-plain, content-empty, content-cr, content-lf}
-use Rattle.loader.proofs.content.Statement.{statement}
-use Rattle.loader.proofs.content.Tie as tie
-use Rattle.loader.proofs.content.Reads as reads
-use Rattle.loader.proofs.content.Lts as lts
+use Rattle.loader.proofs.line.content.Statement.{statement}
+use Rattle.loader.proofs.line.content.Tie as tie
+use Rattle.loader.proofs.line.content.Reads as reads
+use Rattle.loader.proofs.line.content.Lts as lts
 
 sub-last : tie.Need-sub-last
 sub-last c =

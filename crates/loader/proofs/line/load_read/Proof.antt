@@ -4,12 +4,12 @@ use Rattle.store.specs.Tables.{tables}
 use Rattle.loader.proofs.Inside.{parts-inside}
 use Rattle.loader.proofs.Loading.{loads-as, loads-bad, loads-end, loads-nothing}
 use borrow.Author.Needs.{needs}
-use Rattle.loader.proofs.load_read.Statement.{statement}
-use Rattle.loader.proofs.load_read.Tie as tie
-use Rattle.loader.proofs.load_read.Reads as reads
-use Rattle.loader.proofs.load_read.Lts as lts
-use Rattle.loader.proofs.load_triple.Reads as load-triple-reads
-use Rattle.loader.proofs.refused.Reads as refused-reads
+use Rattle.loader.proofs.line.load_read.Statement.{statement}
+use Rattle.loader.proofs.line.load_read.Tie as tie
+use Rattle.loader.proofs.line.load_read.Reads as reads
+use Rattle.loader.proofs.line.load_read.Lts as lts
+use Rattle.loader.proofs.line.load_triple.Reads as load-triple-reads
+use Rattle.loader.proofs.line.refused.Reads as refused-reads
 
 enum-known-line : tie.Need-enum-known-line
 enum-known-line c = search needs

@@ -2,11 +2,11 @@
 use Prim.Native.Nat.{_≤_}
 use lib.ListN.{length}
 use borrow.Author.Needs.{needs}
-use Rattle.loader.proofs.whole_lines.Statement.{statement}
-use Rattle.loader.proofs.whole_lines.Tie as tie
-use Rattle.loader.proofs.whole_lines.Reads as reads
-use Rattle.loader.proofs.whole_lines.Lts as lts
-use Rattle.loader.proofs.within.Reads as within-reads
+use Rattle.loader.proofs.block.whole_lines.Statement.{statement}
+use Rattle.loader.proofs.block.whole_lines.Tie as tie
+use Rattle.loader.proofs.block.whole_lines.Reads as reads
+use Rattle.loader.proofs.block.whole_lines.Lts as lts
+use Rattle.table.proofs.word.lesser.Reads as lesser-reads
 
 abbrev Inv-loop : tie.InvT-loop
 Inv-loop buffer filled end₀ end =
@@ -15,8 +15,8 @@ Inv-loop buffer filled end₀ end =
 abbrev μ-loop : tie.MeasureT-loop
 μ-loop buffer filled end₀ end = end
 
-within-requires : tie.Need-within-requires Inv-loop μ-loop
-within-requires c κs = search needs
+lesser-requires : tie.Need-lesser-requires Inv-loop μ-loop
+lesser-requires c κs = search needs
 
 loop-holds : tie.Need-loop-holds Inv-loop μ-loop
 loop-holds c = search needs
@@ -48,7 +48,7 @@ whole-lines-spec =
     (tie.spec
     Inv-loop
     μ-loop
-    within-requires
+    lesser-requires
     loop-holds
     sub-if1
     shared-slice-read-if1

@@ -3,11 +3,11 @@ use mathlib.Core.Path.{sym, ap, _∙_}
 use Rattle.loader.specs.Steps.{assertedLine}
 use Rattle.loader.proofs.Loading.{assert-refused}
 use borrow.Author.Needs.{needs}
-use Rattle.loader.proofs.asserted.Statement.{statement}
-use Rattle.loader.proofs.asserted.Tie as tie
-use Rattle.loader.proofs.asserted.Reads as reads
-use Rattle.loader.proofs.asserted.Lts as lts
-use Rattle.loader.proofs.refused.Reads as refused-reads
+use Rattle.loader.proofs.line.asserted.Statement.{statement}
+use Rattle.loader.proofs.line.asserted.Tie as tie
+use Rattle.loader.proofs.line.asserted.Reads as reads
+use Rattle.loader.proofs.line.asserted.Lts as lts
+use Rattle.loader.proofs.line.refused.Reads as refused-reads
 
 enum-known-a : tie.Need-enum-known-a
 enum-known-a c = search needs

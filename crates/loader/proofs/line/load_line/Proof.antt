@@ -5,13 +5,13 @@ use Rattle.store.specs.Tables.{tables}
 use Rattle.loader.proofs.Inside.{read-inside}
 use Rattle.loader.proofs.Loading.{loads-over, loads-within}
 use borrow.Author.Needs.{needs}
-use Rattle.loader.proofs.load_line.Statement.{statement}
-use Rattle.loader.proofs.load_line.Tie as tie
-use Rattle.loader.proofs.load_line.Reads as reads
-use Rattle.loader.proofs.load_line.Lts as lts
-use Rattle.loader.proofs.content.Reads as content-reads
-use Rattle.loader.proofs.load_read.Reads as load-read-reads
-use Rattle.loader.proofs.refused.Reads as refused-reads
+use Rattle.loader.proofs.line.load_line.Statement.{statement}
+use Rattle.loader.proofs.line.load_line.Tie as tie
+use Rattle.loader.proofs.line.load_line.Reads as reads
+use Rattle.loader.proofs.line.load_line.Lts as lts
+use Rattle.loader.proofs.line.content.Reads as content-reads
+use Rattle.loader.proofs.line.load_read.Reads as load-read-reads
+use Rattle.loader.proofs.line.refused.Reads as refused-reads
 
 content-requires : tie.Need-content-requires
 content-requires c κs = c .before .before .before .before .before .pre .ends

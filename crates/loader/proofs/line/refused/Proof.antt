@@ -1,9 +1,9 @@
 -- The paper's number of the refusal. Assumes nothing.
 use borrow.Author.Needs.{needs}
-use Rattle.loader.proofs.refused.Statement.{statement}
-use Rattle.loader.proofs.refused.Tie as tie
-use Rattle.loader.proofs.refused.Reads as reads
-use Rattle.loader.proofs.refused.Lts as lts
+use Rattle.loader.proofs.line.refused.Statement.{statement}
+use Rattle.loader.proofs.line.refused.Tie as tie
+use Rattle.loader.proofs.line.refused.Reads as reads
+use Rattle.loader.proofs.line.refused.Lts as lts
 use Rattle.store.proofs.refusal_number.Reads as refusal-number-reads
 
 refusal-number-requires : tie.Need-refusal-number-requires
