@@ -229,8 +229,11 @@ module _ {M : Type 1} (𝓤 : URA M) (H : Heap 𝓤) (A : Atoms 𝓤) (W : Given
           at-once ! $ show ! (λ (n : ℕ × GName). mean 𝓤 H A (Asks n)) (ν, γ) $ frame ! $ done !))
 
       -- an answer r at its machine value w, and the reader that comes back
+      abbrev Told : Val → Line × LineReader → Type 0
+      Told w a = Said z (a .0) (a .1) × Is Ln.the-row (a .0) (w ∷ [])
+
       abbrev Answers : Val → Line × LineReader → Item 𝓤
-      Answers w a = given (Said z (a .0) (a .1) × Is Ln.the-row (a .0) (w ∷ []))
+      Answers w a = given (Told w a)
           ((‵ (Ln.the-row .own (a .0) (w ∷ [])) ⊛ ‵ (lies κ (a .1) l)) ⊛ ‵ (flft κ q))
 
       comes-back : (n : ℕ × GName) (w : Val)
@@ -296,6 +299,7 @@ module _ {M : Type 1} {𝓤 : URA M} {H : Heap 𝓤} {A : Atoms 𝓤} {K : Type 
     reads t fm at-mem run known κ q z l os k =
         use2 W (later (some (Asks 𝓤 H A W κ q at-mem run z l))) (asks-read 𝓤 H A W κ q at-mem run z l) $ await t tt $ pick t (λ n.
         split t $ calls-at t fm (Read 𝓤 H A at-mem run) known (to-read 𝓤 H A W κ q at-mem run z l n) (os _ _) (λ w.
-        use2 W (later (some (Answers 𝓤 H A W κ q at-mem run z l w))) (comes-back 𝓤 H A W κ q at-mem run z l n w) $ await t tt $ pick t (λ a.
-        learn t (λ e. split t $ split t $
+        use2 W (later (some (Answers 𝓤 H A W κ q at-mem run z l w))) (comes-back 𝓤 H A W κ q at-mem run z l n w) $ await t tt $
+        pick t (λ (a : Line × LineReader).
+        learn t (λ (e : Told 𝓤 H A W κ q at-mem run z l w a). split t $ split t $
         k w (a .0) (a .1) (e .0) (EL.lawful Ln.the-type Ln′.the-laws 𝓤 H A W tt .typed (a .0) _ (e .1) .0)))))

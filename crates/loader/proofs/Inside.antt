@@ -71,8 +71,8 @@ line-inside text i (answer.Triple x y z) e = triple-inside text i x y z e (below
 pub read-inside : (text : List ℕ) (from : ℕ) (line : Line) (next : ℕ) → ReadAt text from line next → LineInside text line
 read-inside text from line next R = line-inside text from line (sym (R .answered))
 
-pub read-moves : (text : List ℕ) (from next : ℕ) → Ends text from next → (from < next) × (next ≤ length text)
-read-moves text from next N = rw (N .moved) (moves nameLimit text from (N .before-end))
+pub read-moves : {text : List ℕ} {from next : ℕ} → Ends text from next → (from < next) × (next ≤ length text)
+read-moves {text} {from} N = rw (N .moved) (moves nameLimit text from (N .before-end))
 
 pub parts-inside : (text : List ℕ) (a b : Line) → a ≡ b → LineInside text a → LineInside text b
 parts-inside text a b e h = rw e at h

@@ -45,7 +45,7 @@ module _ (c : Counters) (m : Tables) (text : List ℕ) (d : Counters) (m′ : Ta
         → (k : ℕ) × (length text ≤ next + k) × (linesFrom n (store d m′ qs) text from ≡ linesFrom k (store e m″ qs) text next)
     unfolding linesFrom
     one-line zero S qs h = let b = N .before-end in absurd (omega arith)
-    one-line (suc n) S qs h = let b = read-moves text from next N in (
+    one-line (suc n) S qs h = let b = read-moves N in (
       n,
       omega (arith, b .0),
       rw (lt-ltb from (length text) (N .before-end), ← after S qs, ← N .moved) refl,

@@ -265,7 +265,7 @@ module _ {M : Type 1} (𝓤 : URA M) (H : Heap 𝓤) (A : Atoms 𝓤) (W : Given
       (g0 : length (ws .1 .0) ≡ length (x .y0)) (g1 : length (ws .1 .1 .0) ≡ length (x .y1))
       (g2 : length (ws .1 .1 .1 .0) ≡ length (x .y2)) (g3 : length (ws .1 .1 .1 .1 .0) ≡ length (x .y3)) (t : Took x m ws) where
     moved : (x .reader .at < z .at) × (z .at ≤ length (now s))
-    moved = read-moves (now s) (x .reader .at) (z .at) (read-at x r z e more .ends)
+    moved = read-moves (read-at x r z e more .ends)
 
     abbrev onward : Stand
     onward = record {
@@ -301,8 +301,16 @@ module _ {M : Type 1} (𝓤 : URA M) (H : Heap 𝓤) (A : Atoms 𝓤) (W : Given
     plainly = (s, (x .reader .at, (r, (z .at, tt))))
 
     abbrev to-args : Taken
-    to-args = (x .load, (ref-at u32 (named 0) κ0 q0 x0 n0 (x .y0), (ref-at u32 (named 1) κ1 q1 x1 n1 (x .y1),
-        (ref-at u32 (named 2) κ2 q2 x2 n2 (x .y2), (ref-at u8 (named 3) κ3 q3 x3 n3 (x .y3), plainly)))))
+    to-args = (
+      x .load,
+      (
+        ref-at u32 (named 0) κ0 q0 x0 n0 (x .y0),
+        (
+          ref-at u32 (named 1) κ1 q1 x1 n1 (x .y1),
+          (ref-at u32 (named 2) κ2 q2 x2 n2 (x .y2), (ref-at u8 (named 3) κ3 q3 x3 n3 (x .y3), plainly)),
+        ),
+      ),
+    )
 
     abbrev to-shares : Shares 5
     to-shares = (fullShare, (fullShare, (fullShare, (fullShare, (q4, tt)))))
