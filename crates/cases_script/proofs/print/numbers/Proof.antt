@@ -1,38 +1,31 @@
--- `cases_script::print::field` is safe and ends. Assumes nothing.
+-- `cases_script::print::numbers` is safe and ends. Assumes nothing.
 use Prim.Native.Nat.{_≤_, _-_}
 use borrow.Author.Needs.{needs}
-use Rattle.cases_script.proofs.print.field.Statement.{statement}
-use Rattle.cases_script.proofs.print.field.Tie as tie
-use Rattle.cases_script.proofs.print.field.Reads as reads
-use Rattle.cases_script.proofs.print.field.Lts as lts
+use Rattle.cases_script.proofs.print.numbers.Statement.{statement}
+use Rattle.cases_script.proofs.print.numbers.Tie as tie
+use Rattle.cases_script.proofs.print.numbers.Reads as reads
+use Rattle.cases_script.proofs.print.numbers.Lts as lts
 use Rattle.cases_script.proofs.print.number.Reads as number-reads
-use Rattle.cases_script.proofs.print.token.Reads as token-reads
 use Rattle.cases_script.proofs.words.get.Reads as get-reads
 use Rattle.std.proofs.num.wrapping_add_usize.Reads as wrapping-add-usize-reads
 
 abbrev Inv-loop : tie.InvT-loop
-Inv-loop name table first at n i₀ k₀ i k = k ≤ n
+Inv-loop table first n k₀ k = k ≤ n
 
 abbrev μ-loop : tie.MeasureT-loop
-μ-loop name table first at n i₀ k₀ i k = n - k
-
-token-requires : tie.Need-token-requires Inv-loop μ-loop
-token-requires c κs = search needs
-
-wrapping-add-usize-requires : tie.Need-wrapping-add-usize-requires Inv-loop μ-loop
-wrapping-add-usize-requires c κs = search needs
+μ-loop table first n k₀ k = n - k
 
 loop-holds : tie.Need-loop-holds Inv-loop μ-loop
 loop-holds c = search needs
+
+wrapping-add-usize-requires : tie.Need-wrapping-add-usize-requires Inv-loop μ-loop
+wrapping-add-usize-requires c κs = search needs
 
 get-requires : tie.Need-get-requires Inv-loop μ-loop
 get-requires c κs = search needs
 
 number-requires : tie.Need-number-requires Inv-loop μ-loop
 number-requires c κs = search needs
-
-wrapping-add-usize-requires-2 : tie.Need-wrapping-add-usize-requires-2 Inv-loop μ-loop
-wrapping-add-usize-requires-2 c κs = search needs
 
 add-k : tie.Need-add-k Inv-loop μ-loop
 add-k c = search needs
@@ -46,18 +39,16 @@ loop-again c = search needs
 returns : tie.Need-returns Inv-loop μ-loop
 returns c = search needs
 
-pub field-spec : {M : Type 1} → statement M
-field-spec =
+pub numbers-spec : {M : Type 1} → statement M
+numbers-spec =
     tie.close
     (tie.spec
     Inv-loop
     μ-loop
-    token-requires
-    wrapping-add-usize-requires
     loop-holds
+    wrapping-add-usize-requires
     get-requires
     number-requires
-    wrapping-add-usize-requires-2
     add-k
     loop-less
     loop-again

@@ -1,20 +1,20 @@
--- `cases_script::words::clear` is safe and ends. Assumes nothing.
+-- `cases_script::words::set` is safe and ends. Assumes nothing.
 use Prim.Native.Nat.{_-_}
 use mathlib.Core.Path.{_≡_}
 use lib.ListN.{length}
 use borrow.Author.Needs.{needs}
-use Rattle.cases_script.proofs.words.clear.Statement.{statement}
-use Rattle.cases_script.proofs.words.clear.Tie as tie
-use Rattle.cases_script.proofs.words.clear.Reads as reads
-use Rattle.cases_script.proofs.words.clear.Lts as lts
+use Rattle.cases_script.proofs.words.set.Statement.{statement}
+use Rattle.cases_script.proofs.words.set.Tie as tie
+use Rattle.cases_script.proofs.words.set.Reads as reads
+use Rattle.cases_script.proofs.words.set.Lts as lts
 use Rattle.cases_script.proofs.words.put.Reads as put-reads
 use Rattle.std.proofs.num.wrapping_add_usize.Reads as wrapping-add-usize-reads
 
 abbrev Inv-loop : tie.InvT-loop
-Inv-loop table₀ first n k₀ table k = length table ≡ length table₀
+Inv-loop table₀ first n v k₀ table k = length table ≡ length table₀
 
 abbrev μ-loop : tie.MeasureT-loop
-μ-loop table₀ first n k₀ table k = n - k
+μ-loop table₀ first n v k₀ table k = n - k
 
 loop-holds : tie.Need-loop-holds Inv-loop μ-loop
 loop-holds c = search needs
@@ -40,8 +40,8 @@ same-length c = search needs
 returns : tie.Need-returns Inv-loop μ-loop
 returns c = search needs
 
-pub clear-spec : {M : Type 1} → statement M
-clear-spec =
+pub set-spec : {M : Type 1} → statement M
+set-spec =
     tie.close
     (tie.spec
     Inv-loop
