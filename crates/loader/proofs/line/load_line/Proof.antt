@@ -1,7 +1,5 @@
 -- A line over the limit is refused, another loaded; what was read of it lies in the text. Assumes nothing.
-use denote.Ref.{now}
 use native.Mathlib.Omega.{arith}
-use Rattle.store.specs.Tables.{tables}
 use Rattle.loader.proofs.Inside.{read-inside}
 use Rattle.loader.proofs.Loading.{loads-over, loads-within}
 use borrow.Author.Needs.{needs}
@@ -22,17 +20,11 @@ refused-requires c κs = search needs
 returns : tie.Need-returns
 returns c =
     let a = c .before .before .before .before .before .before .before .before .args in
-    let m = tables (now (a .resources)) (now (a .statements)) (now (a .index)) (now (a .text)) in
-    let n = c .before .before .content in
     let h = c .before .if1 .taken in
-    let r = c .refused in
-    loads-over (a .c) m (now (a .source)) (a .from) (n .result) (r .result) (n .ensures) (omega (arith, h)) (r .ensures)
+    loads-over (a .from) (c .before .before .content .ensures) (omega (arith, h)) (c .refused .ensures)
 
 load-read-requires : tie.Need-load-read-requires
-load-read-requires c κs =
-    let s = c .before .before .before .before .before .before .before .before .before .before .before in
-    let a = s .args in
-    read-inside (now (a .source)) (a .from) (a .line) (a .next) (s .pre)
+load-read-requires c κs = read-inside (c .before .before .before .before .before .before .before .before .before .before .before .pre)
 
 same-length : tie.Need-same-length
 same-length c = search needs
@@ -48,13 +40,11 @@ same-length-4 c = search needs
 
 returns-2 : tie.Need-returns-2
 returns-2 c =
-    let s = c .before .before .before .before .before .before .before .before .before .before .before .before .before .before .before
-    .before .before .before .before .before in
-    let a = s .args in
-    let n = c .before .before .before .before .before .before .before .before .before .before .before .before .before .before .content in
-    let h = c .before .before .before .before .before .before .before .before .before .before .before .before .before .if1 .left in
-    let r = c .before .before .before .before .before .before .before .before .load-read in
-    loads-within _ _ _ (now (a .source)) (a .from) (n .result) (a .line) _ (n .ensures) (omega (arith, h)) (s .pre .answered) (r .ensures)
+    let b = c .before .before .before .before .before .before .before .before in
+    let n = b .before .before .before .before .before .before in
+    let s = n .before .before .before .before .before .before in
+    let h = b .before .before .before .before .before .if1 .left in
+    loads-within (s .args .from) (n .content .ensures) (omega (arith, h)) (s .pre .answered) (b .load-read .ensures)
 
 pub load-line-spec : {M : Type 1} → statement M
 load-line-spec =

@@ -1,6 +1,5 @@
 -- By what was read. Assumes nothing.
 use denote.Ref.{now}
-use Rattle.store.specs.Tables.{tables}
 use Rattle.loader.proofs.Inside.{parts-inside}
 use Rattle.loader.proofs.Loading.{loads-as, loads-bad, loads-end, loads-nothing}
 use borrow.Author.Needs.{needs}
@@ -48,25 +47,16 @@ returns : tie.Need-returns
 returns c =
     let line = c .before .before .before .before .before .before .before .before .before .before .before .before .before .before .line in
     let r = c .before .before .before .before .before .before .before .before .load-triple in
-    loads-as _ _ _ _ _ _ _ (line .given .1) (r .ensures)
+    loads-as (line .given .1) (r .ensures)
 
 returns-2 : tie.Need-returns-2
-returns-2 c =
-    let a = c .before .before .before .before .before .before .before .before .args in
-    let m = tables (now (a .resources)) (now (a .statements)) (now (a .index)) (now (a .text)) in
-    loads-bad (a .c) m (now (a .source)) (a .line) _ (c .refused .result) (c .before .enum-told .given .1) (c .refused .ensures)
+returns-2 c = loads-bad (c .before .enum-told .given .1) (c .refused .ensures)
 
 returns-3 : tie.Need-returns-3
-returns-3 c =
-    let a = c .before .before .before .before .before .before .before .args in
-    let m = tables (now (a .resources)) (now (a .statements)) (now (a .index)) (now (a .text)) in
-    loads-end (a .c) m (now (a .source)) (a .line) (c .enum-told2 .given .1)
+returns-3 c = loads-end (c .enum-told2 .given .1)
 
 returns-4 : tie.Need-returns-4
-returns-4 c =
-    let a = c .before .before .before .before .before .before .before .args in
-    let m = tables (now (a .resources)) (now (a .statements)) (now (a .index)) (now (a .text)) in
-    loads-nothing (a .c) m (now (a .source)) (a .line) (c .enum-told3 .given .1)
+returns-4 c = loads-nothing (c .enum-told3 .given .1)
 
 pub load-read-spec : {M : Type 1} → statement M
 load-read-spec =

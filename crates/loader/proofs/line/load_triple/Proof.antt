@@ -1,5 +1,4 @@
 -- The names of the parts before i have been entered; a refusal, and the triple asserted, each end the line. Assumes nothing.
-use denote.Ref.{now}
 use mathlib.Core.Path.{_≡_, refl}
 use Prim.Native.Nat.{_-_, _≤_}
 use native.Mathlib.Omega.{arith}
@@ -28,9 +27,7 @@ abbrev μ-loop : tie.MeasureT-loop
 
 loop-holds : tie.Need-loop-holds Inv-loop μ-loop
 loop-holds c =
-    let a = c .before .before .before .before .before .args in
-    let m = tables (now (a .resources)) (now (a .statements)) (now (a .index)) (now (a .text)) in
-    (refl, refl, refl, omega arith, refl, each-inside _ _ (search needs), entering-none _ _ (a .c) m _)
+    (refl, refl, refl, omega arith, refl, each-inside _ _ (search needs), entering-none)
 
 mul-part : tie.Need-mul-part Inv-loop μ-loop
 mul-part c = search needs
@@ -76,20 +73,10 @@ same-length-4 c = search needs
 
 returns : tie.Need-returns Inv-loop μ-loop
 returns c =
-    let a = c .before .before .before .before .before .before .before .before .before .before .before .before .before .before .before
-    .before .before .before .before .before .before .before .before .before .args in
-    let l = c .before .before .before .before .before .before .before .before .before .before .before .before .before .before .before
-    .before .before .before .loop in
-    let h = c .before .before .before .before .before .before .before .before .before .before .before .before .before .before .before
-    .before .before .loop-test .taken in
-    let i = c .before .before .before .before .before .before .before .before .before .before .intern in
-    let m = tables (now (a .resources)) (now (a .statements)) (now (a .index)) (now (a .text)) in
-    let m′ = tables (l .resources) (now (a .statements)) (l .index) (l .text) in
-    let m″ = tables (i .last .1 .0) (now (a .statements)) (i .last .1 .1 .1 .0) (i .last .1 .1 .1 .1 .0) in
-    let e = c .before .before .e .given in
-    let r = c .refused in
-    loads-refused (now (a .source)) _ (a .c) m (l .ids) (l .d) m′ m″ (l .i) (l .inv .6) h (a .subject) (a .predicate) (a .object) refl
-    (i .result) (e .0 .0) (r .result) (i .ensures) (e .1) (r .ensures)
+    let b = c .before .before .before .before .before .before .before .before .before .before in
+    let l = b .before .before .before .before .before .before .before .before .loop in
+    let h = b .before .before .before .before .before .before .before .loop-test .taken in
+    loads-refused (l .inv .6) h refl (b .intern .ensures) (c .before .before .e .given .1) (c .refused .ensures)
 
 enum-known-n : tie.Need-enum-known-n Inv-loop μ-loop
 enum-known-n c = search needs
@@ -108,26 +95,11 @@ loop-less c = search needs
 
 loop-again : tie.Need-loop-again Inv-loop μ-loop
 loop-again c =
-    let a = c .before .before .before .before .before .before .before .before .before .before .before .before .before .before .before
-    .before .before .before .before .before .before .before .before .args in
-    let l = c .before .before .before .before .before .before .before .before .before .before .before .before .before .before .before
-    .before .before .loop in
-    let h = c .before .before .before .before .before .before .before .before .before .before .before .before .before .before .before
-    .before .loop-test .taken in
-    let i = c .before .before .before .before .before .before .before .before .before .intern in
-    let m = tables (now (a .resources)) (now (a .statements)) (now (a .index)) (now (a .text)) in
-    let m′ = tables (l .resources) (now (a .statements)) (l .index) (l .text) in
-    let m″ = tables (i .last .1 .0) (now (a .statements)) (i .last .1 .1 .1 .0) (i .last .1 .1 .1 .1 .0) in
-    let n = c .before .n .given in (
-      search needs,
-      search needs,
-      search needs,
-      omega (arith, h),
-      search needs,
-      l .inv .5,
-      entering-more (now (a .source)) _ (a .c) m (l .ids) (l .d) m′ m″ (l .i) (l .inv .6) h (i .result) (n .0 .0) (n .0 .1 .0)
-          (i .ensures) (n .1) (omega (arith, h)),
-    )
+    let b = c .before .before .before .before .before .before .before .before .before in
+    let l = b .before .before .before .before .before .before .before .before .loop in
+    let h = b .before .before .before .before .before .before .before .loop-test .taken in
+    let more = entering-more (l .inv .6) h (b .intern .ensures) (c .before .n .given .1) (omega (arith, h)) in
+    (search needs, search needs, search needs, omega (arith, h), search needs, l .inv .5, more)
 
 array-copy-out-t22 : tie.Need-array-copy-out-t22 Inv-loop μ-loop
 array-copy-out-t22 c = search needs
@@ -158,17 +130,11 @@ same-length-8 c = search needs
 
 returns-2 : tie.Need-returns-2 Inv-loop μ-loop
 returns-2 c =
-    let a = c .before .before .before .before .before .before .before .before .before .before .before .before .before .before .before
-    .before .before .before .before .before .args in
-    let l = c .before .before .before .before .before .before .before .before .before .before .before .before .before .before .loop in
-    let h = c .before .before .before .before .before .before .before .before .before .before .before .before .before .loop-test .left in
-    let s = c .before .before .before .before .before .assert in
-    let m = tables (now (a .resources)) (now (a .statements)) (now (a .index)) (now (a .text)) in
-    let m′ = tables (l .resources) (now (a .statements)) (l .index) (l .text) in
-    let m″ = tables (s .last .1 .0) (s .last .1 .1 .0) (l .index) (l .text) in
-    let r = c .asserted in
-    loads-asserted (now (a .source)) _ (a .c) m (l .ids) (l .d) m′ m″ (l .i) (l .inv .6) (a .subject) (a .predicate) (a .object) refl
-    (s .result) (r .result) (omega (arith, h, l .inv .3)) (l .inv .4) (s .ensures) (r .ensures)
+    let b = c .before .before .before .before .before in
+    let l = b .before .before .before .before .before .before .before .before .before .loop in
+    let h = b .before .before .before .before .before .before .before .before .loop-test .left in
+    let s = b .assert in
+    loads-asserted (l .inv .6) refl (s .result) (omega (arith, h, l .inv .3)) (l .inv .4) (s .ensures) (c .asserted .ensures)
 
 pub load-triple-spec : {M : Type 1} → statement M
 load-triple-spec =

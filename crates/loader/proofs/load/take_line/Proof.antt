@@ -30,11 +30,9 @@ same-length-4 : tie.Need-same-length-4
 same-length-4 c = search needs
 
 returns : tie.Need-returns
-returns c = let r = c .before .before .before .before .before .before .before .before .before .before .before .load-line in record {
-  outcome
-      = r .result .outcome;
-  loads = r .ensures;
-}
+returns c =
+    let r = c .before .before .before .before .before .before .before .before .before .before .before .load-line in
+    record { outcome = r .result .outcome; loads = r .ensures }
 
 pub take-line-spec : {M : Type 1} → statement M
 take-line-spec =
