@@ -1,27 +1,32 @@
-// Runs the script of `stdin` on every operation of the store (paper 01; 02, notes 5 to 7). A line is words with one space between them; a line
-// that begins with `# ` and an empty line are passed over. `reference.py` reads the same script and follows the papers with plain Python lists.
+// Runs the script of `stdin` on every operation of the store (paper 01; 02, notes 5 to 7). A line is words with one space between them;
+// a line that begins with `# ` and an empty line are passed over. `reference.py` reads the same script and follows the papers with plain
+// Python lists.
 //
 // Lines that set something up write nothing. A set-up changes what is lent, and drops what lies past it.
 //
-// | line                                | sets                                                                                                      |
-// |-------------------------------------|-----------------------------------------------------------------------------------------------------------|
-// | lend R S I T [short K L]            | what is lent: resource and statement records (K and L words less), index words, text bytes                |
-// | fill V                              | every word and byte that is lent                                                                          |
-// | counters R T B [RECLAIMS]           | the counters                                                                                              |
-// | resource Y FIELDS                   | a resource record, 0 in each field that is not named                                                      |
-// | statement N FIELDS                  | a statement record, likewise                                                                              |
-// | change resource Y FIELDS            | the fields named, and no other; so for `change statement N FIELDS`                                        |
-// | index AT V ..                       | words of the index, from AT on, which counts from 0                                                       |
-// | text AT BYTES                       | bytes of the text, from AT on, which counts from 0; a bar stands for a zero byte                          |
-// | listing S P O CHAIN N [RECLAIMS]    | the listing's place: pattern, chain (none, s, p, o), next, the number of reclaims                         |
-// | question W ..                       | the question's words, a variable as `?` and its number                                                    |
-// | place HOW [DEPTH RECLAIMS LEVEL ..] | the question's place: start, within or end; levels; reclaims; chain (-, s, p, o) and record of each level |
+// | line                                | sets                                                                           |
+// |-------------------------------------|--------------------------------------------------------------------------------|
+// | lend R S I T [short K L]            | what is lent: resource and statement records (K and L words less), index       |
+// |                                     | words, text bytes                                                              |
+// | fill V                              | every word and byte that is lent                                               |
+// | counters R T B [RECLAIMS]           | the counters                                                                   |
+// | resource Y FIELDS                   | a resource record, 0 in each field that is not named                           |
+// | statement N FIELDS                  | a statement record, likewise                                                   |
+// | change resource Y FIELDS            | the fields named, and no other; so for `change statement N FIELDS`             |
+// | index AT V ..                       | words of the index, from AT on, which counts from 0                            |
+// | text AT BYTES                       | bytes of the text, from AT on, which counts from 0; a bar stands for a zero    |
+// |                                     | byte                                                                           |
+// | listing S P O CHAIN N [RECLAIMS]    | the listing's place: pattern, chain (none, s, p, o), next, the number of       |
+// |                                     | reclaims                                                                       |
+// | question W ..                       | the question's words, a variable as `?` and its number                         |
+// | place HOW [DEPTH RECLAIMS LEVEL ..] | the question's place: start, within or end; levels; reclaims; chain            |
+// |                                     | (-, s, p, o) and record of each level                                          |
 //
 // A field is `first`, `count`, `offset`, `kind`, `live` of a resource, `triple`, `next`, `flag` of a statement; a field of three words is
 // followed by three numbers, or by `subject`, `predicate` or `object` and one number. What is not told is 0.
 //
-// A line that begins with a name and a colon is a case: it writes its number, its name and the answer, or `refused` and the paper's number.
-// The counters, and the place of the listing or of the question, are from then on what the answer says.
+// A line that begins with a name and a colon is a case: it writes its number, its name and the answer, or `refused` and the paper's
+// number. The counters, and the place of the listing or of the question, are from then on what the answer says.
 //
 // | call                               | writes                                                                   |
 // |------------------------------------|--------------------------------------------------------------------------|
@@ -107,6 +112,7 @@ fn run(
 ) {
     let mut state = state::start();
     let mut at = 0;
+    // The lines before `at` are run, which left `state`.
     while at < script.len() {
         let start = at;
         let end = script::until(script, start, b'\n');

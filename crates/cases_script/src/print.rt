@@ -3,7 +3,6 @@ use crate::script;
 use crate::state;
 use crate::state::State;
 use crate::words;
-use graph::MAX_PATTERNS;
 use graph::Solution;
 use graph::VARIABLES;
 use libc::STDOUT_FILENO;
@@ -178,11 +177,15 @@ pub fn place(s: State) {
         state::get(s, state::DEPTH),
     );
     number(state::get(s, state::PLACE_RECLAIMS));
-    let mut i: usize = 0;
-    while i < MAX_PATTERNS {
-        let k = state::LEVELS + 2 * i;
+    levels(s);
+}
+
+fn levels(s: State) {
+    let mut k = state::LEVELS;
+    // The levels whose words stand before k are written.
+    while k < state::LEVELS_END {
         level(state::get(s, k), state::get(s, k + 1));
-        i += 1;
+        k += 2;
     }
 }
 
@@ -196,6 +199,7 @@ fn level(chain: u32, n: u32) {
 pub fn solution(b: Solution) {
     token(SOLUTION);
     let mut v = 0;
+    // The numbers of the first v variables are written.
     while v < VARIABLES {
         let y = b.values[v];
         number(y.0);
@@ -211,7 +215,7 @@ pub fn show(line: &[u8], resources: &[u32], statements: &[u32], index: &[u32], b
         0 => resource(resources, words::resource(n)),
         1 => statement(statements, words::statement(n)),
         2 => all_resources(resources),
-        3 => all(index),
+        3 => numbers(index, 0, index.len()),
         _ => barred(bytes),
     }
 }
@@ -231,13 +235,17 @@ fn statement(statements: &[u32], first: usize) {
 }
 
 // A field's name, and its words.
-fn field(name: u32, table: &[u32], first: usize, at: usize, n: u32) {
+fn field(name: u32, table: &[u32], first: usize, at: usize, n: usize) {
     token(name);
-    let mut i = std::num::wrapping_add_usize(first, at);
-    let mut k: u32 = 0;
+    numbers(table, std::num::wrapping_add_usize(first, at), n);
+}
+
+// The words from `first` on, n of them.
+fn numbers(table: &[u32], first: usize, n: usize) {
+    let mut k = 0;
+    // The first k of them are written.
     while k < n {
-        number(words::get(table, i));
-        i = std::num::wrapping_add_usize(i, 1);
+        number(words::get(table, std::num::wrapping_add_usize(first, k)));
         k += 1;
     }
 }
@@ -245,6 +253,7 @@ fn field(name: u32, table: &[u32], first: usize, at: usize, n: u32) {
 // Every whole record.
 fn all_resources(resources: &[u32]) {
     let mut first = 0;
+    // The records before the word `first` are written.
     while first < resources.len() {
         if resources.len() - first < RESOURCE_WORDS {
             return;
@@ -254,18 +263,11 @@ fn all_resources(resources: &[u32]) {
     }
 }
 
-fn all(table: &[u32]) {
-    let mut i = 0;
-    while i < table.len() {
-        number(table[i]);
-        i += 1;
-    }
-}
-
 // Bytes, a bar for each zero byte.
 fn barred(bytes: &[u8]) {
     text(b" ");
     let mut i = 0;
+    // The first i bytes are written.
     while i < bytes.len() {
         byte(bytes[i]);
         i += 1;

@@ -3,18 +3,11 @@ ghost use Prim.Native.Nat.{_≤_};
 ghost use lib.ListN.{length};
 
 // The offset of the byte `stop` from `at` on, or the end.
-pub fn until(bytes: &[u8], at: usize, stop: u8) -> usize
-    requires { ⌜ at ≤ length (now bytes) ⌝ }
-    ensures { λ r. ⌜ (at ≤ r) × (r ≤ length (now (bytes .entry))) ⌝ }
+pub fn until(line: &[u8], at: usize, stop: u8) -> usize
+    requires { ⌜ at ≤ length (now line) ⌝ }
+    ensures { λ r. ⌜ (at ≤ r) × (r ≤ length (now (line .entry))) ⌝ }
 {
-    let mut i = at;
-    while i < bytes.len() {
-        if bytes[i] == stop {
-            return i;
-        }
-        i += 1;
-    }
-    i
+    bytes::scan::find(line, at, line.len(), stop)
 }
 
 // The offset of word k, from 0, or the line's end.
@@ -23,6 +16,7 @@ fn start(line: &[u8], k: u32) -> usize
 {
     let mut left = k;
     let mut i = 0;
+    // `left` words begin after i, up to word k.
     while i < line.len() {
         if left == 0 {
             return i;
@@ -80,6 +74,7 @@ pub fn value(word: &[u8]) -> u32 {
 fn digits(word: &[u8]) -> u32 {
     let mut v: u64 = 0;
     let mut i = 0;
+    // The digits among the first i bytes are read.
     while i < word.len() {
         v = more(v, word[i]);
         i += 1;
@@ -113,6 +108,7 @@ fn low(v: u64) -> u32 {
 pub fn count(line: &[u8]) -> u32 {
     let mut n: u32 = 0;
     let mut i = 0;
+    // n spaces stand among the first i bytes.
     while i < line.len() {
         if line[i] == b' ' {
             n = std::num::wrapping_add_u32(n, 1);
@@ -126,11 +122,12 @@ pub fn count(line: &[u8]) -> u32 {
 pub fn position(word: &[u8], list: &[u8]) -> u32 {
     let mut n: u32 = 0;
     let mut at = 0;
+    // The first n words of the list are others; the next one begins at `at`.
     while at < list.len() {
         let from = at;
         let end = until(list, from, b' ');
         at = end + 1;
-        if same(word, &list[from..end]) {
+        if check::same(word, &list[from..end]) {
             return n;
         }
         n = std::num::wrapping_add_u32(n, 1);
@@ -138,21 +135,8 @@ pub fn position(word: &[u8], list: &[u8]) -> u32 {
     n
 }
 
-fn same(a: &[u8], b: &[u8]) -> bool {
-    if a.len() != b.len() {
-        return false;
-    }
-    let mut i = 0;
-    while i < a.len() {
-        if a[i] != b[i] {
-            return false;
-        }
-        i += 1;
-    }
-    true
-}
-
-// The verbs, by their numbers in `spelt`: set-ups of the state up to `PLACE`, of the tables up to `CHANGE`, then the calls; `show` is the last.
+// The verbs, by their numbers in `spelt`: set-ups of the state up to `PLACE`, of the tables up to `CHANGE`, then the calls; `show` is the
+// last.
 pub const LEND: u32 = 1;
 
 pub const COUNTERS: u32 = 2;

@@ -30,6 +30,7 @@ fn values(s: State, first: usize, n: u32, line: &[u8]) -> State {
     let mut t = s;
     let mut at = first;
     let mut k: u32 = 0;
+    // The first k words are set; the next one goes to `at`.
     while k < n {
         k += 1;
         t = state::set(t, at, script::number(line, k));
@@ -91,7 +92,7 @@ fn record(line: &[u8], table: &mut [u32], first: usize, width: usize) {
         fields(line, 3, table, first);
         return;
     }
-    words::clear(table, first, width);
+    words::set(table, first, width, 0);
     fields(line, 2, table, first);
 }
 
@@ -100,6 +101,7 @@ fn record(line: &[u8], table: &mut [u32], first: usize, width: usize) {
 fn fields(line: &[u8], from: u32, table: &mut [u32], first: usize) {
     let mut at = first;
     let mut k = from;
+    // The words before word k are written; the next number goes to `at`.
     while k < 64 {
         let word = script::word(line, k);
         if word.len() == 0 {
@@ -143,6 +145,7 @@ fn group(n: u32) -> usize {
 fn bytes(text: &mut [u8], first: usize, from: &[u8]) {
     let mut at = first;
     let mut i = 0;
+    // The first i bytes are written; the next one goes to `at`.
     while i < from.len() {
         words::put_byte(text, at, unbarred(from[i]));
         at = std::num::wrapping_add_usize(at, 1);

@@ -1,5 +1,5 @@
-// What the last line left, as words by value: a value of many parts is dear to check where it is passed on, and these are passed through every
-// line. The places and the counters are made of their words where a call needs them.
+// What the last line left, as words by value: a value of many parts is dear to check where it is passed on, and these are passed through
+// every line. The places and the counters are made of their words where a call needs them.
 //
 // Names here are the script's, which are the paper's: a listing and a question with their places are a scan and a query with their cursors.
 use crate::words::get as get_word;
@@ -76,6 +76,8 @@ pub const DEPTH: usize = PLACE + 1;
 pub const PLACE_RECLAIMS: usize = PLACE + 2;
 
 pub const LEVELS: usize = PLACE + 3;
+
+pub const LEVELS_END: usize = LEVELS + 2 * MAX_PATTERNS;
 
 pub const PLACE_WORDS: u32 = 3 + 2 * MAX_PATTERNS as u32;
 
@@ -245,6 +247,7 @@ pub fn place(s: State) -> QueryCursor {
     let none = level(0, 0);
     let mut levels = [none; MAX_PATTERNS];
     let mut i: usize = 0;
+    // The first i levels are made.
     while i < MAX_PATTERNS {
         let k = LEVELS + 2 * i;
         let l = level(get(s, k), get(s, k + 1));
@@ -265,6 +268,7 @@ pub fn with_place(s: State, q: QueryCursor) -> State {
     let s = set(s, DEPTH, q.depth);
     let mut t = set(s, PLACE_RECLAIMS, q.generation);
     let mut i: usize = 0;
+    // The words of the first i levels are set in `t`.
     while i < MAX_PATTERNS {
         let l = q.levels[i];
         t = with_level(t, LEVELS + 2 * i, l);

@@ -21,25 +21,24 @@ pub fn put_byte(text: &mut [u8], i: usize, b: u8) {
     }
 }
 
-// The words from `first` on become 0, n of them.
-pub fn clear(table: &mut [u32], first: usize, n: usize) {
+// The words from `first` on become v, n of them.
+pub fn set(table: &mut [u32], first: usize, n: usize, v: u32) {
     let mut k = 0;
+    // The first k of them are v.
     while k < n {
-        put(table, std::num::wrapping_add_usize(first, k), 0);
+        put(table, std::num::wrapping_add_usize(first, k), v);
         k += 1;
     }
 }
 
 pub fn fill(table: &mut [u32], v: u32) {
-    let mut i = 0;
-    while i < table.len() {
-        table[i] = v;
-        i += 1;
-    }
+    let n = table.len();
+    set(table, 0, n, v);
 }
 
 pub fn fill_bytes(text: &mut [u8], b: u8) {
     let mut i = 0;
+    // The first i bytes are b.
     while i < text.len() {
         text[i] = b;
         i += 1;

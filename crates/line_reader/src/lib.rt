@@ -1,13 +1,12 @@
 // A reader that carries the text and how far it has read (paper 01, "The right form for each place"): thin over
 // `ntriples::read_line`, which takes a plain text and a position.
 //
-// A function that takes, makes or holds a `LineReader` is proved by a walk of its code, since the struct holds a reference.
-// `line_at` has plain parameters: its callers need no walk.
+// A function that takes, makes or holds a `LineReader` is proved by a walk of its code, since the struct holds a reference:
+// `proofs/Carried.antt` has the steps for one that carries it in a local.
 ghost use mathlib.Core.Path.{_≡_};
 ghost use Rattle.term.specs.Grammar.{nameLimit};
 ghost use Rattle.ntriples.specs.Reader.{readOf};
 use ntriples::Line;
-use ntriples::LineRead;
 
 // The text, and the position of the next line.
 pub struct LineReader<'a> {
@@ -31,14 +30,4 @@ pub fn read_line<'s, 'a>(r: &'s mut LineReader<'a>) -> Line
     let got = ntriples::read_line(r.text, r.at);
     r.at = got.next;
     got.line
-}
-
-// The line at a position of a text, and the position after it: a reader that stands there reads it. The parameters are plain,
-// so a caller needs no walk.
-pub fn line_at(text: &[u8], at: usize) -> LineRead
-    ensures { λ l. ⌜ l ≡ readOf nameLimit (now (text .entry)) at ⌝ }
-{
-    let mut r = LineReader { text, at };
-    let line = read_line(&mut r);
-    LineRead { line, next: r.at }
 }

@@ -62,6 +62,7 @@ fn report_line(n: u64, line: ntriples::Line, next: usize) -> bool
 fn report_lines(text: &[u8]) {
     let mut r = line_reader::reader(text);
     let mut n: u64 = 0;
+    // The first n lines are read and told; `r` stands after them.
     loop {
         let line = line_reader::read_line(&mut r);
         n += 1;

@@ -1,6 +1,6 @@
 // The loading program (paper 01, "Loading program"): reads N-Triples from standard input, or from the files named as arguments in turn, and
 // writes a line for each statement line and the totals. Lines are numbered through all files; a file's end ends its last line.
-use loader::Load;
+use loader::load::Load;
 
 // Loads the files named as arguments, in turn.
 fn load_files(
@@ -14,6 +14,7 @@ fn load_files(
     let mut m = l;
     let count = os::arg_count();
     let mut i = 1;
+    // The arguments before i are loaded; `m` is how far the load is.
     while i < count {
         m = loader::file::load_argument(m, resources, statements, index, text, buffer, i);
         i += 1;
@@ -27,7 +28,7 @@ fn main() {
     let mut index = [0u32; loader::INDEX_TABLE];
     let mut text = [0u8; loader::TEXT_TABLE];
     let mut buffer = [0u8; loader::BUFFER];
-    let fresh = loader::start();
+    let fresh = loader::load::start();
     if os::arg_count() < 2 {
         let l = loader::file::load_open(
             fresh,

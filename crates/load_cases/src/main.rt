@@ -1,5 +1,5 @@
-// Edges of the loading program: each file named as an argument goes into a store of its own, with fresh counters over the tables as the file
-// before left them. A line `== NAME` stands before each file's output.
+// Edges of the loading program: each file named as an argument goes into a store of its own, with fresh counters over the tables as the
+// file before left them. A line `== NAME` stands before each file's output.
 use libc::STDOUT_FILENO;
 
 // Writes the heading of argument i.
@@ -21,7 +21,7 @@ fn load_case(
     i: usize,
 ) {
     heading(i);
-    let fresh = loader::start();
+    let fresh = loader::load::start();
     let l = loader::file::load_argument(fresh, resources, statements, index, text, buffer, i);
     loader::output::totals(l.counters);
 }
@@ -36,6 +36,7 @@ fn load_all(
 ) {
     let count = os::arg_count();
     let mut i = 1;
+    // The arguments before i are loaded, each into a store of its own.
     while i < count {
         let k = i;
         i += 1;

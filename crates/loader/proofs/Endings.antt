@@ -65,7 +65,7 @@ before s l n h (FirstLine.last u) = record {
   lf = λ q p z. absurd (unbroken-at s u (n - 1) (omega arith) q);
 }
 
-module _ (text : List ℕ) (from next : ℕ) (N : Ends text from next) where
+module _ {text : List ℕ} {from next : ℕ} (N : Ends text from next) where
   abbrev s : List ℕ
   s = drop from text
 
@@ -86,7 +86,7 @@ module _ (text : List ℕ) (from next : ℕ) (N : Ends text from next) where
   byte k j e = rw e (sym (getD-drop from text j 0))
 
   some : 0 < n
-  some = let a = read-moves text from next N in omega (arith, moved, a .0)
+  some = let a = read-moves N in omega (arith, moved, a .0)
 
   ways : Before s l n
   ways = before s l n some (line-exists s .2)

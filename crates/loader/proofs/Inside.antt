@@ -35,8 +35,8 @@ each-inside text ps h = record { each = λ i k. part ps h i k }
     part (p ∷ ps) h zero k = (h .0, h .1)
     part (p ∷ ps) h (suc i) k = part ps (h .2) i (omega arith)
 
-same-parts : (text : List ℕ) (x y z x′ y′ z′ : Span) → x ≡ x′ → y ≡ y′ → z ≡ z′ → Inside text (x ∷ y ∷ z ∷ []) → Inside text (x′ ∷ y′ ∷ z′ ∷
-    [])
+same-parts : (text : List ℕ) (x y z x′ y′ z′ : Span) → x ≡ x′ → y ≡ y′ → z ≡ z′ → Inside text (x ∷ y ∷ z ∷ [])
+    → Inside text (x′ ∷ y′ ∷ z′ ∷ [])
 same-parts text x y z x′ y′ z′ a b c h = rw (a, b, c) at h
 
 derived-inside : (i : ℕ) (text l r : List ℕ) (x y z : Span) → i ≤ length text → drop i text ≡ l ++ r → Derived nameLimit i l x y z
@@ -49,9 +49,8 @@ derived-inside i text l r x y z h e D =
     same-parts text (subjectSpan i d) (predicateSpan i d) (objectPart i d) x y z (D .subjectAt) (D .predicateAt) (D .objectAt)
     (omega arith, omega arith, (omega arith, omega arith, (omega arith, omega arith, tt)))
 
-triple-inside : (text : List ℕ) (i : ℕ) (x y z : Span) → readOf nameLimit text i .line ≡ answer.Triple x y z → (i < length text) ⊎ (length
-    text ≤ i)
-    → LineInside text (answer.Triple x y z)
+triple-inside : (text : List ℕ) (i : ℕ) (x y z : Span) → readOf nameLimit text i .line ≡ answer.Triple x y z
+    → (i < length text) ⊎ (length text ≤ i) → LineInside text (answer.Triple x y z)
 unfolding valuesOf
 triple-inside text i x y z e (inl h) =
     let w = line-exists (drop i text) in
@@ -68,11 +67,11 @@ line-inside text i answer.Nothing e = tt
 line-inside text i (answer.Refused k) e = tt
 line-inside text i (answer.Triple x y z) e = triple-inside text i x y z e (below-or i (length text))
 
-pub read-inside : (text : List ℕ) (from : ℕ) (line : Line) (next : ℕ) → ReadAt text from line next → LineInside text line
-read-inside text from line next R = line-inside text from line (sym (R .answered))
+pub read-inside : {text : List ℕ} {from : ℕ} {line : Line} {next : ℕ} → ReadAt text from line next → LineInside text line
+read-inside {text} {from} {line} R = line-inside text from line (sym (R .answered))
 
-pub read-moves : (text : List ℕ) (from next : ℕ) → Ends text from next → (from < next) × (next ≤ length text)
-read-moves text from next N = rw (N .moved) (moves nameLimit text from (N .before-end))
+pub read-moves : {text : List ℕ} {from next : ℕ} → Ends text from next → (from < next) × (next ≤ length text)
+read-moves {text} {from} N = rw (N .moved) (moves nameLimit text from (N .before-end))
 
 pub parts-inside : (text : List ℕ) (a b : Line) → a ≡ b → LineInside text a → LineInside text b
 parts-inside text a b e h = rw e at h

@@ -39,9 +39,9 @@ use Rattle.graph.specs.Claims.{loading, loadOf}
 use Rattle.store.proofs.Numbers.{refuses}
 use Rattle.graph.proofs.Theorems.{graph-writes}
 use Rattle.lines.specs.Claims.{namesIn}
-use Rattle.loader.specs.declared.Outcome.{Outcome}
-use Rattle.loader.specs.declared.Outcome.the-variants.{Nothing, Refused}
-use Rattle.loader.specs.declared.LineLoaded.{LineLoaded}
+use Rattle.loader.specs.declared.line.Outcome.{Outcome}
+use Rattle.loader.specs.declared.line.Outcome.the-variants.{Nothing, Refused}
+use Rattle.loader.specs.declared.line.LineLoaded.{LineLoaded}
 use Rattle.loader.proofs.Inside.{noPart}
 use Rattle.loader.specs.Lines.{lineLimit, contentOf, lineAt, ended, reported, loadLineOf, Loads}
 use Rattle.loader.specs.Steps.{refusedLine, assertedLine}
@@ -96,29 +96,28 @@ unfolding loading loadFrom
 load-from text x y z s = refl
 
 -- the names of the first i parts have been entered, which led from c and m to d and m′
-pub record Entering (text : List ℕ) (parts : List Span) (c : Counters) (m : Tables) (ids : List ResourceId) (d : Counters) (m′ : Tables) (i
-    : ℕ)
-    : Type 0 where
+pub record Entering (text : List ℕ) (parts : List Span) (c : Counters) (m : Tables) (ids : List ResourceId) (d : Counters)
+    (m′ : Tables) (i : ℕ) : Type 0 where
   pub ready : Ready c m → Ready d m′
   pub onward : Ready c m → (qs : List ScanCursor)
       → loadFrom text parts [] (store c m qs) ≡ loadFrom text (drop i parts) (take i ids) (store d m′ qs)
 
-pub entering-none : (text : List ℕ) (parts : List Span) (c : Counters) (m : Tables) (ids : List ResourceId) → Entering text parts c m ids c
-    m 0
-entering-none text parts c m ids = record { ready = λ R. R; onward = λ R qs. refl }
+pub entering-none : {text : List ℕ} {parts : List Span} {c : Counters} {m : Tables} {ids : List ResourceId}
+    → Entering text parts c m ids c m 0
+entering-none = record { ready = λ R. R; onward = λ R qs. refl }
 
-module _ (text : List ℕ) (parts : List Span) (c : Counters) (m : Tables) (ids : List ResourceId) (d : Counters) (m′ m″ : Tables) (i : ℕ)
+module _ {text : List ℕ} {parts : List Span} {c : Counters} {m : Tables} {ids : List ResourceId} {d : Counters} {m′ : Tables} {i : ℕ}
     (E : Entering text parts c m ids d m′ i) where
   -- what is left to do
   abbrev rest : List ScanCursor → Store × Values
   rest qs = loadFrom text (drop i parts) (take i ids) (store d m′ qs)
 
   -- a line with these parts, once the rest is done
-  loads-by : (x y z : Span) → parts ≡ x ∷ y ∷ z ∷ [] → (r : LineLoaded)
+  loads-by : {m″ : Tables} {x y z : Span} → parts ≡ x ∷ y ∷ z ∷ [] → (r : LineLoaded)
       → (Ready c m → (qs : List ScanCursor) → ended (store (r .counters) m″ qs) (r .outcome) ≡ reported (rest qs))
       → Loads c m m″ text (answer.Triple x y z) r
   unfolding loadLineOf
-  loads-by x y z p r f =
+  loads-by {m″} {x} {y} {z} p r f =
       let whole : Ready c m → (qs : List ScanCursor)
       → ended (store (r .counters) m″ qs) (r .outcome) ≡ reported (loadOf (store c m qs) (namesIn text x y z)) =
       λ R qs. f R qs ∙ ap reported (sym (E .onward R qs)
@@ -134,50 +133,47 @@ module _ (text : List ℕ) (parts : List Span) (c : Counters) (m : Tables) (ids 
     next-part : (qs : List ScanCursor) → rest qs ≡ loadFrom text (getD parts i noPart ∷ drop (suc i) parts) (take i ids) (store d m′ qs)
     next-part qs = ap (λ (ps : List Span). loadFrom text ps (take i ids) (store d m′ qs)) (drop-cons parts i noPart h)
 
-    rest-entered : (n : ResourceId) (k : Counters) (qs : List ScanCursor) → after m″ (Id n k) ≡ internOf d m′ name → i < length ids
-        → rest qs ≡ loadFrom text (drop (i + 1) parts) (take (i + 1) (set ids i n)) (store k m″ qs)
+    rest-entered : (m″ : Tables) (n : ResourceId) (k : Counters) (qs : List ScanCursor) → after m″ (Id n k) ≡ internOf d m′ name
+        → i < length ids → rest qs ≡ loadFrom text (drop (i + 1) parts) (take (i + 1) (set ids i n)) (store k m″ qs)
     unfolding loadFrom
-    rest-entered n k qs e g = next-part qs ∙ rw (entered d m′ m″ name (Id n k) e qs, add-one i, take-suc-set ids i n g) refl
+    rest-entered m″ n k qs e g = next-part qs ∙ rw (entered d m′ m″ name (Id n k) e qs, add-one i, take-suc-set ids i n g) refl
 
-    pub entering-more : (a : Interned) (n : ResourceId) (k : Counters) → InternAnswer d m′ m″ name a → a ≡ Id n k → i < length ids
-        → Entering text parts c m (set ids i n) k m″ (i + 1)
-    entering-more a n k I e g =
+    pub entering-more : {m″ : Tables} {a : Interned} {n : ResourceId} {k : Counters} → InternAnswer d m′ m″ name a → a ≡ Id n k
+        → i < length ids → Entering text parts c m (set ids i n) k m″ (i + 1)
+    entering-more {m″} {a} {n} {k} I e g =
         let J : InternAnswer d m′ m″ name (Id n k) = (rw e at I) in
         record {
           ready = λ R. ready-on d k m′ m″ name n (E .ready R) J;
-          onward = λ R qs. E .onward R qs ∙ rest-entered n k qs (enter-exact d m′ m″ name (Id n k) (E .ready R) J) g;
+          onward = λ R qs. E .onward R qs ∙ rest-entered m″ n k qs (enter-exact d m′ m″ name (Id n k) (E .ready R) J) g;
         }
 
-    rest-refused : (e : Refusal) (qs : List ScanCursor) → after m″ (NotInterned e) ≡ internOf d m′ name
+    rest-refused : (m″ : Tables) (e : Refusal) (qs : List ScanCursor) → after m″ (NotInterned e) ≡ internOf d m′ name
         → rest qs ≡ answered (store d m″ qs) (refusedWith (refusalNumber e))
     unfolding loadFrom
-    rest-refused e qs f = next-part qs ∙ rw (entered d m′ m″ name (NotInterned e) f qs, refuses e) refl
+    rest-refused m″ e qs f = next-part qs ∙ rw (entered d m′ m″ name (NotInterned e) f qs, refuses e) refl
 
-    pub loads-refused : (x y z : Span) → parts ≡ x ∷ y ∷ z ∷ [] → (a : Interned) (e : Refusal) (r : LineLoaded) → InternAnswer d m′ m″ name
-        a
-        → a ≡ NotInterned e → r ≡ refusedLine d e
-        → Loads c m m″ text (answer.Triple x y z) r
-    loads-refused x y z p a e r I f g =
+    pub loads-refused : {m″ : Tables} {x y z : Span} {a : Interned} {e : Refusal} {r : LineLoaded} → parts ≡ x ∷ y ∷ z ∷ []
+        → InternAnswer d m′ m″ name a → a ≡ NotInterned e → r ≡ refusedLine d e → Loads c m m″ text (answer.Triple x y z) r
+    loads-refused {m″} {e = e} p I f g =
         let J : InternAnswer d m′ m″ name (NotInterned e) = (rw f at I) in
-        rw g (loads-by x y z p (refusedLine d e) (λ R qs.
-        rw (rest-refused e qs (enter-exact d m′ m″ name (NotInterned e) (E .ready R) J), refuses e) refl))
+        rw g (loads-by p (refusedLine d e) (λ R qs.
+        rw (rest-refused m″ e qs (enter-exact d m′ m″ name (NotInterned e) (E .ready R) J), refuses e) refl))
 
   -- all names entered
-  asserted : (a : Asserted) (qs : List ScanCursor) → after m″ a ≡ assertOf d m′ (tripleOf ids)
+  asserted : (m″ : Tables) (a : Asserted) (qs : List ScanCursor) → after m″ a ≡ assertOf d m′ (tripleOf ids)
       → callStore (store d m′ qs) (assert byValue (tripleOf ids)) ≡ answered (store (countersAfter d a) m″ qs) (assertedValues a)
   unfolding callStore
-  asserted a qs e = rw (← e)
+  asserted m″ a qs e = rw (← e)
 
-  pub loads-asserted : (x y z : Span) → parts ≡ x ∷ y ∷ z ∷ [] → (a : Asserted) (r : LineLoaded) → i ≡ 3 → length ids ≡ 3
-      → after m″ a ≡ assertOf d m′ (tripleOf ids) → r ≡ assertedLine d a
-      → Loads c m m″ text (answer.Triple x y z) r
+  pub loads-asserted : {m″ : Tables} {x y z : Span} {r : LineLoaded} → parts ≡ x ∷ y ∷ z ∷ [] → (a : Asserted) → i ≡ 3
+      → length ids ≡ 3 → after m″ a ≡ assertOf d m′ (tripleOf ids) → r ≡ assertedLine d a → Loads c m m″ text (answer.Triple x y z) r
   unfolding loadFrom
-  loads-asserted x y z p a r h k e g =
-      rw g (loads-by x y z p (assertedLine d a) (λ R qs. rw (h, p, take-all 3 ids (omega arith), asserted a qs e) refl))
+  loads-asserted {m″} p a h k e g =
+      rw g (loads-by p (assertedLine d a) (λ R qs. rw (h, p, take-all 3 ids (omega arith), asserted m″ a qs e) refl))
 
 -- ---- no triple
 
-module _ (c : Counters) (m : Tables) (text : List ℕ) (line : Line) where
+module _ {c : Counters} {m : Tables} {text : List ℕ} {line : Line} where
   loads-kept : (o : Outcome) → ((qs : List ScanCursor) → ended (store c m qs) o ≡ loadLineOf (store c m qs) text line)
       → Loads c m m text line record { counters = c; outcome = o }
   loads-kept o f = record { sound = λ S. f; capacity = λ e. f; unread = λ h. f }
@@ -190,13 +186,13 @@ module _ (c : Counters) (m : Tables) (text : List ℕ) (line : Line) where
   unfolding loadLineOf
   loads-nothing e = loads-kept Nothing (λ qs. rw e refl)
 
-  pub loads-bad : (k : ℕ) (r : LineLoaded) → line ≡ answer.Refused k → r ≡ refusedLine c BadLine → Loads c m m text line r
+  pub loads-bad : {k : ℕ} {r : LineLoaded} → line ≡ answer.Refused k → r ≡ refusedLine c BadLine → Loads c m m text line r
   unfolding loadLineOf
-  loads-bad k r e f = rw f (loads-kept (Refused 10) (λ qs. rw e refl))
+  loads-bad e f = rw f (loads-kept (Refused 10) (λ qs. rw e refl))
 
-pub loads-as : (c : Counters) (m m′ : Tables) (text : List ℕ) (a b : Line) (r : LineLoaded) → a ≡ b → Loads c m m′ text b r → Loads c m m′
-    text a r
-loads-as c m m′ text a b r e h = rw e h
+pub loads-as : {c : Counters} {m m′ : Tables} {text : List ℕ} {a b : Line} {r : LineLoaded} → a ≡ b → Loads c m m′ text b r
+    → Loads c m m′ text a r
+loads-as e h = rw e h
 
 -- ---- the limit
 
@@ -208,10 +204,10 @@ line-within : (text : List ℕ) (from n : ℕ) → n ≡ contentOf text from →
 unfolding lineAt
 line-within text from n e h = rw (← e, le-leb n lineLimit h)
 
-pub loads-over : (c : Counters) (m : Tables) (text : List ℕ) (from n : ℕ) (r : LineLoaded) → n ≡ contentOf text from → lineLimit < n
-    → r ≡ refusedLine c BadLine → Loads c m m text (lineAt text from) r
-loads-over c m text from n r e h f = loads-bad c m text (lineAt text from) lineLimit r (line-over text from n e h) f
+module _ {c : Counters} {m : Tables} {text : List ℕ} (from : ℕ) {n : ℕ} {r : LineLoaded} (e : n ≡ contentOf text from) where
+  pub loads-over : lineLimit < n → r ≡ refusedLine c BadLine → Loads c m m text (lineAt text from) r
+  loads-over h f = loads-bad (line-over text from n e h) f
 
-pub loads-within : (c : Counters) (m m′ : Tables) (text : List ℕ) (from n : ℕ) (line : Line) (r : LineLoaded) → n ≡ contentOf text from
-    → n ≤ lineLimit → line ≡ readOf nameLimit text from .line → Loads c m m′ text line r → Loads c m m′ text (lineAt text from) r
-loads-within c m m′ text from n line r e h f L = loads-as c m m′ text _ line r (line-within text from n e h ∙ sym f) L
+  pub loads-within : {m′ : Tables} {line : Line} → n ≤ lineLimit → line ≡ readOf nameLimit text from .line
+      → Loads c m m′ text line r → Loads c m m′ text (lineAt text from) r
+  loads-within h f L = loads-as (line-within text from n e h ∙ sym f) L

@@ -15,7 +15,7 @@ use Rattle.ntriples.specs.declared.Line.the-variants as answer
 use Rattle.graph.specs.Claims.{SoundStore}
 use Rattle.graph.proofs.Theorems.{line-loads}
 use Rattle.lines.specs.Claims.{namesIn}
-use Rattle.loader.specs.declared.Outcome.{Outcome}
+use Rattle.loader.specs.declared.line.Outcome.{Outcome}
 use Rattle.loader.specs.Lines.{lineAt, loadLineOf, linesFrom, loadLinesOf, LoadsLines}
 use Rattle.loader.specs.Steps.{Takes, Ends}
 use Rattle.loader.proofs.Inside.{read-moves}
@@ -45,7 +45,7 @@ module _ (c : Counters) (m : Tables) (text : List ℕ) (d : Counters) (m′ : Ta
         → (k : ℕ) × (length text ≤ next + k) × (linesFrom n (store d m′ qs) text from ≡ linesFrom k (store e m″ qs) text next)
     unfolding linesFrom
     one-line zero S qs h = let b = N .before-end in absurd (omega arith)
-    one-line (suc n) S qs h = let b = read-moves text from next N in (
+    one-line (suc n) S qs h = let b = read-moves N in (
       n,
       omega (arith, b .0),
       rw (lt-ltb from (length text) (N .before-end), ← after S qs, ← N .moved) refl,

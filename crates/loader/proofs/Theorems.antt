@@ -10,7 +10,7 @@ use Rattle.store.proofs.Tests.{decide}
 use Rattle.graph.specs.Claims.{loadOf}
 use Rattle.graph.proofs.Theorems.{line-loads}
 use Rattle.lines.specs.Claims.{namesIn}
-use Rattle.loader.specs.declared.Outcome.{Outcome}
+use Rattle.loader.specs.declared.line.Outcome.{Outcome}
 use Rattle.loader.specs.Lines.{outcomeOf, loadLineOf, refusalIn, CodeLoads}
 
 status-only : (b : Bool) (x y : Outcome) → refusalIn x ≡ 0 → refusalIn y ≡ 0 → refusalIn (cond b x y) ≡ 0

@@ -21,9 +21,9 @@ use Rattle.ntriples.specs.declared.Line.the-variants as answer
 use Rattle.ntriples.specs.Reader.{firstLineOf, readOf}
 use Rattle.graph.specs.Claims.{loadOf, canonicalTriple, Loaded}
 use Rattle.lines.specs.Claims.{namesIn}
-use Rattle.loader.specs.declared.Outcome.{Outcome}
-use Rattle.loader.specs.declared.Outcome.the-variants.{Nothing, New, Already, Refused}
-use Rattle.loader.specs.declared.LineLoaded.{LineLoaded}
+use Rattle.loader.specs.declared.line.Outcome.{Outcome}
+use Rattle.loader.specs.declared.line.Outcome.the-variants.{Nothing, New, Already, Refused}
+use Rattle.loader.specs.declared.line.LineLoaded.{LineLoaded}
 
 -- ---- what a line comes to
 

@@ -14,9 +14,9 @@ use Rattle.ntriples.specs.declared.Span.{Span}
 use Rattle.ntriples.specs.declared.Line.{Line}
 use Rattle.ntriples.specs.declared.Line.the-variants as answer
 use Rattle.ntriples.specs.Reader.{readOf}
-use Rattle.loader.specs.declared.Outcome.{Outcome}
-use Rattle.loader.specs.declared.Outcome.the-variants.{Refused}
-use Rattle.loader.specs.declared.LineLoaded.{LineLoaded}
+use Rattle.loader.specs.declared.line.Outcome.{Outcome}
+use Rattle.loader.specs.declared.line.Outcome.the-variants.{Refused}
+use Rattle.loader.specs.declared.line.LineLoaded.{LineLoaded}
 use Rattle.loader.specs.Lines.{outcomeOf, lineAt, Loads}
 
 -- parts lie in a text; so do those of what was read

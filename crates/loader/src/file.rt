@@ -1,5 +1,7 @@
 // Files and standard input, block by block. A file that cannot be opened or read is told on standard error; what was loaded before stays.
-use crate::Load;
+use crate::block;
+use crate::load::Load;
+use table::word::lesser;
 
 // What reading a block brought: the load after it, and whether to go on.
 pub struct Block {
@@ -18,7 +20,7 @@ fn load_some(
     fd: i32,
     name: &[u8],
 ) -> Block {
-    let used = crate::within(l.used, buffer.len());
+    let used = lesser(l.used, buffer.len());
     let got = libc::read(fd, &mut buffer[used..]);
     if got < 0 {
         os::fail(name);
@@ -28,7 +30,7 @@ fn load_some(
         };
     }
     let n = io::count(got, &buffer[used..]);
-    let m = crate::load_block(l, resources, statements, index, text, buffer, used + n);
+    let m = block::load_block(l, resources, statements, index, text, buffer, used + n);
     Block {
         load: m,
         more: got > 0,
@@ -48,6 +50,7 @@ fn load_blocks(
 ) -> Load {
     let mut m = l;
     let mut turns = 18446744073709551615u64;
+    // The blocks read so far are taken; `m` is how far the load is.
     while turns > 0 {
         let r = load_some(m, resources, statements, index, text, buffer, fd, name);
         m = r.load;
@@ -71,7 +74,7 @@ pub fn load_open(
     name: &[u8],
 ) -> Load {
     let m = load_blocks(l, resources, statements, index, text, buffer, fd, name);
-    crate::finish(m, resources, statements, index, text, buffer)
+    block::finish(m, resources, statements, index, text, buffer)
 }
 
 // Loads the file with this path.

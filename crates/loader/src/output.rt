@@ -1,9 +1,9 @@
 // The lines that a load writes to standard output: one for each statement line, and the totals. Each is written at once.
 ghost use Rattle.io.specs.Counts.{Counts};
-use crate::Outcome;
-use crate::within;
+use crate::line::Outcome;
 use libc::STDOUT_FILENO;
 use store::Counters;
+use table::word::lesser;
 
 // A line of output fits: at most two numbers of 20 digits and 24 other bytes.
 const OUTPUT_LINE: usize = 64;
@@ -12,8 +12,9 @@ const OUTPUT_LINE: usize = 64;
 fn append(out: &mut [u8], at: usize, bytes: &[u8]) -> usize
     ensures { λ r. ⌜ Counts r (now (out .exit)) ⌝ }
 {
-    let mut end = within(at, out.len());
+    let mut end = lesser(at, out.len());
     let mut i = 0;
+    // The first i bytes are stored, and end at `end`.
     while i < bytes.len() {
         if end >= out.len() {
             return end;

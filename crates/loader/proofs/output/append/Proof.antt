@@ -9,7 +9,7 @@ use Rattle.loader.proofs.output.append.Statement.{statement}
 use Rattle.loader.proofs.output.append.Tie as tie
 use Rattle.loader.proofs.output.append.Reads as reads
 use Rattle.loader.proofs.output.append.Lts as lts
-use Rattle.loader.proofs.within.Reads as within-reads
+use Rattle.table.proofs.word.lesser.Reads as lesser-reads
 
 abbrev Inv-loop : tie.InvT-loop
 Inv-loop out₀ at bytes end₀ i₀ out end i = (length out ≡ length out₀) × (end ≤ length out) × (i ≤ length bytes)
@@ -17,8 +17,8 @@ Inv-loop out₀ at bytes end₀ i₀ out end i = (length out ≡ length out₀) 
 abbrev μ-loop : tie.MeasureT-loop
 μ-loop out₀ at bytes end₀ i₀ out end i = length bytes - i
 
-within-requires : tie.Need-within-requires Inv-loop μ-loop
-within-requires c κs = search needs
+lesser-requires : tie.Need-lesser-requires Inv-loop μ-loop
+lesser-requires c κs = search needs
 
 loop-holds : tie.Need-loop-holds Inv-loop μ-loop
 loop-holds c = search needs
@@ -59,7 +59,7 @@ append-spec =
     (tie.spec
     Inv-loop
     μ-loop
-    within-requires
+    lesser-requires
     loop-holds
     same-length
     returns

@@ -1,0 +1,113 @@
+// Every line of a source, one after another.
+ghost use Rattle.store.specs.Tables.{lent};
+ghost use Rattle.loader.specs.Lines.{LoadsLines};
+ghost use Rattle.loader.specs.Steps.{Takes, ReadAt};
+use crate::line::load_line;
+use crate::output;
+use ntriples::Line;
+use store::Counters;
+
+// How far a load is: the store's counters, the lines that have ended, and how many bytes of the line being read stand at the front of
+// the buffer.
+pub struct Load {
+    pub counters: Counters,
+    pub lines: u64,
+    pub used: usize,
+}
+
+// A load that has read nothing, over tables that hold anything.
+pub fn start() -> Load {
+    Load {
+        counters: Counters::fresh(),
+        lines: 0,
+        used: 0,
+    }
+}
+
+// One line more. No input has as many lines as the number can count.
+fn counted(lines: u64) -> u64 {
+    if lines < 18446744073709551615 {
+        lines + 1
+    } else {
+        lines
+    }
+}
+
+// Takes a line that was read: loads it, reports it, and counts it.
+fn take_line(
+    l: Load,
+    resources: &mut [u32],
+    statements: &mut [u32],
+    index: &mut [u32],
+    text: &mut [u8],
+    source: &[u8],
+    from: usize,
+    line: Line,
+    next: usize,
+) -> Load
+    requires { ⌜ ReadAt (now source) from line next ⌝ }
+    ensures { λ r. ⌜ Takes (l .counters)
+        (lent (resources .entry) (statements .entry) (index .entry) (text .entry))
+        (lent (resources .exit) (statements .exit) (index .exit) (text .exit))
+        (now (source .entry)) from (r .counters) ⌝ }
+{
+    let c = l.counters;
+    let r = load_line(
+        c,
+        resources,
+        statements,
+        index,
+        text,
+        source,
+        from,
+        line,
+        next,
+    );
+    let number = counted(l.lines);
+    let outcome = r.outcome;
+    output::report(number, outcome);
+    let d = r.counters;
+    Load {
+        counters: d,
+        lines: number,
+        used: l.used,
+    }
+}
+
+// Loads every line of the source, by one reader. Proved by a walk of its code, since it holds the reader.
+pub fn load_lines(
+    l: Load,
+    resources: &mut [u32],
+    statements: &mut [u32],
+    index: &mut [u32],
+    text: &mut [u8],
+    source: &[u8],
+) -> Load
+    ensures { λ r. ⌜ LoadsLines (l .counters)
+        (lent (resources .entry) (statements .entry) (index .entry) (text .entry))
+        (lent (resources .exit) (statements .exit) (index .exit) (text .exit))
+        (now (source .entry)) (r .counters) ⌝ }
+{
+    let mut m = l;
+    let mut r = line_reader::reader(source);
+    // The lines before `r` are loaded; `m` is how far the load is.
+    loop {
+        let from = r.at;
+        if from >= source.len() {
+            break;
+        }
+        let line = line_reader::read_line(&mut r);
+        m = take_line(
+            m,
+            resources,
+            statements,
+            index,
+            text,
+            source,
+            from,
+            line,
+            r.at,
+        );
+    }
+    m
+}
