@@ -26,10 +26,12 @@ enum-known-n c = search needs
 
 append-requires : tie.Need-append-requires
 append-requires c κs =
-    let a = c .before .before .before .before .before .before .before .before .before .before .before .before .before .before .args in
+    let p = c .before .before .before .before .before in
+    let a = p .before .before .before .before .before .before .before .before .before .args in
     let m = tables (now (a .resources)) (now (a .statements)) (now (a .index)) (now (a .text)) in
-    let n = c .before .before .before .before .before .n .given .0 .0 in
-    let f = assert-found (a .c) m (a .x) n (sym (c .before .before .before .before .before .before .before .assert-target .ensures) ∙ c .before .before .before .before .before .n .given .1) in
+    let n = p .n .given .0 .0 in
+    let t = sym (p .before .before .assert-target .ensures) ∙ p .n .given .1 in
+    let f = assert-found (a .c) m (a .x) n t in
     appendable (a .c) m (f .0) (a .x) (n .0) (f .1) (f .2)
 
 same-length : tie.Need-same-length
@@ -40,18 +42,23 @@ same-length-2 c = search needs
 
 returns : tie.Need-returns
 returns c =
-    let a = c .before .before .before .before .before .before .before .before .before .before .before .before .before .before .before .before .before .before .before .args in
+    let p = c .before .before .before .before .before .before .before .before .before .before in
+    let a = p .before .before .before .before .before .before .before .before .before .args in
     let m = tables (now (a .resources)) (now (a .statements)) (now (a .index)) (now (a .text)) in
-    let n = c .before .before .before .before .before .before .before .before .before .before .n .given .0 .0 in
-    c .before .before .before .before .append .ensures .leaves (now (a .index)) (now (a .text)) ∙ ap (λ (k : ℕ). asserting (a .c) m (a .x) k) (sym (c .before .before .before .before .before .before .before .if1 .taken))
-    ∙ assert-at (a .c) m (a .x) n (sym (c .before .before .before .before .before .before .before .before .before .before .before .before .assert-target .ensures) ∙ c .before .before .before .before .before .before .before .before .before .before .n .given .1)
+    let n = p .n .given .0 .0 in
+    let t = sym (p .before .before .assert-target .ensures) ∙ p .n .given .1 in
+    c .before .before .before .before .append .ensures .leaves (now (a .index)) (now (a .text))
+    ∙ ap (λ (k : ℕ). asserting (a .c) m (a .x) k) (sym (c .before .before .before .before .before .before .before .if1 .taken))
+    ∙ assert-at (a .c) m (a .x) n t
 
 revive-requires : tie.Need-revive-requires
 revive-requires c κs =
-    let a = c .before .before .before .before .before .before .before .before .before .before .before .before .before .before .args in
+    let p = c .before .before .before .before .before in
+    let a = p .before .before .before .before .before .before .before .before .before .args in
     let m = tables (now (a .resources)) (now (a .statements)) (now (a .index)) (now (a .text)) in
-    let n = c .before .before .before .before .before .n .given .0 .0 in
-    let f = assert-found (a .c) m (a .x) n (sym (c .before .before .before .before .before .before .before .assert-target .ensures) ∙ c .before .before .before .before .before .n .given .1) in (
+    let n = p .n .given .0 .0 in
+    let t = sym (p .before .before .assert-target .ensures) ∙ p .n .given .1 in
+    let f = assert-found (a .c) m (a .x) n t in (
       record { from-one = omega arith; whole = located-in (a .c) m (f .0) (a .x) (n .0) (f .2) },
       grows-all (a .c) (now (a .resources)) (a .x) (appendable (a .c) m (f .0) (a .x) (n .0) (f .1) (f .2)),
     )
@@ -64,9 +71,10 @@ same-length-4 c = search needs
 
 returns-2 : tie.Need-returns-2
 returns-2 c =
-    let a = c .before .before .before .before .before .before .before .before .before .before .args in
+    let p = c .before in
+    let a = p .before .before .before .before .before .before .before .before .before .args in
     let m = tables (now (a .resources)) (now (a .statements)) (now (a .index)) (now (a .text)) in
-    assert-refused (a .c) m (a .x) (c .before .e .given .0 .0) (sym (c .before .before .before .assert-target .ensures) ∙ c .before .e .given .1)
+    assert-refused (a .c) m (a .x) (p .e .given .0 .0) (sym (p .before .before .assert-target .ensures) ∙ p .e .given .1)
 
 same-length-5 : tie.Need-same-length-5
 same-length-5 c = search needs
@@ -76,10 +84,12 @@ same-length-6 c = search needs
 
 returns-3 : tie.Need-returns-3
 returns-3 c =
-    let a = c .before .before .before .before .before .before .before .before .before .before .before .before .before .before .before .before .before .before .before .args in
+    let p = c .before .before .before .before .before .before .before .before .before .before in
+    let a = p .before .before .before .before .before .before .before .before .before .args in
     let m = tables (now (a .resources)) (now (a .statements)) (now (a .index)) (now (a .text)) in
-    let n = c .before .before .before .before .before .before .before .before .before .before .n .given .0 .0 in
-    c .before .before .before .before .revive .ensures .leaves (now (a .index)) (now (a .text)) ∙ assert-at (a .c) m (a .x) n (sym (c .before .before .before .before .before .before .before .before .before .before .before .before .assert-target .ensures) ∙ c .before .before .before .before .before .before .before .before .before .before .n .given .1)
+    let n = p .n .given .0 .0 in
+    let t = sym (p .before .before .assert-target .ensures) ∙ p .n .given .1 in
+    c .before .before .before .before .revive .ensures .leaves (now (a .index)) (now (a .text)) ∙ assert-at (a .c) m (a .x) n t
 
 pub assert-spec : {M : Type 1} → statement M
 assert-spec =

@@ -22,10 +22,12 @@ enum-known-n c = search needs
 
 retract-record-requires : tie.Need-retract-record-requires
 retract-record-requires c κs =
-    let a = c .before .before .before .before .before .before .before .before .before .before .before .before .args in
+    let p = c .before .before .before in
+    let a = p .before .before .before .before .before .before .before .before .before .args in
     let m = tables (now (a .resources)) (now (a .statements)) (now (a .index)) (now (a .text)) in
-    let n = c .before .before .before .n .given .0 .0 in
-    let f = retract-found (a .c) m (a .x) n (sym (c .before .before .before .before .before .retract-target .ensures) ∙ c .before .before .before .n .given .1) in
+    let n = p .n .given .0 .0 in
+    let t = sym (p .before .before .retract-target .ensures) ∙ p .n .given .1 in
+    let f = retract-found (a .c) m (a .x) n t in
     (known-held (a .c) m (f .0) (a .x) (f .1), located-in (a .c) m (f .0) (a .x) (n .0) (f .2))
 
 same-length : tie.Need-same-length
@@ -36,9 +38,10 @@ same-length-2 c = search needs
 
 returns : tie.Need-returns
 returns c =
-    let a = c .before .before .before .before .before .before .before .before .before .before .args in
+    let p = c .before in
+    let a = p .before .before .before .before .before .before .before .before .before .args in
     let m = tables (now (a .resources)) (now (a .statements)) (now (a .index)) (now (a .text)) in
-    retract-refused (a .c) m (a .x) (c .before .e .given .0 .0) (sym (c .before .before .before .retract-target .ensures) ∙ c .before .e .given .1)
+    retract-refused (a .c) m (a .x) (p .e .given .0 .0) (sym (p .before .before .retract-target .ensures) ∙ p .e .given .1)
 
 same-length-3 : tie.Need-same-length-3
 same-length-3 c = search needs
@@ -48,10 +51,12 @@ same-length-4 c = search needs
 
 returns-2 : tie.Need-returns-2
 returns-2 c =
-    let a = c .before .before .before .before .before .before .before .before .before .before .before .before .before .before .before .before .before .args in
+    let p = c .before .before .before .before .before .before .before .before in
+    let a = p .before .before .before .before .before .before .before .before .before .args in
     let m = tables (now (a .resources)) (now (a .statements)) (now (a .index)) (now (a .text)) in
-    let n = c .before .before .before .before .before .before .before .before .n .given .0 .0 in
-    c .before .before .before .before .retract-record .ensures .leaves (now (a .index)) (now (a .text)) ∙ retract-at (a .c) m (a .x) n (sym (c .before .before .before .before .before .before .before .before .before .before .retract-target .ensures) ∙ c .before .before .before .before .before .before .before .before .n .given .1)
+    let n = p .n .given .0 .0 in
+    let t = sym (p .before .before .retract-target .ensures) ∙ p .n .given .1 in
+    c .before .before .before .before .retract-record .ensures .leaves (now (a .index)) (now (a .text)) ∙ retract-at (a .c) m (a .x) n t
 
 pub retract-spec : {M : Type 1} → statement M
 retract-spec =
