@@ -1,7 +1,7 @@
 -- Assert and retract on counters that the caller lends: one walk of their MIR, by hand, for both. The borrow of the
--- counters is opened and read whole, the form by value is called on that value and on the slices, which are given up at
--- their own lifetimes, shares and names, and the borrow is closed at the counters that came back. All that the walk knows
--- of the form by value is that it meets its contract. What the two functions differ in is a `Form`. Assumes nothing.
+-- counters is opened and read whole, the form by value is called on that value and on the slices, which are given up
+-- at their own lifetimes, shares and names, and the borrow is closed at the counters that came back. All that the walk
+-- knows of the form by value is that it meets its contract. Assumes nothing.
 use mathlib.Core.Path.{_≡_, refl, ap}
 use Prim.Native.Nat.{ℕ}
 use mathlib.Core.List.{[], _∷_, List}
@@ -13,10 +13,13 @@ use mir.Syntax.{seq, assign, call, return, place, deref, field, copy, rvOpd, add
 use mir.Val.{Val, vptr}
 use base.Logic.{SProp, ent, emp, via, fst∗, id⊢}
 use base.Fml.{GName, ftrue, fat, flft, fobs, fbor}
-use prog.Wp.{Heap, Calls, Loops, WpFn, Tables}
+use prog.Model.{Model}
+use prog.Routine.{Routine, Env}
+use prog.Wp.{Heap, Calls, Loops, WpFn, Tables, Closed}
 use ghost.Atoms.{Atoms}
 use contract.Lifetimes.{Lfts, Shares}
 use contract.Monad.{fact}
+use contract.Running.{GhostRules, Running, givenOf, tables, tablesOf}
 use types.Kit.{Given, Item, ‵, raw, _⊛_, ⋆, some, later, _$_, _∵_, !, qed, by, move, keep, drop, use1, use2, split, join, pick}
 use types.Kit.{rewrite, fsplit, fsplit3, fjoin, fjoin3, feqL, feqI, suffices, frame, await, done}
 use types.Run.{look, init, forget, stop, hop, fld, from, load, addr, of-opd, and-then, no-more, assigns, land, returns, enter}
@@ -29,7 +32,7 @@ use denote.Laws.{Is, Makes, shows}
 use denote.Shadow.{makes-shadow}
 use denote.Memory.{mem, cellAt, lone, pointee}
 use denote.Builtin.{u8, u32}
-use denote.Ref.{RefT, MutRef, ptr-vals, mut-tells, now}
+use denote.Ref.{RefT, ptr-vals, mut-tells, now}
 use denote.Slice.{sliceVal, sliceTy, MutSlice, ShrSlice, Room, finally, slice-vals, mut-slice-tells, shr-slice-tells}
 use denote.Signature.{plain, shrSliceOf, typesAt}
 use denote.Steps.{only, opens, closes, owned, peeks, heard, nothing}
@@ -42,6 +45,7 @@ use denote.Triple.Spec.{Meets, tripleOf}
 use denote.Triple.Statement.{Contract, Triple}
 use denote.Triple.Call.{calls-at}
 use denote.Triple.Clauses.{Ended, Clauses, closing, ensured, lasts}
+use denote.Triple.Table.{entered, cited}
 use denote.Triple.Walked.{says, Stays, stay-ref, stay-dropped, gave-slice, stay-none, walkOf, AllGo, goes-none, goes-dropped}
 use denote.Triple.Walked.{goes-ref, goes-gave-slice, Walks, ends-at, walked, walk-meets}
 use denote.Exit.{yes}
@@ -51,31 +55,12 @@ use Rattle.store.proofs.Counters as T
 use Rattle.store.proofs.Counters.Laws as T′
 use Rattle.store.proofs.Triple as D
 use Rattle.store.proofs.Triple.Laws as D′
-use Rattle.statement.proofs.assert_kept as kept
+use Rattle.statement.proofs.assert_kept as by-value
 use Rattle.statement.proofs.assert_updating as updating
-
--- ---- what the two differ in
 
 -- counters and a reply, as the data of a struct's fields
 abbrev fields-of : (E : En.Declared) → Counters → E .D → Denots (T.the-field .row ∷ En.field E .row ∷ [])
 fields-of E c r = (T.the-type .to c, (E .to r, tt))
-
-pub record Form : Type 2 where
-  -- the reply's type, an enum, with its laws as a field's
-  pub enum : En.Declared
-  pub laws : LL.FLaws (En.field enum)
-  pub plain : LL.Plain (En.field enum)
-  -- the struct of the counters and the reply that the form by value answers
-  pub name : Sym
-  pub Kept : Type 0
-  pub counters : Kept → Counters
-  pub reply : Kept → enum .D
-  pub one : (x y : Kept) → fields-of enum (counters x) (reply x) ≡ fields-of enum (counters y) (reply y) → x ≡ y
-  -- what both say of the counters, the resources and the statements on entry and at exit, the index, the text, the
-  -- triple and the reply
-  pub Said : (c c′ : Counters) (res res′ stm stm′ index text : List ℕ) → Spo → enum .D → Type 0
-  -- the form by value, as it is called
-  pub callee : Name
 
 -- ---- machine values
 
@@ -88,30 +73,37 @@ mid d = D′.lowered d
 abbrev sl : RefT (List ℕ) → Val
 sl x = sliceVal (x .ptr) (length (x .now))
 
-module _ (F : Form) where
+-- What the two differ in: the reply's type, an enum, with its laws as a field's; the struct of the counters and the reply
+-- that the form by value answers; what both say of the counters, the resources and the statements on entry and at exit,
+-- of the index, the text, the triple and the reply; and the form by value, as it is called.
+module _ (enum : En.Declared) (laws : LL.FLaws (En.field enum)) (plains : LL.Plain (En.field enum))
+    (name : Sym) (Kept : Type 0) (counters : Kept → Counters) (reply : Kept → enum .D)
+    (one : (x y : Kept) → fields-of enum (counters x) (reply x) ≡ fields-of enum (counters y) (reply y) → x ≡ y)
+    (Said : (c c′ : Counters) (res res′ stm stm′ index text : List ℕ) → Spo → enum .D → Type 0)
+    (callee : Name) where
   -- ---- the types
 
   abbrev E : RattleType
-  E = En.row (F .enum)
+  E = En.row enum
 
-  abbrev val : F .enum .D → Val
-  val r = F .laws .val (F .enum .to r)
+  abbrev val : enum .D → Val
+  val r = laws .val (enum .to r)
 
   abbrev struct : Declared
   struct = record {
-    name = F .name;
+    name = name;
     args = [];
-    parts = T.the-field ∷ En.field (F .enum) ∷ [];
-    D = F .Kept;
-    to = λ r. fields-of (F .enum) (F .counters r) (F .reply r);
-    to-one = F .one;
+    parts = T.the-field ∷ En.field enum ∷ [];
+    D = Kept;
+    to = λ r. fields-of enum (counters r) (reply r);
+    to-one = one;
   }
 
   abbrev S : RattleType
   S = row struct
 
   abbrev S′ : LL.Laws struct
-  S′ = (T′.the-field-laws, (F .laws, tt))
+  S′ = (T′.the-field-laws, (laws, tt))
 
   -- ---- the code
 
@@ -145,7 +137,7 @@ module _ (F : Form) where
         (seq (assign (place 10 []) (aggregate (copy (place 9 []) ∷ copy (place 2 (field 1 ∷ [])) ∷ [])))
         (seq (assign (place 11 []) (addrOf (place 3 (field 0 ∷ deref (tyInt w32) ∷ []))))
         (seq (assign (place 12 []) (aggregate (copy (place 11 []) ∷ copy (place 3 (field 1 ∷ [])) ∷ [])))
-        (seq (call (F .callee) (copy (place 7 []) ∷ copy (place 10 []) ∷ copy (place 12 []) ∷ copy (place 4 [])
+        (seq (call callee (copy (place 7 []) ∷ copy (place 10 []) ∷ copy (place 12 []) ∷ copy (place 4 [])
         ∷ copy (place 5 []) ∷ copy (place 6 []) ∷ []) (place 8 []))
         (seq (assign (place 1 (deref T′.mir ∷ [])) (rvOpd (copy (place 8 (field 0 ∷ [])))))
         (seq (assign (place 0 []) (rvOpd (copy (place 8 (field 1 ∷ []))))) return)))))));
@@ -155,8 +147,8 @@ module _ (F : Form) where
 
   abbrev callee-ended : Ended
   callee-ended = record {
-    signature = record { lifetimes = 4; outlives = []; params = kept.signature .params; result = plain (λ _. S) };
-    kept = kept.ended .kept;
+    signature = record { lifetimes = 4; outlives = []; params = by-value.signature .params; result = plain (λ _. S) };
+    kept = by-value.ended .kept;
   }
 
   abbrev ended : Ended
@@ -170,19 +162,19 @@ module _ (F : Form) where
     callee-clauses κs a = record {
       ghost = Unit {0};
       requires = λ g. emp 𝓤;
-      ensures = λ g r e. fact 𝓤 (F .Said (a .0) (F .counters r) (now (a .1 .0)) (now (e .1 .0)) (now (a .1 .1 .0))
-          (now (e .1 .1 .0)) (now (a .1 .1 .1 .0)) (now (a .1 .1 .1 .1 .0)) (a .1 .1 .1 .1 .1 .0) (F .reply r));
+      ensures = λ g r e. fact 𝓤 (Said (a .0) (counters r) (now (a .1 .0)) (now (e .1 .0)) (now (a .1 .1 .0))
+          (now (e .1 .1 .0)) (now (a .1 .1 .1 .0)) (now (a .1 .1 .1 .1 .0)) (a .1 .1 .1 .1 .1 .0) (reply r));
     }
 
     abbrev clauses : Clauses 𝓤 ended
     clauses κs a = record {
       ghost = Unit {0};
       requires = λ g. emp 𝓤;
-      ensures = λ g r e. fact 𝓤 (F .Said (now (a .0)) (now (e .0)) (now (a .1 .0)) (now (e .1 .0)) (now (a .1 .1 .0))
+      ensures = λ g r e. fact 𝓤 (Said (now (a .0)) (now (e .0)) (now (a .1 .0)) (now (e .1 .0)) (now (a .1 .1 .0))
           (now (e .1 .1 .0)) (now (a .1 .1 .1 .0)) (now (a .1 .1 .1 .1 .0)) (a .1 .1 .1 .1 .1 .0) r);
     }
 
-    abbrev pub Callee : (H : Heap 𝓤) (A : Atoms 𝓤) → Contract 𝓤
+    abbrev Callee : (H : Heap 𝓤) (A : Atoms 𝓤) → Contract 𝓤
     Callee H A = tripleOf 𝓤 H A (callee-ended .signature) (closing 𝓤 H A callee-ended callee-clauses)
 
   -- the counters' borrow is kept, the slices to write are given up for good
@@ -206,7 +198,7 @@ module _ (F : Form) where
 
   module _ {M : Type 1} (𝓤 : URA M) (H : Heap 𝓤) (A : Atoms 𝓤) (W : Given 𝓤 H A) where
     makes : Makes 𝓤 H A E (Is E)
-    makes r vs p = makes-shadow 𝓤 H A (E .own r vs) (F .plain (F .enum .to r) vs) p
+    makes r vs p = makes-shadow 𝓤 H A (E .own r vs) (plains (enum .to r) vs) p
 
     -- ---- at one choice of lifetimes, shares and arguments
 
@@ -247,8 +239,8 @@ module _ (F : Form) where
       to = ((κs .1, qs .1, tt, (h, rest), (mach h ∷ [], values)), tt)
 
       -- what the callee says of its result and of the last lists
-      abbrev Says : F .Kept → List ℕ → List ℕ → Type 0
-      Says r z1 z2 = F .Said h (F .counters r) (now x1) z1 (now x2) z2 (now x3) (now x4) d1 (F .reply r)
+      abbrev Says : Kept → List ℕ → List ℕ → Type 0
+      Says r z1 z2 = Said h (counters r) (now x1) z1 (now x2) z2 (now x3) (now x4) d1 (reply r)
 
       goes : Is T.the-row h (mach h ∷ []) → ent 𝓤 (⋆ 𝓤 H A (tokens ∷ has ∷ [])) (Callee 𝓤 H A .pre to)
       goes g =
@@ -256,24 +248,24 @@ module _ (F : Form) where
           move ! (1 ∷ []) $ owned ! T.the-row (Is T.the-row) (LL.makes T.the-type T′.the-plain 𝓤 H A) h _ g $ fjoin ! $
           move ! (1 ∷ 0 ∷ []) $ join ! $ nothing ! $ move ! (1 ∷ 0 ∷ []) $ done !
 
-      abbrev closed : F .Kept → List ℕ → List ℕ → List (Item 𝓤)
+      abbrev closed : Kept → List ℕ → List ℕ → List (Item 𝓤)
       closed r z1 z2 =
-          ‵ (fobs γ (T.the-row .coded .code (F .counters r))) ∷ ‵ (fbor (κs .0) (Lent (mem T.the-row) b o γ))
+          ‵ (fobs γ (T.the-row .coded .code (counters r))) ∷ ‵ (fbor (κs .0) (Lent (mem T.the-row) b o γ))
           ∷ ‵ (flft (κs .0) (qs .0)) ∷ tokens ∷ ‵ (finally u32 (x1 .name) z1) ∷ ‵ (finally u32 (x2 .name) z2) ∷ []
 
-      exits : (r : F .Kept) (z1 z2 : List ℕ) → Says r z1 z2 → length z1 ≡ length (now x1) → length z2 ≡ length (now x2)
-          → Is E (F .reply r) (val (F .reply r) ∷ []) → ent 𝓤 (⋆ 𝓤 H A (closed r z1 z2)) (Post (val (F .reply r)))
+      exits : (r : Kept) (z1 z2 : List ℕ) → Says r z1 z2 → length z1 ≡ length (now x1) → length z2 ≡ length (now x2)
+          → Is E (reply r) (val (reply r) ∷ []) → ent 𝓤 (⋆ 𝓤 H A (closed r z1 z2)) (Post (val (reply r)))
       exits r z1 z2 e e1 e2 ir =
           qed W (closed r z1 z2) ∵
-          suffices ! _ (ends-at 𝓤 H A ended stayed (clauses 𝓤) W chosen (val (F .reply r)) (F .reply r)
-          (F .counters r, (z1, (z2, (tt, (tt, (tt, tt)))))) (tt, (e1, (e2, (tt, (tt, (tt, tt))))))) $
+          suffices ! _ (ends-at 𝓤 H A ended stayed (clauses 𝓤) W chosen (val (reply r)) (reply r)
+          (counters r, (z1, (z2, (tt, (tt, (tt, tt)))))) (tt, (e1, (e2, (tt, (tt, (tt, tt))))))) $
           says ! e $ move ! (2 ∷ 3 ∷ []) $ join ! $ frame ! $ feqI ! (List Val) (vptr b o ∷ []) (vptr b o ∷ []) refl $
           fjoin3 ! $ nothing ! $ owned ! D.the-row (Is D.the-row) (LL.makes D.the-type D′.the-plain 𝓤 H A) d1 _ i1 $
           fjoin ! $ nothing ! $ fjoin ! $ nothing ! $ fjoin ! $ move ! (3 ∷ 0 ∷ []) $ fjoin ! $ move ! (2 ∷ 0 ∷ []) $
-          fjoin ! $ move ! (1 ∷ 0 ∷ []) $ fjoin ! $ owned ! E (Is E) makes (F .reply r) _ ir $ move ! (1 ∷ 0 ∷ []) $ done !
+          fjoin ! $ move ! (1 ∷ 0 ∷ []) $ fjoin ! $ owned ! E (Is E) makes (reply r) _ ir $ move ! (1 ∷ 0 ∷ []) $ done !
 
       module _ (C : Calls 𝓤 H) (Λ : Loops 𝓤 H) (fm : FmC 𝓤 H (W .laws) C)
-          (known : Triple 𝓤 (C (F .callee)) (Callee 𝓤 H A)) where
+          (known : Triple 𝓤 (C callee) (Callee 𝓤 H A)) where
         walk : Room u32 (length (now x1)) → Room u32 (length (now x2)) → Room u32 (length (now x3)) → Room u8 (length (now x4))
             → ent 𝓤 (onEntry 𝓤 H A (ended .signature) κs qs a (vptr b o ∷ [], values)) (WpFn 𝓤 H C Λ function
             (vptr b o ∷ sl x1 ∷ sl x2 ∷ sl x3 ∷ sl x4 ∷ mid d1 ∷ []) Post)
@@ -316,7 +308,7 @@ module _ (F : Form) where
             (load ! (from ! (stop !)) (look ! 10 refl)) (and-then ! (load ! (from ! (stop !)) (look ! 6 refl)) (and-then !
             (load ! (from ! (stop !)) (look ! 22 refl)) (and-then ! (load ! (from ! (stop !)) (look ! 20 refl)) (and-then !
             (load ! (from ! (stop !)) (look ! 18 refl)) (no-more !))))))) (λ w.
-            use1 W (later (some (λ (r : F .Kept). (tokens ⊛ ‵ (S .own r (w ∷ []))) ⊛ raw (ensured 𝓤 H A callee-ended
+            use1 W (later (some (λ (r : Kept). (tokens ⊛ ‵ (S .own r (w ∷ []))) ⊛ raw (ensured 𝓤 H A callee-ended
             (callee-clauses 𝓤) (κs .1) (h, rest) tt r)))) (id⊢ 𝓤 _) $ await ! tt $ pick ! (λ r.
             split ! $ move ! (1 ∷ []) $ use1 W (some (λ (zs : Unit {0} × (List ℕ × (List ℕ × (Unit {0} × (Unit {0}
             × (Unit {0} × Unit {0})))))). ‵ (lasts callee-ended (κs .1) (h, rest) zs)
@@ -330,16 +322,16 @@ module _ (F : Form) where
             rewrite ! 19 (λ (u : Val). ‵ (fat fullShare (lone (S .mir)) l8 0 u)) (ap only (LL.tells struct S′ r _ is)) refl $
             assigns ! (of-opd ! (load ! (from ! (fld ! refl (stop !))) (look-in ! 19 (sub ! 0 refl (whole !)))))
             (from ! (hop ! (look ! 33 refl) (stop !))) (store-in ! 6 (whole !) (LL.lawful T.the-type T′.the-laws 𝓤 H A W .typed
-            (F .counters r) _ (LL.owed struct S′ r _ is .0) .0)) $
+            (counters r) _ (LL.owed struct S′ r _ is .0) .0)) $
             assigns ! (of-opd ! (load ! (from ! (fld ! refl (stop !))) (look-in ! 19 (sub ! 1 refl (whole !)))))
-            (from ! (stop !)) (init ! 35 refl (F .laws .lawful 𝓤 H A W .typed (F .enum .to (F .reply r)) _
+            (from ! (stop !)) (init ! 35 refl (laws .lawful 𝓤 H A W .typed (enum .to (reply r)) _
             (LL.owed struct S′ r _ is .1 .0) .0)) $
             -- the borrow is closed at the new counters
             move ! (7 ∷ []) $ drop ! $ owned ! T.the-row (Is T.the-row) (LL.makes T.the-type T′.the-plain 𝓤 H A)
-            (F .counters r) _ (LL.owed struct S′ r _ is .0) $ move ! (7 ∷ []) $
-            use1 W (‵ (cellAt fullShare (T.the-row .mir) (mach (F .counters r) ∷ []) b o))
-            (W .laws .at-raw fullShare T′.mir b o (mach (F .counters r))) $
-            move ! (0 ∷ 1 ∷ 8 ∷ 9 ∷ 10 ∷ []) $ closes ! tt T.the-row (F .counters r) (mach (F .counters r) ∷ []) b o $
+            (counters r) _ (LL.owed struct S′ r _ is .0) $ move ! (7 ∷ []) $
+            use1 W (‵ (cellAt fullShare (T.the-row .mir) (mach (counters r) ∷ []) b o))
+            (W .laws .at-raw fullShare T′.mir b o (mach (counters r))) $
+            move ! (0 ∷ 1 ∷ 8 ∷ 9 ∷ 10 ∷ []) $ closes ! tt T.the-row (counters r) (mach (counters r) ∷ []) b o $
             returns ! (look ! 33 refl) $ forget ! 9 refl $ forget ! 11 refl $ forget ! 13 refl $ forget ! 15 refl $
             forget ! 17 refl $ forget ! 19 refl $ forget ! 21 refl $ forget ! 23 refl $ forget ! 25 refl $ forget ! 27 refl $
             forget ! 29 refl $ forget ! 31 refl $ forget ! 33 refl $
@@ -352,7 +344,7 @@ module _ (F : Form) where
 
     -- ---- at all
 
-    walks : (C : Calls 𝓤 H) (Λ : Loops 𝓤 H) → FmC 𝓤 H (W .laws) C → Triple 𝓤 (C (F .callee)) (Callee 𝓤 H A)
+    walks : (C : Calls 𝓤 H) (Λ : Loops 𝓤 H) → FmC 𝓤 H (W .laws) C → Triple 𝓤 (C callee) (Callee 𝓤 H A)
         → Walks 𝓤 H A ended stayed (WpFn 𝓤 H C Λ function) (clauses 𝓤)
     walks C Λ fm known = walked 𝓤 H A ended stayed (clauses 𝓤) (WpFn 𝓤 H C Λ function)
         (λ κs. (ptr-vals, (slice-vals, (slice-vals, (slice-vals, (slice-vals, (LL.vals D.the-type D′.the-laws, tt)))))))
@@ -392,8 +384,20 @@ module _ (F : Form) where
       ),
     )
 
-    pub meets : (𝓣 : Tables 𝓤 H) → Triple 𝓤 (𝓣 .C (F .callee)) (Callee 𝓤 H A)
+    meets : (𝓣 : Tables 𝓤 H) → Triple 𝓤 (𝓣 .C callee) (Callee 𝓤 H A)
         → Meets 𝓤 H A (ended .signature) (WpFn 𝓤 H (𝓣 .C) (𝓣 .Λ) function) (closing 𝓤 H A ended (clauses 𝓤))
     meets 𝓣 known =
         walk-meets 𝓤 H A ended stayed W all-go (clauses 𝓤) (WpFn 𝓤 H (𝓣 .C) (𝓣 .Λ) function)
         (WpFn-mono 𝓤 H (W .laws) 𝓣 function) (walks (𝓣 .C) (𝓣 .Λ) (fmOf 𝓤 H (W .laws) 𝓣) known)
+
+  -- the function's routine, in the environment that its code is read over, where the form by value meets its contract
+  pub stands : {M : Type 1} (𝓤 : URA M) (H : Heap 𝓤) (𝓜 : Model 𝓤 H) (𝓖 : GhostRules 𝓤 H) (𝓡 : Running 𝓤 H 𝓜) (env : Env)
+      (self : Name) → Closed 𝓤 H (tables 𝓤 H 𝓜 𝓡 env .C) (tables 𝓤 H 𝓜 𝓡 env .Λ) self function
+      → (routine : Routine) → env callee ≡ routine → Triple 𝓤 (𝓡 .run routine) (Callee 𝓤 H (𝓖 .A))
+      → Meets 𝓤 H (𝓖 .A) (ended .signature) (𝓡 .run (env self)) (closing 𝓤 H (𝓖 .A) ended (clauses 𝓤))
+  unfolding tablesOf
+  stands 𝓤 H 𝓜 𝓖 𝓡 env self unfolded routine calls met =
+      entered 𝓤 H (tripleOf 𝓤 H (𝓖 .A) (ended .signature) (closing 𝓤 H (𝓖 .A) ended (clauses 𝓤)))
+      (tables 𝓤 H 𝓜 𝓡 env .C) (tables 𝓤 H 𝓜 𝓡 env .Λ) self function unfolded
+      (meets 𝓤 H (𝓖 .A) (givenOf 𝓤 H 𝓜 𝓖) (tablesOf 𝓤 H 𝓜 (tables 𝓤 H 𝓜 𝓡 env))
+      (cited 𝓤 H (Callee 𝓤 H (𝓖 .A)) 𝓜 𝓡 env callee routine calls met))

@@ -56,7 +56,8 @@ module _ (c : Counters) (m : Tables) (e : fits c m ≡ true) where
 -- both test in this order; retract does not ask about kinds
 abbrev tests : {A : Type 0} → (Refusal → A) → Bool → Bool → Bool → Bool → A → A
 tests refuse a b d f z =
-    unless a (refuse Capacity) (unless b (refuse UnknownNumber) (unless d (refuse Damaged) (unless f (refuse KindNotPermitted) z)))
+    unless a (refuse Capacity)
+    (unless b (refuse UnknownNumber) (unless d (refuse Damaged) (unless f (refuse KindNotPermitted) z)))
 
 module _ {A : Type 0} (refuse : Refusal → A) (go : ℕ → A) where
   abbrev by-target : Located → A

@@ -1,41 +1,20 @@
--- `statement::retract_updating` meets its contract: the walk of `LentCounters`, with `retract_kept` for the form by value.
--- Assumes nothing.
-use contract.Running.{givenOf, tables, tablesOf}
-use denote.Triple.Spec.{tripleOf}
-use denote.Triple.Table.{entered, cited}
+-- `statement::retract_updating` meets its contract: the walk of `LentCounters`, with `retract_kept` for the form by
+-- value. Assumes nothing.
 use Rattle.statement.specs.Updating.{RetractedUpdating}
 use Rattle.statement.specs.declared.RetractKept.{RetractKept}
 use Rattle.store.proofs.Retracted as E
 use Rattle.store.proofs.Retracted.Laws as E′
 use Rattle.statement.proofs.RetractKept as S
-use Rattle.statement.proofs.LentCounters.{Form, Callee, meets}
-use Rattle.statement.proofs.retract_kept.Symbol as callee-def
-use Rattle.statement.proofs.retract_kept.Symbol.{name as #callee}
+use Rattle.statement.proofs.LentCounters.{stands}
+use Rattle.statement.proofs.retract_kept.Symbol as callee
 use Rattle.statement.proofs.retract_kept.Met as callee-thm
-use Rattle.statement.proofs.retract_updating.Key.{name as #self}
-use Rattle.statement.proofs.retract_updating as f
+use Rattle.statement.proofs.retract_updating.Key as self
 use Rattle.statement.proofs.retract_updating.Statement as stated
 use Rattle.statement.proofs.retract_updating.Code as code
 
-abbrev form : Form
-form = record {
-  enum = E.the-type;
-  laws = E′.the-field-laws;
-  plain = E′.the-field-plain;
-  name = S.the-type .name;
-  Kept = RetractKept;
-  counters = λ r. r .counters;
-  reply = λ r. r .reply;
-  one = S.the-type .to-one;
-  Said = RetractedUpdating;
-  callee = #callee;
-}
-
 pub retract-updating-spec : {M : Type 1} → stated.statement M
-unfolding code.routine tablesOf
+unfolding code.routine
 retract-updating-spec 𝓤 H 𝓜 𝓖 𝓡 =
-    entered 𝓤 H (tripleOf 𝓤 H (𝓖 .A) f.signature (f.spec 𝓤 H (𝓖 .A) (𝓜 .mem) (𝓡 .run)))
-    (tables 𝓤 H 𝓜 𝓡 code.env .C) (tables 𝓤 H 𝓜 𝓡 code.env .Λ) #self code.function (code.unfolded 𝓤 H 𝓜 𝓡)
-    (meets form 𝓤 H (𝓖 .A) (givenOf 𝓤 H 𝓜 𝓖) (tablesOf 𝓤 H 𝓜 (tables 𝓤 H 𝓜 𝓡 code.env))
-    (cited 𝓤 H (Callee form 𝓤 H (𝓖 .A)) 𝓜 𝓡 code.env #callee callee-def.routine code.calls-statement·retract-kept
-    (callee-thm.met 𝓤 H 𝓜 𝓖 𝓡)))
+    stands E.the-type E′.the-field-laws E′.the-field-plain (S.the-type .name) RetractKept (λ r. r .counters) (λ r. r .reply)
+    (S.the-type .to-one) RetractedUpdating callee.name 𝓤 H 𝓜 𝓖 𝓡 code.env self.name (code.unfolded 𝓤 H 𝓜 𝓡)
+    callee.routine code.calls-statement·retract-kept (callee-thm.met 𝓤 H 𝓜 𝓖 𝓡)
