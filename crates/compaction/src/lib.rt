@@ -1,9 +1,9 @@
 // Reclaim (paper 02, note 6): the room of retracted statements is given back.
 //
 // The live statements move down in their order and are numbered from 1, chains and counts are built anew, the words of
-// the records given up are 0, names stay. Refusals, tested in this order, nothing written beside one: 1; 14 after 65,535
-// reclaims; 9 where the store is not sound. After the check one pass over the resources and one over the statements, in
-// place; no working memory is asked for.
+// the records given up are 0, names stay. Refusals, tested in this order, nothing written beside one: 1; 14 after
+// 65,535 reclaims; 9 where the store is not sound. After the check one pass over the resources and one over the
+// statements, in place; no working memory is asked for.
 use store::Counters;
 use store::Reclaimed;
 use store::Refusal;
@@ -18,8 +18,8 @@ ghost use Rattle.compaction.specs.Steps.{compacted};
 mod clear;
 mod sweep;
 
-// Chains and counts cleared, the live records moved down and linked anew, the words of the others set to 0. How many are
-// live.
+// Chains and counts cleared, the live records moved down and linked anew, the words of the others set to 0. How many
+// are live.
 fn compact(resources: &mut [u32], statements: &mut [u32], r: u32, t: u32) -> u32
     requires { ⌜ Linked r t (now resources) (now statements) × (t ≤ maxStatements) ⌝ }
     ensures { λ k. ⌜ swept k (now (resources .exit)) (now (statements .exit))

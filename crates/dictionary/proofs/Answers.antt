@@ -144,7 +144,8 @@ found-is ns c m N w = rw (named-names ns c m N) (go (lookupName w ns) refl)
 place-is : (ns : List (List ℕ)) (c : Counters) (m : Tables) → Named ns c m → (w : List ℕ) → fits c m ≡ true
     → wellFormed w ≡ true → place c m (canonical w) ≡ indexPlaceOf c m (canonical w)
 place-is ns c m N w f b =
-    searched-is ns c m N (canonical w) (form-clean (canonical w) (canonical-formed w b)) (fits-room c m f .few-resources)
+    searched-is ns c m N (canonical w) (form-clean (canonical w) (canonical-formed w b))
+    (fits-room c m f .few-resources)
 
 -- on any tables a number found is in 1..R
 abbrev WithinNumbers : ℕ → Lookup → Type 0
@@ -239,7 +240,8 @@ module _ (c : Counters) (m m′ : Tables) (w : List ℕ) (a : Interned) where
         ∙ intern-as-refused c m (canonical w) found q (sym (ap (λ (o : Tables × Interned). o .1) e) ∙ g);
   }
 
-  pub intern-searched : (n : List ℕ) → Tested c m w n → after m′ a ≡ internAs c m n (place c m n) → InternAnswer c m m′ w a
+  pub intern-searched : (n : List ℕ) → Tested c m w n → after m′ a ≡ internAs c m n (place c m n)
+      → InternAnswer c m m′ w a
   intern-searched n t e = interned-canonical (t .fit) (t .well) (rw (t .left) at e)
 
 module _ (c : Counters) (m : Tables) (w n : List ℕ) (t : Tested c m w n) where

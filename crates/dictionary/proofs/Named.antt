@@ -1,5 +1,6 @@
 -- On a sound dictionary the search answers where the name stands: the comparison in the text is the byte order of
--- names, a probe compares the entry's name, and halving keeps what is less below and what is more above. Assumes nothing.
+-- names, a probe compares the entry's name, and halving keeps what is less below and what is more above. Assumes
+-- nothing.
 use mathlib.Core.Path.{_≡_, refl, sym, ap, _∙_}
 use mathlib.Core.Logic.{_≢_}
 use mathlib.Core.Bool.{true}
@@ -19,8 +20,8 @@ use Rattle.store.specs.Reading.{inRange}
 use Rattle.store.specs.Dictionary.{rank, placeAt, indexPlaceOf}
 use Rattle.store.specs.Names.{ByteOrdering, less, equal, more, compareBytes, isLess, Named, nameAt}
 use Rattle.store.proofs.Tests.{decide, three}
-use Rattle.store.proofs.Order.{flip, compare-less as order-less, compare-more as order-more, compare-tail}
-use Rattle.store.proofs.Order.{compare-refl, compare-flip, compare-equal, compare-trans, eqBytes-compare, less-not-equal}
+use Rattle.store.proofs.Order.{flip, compare-less as order-less, compare-more as order-more, compare-tail, compare-refl}
+use Rattle.store.proofs.Order.{compare-flip, compare-equal, compare-trans, eqBytes-compare, less-not-equal}
 use Rattle.store.proofs.Form.{clean, form-clean, storable-formed}
 use Rattle.store.proofs.Text.{text-at, bytes-take}
 use Rattle.store.proofs.Index.{rank-is}

@@ -1,7 +1,7 @@
--- Walks by hand of a function of the counters, the four tables lent for reading and a resource's number, as `name` is, or
--- one that prints what `name` answers. What such a function is passed, and its machine values; what is had of the
--- parameters at exit, which is nothing, since each is plain or can be copied; and the laws that a walk takes to a contract.
--- Assumes nothing.
+-- Walks by hand of a function of the counters, the four tables lent for reading and a resource's number, as `name` is,
+-- or one that prints what `name` answers. What such a function is passed, and its machine values; what is had of the
+-- parameters at exit, which is nothing, since each is plain or can be copied; and the laws by which a walk reaches a
+-- contract. Assumes nothing.
 use mathlib.Core.Path.{refl}
 use Prim.Native.Nat.{ℕ}
 use mathlib.Core.List.{List, [], _∷_}
@@ -61,7 +61,10 @@ module _ (a : Args) where
   abbrev pub values : Values
   values = (
     Ct′.lowered (a .0) ∷ [],
-    (sl (a .1 .0) ∷ [], (sl (a .1 .1 .0) ∷ [], (sl (a .1 .1 .1 .0) ∷ [], (sl text ∷ [], (Id′.lowered resource ∷ [], tt))))),
+    (
+      sl (a .1 .0) ∷ [],
+      (sl (a .1 .1 .0) ∷ [], (sl (a .1 .1 .1 .0) ∷ [], (sl text ∷ [], (Id′.lowered resource ∷ [], tt)))),
+    ),
   )
 
   abbrev pub row : List Val

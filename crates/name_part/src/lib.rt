@@ -14,8 +14,8 @@ use store::ResourceId;
 use store::refusal_number;
 
 // The refusal's number, 0 where there is none, and the name's bytes, empty beside a refusal. The part lives as long as
-// the text is lent: while it is in use nothing can be written to the text, so an intern may follow only once the part is
-// no longer needed.
+// the text is lent: while it is in use nothing can be written to the text, so an intern may follow only once the part
+// is no longer needed.
 pub struct NamePart<'t> {
     pub refusal: u32,
     pub part: &'t [u8],

@@ -20,10 +20,10 @@ use ghost.Atoms.{Atoms}
 use contract.Lifetimes.{Lfts, Shares}
 use contract.Monad.{fact}
 use contract.Running.{GhostRules, Running, givenOf, tables, tablesOf}
-use types.Kit.{Given, Item, ‵, raw, _⊛_, ⋆, some, later, _$_, _∵_, !, qed, by, move, keep, drop, use1, use2, split, join, pick}
-use types.Kit.{rewrite, fsplit, fsplit3, fjoin, fjoin3, feqL, feqI, suffices, frame, await, done}
-use types.Run.{look, init, forget, stop, hop, fld, from, load, addr, of-opd, and-then, no-more, assigns, land, returns, enter}
-use types.Run.{alloc1, alloc0, params1, pass1, pass0, free1, free0}
+use types.Kit.{Given, Item, ‵, raw, _⊛_, ⋆, some, later, _$_, _∵_, !, qed, by, move, keep, drop, use1, use2, split}
+use types.Kit.{join, pick, rewrite, fsplit, fsplit3, fjoin, fjoin3, feqL, feqI, suffices, frame, await, done}
+use types.Run.{look, init, forget, stop, hop, fld, from, load, addr, of-opd, and-then, no-more, assigns, land, returns}
+use types.Run.{enter, alloc1, alloc0, params1, pass1, pass0, free1, free0}
 use types.Part.{agg, whole, sub, look-in, store-in}
 use types.SemTy.{Body as Lent}
 use sound.WpLaws.{FmC, fmOf, WpFn-mono}
@@ -46,8 +46,8 @@ use denote.Triple.Statement.{Contract, Triple}
 use denote.Triple.Call.{calls-at}
 use denote.Triple.Clauses.{Ended, Clauses, closing, ensured, lasts}
 use denote.Triple.Table.{entered, cited}
-use denote.Triple.Walked.{says, Stays, stay-ref, stay-dropped, gave-slice, stay-none, walkOf, AllGo, goes-none, goes-dropped}
-use denote.Triple.Walked.{goes-ref, goes-gave-slice, Walks, ends-at, walked, walk-meets}
+use denote.Triple.Walked.{says, Stays, stay-ref, stay-dropped, gave-slice, stay-none, walkOf, AllGo, goes-none}
+use denote.Triple.Walked.{goes-dropped, goes-ref, goes-gave-slice, Walks, ends-at, walked, walk-meets}
 use denote.Exit.{yes}
 use Rattle.store.specs.declared.Counters.{Counters}
 use Rattle.store.specs.declared.Triple.{Triple as Spo}
@@ -73,9 +73,9 @@ mid d = D′.lowered d
 abbrev sl : RefT (List ℕ) → Val
 sl x = sliceVal (x .ptr) (length (x .now))
 
--- What the two differ in: the reply's type, an enum, with its laws as a field's; the struct of the counters and the reply
--- that the form by value answers; what both say of the counters, the resources and the statements on entry and at exit,
--- of the index, the text, the triple and the reply; and the form by value, as it is called.
+-- What the two differ in: the reply's type, an enum, with its laws as a field's; the struct of the counters and the
+-- reply that the form by value answers; what both say of the counters, the resources and the statements on entry and at
+-- exit, of the index, the text, the triple and the reply; and the form by value, as it is called.
 module _ (enum : En.Declared) (laws : LL.FLaws (En.field enum)) (plains : LL.Plain (En.field enum))
     (name : Sym) (Kept : Type 0) (counters : Kept → Counters) (reply : Kept → enum .D)
     (one : (x y : Kept) → fields-of enum (counters x) (reply x) ≡ fields-of enum (counters y) (reply y) → x ≡ y)
@@ -218,12 +218,13 @@ module _ (enum : En.Declared) (laws : LL.FLaws (En.field enum)) (plains : LL.Pla
       values = (sl x1 ∷ [], (sl x2 ∷ [], (sl x3 ∷ [], (sl x4 ∷ [], (mid d1 ∷ [], tt)))))
 
       abbrev tokens : Item 𝓤
-      tokens = ‵ (flft (κs .1 .0) (qs .1 .0)) ⊛ ‵ (flft (κs .1 .1 .0) (qs .1 .1 .0)) ⊛ ‵ (flft (κs .1 .1 .1 .0) (qs .1 .1 .1 .0))
-          ⊛ ‵ (flft (κs .1 .1 .1 .1 .0) (qs .1 .1 .1 .1 .0)) ⊛ ‵ ftrue
+      tokens = ‵ (flft (κs .1 .0) (qs .1 .0)) ⊛ ‵ (flft (κs .1 .1 .0) (qs .1 .1 .0))
+          ⊛ ‵ (flft (κs .1 .1 .1 .0) (qs .1 .1 .1 .0)) ⊛ ‵ (flft (κs .1 .1 .1 .1 .0) (qs .1 .1 .1 .1 .0)) ⊛ ‵ ftrue
 
       abbrev has : Item 𝓤
       has = ‵ (owns (MutSlice (named 0) (κs .1 .0) u32 ∷ MutSlice (named 1) (κs .1 .1 .0) u32
-          ∷ ShrSlice (named 2) (κs .1 .1 .1 .0) u32 ∷ ShrSlice (named 3) (κs .1 .1 .1 .1 .0) u8 ∷ D.the-row ∷ []) rest values)
+          ∷ ShrSlice (named 2) (κs .1 .1 .1 .0) u32 ∷ ShrSlice (named 3) (κs .1 .1 .1 .1 .0) u8 ∷ D.the-row ∷ []) rest
+          values)
 
       -- all parameters, and all that the triples bind outside
       abbrev a : RefT Counters × Rest
@@ -266,8 +267,8 @@ module _ (enum : En.Declared) (laws : LL.FLaws (En.field enum)) (plains : LL.Pla
 
       module _ (C : Calls 𝓤 H) (Λ : Loops 𝓤 H) (fm : FmC 𝓤 H (W .laws) C)
           (known : Triple 𝓤 (C callee) (Callee 𝓤 H A)) where
-        walk : Room u32 (length (now x1)) → Room u32 (length (now x2)) → Room u32 (length (now x3)) → Room u8 (length (now x4))
-            → ent 𝓤 (onEntry 𝓤 H A (ended .signature) κs qs a (vptr b o ∷ [], values)) (WpFn 𝓤 H C Λ function
+        walk : Room u32 (length (now x1)) → Room u32 (length (now x2)) → Room u32 (length (now x3))
+            → Room u8 (length (now x4)) → ent 𝓤 (onEntry 𝓤 H A (ended .signature) κs qs a (vptr b o ∷ [], values)) (WpFn 𝓤 H C Λ function
             (vptr b o ∷ sl x1 ∷ sl x2 ∷ sl x3 ∷ sl x4 ∷ mid d1 ∷ []) Post)
         walk room1 room2 room3 room4 =
             qed W ((‵ (flft (κs .0) (qs .0)) ⊛ tokens) ∷ ‵ (owns (typesAt (updating.signature .params) κs) a
@@ -289,7 +290,7 @@ module _ (enum : En.Declared) (laws : LL.FLaws (En.field enum)) (plains : LL.Pla
             use1 W (‵ (fat fullShare T′.mir b o (mach h))) (W .laws .raw-at fullShare T′.mir b o (mach h)) $
             move ! (1 ∷ []) $ peeks ! T.the-row (Is T.the-row) (shows 𝓤 H A T.the-row) h (mach h ∷ []) (λ g.
             move ! (1 ∷ 0 ∷ []) $
-            -- [cell; cown; obor; obs; auth; tr; rest; c12; c11; c10; c9; c8; c7; c6; c5; c4; c3; c2; c1; c0]
+            -- [cell; cown; obor; obs; auth; tr; rest; c12; c11; …; c1; c0]
             assigns ! (of-opd ! (load ! (from ! (hop ! (look ! 29 refl) (stop !))) (look ! 0 refl))) (from ! (stop !))
             (init ! 17 refl (LL.lawful T.the-type T′.the-laws 𝓤 H A W .typed h _ g .0)) $
             assigns ! (addr ! (from ! (fld ! refl (hop ! (look-in ! 27 (sub ! 0 refl (whole !))) (stop !))))) (from ! (stop !))
@@ -317,7 +318,7 @@ module _ (enum : En.Declared) (laws : LL.FLaws (En.field enum)) (plains : LL.Pla
             fsplit ! $ fsplit ! $ move ! (1 ∷ []) $ feqL ! (λ e1. move ! (1 ∷ []) $ fsplit ! $ fsplit ! $ move ! (1 ∷ []) $
             feqL ! (λ e2.
             move ! (4 ∷ []) $ split ! $ move ! (1 ∷ []) $ peeks ! S (Is S) (shows 𝓤 H A S) r (w ∷ []) (λ is.
-            -- [res; tr; fin1; R; fin0; cpart; cell; cown; obor; obs; auth; c12; c11; c10; c9; c8; c7; c6; c5; c4; c3; c2; c1; c0]
+            -- [res; tr; fin1; R; fin0; cpart; cell; cown; obor; obs; auth; c12; c11; …; c1; c0]
             land ! (from ! (stop !)) (init ! 19 refl (LL.lawful struct S′ 𝓤 H A W .typed r _ is .0)) $
             rewrite ! 19 (λ (u : Val). ‵ (fat fullShare (lone (S .mir)) l8 0 u)) (ap only (LL.tells struct S′ r _ is)) refl $
             assigns ! (of-opd ! (load ! (from ! (fld ! refl (stop !))) (look-in ! 19 (sub ! 0 refl (whole !)))))
@@ -391,8 +392,8 @@ module _ (enum : En.Declared) (laws : LL.FLaws (En.field enum)) (plains : LL.Pla
         (WpFn-mono 𝓤 H (W .laws) 𝓣 function) (walks (𝓣 .C) (𝓣 .Λ) (fmOf 𝓤 H (W .laws) 𝓣) known)
 
   -- the function's routine, in the environment that its code is read over, where the form by value meets its contract
-  pub stands : {M : Type 1} (𝓤 : URA M) (H : Heap 𝓤) (𝓜 : Model 𝓤 H) (𝓖 : GhostRules 𝓤 H) (𝓡 : Running 𝓤 H 𝓜) (env : Env)
-      (self : Name) → Closed 𝓤 H (tables 𝓤 H 𝓜 𝓡 env .C) (tables 𝓤 H 𝓜 𝓡 env .Λ) self function
+  pub stands : {M : Type 1} (𝓤 : URA M) (H : Heap 𝓤) (𝓜 : Model 𝓤 H) (𝓖 : GhostRules 𝓤 H) (𝓡 : Running 𝓤 H 𝓜)
+      (env : Env) (self : Name) → Closed 𝓤 H (tables 𝓤 H 𝓜 𝓡 env .C) (tables 𝓤 H 𝓜 𝓡 env .Λ) self function
       → (routine : Routine) → env callee ≡ routine → Triple 𝓤 (𝓡 .run routine) (Callee 𝓤 H (𝓖 .A))
       → Meets 𝓤 H (𝓖 .A) (ended .signature) (𝓡 .run (env self)) (closing 𝓤 H (𝓖 .A) ended (clauses 𝓤))
   unfolding tablesOf

@@ -26,10 +26,11 @@ use Rattle.statement_record.specs.Records.{Tallyable, AllTallyable}
 
 -- ---- a store at one position leaves what another asks
 
--- P, what a position asks of the table, and f, its store: after the subject's store the predicate can be stored, and then
--- the object
+-- P, what a position asks of the table, and f, its store: after the subject's store the predicate can be stored, and
+-- then the object
 module _ (P : List ℕ → Position → ℕ → Type 0) (f : Position → ℕ → List ℕ → List ℕ)
-    (keeps : (p q : Position) (y z : ℕ) (res : List ℕ) → (off q ≡ off p → ⊥) → P res p y → P res q z → P (f p y res) q z)
+    (keeps : (p q : Position) (y z : ℕ) (res : List ℕ) → (off q ≡ off p → ⊥) → P res p y → P res q z
+    → P (f p y res) q z)
     (res : List ℕ) (x : Triple) (each : (p : Position) → P res p (at p x)) where
   second : P (f Subject (at Subject x) res) Predicate (at Predicate x)
   second = keeps Subject Predicate _ _ res (λ e. omega arith) (each Subject) (each Predicate)

@@ -60,7 +60,8 @@ returns-3 c =
     let a = p .before .before .before .before .before .before .before .before .args in
     let m = tables (now (a .resources)) (now (a .statements)) (now (a .index)) (now (a .text)) in
     let fit = passed {t = fits (a .c) m} (p .before .fits2 .ensures) (p .if1 .left) in
-    answer-unsound (a .c) m fit (q .if2 .left) (check-no {P = Sound (a .c) m} (c .before .check .ensures) (c .if3 .taken))
+    answer-unsound (a .c) m fit (q .if2 .left)
+    (check-no {P = Sound (a .c) m} (c .before .check .ensures) (c .if3 .taken))
 
 compact-requires : tie.Need-compact-requires
 compact-requires c κs =
@@ -91,7 +92,8 @@ returns-4 c =
     let m = tables (now (a .resources)) (now (a .statements)) (now (a .index)) (now (a .text)) in
     let fit = passed {t = fits (a .c) m} (p .before .fits2 .ensures) (p .if1 .left) in
     let sound = check-yes {P = Sound (a .c) m} (r .before .check .ensures) (r .if3 .left) in
-    done (a .c) m fit (q .if2 .left) sound _ _ _ _ (omega arith) (c .before .before .before .before .before .compact .ensures)
+    done (a .c) m fit (q .if2 .left) sound _ _ _ _ (omega arith)
+    (c .before .before .before .before .before .compact .ensures)
 
 pub reclaim-spec : {M : Type 1} → statement M
 reclaim-spec =

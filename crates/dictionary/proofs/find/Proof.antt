@@ -24,7 +24,8 @@ returns : tie.Need-returns
 returns c =
     let a = c .before .before .before .before .before .before .before .args in
     let m = tables (now (a .resources)) (now (a .statements)) (now (a .index)) (now (a .text)) in
-    find-capacity (a .c) m (now (a .name)) _ (failed {t = fits (a .c) m} (c .before .fits2 .ensures) (c .if1 .taken)) refl
+    let f = failed {t = fits (a .c) m} (c .before .fits2 .ensures) (c .if1 .taken) in
+    find-capacity (a .c) m (now (a .name)) _ f refl
 
 name-kind-requires : tie.Need-name-kind-requires
 name-kind-requires c κs = search needs

@@ -1,6 +1,6 @@
 use Rattle.dictionary.proofs.Answers.{Tested, place, malformed, formed, readable, has-room, miss-within}
-use Rattle.dictionary.proofs.Answers.{intern-capacity, intern-malformed, intern-searched, intern-full, intern-new}
-use Rattle.dictionary.proofs.Answers.{left-short}
+use Rattle.dictionary.proofs.Answers.{intern-capacity, intern-malformed, intern-searched, intern-full}
+use Rattle.dictionary.proofs.Answers.{intern-new, left-short}
 use Rattle.table.proofs.Capacity.{fits-room}
 use Rattle.store.proofs.Form.{form-short}
 use Rattle.store.specs.declared.IndexPlace.{IndexPlace}
@@ -40,8 +40,8 @@ returns : tie.Need-returns
 returns c =
     let a = c .before .before .before .before .before .before .before .before .before .before .args in
     let m = tables (now (a .resources)) (now (a .statements)) (now (a .index)) (now (a .text)) in
-    intern-capacity (a .c) m m (now (a .name)) _ (failed {t = fits (a .c) m} (c .before .fits2 .ensures) (c .if1 .taken))
-    refl
+    let f = failed {t = fits (a .c) m} (c .before .fits2 .ensures) (c .if1 .taken) in
+    intern-capacity (a .c) m m (now (a .name)) _ f refl
 
 name-kind-requires : tie.Need-name-kind-requires
 name-kind-requires c κs = search needs
@@ -162,7 +162,8 @@ append-requires c κs =
     let p = c .before .before .before .before in
     let a = (start (shortened p)) .args in
     let m = tables (now (a .resources)) (now (a .statements)) (now (a .index)) (now (a .text)) in
-    has-room (a .c) m _ _ (passed (grown p) (c .before .before .before .if3 .left)) (miss-within (a .c) m _ _ (missed p))
+    let room = passed (grown p) (c .before .before .before .if3 .left) in
+    has-room (a .c) m _ _ room (miss-within (a .c) m _ _ (missed p))
 
 same-length-10 : tie.Need-same-length-10
 same-length-10 c = search needs

@@ -1,6 +1,6 @@
--- `name_part::name` meets its contract: a walk of its MIR, by hand. The span is asked for with a copy of what the text owns kept back; its
--- number is told by `refusal_of`, its bytes by `part_of` of that copy, and the reply is made of the two in the result's local.
--- All that the proof knows of the three is that each meets its contract. Assumes nothing.
+-- `name_part::name` meets its contract: a walk of its MIR, by hand. The span is asked for with a copy of what the text
+-- owns kept back; its number is told by `refusal_of`, its bytes by `part_of` of that copy, and the reply is made of the
+-- two in the result's local. All that the proof knows of the three is that each meets its contract. Assumes nothing.
 use mathlib.Core.Path.{_≡_, refl, sym, ap, _∙_}
 use Prim.Native.Nat.{ℕ}
 use native.Mathlib.Omega.{arith}
@@ -21,8 +21,8 @@ use contract.Running.{givenOf, tables as tables-of, tablesOf}
 use types.Kit.{Given, ‵, raw, _⊛_, ⋆, some, later, _$_, _∵_, !, qed, by, move, drop, use1, use2, use3, split, join, pick}
 use types.Kit.{rewrite, fsplit, fjoin, suffices, frame, await, done}
 use types.Part.{agg}
-use types.Run.{look, init, forget, stop, from, load, and-then, no-more, assigns, land, returns, enter, alloc1, alloc0, params1, pass1}
-use types.Run.{pass0, free1, free0}
+use types.Run.{look, init, forget, stop, from, load, and-then, no-more, assigns, land, returns, enter, alloc1, alloc0}
+use types.Run.{params1, pass1, pass0, free1, free0}
 use sound.WpLaws.{FmC, fmOf, WpFn-mono}
 use denote.RattleType.{RattleType}
 use denote.Laws.{Is, shows}
@@ -60,8 +60,8 @@ use Rattle.table.proofs.name_span.Symbol.{name as #span}
 use Rattle.table.proofs.name_span.Met as span-thm
 use Rattle.name_part.specs.Part.{partOf, Inside}
 use Rattle.name_part.specs.declared.NamePart.{NamePart}
-use Rattle.name_part.proofs.LentTables.{Args, chosen, lives, sl, text, resource, values, row, has, Are-passed, last, tokens}
-use Rattle.name_part.proofs.LentTables.{stayed, vals, tells, all-go}
+use Rattle.name_part.proofs.LentTables.{Args, chosen, lives, sl, text, resource, values, row, has}
+use Rattle.name_part.proofs.LentTables.{Are-passed, last, tokens, stayed, vals, tells, all-go}
 use Rattle.name_part.proofs.NamePart as T
 use Rattle.name_part.proofs.NamePart.Laws as T′
 use Rattle.name_part.proofs.refusal_of as number
@@ -131,7 +131,8 @@ module _ {M : Type 1} (𝓤 : URA M) (H : Heap 𝓤) (A : Atoms 𝓤) (W : Given
       use1 W (‵ (Own x (sl x)) ⊛ ‵ (Own x (sl x))) (shr-slice-copy 𝓤 H A W (named 3) κ u8 .twice x (sl x ∷ [])) $ split ! $
       move ! (0 ∷ 2 ∷ []) $ fjoin ! $ move ! (2 ∷ 0 ∷ []) $ fjoin ! $ move ! (2 ∷ 0 ∷ []) $ fjoin ! $ move ! (2 ∷ 0 ∷ []) $ fjoin ! $
       move ! (2 ∷ 0 ∷ []) $ fjoin ! $
-      move ! (2 ∷ 0 ∷ []) $ use2 W (raw (Spans 𝓤 H A mem run .pre (chosen κs qs a))) (qed W (tokens κs qs ∷ ‵ (has κs a) ∷ []) ∵ join ! $ frame ! $ done !) $
+      move ! (2 ∷ 0 ∷ []) $ use2 W (raw (Spans 𝓤 H A mem run .pre (chosen κs qs a)))
+      (qed W (tokens κs qs ∷ ‵ (has κs a) ∷ []) ∵ join ! $ frame ! $ done !) $
       frame ! $ done !
 
   span-said : (r : NameRead) → ent 𝓤 (ensured 𝓤 H A span.ended (span.clauses 𝓤 H A mem run) κs a tt r) (fact 𝓤 (r ≡ found))
@@ -197,10 +198,10 @@ module _ {M : Type 1} (𝓤 : URA M) (H : Heap 𝓤) (A : Atoms 𝓤) (W : Given
         pass1 ! (init ! 6 refl (LL.lawful Id.the-type Id′.the-laws 𝓤 H A W .typed (resource a) _ (are .1 .1 .1 .1 .1 .0) .0)) $ pass0 ! $
         move ! (20 ∷ []) $ use1 W (raw (Spans 𝓤 H A mem run .pre (chosen κs qs a)) ⊛ ‵ (Own x (sl x))) goes-span $ split ! $
         -- [what the callee asks; what text owns; room for _9; …; _8; …; _7; …; _6; …; _1; …; room for _0; …]
-        calls-at ! fm (Spans 𝓤 H A mem run) known-span (chosen κs qs a) (and-then ! (load ! (from ! (stop !)) (look ! 18 refl)) (and-then ! (load !
-        (from ! (stop !)) (look ! 16 refl)) (and-then ! (load ! (from ! (stop !)) (look ! 14 refl)) (and-then ! (load ! (from ! (stop !))
-        (look ! 12 refl)) (and-then ! (load ! (from ! (stop !)) (look ! 10 refl)) (and-then ! (load ! (from ! (stop !)) (look ! 8 refl))
-        (no-more !))))))) (λ w.
+        calls-at ! fm (Spans 𝓤 H A mem run) known-span (chosen κs qs a) (and-then ! (load ! (from ! (stop !))
+        (look ! 18 refl)) (and-then ! (load ! (from ! (stop !)) (look ! 16 refl)) (and-then ! (load ! (from ! (stop !))
+        (look ! 14 refl)) (and-then ! (load ! (from ! (stop !)) (look ! 12 refl)) (and-then ! (load ! (from ! (stop !))
+        (look ! 10 refl)) (and-then ! (load ! (from ! (stop !)) (look ! 8 refl)) (no-more !))))))) (λ w.
         use1 W (later (some (λ (r : NameRead). (tokens κs qs ⊛ ‵ (N.the-row .own r (w ∷ []))) ⊛ raw (ensured 𝓤 H A span.ended
         (span.clauses 𝓤 H A mem run) κs a tt r)))) (id⊢ 𝓤 _) $ await ! tt $ pick ! (λ r.
         split ! $ move ! (1 ∷ []) $ use1 W (raw (fact 𝓤 (r ≡ found))) (span-said r) $ heard ! (r ≡ found) (λ e. split ! $ move ! (1 ∷ []) $

@@ -50,7 +50,7 @@ returns c =
     let a = p .before .before .before .before .before .before .before .before .before .args in
     let m = tables (now (a .resources)) (now (a .statements)) (now (a .index)) (now (a .text)) in
     c .before .before .before .before .append .ensures .leaves _ _
-    ∙ ap (λ (k : ℕ). asserting (a .c) m (a .x) k) (sym (c .before .before .before .before .before .before .before .if1 .taken))
+    ∙ ap (asserting (a .c) m (a .x)) (sym (c .before .before .before .before .before .before .before .if1 .taken))
     ∙ assert-at (a .c) m (a .x) _ (target p)
 
 revive-requires : tie.Need-revive-requires
@@ -58,7 +58,8 @@ revive-requires c κs =
     let p = c .before .before .before .before .before in
     let f = assert-found _ _ _ _ (target p) in (
       record { from-one = omega arith; whole = located-in _ _ (f .0) _ _ (f .2) },
-      grows-all (p .before .before .before .before .before .before .before .before .before .args .c) _ _ (appendable _ _ (f .0) _ _ (f .1) (f .2)),
+      grows-all (p .before .before .before .before .before .before .before .before .before .args .c) _ _
+          (appendable _ _ (f .0) _ _ (f .1) (f .2)),
     )
 
 same-length-3 : tie.Need-same-length-3
@@ -79,7 +80,9 @@ same-length-6 : tie.Need-same-length-6
 same-length-6 c = search needs
 
 returns-3 : tie.Need-returns-3
-returns-3 c = c .before .before .before .before .revive .ensures .leaves _ _ ∙ assert-at _ _ _ _ (target (c .before .before .before .before .before .before .before .before .before .before))
+returns-3 c =
+    let p = c .before .before .before .before in
+    p .revive .ensures .leaves _ _ ∙ assert-at _ _ _ _ (target (p .before .before .before .before .before .before))
 
 pub assert-spec : {M : Type 1} → statement M
 assert-spec =

@@ -52,7 +52,9 @@ same-length-4 : tie.Need-same-length-4
 same-length-4 c = search needs
 
 returns-2 : tie.Need-returns-2
-returns-2 c = c .before .before .before .before .retract-record .ensures .leaves _ _ ∙ retract-at _ _ _ _ (target (c .before .before .before .before .before .before .before .before))
+returns-2 c =
+    let p = c .before .before .before .before in
+    p .retract-record .ensures .leaves _ _ ∙ retract-at _ _ _ _ (target (p .before .before .before .before))
 
 pub retract-spec : {M : Type 1} → statement M
 retract-spec =

@@ -52,10 +52,11 @@ same-length-3 c = search needs
 
 returns-2 : tie.Need-returns-2
 returns-2 c =
-    let q = c .before .before .before .before .before .before .before .before .before in
+    let r = c .before .before .before .before .before .before in
+    let q = r .before .before .before in
     let p = q .before .before in
     let a = p .before .before .before .before .before .args in
-    rw (c .before .before .link-record .ensures, c .before .before .before .before .before .before .write-record .ensures, q .triple-at .ensures)
+    rw (c .before .before .link-record .ensures, r .write-record .ensures, q .triple-at .ensures)
     (step-moved (a .n .0) (a .live) (now (a .resources)) (now (a .statements)) _ (omega arith)
     (λ e. p .if1 .left (p .before .flag-at .ensures ∙ e)))
 

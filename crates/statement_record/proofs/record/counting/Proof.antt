@@ -31,10 +31,10 @@ live-at-requires-3 c κs = c .before .before .before .before .before .pre .each 
 returns-3 : tie.Need-returns-3
 returns-3 c =
     let a = c .before .before .before .before .before .before .args in
-    let none-s = c .before .before .before .if1 .left in
-    let none-p = c .before .if2 .left in
-    counting-last (now (a .resources)) (a .x) (c .live-at3 .result) (λ e. none-s (c .before .before .before .before .live-at .ensures ∙ e))
-    (λ e. none-p (c .before .before .live-at2 .ensures ∙ e)) (c .live-at3 .ensures)
+    let q = c .before in
+    let p = q .before .before in
+    counting-last (now (a .resources)) (a .x) (c .live-at3 .result) (λ e. p .if1 .left (p .before .live-at .ensures ∙ e))
+    (λ e. q .if2 .left (q .before .live-at2 .ensures ∙ e)) (c .live-at3 .ensures)
 
 pub counting-spec : {M : Type 1} → statement M
 counting-spec =

@@ -1,7 +1,8 @@
 use mathlib.Core.Path.{sym, _∙_}
 use denote.Ref.{now}
 use Rattle.table.proofs.Branches.{failed, passed}
-use Rattle.statement_record.proofs.Records.{falls-all, retracted-none, retracted-before, retracted-damaged, retracted-now}
+use Rattle.statement_record.proofs.Records.{falls-all, retracted-none, retracted-before}
+use Rattle.statement_record.proofs.Records.{retracted-damaged, retracted-now}
 use borrow.Author.Needs.{needs}
 use Rattle.statement_record.proofs.record.retract_record.Statement.{statement}
 use Rattle.statement_record.proofs.record.retract_record.Tie as tie

@@ -34,7 +34,8 @@ returns c =
     let flagged = sym (p .before .flag-at .ensures) ∙ p .if1 .taken in
     record {
       leaves = λ i t. rw (c .before .before .tally .ensures, flag .set-flag .ensures)
-          (revived (now (a .resources)) (now (a .statements)) i t (a .c) (a .x) (a .n .0) (s .pre .0 .from-one) flagged);
+          (revived (now (a .resources)) (now (a .statements)) i t (a .c) (a .x) (a .n .0) (s .pre .0 .from-one)
+          flagged);
     }
 
 same-length-3 : tie.Need-same-length-3
