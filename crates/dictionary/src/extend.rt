@@ -62,7 +62,7 @@ pub fn push_front(words: &mut [u32], v: u32)
     ensures { λ _. ⌜ now (words .exit) ≡ bring v (length (now (words .entry)) - 1) (now (words .entry)) ⌝ }
 {
     let mut i = words.len() - 1;
-    // The words from i on, but the last, stand one further up as well.
+    // The words from i on, but the last, are copied one further up.
     while 0 < i {
         words[i] = words[i - 1];
         i -= 1;

@@ -7,7 +7,6 @@ use Rattle.store.specs.Statement.{asserting}
 use Rattle.statement_target.specs.declared.target.Located.the-variants.{At}
 use Rattle.statement_target.specs.Targets.{assertTarget}
 use Rattle.store.specs.Tables.{tables}
-use Prim.Native.Nat.{ℕ}
 use borrow.Author.Needs.{needs}
 use Rattle.statement.proofs.assert.Statement.{statement}
 use Rattle.statement.proofs.assert.Tie as tie
