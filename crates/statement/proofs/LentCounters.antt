@@ -62,7 +62,7 @@ use Rattle.statement.proofs.assert_updating as updating
 abbrev fields-of : (E : En.Declared) → Counters → E .D → Denots (T.the-field .row ∷ En.field E .row ∷ [])
 fields-of E c r = (T.the-type .to c, (E .to r, tt))
 
--- ---- machine values
+-- ---- machine values: of counters, of a triple, of a slice
 
 abbrev mach : Counters → Val
 mach c = T′.lowered c
@@ -105,7 +105,7 @@ module _ (enum : En.Declared) (laws : LL.FLaws (En.field enum)) (plains : LL.Pla
   abbrev S′ : LL.Laws struct
   S′ = (T′.the-field-laws, (laws, tt))
 
-  -- ---- the code
+  -- ---- the MIR of both: the locals of the types that differ, and the name called
 
   abbrev slice-in : Ty
   slice-in = sliceTy (tyRef erased mut (tyInt w32))
