@@ -1,5 +1,5 @@
--- The sweep for code: a step by its way out, a turn of the loop, what a sound store gives each step, and reclaim's answer
--- where all is done. Assumes nothing.
+-- The sweep for code: a step by its way out, a turn of the loop, what a sound store gives each step, and reclaim's
+-- answer where all is done. Assumes nothing.
 use mathlib.Core.Path.{_≡_, sym, ap, _∙_}
 use mathlib.Core.Logic.{_≢_, _↔_}
 use mathlib.Core.Bool.{Bool, true, false, not, true≢false}
@@ -14,7 +14,8 @@ use Rattle.store.specs.Tables.{Tables, tables, fits, flagAt, tripleAt}
 use Rattle.store.specs.Shared.{maxReclaims, maxStatements}
 use Rattle.store.specs.Statement.{appendRecord, linkRecord}
 use Rattle.store.specs.Soundness.{Linked, Sound}
-use Rattle.store.specs.Reclaim.{Swept, swept, unlinked, sweepOne, sweep, blanked, sweptOf, reclaimedCounters, ReclaimAnswer}
+use Rattle.store.specs.Reclaim.{Swept, swept, unlinked, sweepOne, sweep, blanked}
+use Rattle.store.specs.Reclaim.{sweptOf, reclaimedCounters, ReclaimAnswer}
 use Rattle.store.proofs.Tests.{known-low, known-high}
 use Rattle.store.proofs.ReclaimAgrees.{sweeping}
 use Rattle.store.proofs.SweepLaws.{StepNeeds, step-needs, answer-done}
@@ -22,15 +23,16 @@ use Rattle.compaction.specs.Steps.{Sweepable, AllSweepable, compacted}
 
 -- ---- a step
 
-module _ (n t : ℕ) (res stm : List ℕ) where
-  pub step-passed : flagAt stm (n - 1) ≡ 1 → swept t res stm ≡ sweepOne (n - 1) (swept t res stm)
+-- at record n, with `live` live ones before it
+module _ (n live : ℕ) (res stm : List ℕ) where
+  pub step-passed : flagAt stm (n - 1) ≡ 1 → swept live res stm ≡ sweepOne (n - 1) (swept live res stm)
   unfolding sweepOne
   step-passed e = rw (eq-eqb (flagAt stm (n - 1)) 1 e)
 
   -- k, the code's number of live ones then
-  pub step-moved : (k : ℕ) → k ≡ suc t → flagAt stm (n - 1) ≢ 1
-      → swept k (linkRecord t (tripleAt stm (n - 1)) res) (appendRecord t (tripleAt stm (n - 1)) res stm)
-      ≡ sweepOne (n - 1) (swept t res stm)
+  pub step-moved : (k : ℕ) → k ≡ suc live → flagAt stm (n - 1) ≢ 1
+      → swept k (linkRecord live (tripleAt stm (n - 1)) res) (appendRecord live (tripleAt stm (n - 1)) res stm)
+      ≡ sweepOne (n - 1) (swept live res stm)
   unfolding sweepOne
   step-moved k d e = rw (d, ne-eqb (flagAt stm (n - 1)) 1 e)
 
@@ -73,7 +75,8 @@ module _ (r t : ℕ) (res stm : List ℕ) (L : Linked r t res stm) where
             });
           }
 
-  -- the chains and counts cleared, then the sweep: each step can be made, no more are live than there are, and the rest is blanked
+  -- the chains and counts cleared, then the sweep: each step can be made, no more are live than there are, and the rest
+  -- is blanked
   module _ (u : List ℕ) (d : u ≡ unlinked r res) where
     pub cleared-sweepable : t ≤ maxStatements → AllSweepable t (swept 0 u stm)
     cleared-sweepable few = rw d (all-sweepable few)

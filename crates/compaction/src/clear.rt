@@ -9,14 +9,14 @@ ghost use Rattle.store.specs.Reclaim.{unlinked, blanked};
 ghost use Rattle.table.specs.Held.{ResourceHeld};
 ghost use Rattle.compaction.specs.Steps.{unlinkedOne};
 
-// The n words from `start` on.
-pub fn zero(words: &mut [u32], start: usize, n: usize)
-    requires { ⌜ start + n ≤ length (now words) ⌝ }
-    ensures { λ _. ⌜ now (words .exit) ≡ sets (now (words .entry)) start (replicate n 0) ⌝ }
+// `size` words from `start` on.
+pub fn zero(words: &mut [u32], start: usize, size: usize)
+    requires { ⌜ start + size ≤ length (now words) ⌝ }
+    ensures { λ _. ⌜ now (words .exit) ≡ sets (now (words .entry)) start (replicate size 0) ⌝ }
 {
     let mut i = 0;
     // The first i of them are 0.
-    while i < n {
+    while i < size {
         words[start + i] = 0;
         i += 1;
     }
@@ -49,11 +49,15 @@ pub fn unlink_all(resources: &mut [u32], r: u32)
     }
 }
 
-// The records t + 1 to n.
-pub fn blank(statements: &mut [u32], t: u32, n: u32)
-    requires { ⌜ (t ≤ n) × (statementWords * n ≤ length (now statements)) ⌝ }
-    ensures { λ _. ⌜ now (statements .exit) ≡ blanked t n (now (statements .entry)) ⌝ }
+// The records from `live` + 1 to t.
+pub fn blank(statements: &mut [u32], live: u32, t: u32)
+    requires { ⌜ (live ≤ t) × (statementWords * t ≤ length (now statements)) ⌝ }
+    ensures { λ _. ⌜ now (statements .exit) ≡ blanked live t (now (statements .entry)) ⌝ }
 {
-    let start = table::STATEMENT_WORDS * t as usize;
-    zero(statements, start, table::STATEMENT_WORDS * (n - t) as usize);
+    let start = table::STATEMENT_WORDS * live as usize;
+    zero(
+        statements,
+        start,
+        table::STATEMENT_WORDS * (t - live) as usize,
+    );
 }

@@ -1,8 +1,9 @@
 // Reclaim (paper 02, note 6): the room of retracted statements is given back.
 //
-// The live statements move down in their order and are numbered from 1, chains and counts are built anew, the words of the records given
-// up are 0, names stay. Refusals, tested in this order, nothing written beside one: 1; 14 after 65,535 reclaims; 9 where the store is not
-// sound. After the check one pass over the resources and one over the statements, in place; no working memory is asked for.
+// The live statements move down in their order and are numbered from 1, chains and counts are built anew, the words of
+// the records given up are 0, names stay. Refusals, tested in this order, nothing written beside one: 1; 14 after
+// 65,535 reclaims; 9 where the store is not sound. After the check one pass over the resources and one over the
+// statements, in place; no working memory is asked for.
 use store::Counters;
 use store::Reclaimed;
 use store::Refusal;
@@ -17,16 +18,17 @@ ghost use Rattle.compaction.specs.Steps.{compacted};
 mod clear;
 mod sweep;
 
-// Chains and counts cleared, the live records moved down and linked anew, the words of the others set to 0. How many are live.
+// Chains and counts cleared, the live records moved down and linked anew, the words of the others set to 0. How many
+// are live.
 fn compact(resources: &mut [u32], statements: &mut [u32], r: u32, t: u32) -> u32
     requires { ⌜ Linked r t (now resources) (now statements) × (t ≤ maxStatements) ⌝ }
     ensures { λ k. ⌜ swept k (now (resources .exit)) (now (statements .exit))
         ≡ compacted r t (now (resources .entry)) (now (statements .entry)) ⌝ }
 {
     clear::unlink_all(resources, r);
-    let k = sweep::sweep(resources, statements, t);
-    clear::blank(statements, k, t);
-    k
+    let live = sweep::sweep(resources, statements, t);
+    clear::blank(statements, live, t);
+    live
 }
 
 // Reclaim: the counters from now on, one reclaim more among them.
@@ -49,9 +51,9 @@ pub fn reclaim(
     if !integrity::check(c, resources, statements, index, text) {
         return Reclaimed::Refused(Refusal::Damaged);
     }
-    let k = compact(resources, statements, c.resources, c.statements);
+    let live = compact(resources, statements, c.resources, c.statements);
     let mut d = c;
-    d.statements = k;
+    d.statements = live;
     d.generation = c.generation + 1;
     Reclaimed::Done(d)
 }

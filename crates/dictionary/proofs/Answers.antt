@@ -1,5 +1,5 @@
--- The contracts of find and intern, put together from the search: exact where the dictionary is sound, within the bound on any tables,
--- one law for each way out of the code. Assumes nothing.
+-- The contracts of find and intern, put together from the search: exact where the dictionary is sound, within the bound
+-- on any tables, one law for each way out of the code. Assumes nothing.
 use mathlib.Core.Path.{_≡_, refl, sym, ap, _∙_, subst}
 use mathlib.Core.Logic.{_≢_, _⊎_, inl, inr}
 use mathlib.Core.Bool.{true, false, true≢false, and-true}
@@ -34,8 +34,8 @@ use Rattle.table.proofs.Capacity.{fits-room}
 use Rattle.table.proofs.Held.{from-one, up-to}
 use Rattle.dictionary.specs.Search.{Readable, probeOf, middle, searchOf, searched, foundAs}
 use Rattle.dictionary.specs.Extend.{HasRoom, Extended}
-use Rattle.dictionary.specs.declared.Compared.{Compared}
-use Rattle.dictionary.specs.declared.Compared.the-variants.{Less, Same, More, Unreadable}
+use Rattle.dictionary.specs.declared.search.Compared.{Compared}
+use Rattle.dictionary.specs.declared.search.Compared.the-variants.{Less, Same, More, Unreadable}
 use Rattle.dictionary.proofs.Named.{searched-is}
 
 -- ---- the search on any tables: a number in 1..R at an entry of the index, a position within it, or damage
@@ -46,16 +46,20 @@ unreadable-same e = let z : _≡_ {A = ℕ} 0 1 = cc in omega arith
 module _ (c : Counters) (res idx text w : List ℕ) where
   probe-range : (k : ℕ) → probeOf c res idx text w k ≡ Same → inRange (c .resources) (word idx k) ≡ true
   unfolding probeOf
-  probe-range k = decide (inRange (c .resources) (word idx k)) (λ q. rw q (λ e. refl)) (λ q. rw q (λ e. absurd (unreadable-same e)))
+  probe-range k =
+      decide (inRange (c .resources) (word idx k)) (λ q. rw q (λ e. refl)) (λ q. rw q (λ e. absurd (unreadable-same e)))
 
   abbrev Bounded : ℕ → Type 0
-  Bounded f = (lo hi : ℕ) → lo ≤ hi → hi ≤ c .resources → PlaceWithin (c .resources) (searchOf c res idx text w f lo hi)
+  Bounded f =
+      (lo hi : ℕ) → lo ≤ hi → hi ≤ c .resources → PlaceWithin (c .resources) (searchOf c res idx text w f lo hi)
 
-  bounded-turn : (f lo hi : ℕ) → Bounded f → lo < hi → hi ≤ c .resources → (o : Compared) → probeOf c res idx text w (middle lo hi) ≡ o
+  bounded-turn : (f lo hi : ℕ) → Bounded f → lo < hi → hi ≤ c .resources → (o : Compared)
+      → probeOf c res idx text w (middle lo hi) ≡ o
       → PlaceWithin (c .resources) (searchOf c res idx text w (suc f) lo hi)
   unfolding searchOf
   bounded-turn f lo hi ih lt b Less e = rw (searchOf, lt-ltb lo hi lt, e) (ih (middle lo hi + 1) hi (omega arith) b)
-  bounded-turn f lo hi ih lt b More e = rw (searchOf, lt-ltb lo hi lt, e) (ih lo (middle lo hi) (omega arith) (omega arith))
+  bounded-turn f lo hi ih lt b More e =
+      rw (searchOf, lt-ltb lo hi lt, e) (ih lo (middle lo hi) (omega arith) (omega arith))
   bounded-turn f lo hi ih lt b Same e =
       let p = probe-range (middle lo hi) e in
       rw (searchOf, lt-ltb lo hi lt, e) (from-one _ _ p, up-to _ _ p, omega arith)
@@ -69,13 +73,27 @@ module _ (c : Counters) (res idx text w : List ℕ) where
       (λ q. bounded-turn f lo hi (bounded f) (ltb-true lo hi q) b (probeOf c res idx text w (middle lo hi)) refl)
       (λ q. rw (searchOf, q) (omega arith))
 
-  pub searched-within : PlaceWithin (c .resources) (searched c res idx text w)
+  searched-within : PlaceWithin (c .resources) (searched c res idx text w)
   searched-within = bounded 16 0 (c .resources) (omega arith) (omega arith)
 
-  pub miss-within : (k : ℕ) → Before k ≡ searched c res idx text w → k ≤ c .resources
-  miss-within k e = rw (← e) at searched-within
+-- where the search of a store's index ends
+module _ (c : Counters) (m : Tables) (w : List ℕ) where
+  abbrev pub place : IndexPlace
+  place = searched c (m .resources) (m .index) (m .text) w
+
+  place-within : PlaceWithin (c .resources) place
+  place-within = searched-within c (m .resources) (m .index) (m .text) w
+
+  pub miss-within : (k : ℕ) → Before k ≡ place → k ≤ c .resources
+  miss-within k e = rw (← e) at place-within
 
 -- ---- the tests of the code
+
+-- they are passed: within capacity, the name well formed, and n what is left of it without the string ending
+pub record Tested (c : Counters) (m : Tables) (w n : List ℕ) : Type 0 where
+  pub fit : fits c m ≡ true
+  pub well : wellFormed w ≡ true
+  pub left : n ≡ canonical w
 
 pub malformed : (w : List ℕ) (k : ℕ) → k ≡ kindOf 255 w → k ≡ 0 → wellFormed w ≡ false
 unfolding wellFormed
@@ -95,7 +113,8 @@ module _ (c : Counters) (m : Tables) where
   pub room-grown : (w : List ℕ) → fits c m ≡ true → roomFor c m w ≡ fits (oneNameMore c w) m
   unfolding fits roomFor
   room-grown w f =
-      let t = and-l (leb (c .statements) (statementCapacity m)) _ (and-r (leb (c .resources) (resourceCapacity m)) _ f) in
+      let r = and-r (leb (c .resources) (resourceCapacity m)) _ f in
+      let t = and-l (leb (c .statements) (statementCapacity m)) _ r in
       let g = le-leb (c .generation) maxReclaims (fits-room c m f .few-reclaims) in
       rw (t, g, and-true (leb (c .text + length w + 1) (textCapacity m)))
 
@@ -121,6 +140,12 @@ found-is ns c m N w = rw (named-names ns c m N) (go (lookupName w ns) refl)
     go : (n : ℕ) → lookupName w ns ≡ n → foundAs (indexPlaceOf c m w) ≡ foundAt (lookupName w ns)
     go zero e = rw (place-unlisted ns c m N w e, e)
     go (suc i) e = rw (place-listed ns c m N w i e, e)
+
+place-is : (ns : List (List ℕ)) (c : Counters) (m : Tables) → Named ns c m → (w : List ℕ) → fits c m ≡ true
+    → wellFormed w ≡ true → place c m (canonical w) ≡ indexPlaceOf c m (canonical w)
+place-is ns c m N w f b =
+    searched-is ns c m N (canonical w) (form-clean (canonical w) (canonical-formed w b))
+    (fits-room c m f .few-resources)
 
 -- on any tables a number found is in 1..R
 abbrev WithinNumbers : ℕ → Lookup → Type 0
@@ -154,27 +179,28 @@ module _ (c : Counters) (m : Tables) (w : List ℕ) (a : Lookup) where
     bounded = λ g h. absurd (true≢false (sym h ∙ b));
   }
 
-  found-canonical : fits c m ≡ true → wellFormed w ≡ true → a ≡ foundAs (searched c (m .resources) (m .index) (m .text) (canonical w))
-      → FindAnswer c m w a
+  found-canonical : fits c m ≡ true → wellFormed w ≡ true → a ≡ foundAs (place c m (canonical w)) → FindAnswer c m w a
   unfolding findOf
   found-canonical f b e = record {
     capacity = λ g. absurd (true≢false (sym f ∙ g));
     malformed = λ g h. absurd (true≢false (sym b ∙ h));
-    exact = λ ns N. e ∙ rw (f, b) (ap foundAs (searched-is ns c m N (canonical w)
-        (form-clean (canonical w) (canonical-formed w b)) (fits-room c m f .few-resources)) ∙ found-is ns c m N (canonical w));
+    exact = λ ns N. e ∙ rw (f, b) (ap foundAs (place-is ns c m N w f b) ∙ found-is ns c m N (canonical w));
     bounded = λ g h. subst (WithinNumbers (c .resources)) (sym e)
-        (found-within (c .resources) (searched c (m .resources) (m .index) (m .text) (canonical w))
-        (searched-within c (m .resources) (m .index) (m .text) (canonical w)));
+        (found-within (c .resources) (place c m (canonical w)) (place-within c m (canonical w)));
   }
 
-  -- n is the name without the string ending
-  pub find-searched : (n : List ℕ) → n ≡ canonical w → fits c m ≡ true → wellFormed w ≡ true
-      → a ≡ foundAs (searched c (m .resources) (m .index) (m .text) n) → FindAnswer c m w a
-  find-searched n q f b e = found-canonical f b (rw q at e)
+  pub find-searched : (n : List ℕ) → Tested c m w n → a ≡ foundAs (place c m n) → FindAnswer c m w a
+  find-searched n t e = found-canonical (t .fit) (t .well) (rw (t .left) at e)
 
 -- ---- intern
 
 module _ (c : Counters) (m m′ : Tables) (w : List ℕ) (a : Interned) where
+  tables-are : {o : Tables × Interned} → after m′ a ≡ o → m′ ≡ o .0
+  tables-are e = ap (λ (z : Tables × Interned). z .0) e
+
+  writes-as : {o : Tables × Interned} → after m′ a ≡ o → InternWrites c m (o .0) → InternWrites c m m′
+  writes-as e = subst (InternWrites c m) (sym (tables-are e))
+
   pub intern-capacity : fits c m ≡ false → after m′ a ≡ after m (NotInterned Capacity) → InternAnswer c m m′ w a
   unfolding internOf
   intern-capacity f e = record {
@@ -182,57 +208,58 @@ module _ (c : Counters) (m m′ : Tables) (w : List ℕ) (a : Interned) where
     malformed = λ g. absurd (true≢false (sym g ∙ f));
     exact = λ ns N. e ∙ rw f;
     bounded = λ g. absurd (true≢false (sym g ∙ f));
-    writes = subst (InternWrites c m) (sym (ap (λ (o : Tables × Interned). o .0) e)) (writes-nothing c m);
-    refused = λ q g. ap (λ (o : Tables × Interned). o .0) e;
+    writes = writes-as e (writes-nothing c m);
+    refused = λ q g. tables-are e;
   }
 
-  pub intern-malformed : fits c m ≡ true → wellFormed w ≡ false → after m′ a ≡ after m (NotInterned Malformed) → InternAnswer c m m′ w a
+  pub intern-malformed : fits c m ≡ true → wellFormed w ≡ false → after m′ a ≡ after m (NotInterned Malformed)
+      → InternAnswer c m m′ w a
   unfolding internOf
   intern-malformed f b e = record {
     capacity = λ g. absurd (true≢false (sym f ∙ g));
     malformed = λ g h. e;
     exact = λ ns N. e ∙ rw (f, b);
     bounded = λ g h. absurd (true≢false (sym h ∙ b));
-    writes = subst (InternWrites c m) (sym (ap (λ (o : Tables × Interned). o .0) e)) (writes-nothing c m);
-    refused = λ q g. ap (λ (o : Tables × Interned). o .0) e;
+    writes = writes-as e (writes-nothing c m);
+    refused = λ q g. tables-are e;
   }
 
   abbrev found : IndexPlace
-  found = searched c (m .resources) (m .index) (m .text) (canonical w)
+  found = place c m (canonical w)
 
-  interned-canonical : fits c m ≡ true → wellFormed w ≡ true → after m′ a ≡ internAs c m (canonical w) found → InternAnswer c m m′ w a
+  interned-canonical : fits c m ≡ true → wellFormed w ≡ true → after m′ a ≡ internAs c m (canonical w) found
+      → InternAnswer c m m′ w a
   unfolding internOf
   interned-canonical f b e = record {
     capacity = λ g. absurd (true≢false (sym f ∙ g));
     malformed = λ g h. absurd (true≢false (sym b ∙ h));
-    exact = λ ns N. e ∙ rw (f, b) (ap (internAs c m (canonical w)) (searched-is ns c m N (canonical w)
-        (form-clean (canonical w) (canonical-formed w b)) (fits-room c m f .few-resources)));
-    bounded = λ g h. (found, e, searched-within c (m .resources) (m .index) (m .text) (canonical w));
-    writes = subst (InternWrites c m) (sym (ap (λ (o : Tables × Interned). o .0) e)) (intern-as-writes c m (canonical w) found);
-    refused = λ q g. ap (λ (o : Tables × Interned). o .0) e
+    exact = λ ns N. e ∙ rw (f, b) (ap (internAs c m (canonical w)) (place-is ns c m N w f b));
+    bounded = λ g h. (found, e, place-within c m (canonical w));
+    writes = writes-as e (intern-as-writes c m (canonical w) found);
+    refused = λ q g. tables-are e
         ∙ intern-as-refused c m (canonical w) found q (sym (ap (λ (o : Tables × Interned). o .1) e) ∙ g);
   }
 
-  pub intern-searched : (n : List ℕ) → n ≡ canonical w → fits c m ≡ true → wellFormed w ≡ true
-      → after m′ a ≡ internAs c m n (searched c (m .resources) (m .index) (m .text) n) → InternAnswer c m m′ w a
-  intern-searched n q f b e = interned-canonical f b (rw q at e)
+  pub intern-searched : (n : List ℕ) → Tested c m w n → after m′ a ≡ internAs c m n (place c m n)
+      → InternAnswer c m m′ w a
+  intern-searched n t e = interned-canonical (t .fit) (t .well) (rw (t .left) at e)
 
-pub left-short : (n w : List ℕ) → n ≡ canonical w → wellFormed w ≡ true → length n ≤ 255
-left-short n w q b = rw q (form-short (canonical w) (canonical-formed w b))
+module _ (c : Counters) (m : Tables) (w n : List ℕ) (t : Tested c m w n) where
+  pub left-short : length n ≤ 255
+  left-short = rw (t .left) (form-short (canonical w) (canonical-formed w (t .well)))
 
-module _ (c : Counters) (m : Tables) (n w : List ℕ) (left : n ≡ canonical w) (f : fits c m ≡ true) (b : wellFormed w ≡ true) where
-  pub intern-full : (k : ℕ) → Before k ≡ searched c (m .resources) (m .index) (m .text) n → fits (oneNameMore c n) m ≡ false
+  pub intern-full : (k : ℕ) → Before k ≡ place c m n → fits (oneNameMore c n) m ≡ false
       → InternAnswer c m m w (NotInterned Full)
   unfolding internAs
-  intern-full k s g = intern-searched c m m w (NotInterned Full) n left f b (rw (← s, room-grown c m n f, g))
+  intern-full k s g = intern-searched c m m w (NotInterned Full) n t (rw (← s, room-grown c m n (t .fit), g))
 
   -- the three writes are the definition's
-  pub intern-new : (k d : ℕ) (res′ idx′ text′ : List ℕ) (t : Counters) → Before k ≡ searched c (m .resources) (m .index) (m .text) n
-      → fits (oneNameMore c n) m ≡ true → t ≡ oneNameMore c n → d ≡ kindOf 255 w
+  pub intern-new : (k d : ℕ) (res′ idx′ text′ : List ℕ) (grown : Counters) → Before k ≡ place c m n
+      → fits (oneNameMore c n) m ≡ true → grown ≡ oneNameMore c n → d ≡ kindOf 255 w
       → Extended c (m .resources) res′ (m .index) idx′ (m .text) text′ n k d
-      → InternAnswer c m (tables res′ (m .statements) idx′ text′) w (Id (record { 0 = t .resources }) t)
+      → InternAnswer c m (tables res′ (m .statements) idx′ text′) w (Id (record { 0 = grown .resources }) grown)
   unfolding internAs
-  intern-new k d res′ idx′ text′ t s g e q x =
-      let kind : d ≡ firstKindOf n = q ∙ (canonical-kind w b ∙ ap firstKindOf (sym left)) in
-      intern-searched c m (tables res′ (m .statements) idx′ text′) w _ n left f b
-      (rw (← s, room-grown c m n f, g, e, x .new-record, x .new-entry, x .new-name, kind))
+  intern-new k d res′ idx′ text′ grown s g e q x =
+      let kind : d ≡ firstKindOf n = q ∙ (canonical-kind w (t .well) ∙ ap firstKindOf (sym (t .left))) in
+      intern-searched c m (tables res′ (m .statements) idx′ text′) w _ n t
+      (rw (← s, room-grown c m n (t .fit), g, e, x .new-record, x .new-entry, x .new-name, kind))

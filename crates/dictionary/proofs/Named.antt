@@ -1,5 +1,6 @@
--- On a sound dictionary the search answers where the name stands: the comparison in the text is the byte order of names, a probe compares
--- the entry's name, and halving keeps what is less below and what is more above. Assumes nothing.
+-- On a sound dictionary the search answers where the name stands: the comparison in the text is the byte order of
+-- names, a probe compares the entry's name, and halving keeps what is less below and what is more above. Assumes
+-- nothing.
 use mathlib.Core.Path.{_≡_, refl, sym, ap, _∙_}
 use mathlib.Core.Logic.{_≢_}
 use mathlib.Core.Bool.{true}
@@ -19,15 +20,15 @@ use Rattle.store.specs.Reading.{inRange}
 use Rattle.store.specs.Dictionary.{rank, placeAt, indexPlaceOf}
 use Rattle.store.specs.Names.{ByteOrdering, less, equal, more, compareBytes, isLess, Named, nameAt}
 use Rattle.store.proofs.Tests.{decide, three}
-use Rattle.store.proofs.Order.{flip, compare-less as order-less, compare-more as order-more, compare-tail, compare-refl, compare-flip}
-use Rattle.store.proofs.Order.{compare-equal, compare-trans, eqBytes-compare, less-not-equal}
+use Rattle.store.proofs.Order.{flip, compare-less as order-less, compare-more as order-more, compare-tail, compare-refl}
+use Rattle.store.proofs.Order.{compare-flip, compare-equal, compare-trans, eqBytes-compare, less-not-equal}
 use Rattle.store.proofs.Form.{clean, form-clean, storable-formed}
 use Rattle.store.proofs.Text.{text-at, bytes-take}
 use Rattle.store.proofs.Index.{rank-is}
 use Rattle.store.proofs.NamesAgree.{name-indexed}
 use Rattle.dictionary.specs.Search.{compareOf, probeOf, middle, searchOf, searched}
-use Rattle.dictionary.specs.declared.Compared.{Compared}
-use Rattle.dictionary.specs.declared.Compared.the-variants.{Less, Same, More}
+use Rattle.dictionary.specs.declared.search.Compared.{Compared}
+use Rattle.dictionary.specs.declared.search.Compared.the-variants.{Less, Same, More}
 use Rattle.dictionary.proofs.Steps.{pow2}
 
 -- ---- the comparison is the byte order
@@ -49,8 +50,8 @@ clean-head : (x : ℕ) (r : List ℕ) → clean (x ∷ r) ≡ true → (x ≡ 0 
 clean-head zero r e = absurd (let z : _≡_ {A = ℕ} 0 1 = cc in omega arith)
 clean-head (suc x) r e = (λ q. omega arith, e)
 
-compare-is : (t : List ℕ) (e : ℕ) (n w : List ℕ) (o : ℕ) (r : List ℕ) → clean n ≡ true → clean w ≡ true → drop o t ≡ n ++ 0 ∷ r
-    → o + length n < e → compareOf t e o w ≡ compared (compareBytes n w)
+compare-is : (t : List ℕ) (e : ℕ) (n w : List ℕ) (o : ℕ) (r : List ℕ) → clean n ≡ true → clean w ≡ true
+    → drop o t ≡ n ++ 0 ∷ r → o + length n < e → compareOf t e o w ≡ compared (compareBytes n w)
 unfolding compareOf compareBytes
 compare-is t e [] [] o r cn cw d h = rw (lt-ltb o e (omega arith), eq-eqb (word t o) 0 (at-head t o 0 r d))
 compare-is t e [] (y ∷ ys) o r cn cw d h =
@@ -70,7 +71,8 @@ compare-is t e (x ∷ xs) (y ∷ ys) o r cn cw d h =
       le-ltb y (word t o) (omega arith),
       compare-tail x y xs ys g,
     )
-    (compare-is t e xs ys (o + 1) r (clean-head x xs cn .1) (clean-head y ys cw .1) (at-tail t o x (xs ++ 0 ∷ r) d) (omega arith)))
+    (compare-is t e xs ys (o + 1) r (clean-head x xs cn .1) (clean-head y ys cw .1) (at-tail t o x (xs ++ 0 ∷ r) d)
+    (omega arith)))
     (λ g. rw (
       compareOf,
       lt-ltb o e (omega arith),
@@ -138,7 +140,9 @@ module _ (ns : List (List ℕ)) (c : Counters) (m : Tables) (N : Named ns c m) (
       let rk : rank (nameAt m) (m .index) R w ≡ k =
       rank-is (nameAt m) (m .index) R w k h lo (λ i q g. ap isLess (is-more w (nm i) (hi i q g))) in
       decide (ltb k R)
-      (λ q. let ne : nm k ≢ w = λ d. less-not-equal (sym (hi k (omega arith) (ltb-true k R q)) ∙ (rw d (compare-refl w))) in
+      (λ q.
+      let above = hi k (omega arith) (ltb-true k R q) in
+      let ne : nm k ≢ w = λ d. less-not-equal (sym above ∙ (rw d (compare-refl w))) in
       rw (rk, q, eqBytes-not (nm k) w ne))
       (λ q. rw (rk, q))
 
@@ -152,14 +156,17 @@ module _ (ns : List (List ℕ)) (c : Counters) (m : Tables) (N : Named ns c m) (
   high-down k h e i q g =
       decide (eqb i k)
       (λ z. rw (eqb-true i k z) (is-less (nm k) w e))
-      (λ z. let ne : i ≢ k = eqb-false i k z in compare-trans w (nm k) (nm i) (is-less (nm k) w e) (rises k i (omega arith) g))
+      (λ z.
+      let ne : i ≢ k = eqb-false i k z in
+      compare-trans w (nm k) (nm i) (is-less (nm k) w e) (rises k i (omega arith) g))
 
   abbrev Claim : ℕ → Type 0
   Claim f = (lo hi : ℕ) → lo ≤ hi → hi ≤ R → hi - lo < pow2 f → Low lo → High hi
       → searchOf c (m .resources) (m .index) (m .text) w f lo hi ≡ indexPlaceOf c m w
 
   turn : (f lo hi : ℕ) → Claim f → lo < hi → hi ≤ R → hi - lo < pow2 (suc f) → Low lo → High hi → (o : ByteOrdering)
-      → compareBytes (nm (middle lo hi)) w ≡ o → searchOf c (m .resources) (m .index) (m .text) w (suc f) lo hi ≡ indexPlaceOf c m w
+      → compareBytes (nm (middle lo hi)) w ≡ o
+      → searchOf c (m .resources) (m .index) (m .text) w (suc f) lo hi ≡ indexPlaceOf c m w
   unfolding searchOf
   turn f lo hi ih lt b h l g less e =
       let p = probe-is (middle lo hi) (omega arith) in
@@ -183,4 +190,5 @@ module _ (ns : List (List ℕ)) (c : Counters) (m : Tables) (N : Named ns c m) (
 
   pub searched-is : R ≤ maxResources → searched c (m .resources) (m .index) (m .text) w ≡ indexPlaceOf c m w
   searched-is h =
-      search-is 16 0 R (omega arith) (omega arith) (omega arith) (λ i q. absurd (omega arith)) (λ i q g. absurd (omega arith))
+      search-is 16 0 R (omega arith) (omega arith) (omega arith) (λ i q. absurd (omega arith))
+      (λ i q g. absurd (omega arith))

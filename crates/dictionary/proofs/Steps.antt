@@ -1,18 +1,21 @@
 -- The ways out of the loops of the search, and their turns, in the definitions' terms. Assumes nothing.
 use mathlib.Core.Path.{_≡_, _∙_}
+use mathlib.Core.Bool.{cond}
 use mathlib.Core.List.{List, [], _∷_}
 use Prim.Native.Nat.{ℕ, suc, zero, _+_, _-_, _<_, _≤_}
 use native.Mathlib.Omega.{arith}
 use native.Mathlib.Numerals.{add-one}
 use lib.ListN.{length, drop, drop-of-length-le}
 use lib.Seq.{drop-cons}
-use borrow.Author.Tests.{eq-eqb, ne-eqb, lt-ltb, le-ltb}
+use lib.Dec.{eqb}
+use borrow.Author.Tests.{lt-ltb, le-ltb}
 use Rattle.store.specs.declared.Counters.{Counters}
 use Rattle.store.specs.declared.IndexPlace.{IndexPlace}
 use Rattle.store.specs.declared.IndexPlace.the-variants.{At, Before, OutOfRange}
 use Rattle.store.specs.Tables.{word}
 use Rattle.dictionary.specs.Search.{compareOf, probeOf, middle, searchOf}
-use Rattle.dictionary.specs.declared.Compared.the-variants.{Less, Same, More, Unreadable}
+use Rattle.dictionary.specs.declared.search.Compared.{Compared}
+use Rattle.dictionary.specs.declared.search.Compared.the-variants.{Less, Same, More, Unreadable}
 
 -- ---- the comparison
 
@@ -30,7 +33,13 @@ module _ (t : List ℕ) (e : ℕ) (w : List ℕ) (o i : ℕ) where
   pub compare-more : i < length w → o < e → word w i < word t o → compareOf t e o (drop i w) ≡ More
   unfolding compareOf
   compare-more h g l =
-      rw (drop-cons w i 0 h, compareOf, lt-ltb o e g, le-ltb (word t o) (word w i) (omega arith), lt-ltb (word w i) (word t o) l)
+      rw (
+        drop-cons w i 0 h,
+        compareOf,
+        lt-ltb o e g,
+        le-ltb (word t o) (word w i) (omega arith),
+        lt-ltb (word w i) (word t o) l,
+      )
 
   pub compare-turn : i < length w → o < e → word w i ≤ word t o → word t o ≤ word w i
       → compareOf t e o (drop i w) ≡ compareOf t e (o + 1) (drop (i + 1) w)
@@ -45,13 +54,10 @@ module _ (t : List ℕ) (e : ℕ) (w : List ℕ) (o i : ℕ) where
         le-ltb (word w i) (word t o) m,
       )
 
-  pub end-same : length w ≤ i → o < e → word t o ≡ 0 → compareOf t e o (drop i w) ≡ Same
+  -- past the name: by the byte there
+  pub compare-end : length w ≤ i → o < e → compareOf t e o (drop i w) ≡ cond (eqb (word t o) 0) Same More
   unfolding compareOf
-  end-same h g z = rw (drop-of-length-le w h, compareOf, lt-ltb o e g, eq-eqb (word t o) 0 z)
-
-  pub end-more : length w ≤ i → o < e → (word t o ≡ 0 → ⊥) → compareOf t e o (drop i w) ≡ More
-  unfolding compareOf
-  end-more h g z = rw (drop-of-length-le w h, compareOf, lt-ltb o e g, ne-eqb (word t o) 0 z)
+  compare-end h g = rw (drop-of-length-le w h, compareOf, lt-ltb o e g)
 
 -- ---- the halving
 
@@ -72,42 +78,25 @@ module _ (c : Counters) (res idx text w : List ℕ) (s : IndexPlace) (lo hi : �
   end′ zero e l = e
   end′ (suc f) e l = e ∙ rw (searchOf, le-ltb lo hi l)
 
-  less′ : (f : ℕ) → hi - lo < pow2 f → s ≡ searchOf c res idx text w f lo hi → lo < hi → probeOf c res idx text w mid ≡ Less
-      → Going c res idx text w s (mid + 1) hi
-  unfolding searchOf
-  less′ zero h e l p = absurd (omega arith)
-  less′ (suc f) h e l p = (f, omega arith, e ∙ rw (searchOf, lt-ltb lo hi l, p))
+  -- what a probe of the middle leaves, by what it compared
+  abbrev pub After : Compared → Type 0
+  After Less = Going c res idx text w s (mid + 1) hi
+  After More = Going c res idx text w s lo mid
+  After Same = s ≡ At (record { 0 = word idx mid }) mid
+  After Unreadable = s ≡ OutOfRange
 
-  more′ : (f : ℕ) → hi - lo < pow2 f → s ≡ searchOf c res idx text w f lo hi → lo < hi → probeOf c res idx text w mid ≡ More
-      → Going c res idx text w s lo mid
+  turn : (f : ℕ) → hi - lo < pow2 f → s ≡ searchOf c res idx text w f lo hi → lo < hi → (o : Compared)
+      → probeOf c res idx text w mid ≡ o → After o
   unfolding searchOf
-  more′ zero h e l p = absurd (omega arith)
-  more′ (suc f) h e l p = (f, omega arith, e ∙ rw (searchOf, lt-ltb lo hi l, p))
-
-  same′ : (f : ℕ) → hi - lo < pow2 f → s ≡ searchOf c res idx text w f lo hi → lo < hi → probeOf c res idx text w mid ≡ Same
-      → s ≡ At (record { 0 = word idx mid }) mid
-  unfolding searchOf
-  same′ zero h e l p = absurd (omega arith)
-  same′ (suc f) h e l p = e ∙ rw (searchOf, lt-ltb lo hi l, p)
-
-  damaged′ : (f : ℕ) → hi - lo < pow2 f → s ≡ searchOf c res idx text w f lo hi → lo < hi → probeOf c res idx text w mid ≡ Unreadable
-      → s ≡ OutOfRange
-  unfolding searchOf
-  damaged′ zero h e l p = absurd (omega arith)
-  damaged′ (suc f) h e l p = e ∙ rw (searchOf, lt-ltb lo hi l, p)
+  turn zero h e l o p = absurd (omega arith)
+  turn (suc f) h e l Less p = (f, omega arith, e ∙ rw (searchOf, lt-ltb lo hi l, p))
+  turn (suc f) h e l More p = (f, omega arith, e ∙ rw (searchOf, lt-ltb lo hi l, p))
+  turn (suc f) h e l Same p = e ∙ rw (searchOf, lt-ltb lo hi l, p)
+  turn (suc f) h e l Unreadable p = e ∙ rw (searchOf, lt-ltb lo hi l, p)
 
   module _ (g : Going c res idx text w s lo hi) where
     pub search-end : hi ≤ lo → s ≡ Before lo
     search-end l = end′ (g .0) (g .2) l
 
-    pub search-less : lo < hi → probeOf c res idx text w mid ≡ Less → Going c res idx text w s (mid + 1) hi
-    search-less l p = less′ (g .0) (g .1) (g .2) l p
-
-    pub search-more : lo < hi → probeOf c res idx text w mid ≡ More → Going c res idx text w s lo mid
-    search-more l p = more′ (g .0) (g .1) (g .2) l p
-
-    pub search-same : lo < hi → probeOf c res idx text w mid ≡ Same → s ≡ At (record { 0 = word idx mid }) mid
-    search-same l p = same′ (g .0) (g .1) (g .2) l p
-
-    pub search-damaged : lo < hi → probeOf c res idx text w mid ≡ Unreadable → s ≡ OutOfRange
-    search-damaged l p = damaged′ (g .0) (g .1) (g .2) l p
+    pub search-turn : lo < hi → (o : Compared) → probeOf c res idx text w mid ≡ o → After o
+    search-turn l o p = turn (g .0) (g .1) (g .2) l o p

@@ -1,4 +1,5 @@
--- The stores of a new name, in the definitions' terms: the name's bytes, the record, the block move of the index. Assumes nothing.
+-- The stores of a new name, in the definitions' terms: the name's bytes, the record, the block move of the index.
+-- Assumes nothing.
 use mathlib.Core.Path.{_≡_, refl, sym, ap, _∙_}
 use mathlib.Core.List.{List, [], _∷_, _++_, append-assoc}
 use Prim.Native.Nat.{ℕ, suc, zero, _+_, _-_, _<_, _≤_}
@@ -32,7 +33,8 @@ name-end t l w b i e h g =
 set-before : (vs l : List ℕ) (b j x : ℕ) → j < b → set (sets l b vs) j x ≡ sets (set l j x) b vs
 set-before [] l b j x h = refl
 set-before (v ∷ vs) l b j x h =
-    set-before vs (set l b v) (suc b) j x (omega arith) ∙ ap (λ (z : List ℕ). sets z (suc b) vs) (set-comm l b j v x (omega arith))
+    set-before vs (set l b v) (suc b) j x (omega arith)
+    ∙ ap (λ (z : List ℕ). sets z (suc b) vs) (set-comm l b j v x (omega arith))
 
 set-within : (vs l : List ℕ) (b j x : ℕ) → j < length vs → set (sets l b vs) (b + j) x ≡ sets l b (set vs j x)
 set-within [] l b j x h = absurd (omega arith)
@@ -88,7 +90,8 @@ module _ (l : List ℕ) where
   move-turn m zero e z h = absurd (omega arith)
   move-turn m (suc j) e z h =
       let q : suc j - 1 ≡ j = omega arith in
-      rw (q, e, before (suc j) (getD l (suc j) 0) j h (omega arith), stored (suc j) (getD l (suc j) 0) (getD l j 0) h) (step j h)
+      let x = getD l (suc j) 0 in
+      rw (q, e, before (suc j) x j h (omega arith), stored (suc j) x (getD l j 0) h) (step j h)
 
 bring-is : (v n : ℕ) (l : List ℕ) → length l ≡ suc n → v ∷ take n l ≡ bring v n l
 unfolding bring
@@ -98,9 +101,12 @@ bring-is v zero (x ∷ (y ∷ l)) h = absurd (omega arith)
 bring-is v (suc n) (x ∷ l) h = ap (λ (z : List ℕ). v ∷ z) (bring-is x n l (omega arith))
 
 -- the last store
-pub move-end : (l m : List ℕ) (i v : ℕ) → 0 < length l → m ≡ moved l i (getD l i 0) → i ≡ 0 → set m 0 v ≡ bring v (length l - 1) l
+pub move-end : (l m : List ℕ) (i v : ℕ) → 0 < length l → m ≡ moved l i (getD l i 0) → i ≡ 0
+    → set m 0 v ≡ bring v (length l - 1) l
 unfolding moved
-move-end l m i v h e q = let z : length l - 1 - 0 ≡ length l - 1 = omega arith in rw (e, q, z) (bring-is v (length l - 1) l (omega arith))
+move-end l m i v h e q =
+    let z : length l - 1 - 0 ≡ length l - 1 = omega arith in
+    rw (e, q, z) (bring-is v (length l - 1) l (omega arith))
 
 -- ---- the part of the index that moves, put back
 

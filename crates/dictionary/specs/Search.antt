@@ -1,6 +1,6 @@
--- The binary search of the index as the code runs it, exact on any tables (paper 01, "Find a name"): a comparison in the text, a probe
--- of one entry, the halving, and what find answers by it. Nothing here assumes that the index rises or that the text holds names.
--- Assumes nothing.
+-- The binary search of the index as the code runs it, exact on any tables (paper 01, "Find a name"): a comparison in
+-- the text, a probe of one entry, the halving, and what find answers by it. Nothing here assumes that the index rises
+-- or that the text holds names. Assumes nothing.
 use mathlib.Core.Bool.{true, false, cond}
 use mathlib.Core.List.{List, [], _∷_}
 use Prim.Native.Nat.{ℕ, zero, suc, _+_, _-_, _*_, _/_, _≤_}
@@ -15,8 +15,8 @@ use Rattle.store.specs.declared.Lookup.the-variants.{Number, Absent, Refused as
 use Rattle.store.specs.Tables.{word, offsetAt, resourceWords}
 use Rattle.store.specs.Shared.{maxResources}
 use Rattle.store.specs.Reading.{inRange}
-use Rattle.dictionary.specs.declared.Compared.{Compared}
-use Rattle.dictionary.specs.declared.Compared.the-variants.{Less, Same, More, Unreadable}
+use Rattle.dictionary.specs.declared.search.Compared.{Compared}
+use Rattle.dictionary.specs.declared.search.Compared.the-variants.{Less, Same, More, Unreadable}
 
 -- what the counters allow to be read
 pub record Readable (c : Counters) (res idx text : List ℕ) : Type 0 where
@@ -25,8 +25,9 @@ pub record Readable (c : Counters) (res idx text : List ℕ) : Type 0 where
   pub in-index : c .resources ≤ length idx
   pub in-text : c .text ≤ length text
 
--- The bytes from o on, closed by a zero byte before e, against a name: by the first byte that differs. A well-formed name has no zero
--- byte, so a text that ends first is less. No byte at or past e is needed, or the answer is Unreadable.
+-- The bytes from o on, closed by a zero byte before e, against a name: by the first byte that differs. A well-formed
+-- name has no zero byte, so a text that ends first is less. No byte at or past e is needed, or the answer is
+-- Unreadable.
 unfoldable pub compareOf : List ℕ → ℕ → ℕ → List ℕ → Compared
 compareOf t e o [] = cond (ltb o e) (cond (eqb (word t o) 0) Same More) Unreadable
 compareOf t e o (y ∷ ys) =

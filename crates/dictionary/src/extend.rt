@@ -26,7 +26,8 @@ pub fn one_name_more(c: Counters, name: &[u8]) -> Counters
 // The eleven words of record r + 1: the name's offset, its kind, and 0 elsewhere, for no statement holds it yet.
 pub fn write_record(resources: &mut [u32], r: u32, offset: u32, kind: u32)
     requires { ⌜ resourceWords * suc r ≤ length (now resources) ⌝ }
-    ensures { λ _. ⌜ now (resources .exit) ≡ sets (now (resources .entry)) (resourceWords * r) (freshRecord offset kind) ⌝ }
+    ensures { λ _. ⌜ now (resources .exit)
+        ≡ sets (now (resources .entry)) (resourceWords * r) (freshRecord offset kind) ⌝ }
 {
     let start = table::RESOURCE_WORDS * r as usize;
     let mut i = 0;
@@ -46,6 +47,7 @@ pub fn write_name(text: &mut [u8], b: u32, name: &[u8])
 {
     let start = b as usize;
     let mut i = 0;
+    // The first i bytes of the name are written.
     while i < name.len() {
         text[start + i] = name[i];
         i += 1;
@@ -53,13 +55,14 @@ pub fn write_name(text: &mut [u8], b: u32, name: &[u8])
     text[start + i] = 0;
 }
 
-// A word put in front, the others moved up by one, the last dropped. The loop runs over a whole slice, from its end: in this form the
-// compiler makes it one block move (memmove), where a loop over a part of a larger slice stays a loop.
+// A word put in front, the others moved up by one, the last dropped. The loop runs over a whole slice, from its end: in
+// this form the compiler makes it one block move (memmove), where a loop over a part of a larger slice stays a loop.
 pub fn push_front(words: &mut [u32], v: u32)
     requires { ⌜ 0 < length (now words) ⌝ }
     ensures { λ _. ⌜ now (words .exit) ≡ bring v (length (now (words .entry)) - 1) (now (words .entry)) ⌝ }
 {
     let mut i = words.len() - 1;
+    // The words from i on, but the last, are copied one further up.
     while 0 < i {
         words[i] = words[i - 1];
         i -= 1;
@@ -88,8 +91,8 @@ pub fn append(
     kind: u32,
 )
     requires { ⌜ HasRoom c (now resources) (now index) (now text) (now name) at ⌝ }
-    ensures { λ _. ⌜ Extended c (now (resources .entry)) (now (resources .exit)) (now (index .entry)) (now (index .exit))
-        (now (text .entry)) (now (text .exit)) (now (name .entry)) at kind ⌝ }
+    ensures { λ _. ⌜ Extended c (now (resources .entry)) (now (resources .exit))
+        (now (index .entry)) (now (index .exit)) (now (text .entry)) (now (text .exit)) (now (name .entry)) at kind ⌝ }
 {
     write_record(resources, c.resources, c.text, kind);
     write_name(text, c.text, name);

@@ -1,11 +1,11 @@
 // The dictionary: names in the text, found through an index of their numbers in rising byte order.
 //
-// A name is found by halving the index, comparing in the text itself; nothing is copied. Each name costs at most 16 comparisons, of at
-// most 256 bytes each. A new name takes the next resource record, the text from B on, and its place in the index, whose tail moves up.
-// A name is searched and stored without the string ending.
+// A name is found by halving the index, comparing in the text itself; nothing is copied. Each name costs at most 16
+// comparisons, of at most 256 bytes each. A new name takes the next resource record, the text from B on, and its place
+// in the index, whose tail moves up. A name is searched and stored without the string ending.
 //
-// Refusals, in the order tested: 1 a counter over its capacity; 2 a name that is not well formed or over 255 bytes, as spelled; 9 a word
-// met on the way that no sound store has; 3 no room for one name more.
+// Refusals, in the order tested: 1 a counter over its capacity; 2 a name that is not well formed or over 255 bytes, as
+// spelled; 9 a word met on the way that no sound store has; 3 no room for one name more.
 use store::Counters;
 use store::IndexPlace;
 use store::Interned;
@@ -19,15 +19,6 @@ ghost use Rattle.store.specs.Dictionary.{FindAnswer, InternAnswer};
 
 mod extend;
 pub mod search;
-
-// The bytes at an offset of the text against a name: less, the same, more, or unreadable: it needs a byte past the
-// text in use, or the index word is no number.
-pub enum Compared {
-    Less,
-    Same,
-    More,
-    Unreadable,
-}
 
 // Find a name: its number, or absent.
 pub fn find(

@@ -1,6 +1,5 @@
-// The search of the index. Each function asks that the counters are within capacity; the operations see to it. No offset and no index
-// word is trusted: a word out of range ends the search.
-use crate::Compared;
+// The search of the index. Each function asks that the counters are within capacity; the operations see to it. No
+// offset and no index word is trusted: a word out of range ends the search.
 use store::Counters;
 use store::IndexPlace;
 use store::ResourceId;
@@ -8,6 +7,15 @@ ghost use mathlib.Core.Path.{_≡_};
 ghost use Prim.Native.Nat.{_≤_, _<_};
 ghost use lib.ListN.{length};
 ghost use Rattle.dictionary.specs.Search.{Readable, compareOf, probeOf, searched};
+
+// The bytes at an offset of the text against a name: less, the same, more, or unreadable: it needs a byte past the
+// text in use, or the index word is no number.
+pub enum Compared {
+    Less,
+    Same,
+    More,
+    Unreadable,
+}
 
 // The bytes of the text from `from` on, closed by a zero byte before `end`, against a name.
 pub fn compare(text: &[u8], end: u32, from: u32, name: &[u8]) -> Compared
@@ -53,7 +61,8 @@ pub fn probe(
     at: u32,
 ) -> Compared
     requires { ⌜ Readable c (now resources) (now index) (now text) × (at < c .resources) ⌝ }
-    ensures { λ r. ⌜ r ≡ probeOf c (now (resources .entry)) (now (index .entry)) (now (text .entry)) (now (name .entry)) at ⌝ }
+    ensures { λ r. ⌜ r ≡ probeOf c (now (resources .entry)) (now (index .entry)) (now (text .entry))
+        (now (name .entry)) at ⌝ }
 {
     let y = ResourceId(index[at as usize]);
     if !table::in_range(c.resources, y.0) {
@@ -66,7 +75,8 @@ pub fn probe(
 // Where a name stands in the index, or belongs.
 pub fn search(c: Counters, resources: &[u32], index: &[u32], text: &[u8], name: &[u8]) -> IndexPlace
     requires { ⌜ Readable c (now resources) (now index) (now text) ⌝ }
-    ensures { λ r. ⌜ r ≡ searched c (now (resources .entry)) (now (index .entry)) (now (text .entry)) (now (name .entry)) ⌝ }
+    ensures { λ r. ⌜ r ≡ searched c (now (resources .entry)) (now (index .entry)) (now (text .entry))
+        (now (name .entry)) ⌝ }
 {
     let mut lo: u32 = 0;
     let mut hi = c.resources;

@@ -1,7 +1,8 @@
-// Name of a number as one reply: the refusal's number and the name's bytes, which are a part of the lent text (paper 01, "Name of a
-// number"): thin over `table::name_span`, which tells where they are.
+// Name of a number as one reply: the refusal's number and the name's bytes, which are a part of the lent text (paper
+// 01, "Name of a number"): thin over `table::name_span`, which tells where they are.
 //
-// A function that takes, makes or holds a `NamePart` is proved by a walk of its code, since the struct holds a reference.
+// A function that takes, makes or holds a `NamePart` is proved by a walk of its code, since the struct holds a
+// reference.
 ghost use mathlib.Core.Path.{_≡_};
 ghost use Rattle.store.specs.Tables.{lent};
 ghost use Rattle.store.specs.Reading.{nameSpanOf};
@@ -12,8 +13,9 @@ use store::NameRead;
 use store::ResourceId;
 use store::refusal_number;
 
-// The refusal's number, 0 where there is none, and the name's bytes, empty beside a refusal. The part lives as long as the text is lent:
-// while it is in use nothing can be written to the text, so an intern may follow only once the part is no longer needed.
+// The refusal's number, 0 where there is none, and the name's bytes, empty beside a refusal. The part lives as long as
+// the text is lent: while it is in use nothing can be written to the text, so an intern may follow only once the part
+// is no longer needed.
 pub struct NamePart<'t> {
     pub refusal: u32,
     pub part: &'t [u8],
@@ -44,8 +46,8 @@ fn part_of<'t>(text: &'t [u8], a: NameRead) -> &'t [u8]
     }
 }
 
-// Name of a number. Refusals: 1; 4 if the number is 0 or above R; 9 if the offset is at or past B, or no zero byte follows within 256
-// bytes and before B.
+// Name of a number. Refusals: 1; 4 if the number is 0 or above R; 9 if the offset is at or past B, or no zero byte
+// follows within 256 bytes and before B.
 pub fn name<'t>(
     c: Counters,
     resources: &[u32],

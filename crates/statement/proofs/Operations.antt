@@ -1,7 +1,7 @@
--- Laws of assert and retract: what a record located gives, and each operation by what was found before anything is written.
--- Assumes nothing.
+-- Laws of assert and retract: what a record located gives, and each operation by what was found before anything is
+-- written. Assumes nothing.
 use mathlib.Core.Path.{_≡_, refl, sym, ap, _∙_}
-use mathlib.Core.Bool.{Bool, true, false, cond}
+use mathlib.Core.Bool.{Bool, true, false}
 use mathlib.Core.Option.{Option, none, some}
 use Prim.Native.Nat.{ℕ, _*_, _≤_}
 use native.Mathlib.Omega.{arith}
@@ -15,7 +15,7 @@ use Rattle.store.specs.declared.Asserted.{Asserted}
 use Rattle.store.specs.declared.Asserted.the-variants.{Refused as NotAsserted}
 use Rattle.store.specs.declared.Retracted.{Retracted}
 use Rattle.store.specs.declared.Retracted.the-variants.{Refused as NotRetracted}
-use Rattle.store.specs.Shared.{known, kindsPermitted}
+use Rattle.store.specs.Shared.{unless, known, kindsPermitted}
 use Rattle.store.specs.Tables.{Tables, fits, statementWords, kindAt}
 use Rattle.store.specs.Statement.{locate, kindsOk, asserting, assertOf, retracting, retractOf}
 use Rattle.table.proofs.Capacity.{fits-room}
@@ -33,7 +33,8 @@ module _ (c : Counters) (m : Tables) (e : fits c m ≡ true) where
   located-in x n d = let h = locate-within c m x n d in let r = fits-room c m e .in-statements in omega arith
 
   -- where a triple is located, a new record can be linked
-  pub appendable : (x : Triple) (n : ℕ) → known (c .resources) x ≡ true → locate c m x ≡ some n → Appendable c (m .resources) x
+  pub appendable : (x : Triple) (n : ℕ) → known (c .resources) x ≡ true → locate c m x ≡ some n
+      → Appendable c (m .resources) x
   appendable x n d l = record {
     few = fits-room c m e .few-statements;
     each = λ p. record {
@@ -52,24 +53,55 @@ module _ (c : Counters) (m : Tables) (e : fits c m ≡ true) where
 
 -- ---- assert and retract, by what was found
 
+-- both test in this order; retract does not ask about kinds
+abbrev tests : {A : Type 0} → (Refusal → A) → Bool → Bool → Bool → Bool → A → A
+tests refuse a b d f z =
+    unless a (refuse Capacity)
+    (unless b (refuse UnknownNumber) (unless d (refuse Damaged) (unless f (refuse KindNotPermitted) z)))
+
+module _ {A : Type 0} (refuse : Refusal → A) (go : ℕ → A) where
+  abbrev by-target : Located → A
+  by-target (Refused r) = refuse r
+  by-target (At n) = go (n .0)
+
+  targeted : (a b d f : Bool) (o : Option ℕ) → tests refuse a b d f (elim o [ none ↦ refuse Damaged | some n ↦ go n ])
+      ≡ by-target (tests Refused a b d f (locatedAs o))
+  targeted false b d f o = refl
+  targeted true false d f o = refl
+  targeted true true false f o = refl
+  targeted true true true false o = refl
+  targeted true true true true none = refl
+  targeted true true true true (some n) = refl
+
+passes : (a : Bool) (r : Refusal) (z : Located) (n : StatementId) → unless a (Refused r) z ≡ At n
+    → (a ≡ true) × (z ≡ At n)
+passes true r z n e = (refl, e)
+passes false r z n e = let z : _≡_ {A = ℕ} 0 1 = cc in absurd (omega arith)
+
+located : (o : Option ℕ) (n : StatementId) → locatedAs o ≡ At n → o ≡ some (n .0)
+located none n e = let z : _≡_ {A = ℕ} 0 1 = cc in absurd (omega arith)
+located (some k) n e = cc
+
+found : (a b d f : Bool) (o : Option ℕ) (n : StatementId) → tests Refused a b d f (locatedAs o) ≡ At n
+    → (a ≡ true) × (b ≡ true) × (o ≡ some (n .0))
+found a b d f o n e =
+    let p = passes a _ _ n e in
+    let q = passes b _ _ n (p .1) in
+    let k = passes f _ _ n (passes d _ _ n (q .1) .1) in
+    (p .0, q .0, located o n (k .1))
+
 module _ (c : Counters) (m : Tables) (x : Triple) where
+  -- what a record located says of the store
+  abbrev pub Found : StatementId → Type 0
+  Found n = (fits c m ≡ true) × (known (c .resources) x ≡ true) × (locate c m x ≡ some (n .0))
+
   abbrev assertBy : Located → Tables × Asserted
-  assertBy (Refused e) = (m, NotAsserted e)
-  assertBy (At n) = asserting c m x (n .0)
+  assertBy = by-target (λ r. (m, NotAsserted r)) (asserting c m x)
 
   assert-by : assertOf c m x ≡ assertBy (assertTarget c m x)
   unfolding assertOf assertTarget
-  assert-by = by (fits c m) (known (c .resources) x) (kindsOk (m .resources) x) (kindsPermitted (kindAt (m .resources)) x) (locate c m x)
-    where
-      by : (a b d f : Bool) (o : Option ℕ)
-          → cond a (cond b (cond d (cond f (elim o [ none ↦ (m, NotAsserted Damaged) | some n ↦ asserting c m x n ]) (m, NotAsserted KindNotPermitted)) (m, NotAsserted Damaged)) (m, NotAsserted UnknownNumber)) (m, NotAsserted Capacity)
-          ≡ assertBy (cond a (cond b (cond d (cond f (locatedAs o) (Refused KindNotPermitted)) (Refused Damaged)) (Refused UnknownNumber)) (Refused Capacity))
-      by false b d f o = refl
-      by true false d f o = refl
-      by true true false f o = refl
-      by true true true false o = refl
-      by true true true true none = refl
-      by true true true true (some n) = refl
+  assert-by = targeted (λ r. (m, NotAsserted r)) (asserting c m x) (fits c m) (known (c .resources) x)
+      (kindsOk (m .resources) x) (kindsPermitted (kindAt (m .resources)) x) (locate c m x)
 
   pub assert-refused : (r : Refusal) → assertTarget c m x ≡ Refused r → (m, NotAsserted r) ≡ assertOf c m x
   assert-refused r e = sym (assert-by ∙ ap assertBy e)
@@ -77,34 +109,18 @@ module _ (c : Counters) (m : Tables) (x : Triple) where
   pub assert-at : (n : StatementId) → assertTarget c m x ≡ At n → asserting c m x (n .0) ≡ assertOf c m x
   assert-at n e = sym (assert-by ∙ ap assertBy e)
 
-  pub assert-found : (n : StatementId) → assertTarget c m x ≡ At n → (fits c m ≡ true) × (known (c .resources) x ≡ true) × (locate c m x ≡ some (n .0))
+  pub assert-found : (n : StatementId) → assertTarget c m x ≡ At n → Found n
   unfolding assertTarget
-  assert-found n e = shape (fits c m) (known (c .resources) x) (kindsOk (m .resources) x) (kindsPermitted (kindAt (m .resources)) x) (locate c m x) e
-    where
-      shape : (a b d f : Bool) (o : Option ℕ) → cond a (cond b (cond d (cond f (locatedAs o) (Refused KindNotPermitted)) (Refused Damaged)) (Refused UnknownNumber)) (Refused Capacity) ≡ At n
-          → (a ≡ true) × (b ≡ true) × (o ≡ some (n .0))
-      shape false b d f o e = let z : _≡_ {A = ℕ} 0 1 = cc in absurd (omega arith)
-      shape true false d f o e = let z : _≡_ {A = ℕ} 0 1 = cc in absurd (omega arith)
-      shape true true false f o e = let z : _≡_ {A = ℕ} 0 1 = cc in absurd (omega arith)
-      shape true true true false o e = let z : _≡_ {A = ℕ} 0 1 = cc in absurd (omega arith)
-      shape true true true true none e = let z : _≡_ {A = ℕ} 0 1 = cc in absurd (omega arith)
-      shape true true true true (some k) e = (refl, refl, cc)
+  assert-found = found (fits c m) (known (c .resources) x) (kindsOk (m .resources) x)
+      (kindsPermitted (kindAt (m .resources)) x) (locate c m x)
 
   abbrev retractBy : Located → Tables × Retracted
-  retractBy (Refused e) = (m, NotRetracted e)
-  retractBy (At n) = retracting m x (n .0)
+  retractBy = by-target (λ r. (m, NotRetracted r)) (retracting m x)
 
   retract-by : retractOf c m x ≡ retractBy (retractTarget c m x)
   unfolding retractOf retractTarget
-  retract-by = by (fits c m) (known (c .resources) x) (locate c m x)
-    where
-      by : (a b : Bool) (o : Option ℕ)
-          → cond a (cond b (elim o [ none ↦ (m, NotRetracted Damaged) | some n ↦ retracting m x n ]) (m, NotRetracted UnknownNumber)) (m, NotRetracted Capacity)
-          ≡ retractBy (cond a (cond b (locatedAs o) (Refused UnknownNumber)) (Refused Capacity))
-      by false b o = refl
-      by true false o = refl
-      by true true none = refl
-      by true true (some n) = refl
+  retract-by = targeted (λ r. (m, NotRetracted r)) (retracting m x) (fits c m) (known (c .resources) x) true true
+      (locate c m x)
 
   pub retract-refused : (r : Refusal) → retractTarget c m x ≡ Refused r → (m, NotRetracted r) ≡ retractOf c m x
   retract-refused r e = sym (retract-by ∙ ap retractBy e)
@@ -112,12 +128,6 @@ module _ (c : Counters) (m : Tables) (x : Triple) where
   pub retract-at : (n : StatementId) → retractTarget c m x ≡ At n → retracting m x (n .0) ≡ retractOf c m x
   retract-at n e = sym (retract-by ∙ ap retractBy e)
 
-  pub retract-found : (n : StatementId) → retractTarget c m x ≡ At n → (fits c m ≡ true) × (known (c .resources) x ≡ true) × (locate c m x ≡ some (n .0))
+  pub retract-found : (n : StatementId) → retractTarget c m x ≡ At n → Found n
   unfolding retractTarget
-  retract-found n e = shape (fits c m) (known (c .resources) x) (locate c m x) e
-    where
-      shape : (a b : Bool) (o : Option ℕ) → cond a (cond b (locatedAs o) (Refused UnknownNumber)) (Refused Capacity) ≡ At n → (a ≡ true) × (b ≡ true) × (o ≡ some (n .0))
-      shape false b o e = let z : _≡_ {A = ℕ} 0 1 = cc in absurd (omega arith)
-      shape true false o e = let z : _≡_ {A = ℕ} 0 1 = cc in absurd (omega arith)
-      shape true true none e = let z : _≡_ {A = ℕ} 0 1 = cc in absurd (omega arith)
-      shape true true (some k) e = (refl, refl, cc)
+  retract-found = found (fits c m) (known (c .resources) x) true true (locate c m x)

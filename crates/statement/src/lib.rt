@@ -2,8 +2,8 @@
 //
 // Each operation takes the counters and all four tables and answers on any words in them: what it answers and what it
 // writes is its definition in `store`. `statement_target` finds the record, `statement_record` writes. Refusals are
-// tested in the paper's order, and beside a refusal nothing is written. Assert and retract come by value and on counters
-// that the caller keeps and lends.
+// tested in the paper's order, and beside a refusal nothing is written. Assert and retract come by value and on
+// counters that the caller keeps and lends.
 use statement_record::record::append;
 use statement_record::record::retract_record;
 use statement_record::record::revive;

@@ -1,5 +1,5 @@
--- Laws of the stores: linking one position, or moving its live count, leaves what another asks; what assert and retract come to by the
--- record found. Assumes nothing.
+-- Laws of the stores: linking one position, or moving its live count, leaves what another asks; what assert and retract
+-- come to by the record found. Assumes nothing.
 use mathlib.Core.Path.{_≡_, refl, sym, _∙_}
 use mathlib.Core.List.{List}
 use mathlib.Core.Bool.{Bool, true, false}
@@ -16,28 +16,71 @@ use Rattle.store.specs.declared.Refusal.the-variants.{Full, Damaged}
 use Rattle.store.specs.declared.Asserted.the-variants.{New, Already, Revived, Refused as NotAsserted}
 use Rattle.store.specs.declared.Retracted.the-variants.{Number as WasLive, Absent as NotLive, Refused as NotRetracted}
 use Rattle.store.specs.Tables.{Tables, tables, after, statementCapacity, statementWords, flagAt, off, liveAt}
-use Rattle.store.specs.Statement.{linkFirst, linkRecord, appendRecord, oneStatementMore, asserting, tallyAt, tally, counting, retracting}
+use Rattle.store.specs.Statement.{linkFirst, linkRecord, appendRecord, oneStatementMore, asserting}
+use Rattle.store.specs.Statement.{tallyAt, tally, counting, retracting}
 use Rattle.store.proofs.LiveCounts.{counting-at}
 use Rattle.store.proofs.Words.{link-length, link-count-other, link-live-other, tallyAt-length, tallyAt-other}
-use Rattle.table.specs.Held.{ResourceHeld, TripleHeld}
-use Rattle.statement_record.specs.Records.{flagged, moved, Movable, Linkable, Appendable, Tallyable, AllTallyable}
+use Rattle.table.specs.Held.{TripleHeld}
+use Rattle.statement_record.specs.Records.{flagged, moved, Movable, Linkable, AllLinkable, Appendable}
+use Rattle.statement_record.specs.Records.{Tallyable, AllTallyable}
 
 -- ---- a store at one position leaves what another asks
 
-module _ (p : Position) (t y : ℕ) (res : List ℕ) (d : ResourceHeld res y) where
-  pub link-keeps : (q : Position) (z : ℕ) → (off q ≡ off p → ⊥) → Linkable res q z → Linkable (linkFirst p t y res) q z
-  link-keeps q z h l = record {
-    resource-in = record { from-one = l .resource-in .from-one; whole = rw (link-length p t y res) (l .resource-in .whole) };
-    grows = rw (link-count-other p t y res (d .from-one) (d .whole) q z (l .resource-in .from-one) h) (l .grows);
-    live-grows = rw (link-live-other p t y res (d .from-one) (d .whole) q z (l .resource-in .from-one) h) (l .live-grows);
-  }
+-- P, what a position asks of the table, and f, its store: after the subject's store the predicate can be stored, and
+-- then the object
+module _ (P : List ℕ → Position → ℕ → Type 0) (f : Position → ℕ → List ℕ → List ℕ)
+    (keeps : (p q : Position) (y z : ℕ) (res : List ℕ) → (off q ≡ off p → ⊥) → P res p y → P res q z
+    → P (f p y res) q z)
+    (res : List ℕ) (x : Triple) (each : (p : Position) → P res p (at p x)) where
+  second : P (f Subject (at Subject x) res) Predicate (at Predicate x)
+  second = keeps Subject Predicate _ _ res (λ e. omega arith) (each Subject) (each Predicate)
 
-module _ (up : Bool) (p : Position) (y : ℕ) (res : List ℕ) (d : ResourceHeld res y) where
-  pub tally-keeps : (q : Position) (z : ℕ) → (off q ≡ off p → ⊥) → Tallyable up res q z → Tallyable up (tallyAt (moved up) p y res) q z
-  tally-keeps q z h l = record {
-    resource-in = record { from-one = l .resource-in .from-one; whole = rw (tallyAt-length (moved up) p y res) (l .resource-in .whole) };
-    movable = rw (tallyAt-other (moved up) p y res (d .from-one) (d .whole) q z (l .resource-in .from-one) h) (l .movable);
-  }
+  third : P (f Predicate (at Predicate x) (f Subject (at Subject x) res)) Object (at Object x)
+  third = keeps Predicate Object _ _ _ (λ e. omega arith) second
+      (keeps Subject Object _ _ res (λ e. omega arith) (each Subject) (each Object))
+
+module _ (t : ℕ) where
+  link-keeps : (p q : Position) (y z : ℕ) (res : List ℕ) → (off q ≡ off p → ⊥) → Linkable res p y → Linkable res q z
+      → Linkable (linkFirst p t y res) q z
+  link-keeps p q y z res h here l =
+      let d = here .resource-in in
+      let k = l .resource-in in
+      record {
+        resource-in = record { from-one = k .from-one; whole = rw (link-length p t y res) (k .whole) };
+        grows = rw (link-count-other p t y res (d .from-one) (d .whole) q z (k .from-one) h) (l .grows);
+        live-grows = rw (link-live-other p t y res (d .from-one) (d .whole) q z (k .from-one) h) (l .live-grows);
+      }
+
+  module _ (res : List ℕ) (x : Triple) (a : AllLinkable t res x) where
+    abbrev first : List ℕ
+    first = linkFirst Subject t (at Subject x) res
+
+    pub link-second : Linkable first Predicate (at Predicate x)
+    link-second = second Linkable (λ p y l. linkFirst p t y l) link-keeps res x (a .each)
+
+    pub link-third : Linkable (linkFirst Predicate t (at Predicate x) first) Object (at Object x)
+    link-third = third Linkable (λ p y l. linkFirst p t y l) link-keeps res x (a .each)
+
+module _ (up : Bool) where
+  tally-keeps : (p q : Position) (y z : ℕ) (res : List ℕ) → (off q ≡ off p → ⊥) → Tallyable up res p y
+      → Tallyable up res q z → Tallyable up (tallyAt (moved up) p y res) q z
+  tally-keeps p q y z res h here l =
+      let d = here .resource-in in
+      let k = l .resource-in in
+      record {
+        resource-in = record { from-one = k .from-one; whole = rw (tallyAt-length (moved up) p y res) (k .whole) };
+        movable = rw (tallyAt-other (moved up) p y res (d .from-one) (d .whole) q z (k .from-one) h) (l .movable);
+      }
+
+  module _ (res : List ℕ) (x : Triple) (a : AllTallyable up res x) where
+    abbrev moved-first : List ℕ
+    moved-first = tallyAt (moved up) Subject (at Subject x) res
+
+    pub tally-second : Tallyable up moved-first Predicate (at Predicate x)
+    tally-second = second (Tallyable up) (tallyAt (moved up)) tally-keeps res x (a .each)
+
+    pub tally-third : Tallyable up (tallyAt (moved up) Predicate (at Predicate x) moved-first) Object (at Object x)
+    tally-third = third (Tallyable up) (tallyAt (moved up)) tally-keeps res x (a .each)
 
 -- ---- the three live counts
 
@@ -66,7 +109,9 @@ counting-last res x n a b e =
 
 -- where a new record can be linked, they can grow
 pub grows-all : (c : Counters) (res : List ℕ) (x : Triple) → Appendable c res x → AllTallyable true res x
-grows-all c res x a = record { each = λ p. record { resource-in = a .each p .resource-in; movable = a .each p .live-grows } }
+grows-all c res x a = record {
+  each = λ p. record { resource-in = a .each p .resource-in; movable = a .each p .live-grows };
+}
 
 -- where none is 0, they can fall
 pub falls-all : (res : List ℕ) (x : Triple) → TripleHeld res x → counting res x ≡ true → AllTallyable false res x
@@ -110,7 +155,8 @@ module _ (res stm index text : List ℕ) where
   retracted-none x zero e = refl
   retracted-none x (suc i) e = absurd (omega arith)
 
-  pub retracted-before : (x : Triple) (n : ℕ) → (n ≡ 0 → ⊥) → flagAt stm (n - 1) ≡ 1 → after m NotLive ≡ retracting m x n
+  pub retracted-before : (x : Triple) (n : ℕ) → (n ≡ 0 → ⊥) → flagAt stm (n - 1) ≡ 1
+      → after m NotLive ≡ retracting m x n
   unfolding retracting
   retracted-before x zero h e = absurd (h refl)
   retracted-before x (suc i) h e = let d : suc i - 1 ≡ i = omega arith in rw (eq-eqb (flagAt stm i) 1 (rw d at e))
@@ -120,16 +166,21 @@ module _ (res stm index text : List ℕ) where
       → after m (NotRetracted Damaged) ≡ retracting m x n
   unfolding retracting
   retracted-damaged x zero h f g = absurd (h refl)
-  retracted-damaged x (suc i) h f g = let d : suc i - 1 ≡ i = omega arith in rw (ne-eqb (flagAt stm i) 1 (λ e. f (rw d e)), g)
+  retracted-damaged x (suc i) h f g =
+      let d : suc i - 1 ≡ i = omega arith in
+      rw (ne-eqb (flagAt stm i) 1 (λ e. f (rw d e)), g)
 
   pub retracted-now : (x : Triple) (n : ℕ) → (n ≡ 0 → ⊥) → (flagAt stm (n - 1) ≡ 1 → ⊥) → counting res x ≡ true
       → after (reflagged false 1 x n) (WasLive (record { 0 = n })) ≡ retracting m x n
   unfolding retracting
   retracted-now x zero h f g = absurd (h refl)
-  retracted-now x (suc i) h f g = let d : suc i - 1 ≡ i = omega arith in rw (d, ne-eqb (flagAt stm i) 1 (λ e. f (rw d e)), g)
+  retracted-now x (suc i) h f g =
+      let d : suc i - 1 ≡ i = omega arith in
+      rw (d, ne-eqb (flagAt stm i) 1 (λ e. f (rw d e)), g)
 
   -- no room for one more
-  pub full : (c : Counters) (x : Triple) → ltb (c .statements) (statementCapacity m) ≡ false → after m (NotAsserted Full) ≡ asserting c m x 0
+  pub full : (c : Counters) (x : Triple) → ltb (c .statements) (statementCapacity m) ≡ false
+      → after m (NotAsserted Full) ≡ asserting c m x 0
   unfolding asserting
   full c x e = rw e
 

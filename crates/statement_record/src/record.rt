@@ -1,8 +1,8 @@
 // Stores: a new record at the head of its three chains, a record's flag and the live counts that go with it (paper 01,
 // "Tables and counters"; 02, note 5).
 //
-// Everything that a store needs is read before it. A new record's nexts are the old firsts; each position is linked, and
-// each live count moved, by the same function.
+// Everything that a store needs is read before it. A new record's nexts are the old firsts; each position is linked,
+// and each live count moved, by the same function.
 use store::Asserted;
 use store::Counters;
 use store::Position;
@@ -32,7 +32,8 @@ ghost use Rattle.store.specs.Shared.{maxStatements};
 ghost use Rattle.store.specs.Statement.{appendRecord, linkFirst, linkRecord, tallyAt, tally, counting};
 ghost use Rattle.table.specs.Held.{StatementHeld, TripleHeld};
 ghost use Rattle.statement_record.specs.Records.{flagged, moved, Movable, Tallyable, AllTallyable};
-ghost use Rattle.statement_record.specs.Records.{Linkable, AllLinkable, Appendable, Appended, Revived, RecordRetracted};
+ghost use Rattle.statement_record.specs.Records.{Linkable, AllLinkable, Appendable};
+ghost use Rattle.statement_record.specs.Records.{Appended, Revived, RecordRetracted};
 
 // The flag of record n.
 pub fn set_flag(statements: &mut [u32], n: StatementId, flag: u32)
@@ -179,8 +180,8 @@ pub fn revive(
     Asserted::Already(n, c)
 }
 
-// The triple's own record n is retracted if it is live, and no longer counted as such; 0 stands for no record. 9 where a
-// live count of its resources is 0.
+// The triple's own record n is retracted if it is live, and no longer counted as such; 0 stands for no record. 9 where
+// a live count of its resources is 0.
 pub fn retract_record(
     resources: &mut [u32],
     statements: &mut [u32],

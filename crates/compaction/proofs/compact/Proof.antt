@@ -15,20 +15,20 @@ unlink-all-requires c κs = search needs
 
 sweep-requires : tie.Need-sweep-requires
 sweep-requires c κs =
-    let a = c .before .before .before .before .before .before .before .before .args in
-    let pre = c .before .before .before .before .before .before .before .before .pre in
-    let the-unlink-all = c .before .before .before .before .unlink-all in
-    cleared-sweepable (a .r) (a .t) (now (a .resources)) (now (a .statements)) (pre .0) _ (the-unlink-all .ensures) (pre .1)
+    let s = c .before .before .before .before .before .before .before .before in
+    let a = s .args in
+    cleared-sweepable (a .r) (a .t) (now (a .resources)) (now (a .statements)) (s .pre .0) _
+    (c .before .before .before .before .unlink-all .ensures) (s .pre .1)
 
 blank-requires : tie.Need-blank-requires
 blank-requires c κs =
-    let a = c .before .before .before .before .before .before .before .before .before .before .before .before .before .before .args in
-    let pre = c .before .before .before .before .before .before .before .before .before .before .before .before .before .before .pre in
-    let the-unlink-all = c .before .before .before .before .before .before .before .before .before .before .unlink-all in
-    let the-sweep = c .before .before .before .before .before .sweep in (
-      swept-few (a .r) (a .t) (now (a .resources)) (now (a .statements)) (pre .0) _ (the-unlink-all .ensures) _ _ _
-          (the-sweep .ensures),
-      omega (arith, pre .0 .fit-statements),
+    let p = c .before .before .before .before .before in
+    let q = p .before .before .before .before .before in
+    let s = q .before .before .before .before in
+    let a = s .args in (
+      swept-few (a .r) (a .t) (now (a .resources)) (now (a .statements)) (s .pre .0) _ (q .unlink-all .ensures) _ _ _
+          (p .sweep .ensures),
+      omega (arith, s .pre .0 .fit-statements),
     )
 
 same-length : tie.Need-same-length
@@ -39,13 +39,12 @@ same-length-2 c = search needs
 
 returns : tie.Need-returns
 returns c =
-    let a = c .before .before .before .before .before .before .before .before .before .before .before .before .before .before .before .before .before .args in
-    let pre = c .before .before .before .before .before .before .before .before .before .before .before .before .before .before .before .before .before .pre in
-    let the-unlink-all = c .before .before .before .before .before .before .before .before .before .before .before .before .before .unlink-all in
-    let the-sweep = c .before .before .before .before .before .before .before .before .sweep in
-    let the-blank = c .before .before .blank in
-    swept-done (a .r) (a .t) (now (a .resources)) (now (a .statements)) (pre .0) _ (the-unlink-all .ensures) _ _ _
-    (the-sweep .ensures) _ (the-blank .ensures)
+    let p = c .before .before .before .before .before .before .before .before in
+    let q = p .before .before .before .before .before in
+    let s = q .before .before .before .before in
+    let a = s .args in
+    swept-done (a .r) (a .t) (now (a .resources)) (now (a .statements)) (s .pre .0) _ (q .unlink-all .ensures) _ _ _
+    (p .sweep .ensures) _ (c .before .before .blank .ensures)
 
 pub compact-spec : {M : Type 1} → statement M
 compact-spec =

@@ -28,9 +28,7 @@ returns : tie.Need-returns
 returns c =
     let a = c .before .before .before .before .before .before .before .before .args in
     let m = tables (now (a .resources)) (now (a .statements)) (now (a .index)) (now (a .text)) in
-    let the-fits2 = c .before .fits2 in
-    let if1 = c .if1 in
-    answer-capacity (a .c) m (failed {t = fits (a .c) m} (the-fits2 .ensures) (if1 .taken))
+    answer-capacity (a .c) m (failed {t = fits (a .c) m} (c .before .fits2 .ensures) (c .if1 .taken))
 
 same-length-3 : tie.Need-same-length-3
 same-length-3 c = search needs
@@ -40,13 +38,11 @@ same-length-4 c = search needs
 
 returns-2 : tie.Need-returns-2
 returns-2 c =
-    let a = c .before .before .before .before .before .before .before .before .before .before .args in
+    let p = c .before .before in
+    let a = p .before .before .before .before .before .before .before .before .args in
     let m = tables (now (a .resources)) (now (a .statements)) (now (a .index)) (now (a .text)) in
-    let the-fits2 = c .before .before .before .fits2 in
-    let if1 = c .before .before .if1 in
-    let if2 = c .if2 in
-    let fit = passed {t = fits (a .c) m} (the-fits2 .ensures) (if1 .left) in
-    answer-limit (a .c) m fit (if2 .taken)
+    let fit = passed {t = fits (a .c) m} (p .before .fits2 .ensures) (p .if1 .left) in
+    answer-limit (a .c) m fit (c .if2 .taken)
 
 check-requires : tie.Need-check-requires
 check-requires c κs = search needs
@@ -59,26 +55,22 @@ same-length-6 c = search needs
 
 returns-3 : tie.Need-returns-3
 returns-3 c =
-    let a = c .before .before .before .before .before .before .before .before .before .before .before .before .before .before .args in
+    let q = c .before .before .before .before in
+    let p = q .before .before in
+    let a = p .before .before .before .before .before .before .before .before .args in
     let m = tables (now (a .resources)) (now (a .statements)) (now (a .index)) (now (a .text)) in
-    let the-fits2 = c .before .before .before .before .before .before .before .fits2 in
-    let if1 = c .before .before .before .before .before .before .if1 in
-    let if2 = c .before .before .before .before .if2 in
-    let the-check = c .before .check in
-    let if3 = c .if3 in
-    let fit = passed {t = fits (a .c) m} (the-fits2 .ensures) (if1 .left) in
-    answer-unsound (a .c) m fit (if2 .left) (check-no {P = Sound (a .c) m} (the-check .ensures) (if3 .taken))
+    let fit = passed {t = fits (a .c) m} (p .before .fits2 .ensures) (p .if1 .left) in
+    answer-unsound (a .c) m fit (q .if2 .left)
+    (check-no {P = Sound (a .c) m} (c .before .check .ensures) (c .if3 .taken))
 
 compact-requires : tie.Need-compact-requires
 compact-requires c κs =
-    let a = c .before .before .before .before .before .before .before .before .before .before .before .before .before .before .before .before .args in
+    let r = c .before .before in
+    let p = r .before .before .before .before .before .before in
+    let a = p .before .before .before .before .before .before .before .before .args in
     let m = tables (now (a .resources)) (now (a .statements)) (now (a .index)) (now (a .text)) in
-    let the-fits2 = c .before .before .before .before .before .before .before .before .before .fits2 in
-    let if1 = c .before .before .before .before .before .before .before .before .if1 in
-    let the-check = c .before .before .before .check in
-    let if3 = c .before .before .if3 in
-    let fit = passed {t = fits (a .c) m} (the-fits2 .ensures) (if1 .left) in (
-      check-yes {P = Sound (a .c) m} (the-check .ensures) (if3 .left) .linked,
+    let fit = passed {t = fits (a .c) m} (p .before .fits2 .ensures) (p .if1 .left) in (
+      check-yes {P = Sound (a .c) m} (r .before .check .ensures) (r .if3 .left) .linked,
       fits-room (a .c) m fit .few-statements,
     )
 
@@ -93,17 +85,15 @@ same-length-8 c = search needs
 
 returns-4 : tie.Need-returns-4
 returns-4 c =
-    let a = c .before .before .before .before .before .before .before .before .before .before .before .before .before .before .before .before .before .before .before .before .before .before .args in
+    let r = c .before .before .before .before .before .before .before .before in
+    let q = r .before .before .before .before in
+    let p = q .before .before in
+    let a = p .before .before .before .before .before .before .before .before .args in
     let m = tables (now (a .resources)) (now (a .statements)) (now (a .index)) (now (a .text)) in
-    let the-fits2 = c .before .before .before .before .before .before .before .before .before .before .before .before .before .before .before .fits2 in
-    let if1 = c .before .before .before .before .before .before .before .before .before .before .before .before .before .before .if1 in
-    let if2 = c .before .before .before .before .before .before .before .before .before .before .before .before .if2 in
-    let the-check = c .before .before .before .before .before .before .before .before .before .check in
-    let if3 = c .before .before .before .before .before .before .before .before .if3 in
-    let the-compact = c .before .before .before .before .before .compact in
-    let fit = passed {t = fits (a .c) m} (the-fits2 .ensures) (if1 .left) in
-    done (a .c) m fit (if2 .left) (check-yes {P = Sound (a .c) m} (the-check .ensures) (if3 .left)) _ _ _ _ (omega arith)
-    (the-compact .ensures)
+    let fit = passed {t = fits (a .c) m} (p .before .fits2 .ensures) (p .if1 .left) in
+    let sound = check-yes {P = Sound (a .c) m} (r .before .check .ensures) (r .if3 .left) in
+    done (a .c) m fit (q .if2 .left) sound _ _ _ _ (omega arith)
+    (c .before .before .before .before .before .compact .ensures)
 
 pub reclaim-spec : {M : Type 1} → statement M
 reclaim-spec =

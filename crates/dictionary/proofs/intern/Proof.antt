@@ -1,13 +1,17 @@
-use Rattle.dictionary.proofs.Answers.{malformed, formed, readable, has-room, miss-within, intern-capacity, intern-malformed}
-use Rattle.dictionary.proofs.Answers.{intern-searched, intern-full, intern-new, left-short}
+use Rattle.dictionary.proofs.Answers.{Tested, place, malformed, formed, readable, has-room, miss-within}
+use Rattle.dictionary.proofs.Answers.{intern-capacity, intern-malformed, intern-searched, intern-full}
+use Rattle.dictionary.proofs.Answers.{intern-new, left-short}
 use Rattle.table.proofs.Capacity.{fits-room}
 use Rattle.store.proofs.Form.{form-short}
-use Rattle.store.specs.Dictionary.{internAs}
-use Rattle.store.specs.Tables.{tables}
-use borrow.Author.Tests.{not-true, not-false}
+use Rattle.store.specs.declared.IndexPlace.{IndexPlace}
+use Rattle.store.specs.declared.IndexPlace.the-variants.{Before}
+use Rattle.store.specs.declared.Interned.{Interned}
+use Rattle.store.specs.Dictionary.{internAs, InternAnswer, oneNameMore}
+use Rattle.store.specs.Tables.{tables, after, fits}
+use Rattle.table.proofs.Branches.{passed, failed}
 use denote.Ref.{now}
 use native.Mathlib.Omega.{arith}
-use mathlib.Core.Path.{refl, sym, ap, _∙_}
+use mathlib.Core.Path.{_≡_, refl, sym, ap, _∙_}
 use borrow.Author.Needs.{needs}
 use Rattle.dictionary.proofs.intern.Statement.{statement}
 use Rattle.dictionary.proofs.intern.Tie as tie
@@ -35,11 +39,9 @@ same-length-3 c = search needs
 returns : tie.Need-returns
 returns c =
     let a = c .before .before .before .before .before .before .before .before .before .before .args in
-    let fits2 = c .before .fits2 in
-    let if1 = c .if1 in
     let m = tables (now (a .resources)) (now (a .statements)) (now (a .index)) (now (a .text)) in
-    let w = now (a .name) in
-    intern-capacity (a .c) m m w _ (sym (fits2 .ensures) ∙ not-true (fits2 .result) (if1 .taken)) refl
+    let f = failed {t = fits (a .c) m} (c .before .fits2 .ensures) (c .if1 .taken) in
+    intern-capacity (a .c) m m (now (a .name)) _ f refl
 
 name-kind-requires : tie.Need-name-kind-requires
 name-kind-requires c κs = search needs
@@ -55,28 +57,49 @@ same-length-6 c = search needs
 
 returns-2 : tie.Need-returns-2
 returns-2 c =
-    let a = c .before .before .before .before .before .before .before .before .before .before .before .before .args in
-    let fits2 = c .before .before .before .fits2 in
-    let if1 = c .before .before .if1 in
-    let name-kind = c .before .name-kind in
-    let if2 = c .if2 in
+    let p = c .before .before in
+    let k = c .before .name-kind in
+    let a = p .before .before .before .before .before .before .before .before .before .before .args in
     let m = tables (now (a .resources)) (now (a .statements)) (now (a .index)) (now (a .text)) in
-    let w = now (a .name) in
-    let f = sym (fits2 .ensures) ∙ not-false (fits2 .result) (if1 .left) in
-    intern-malformed (a .c) m m w _ f (malformed w (name-kind .result) (name-kind .ensures) (if2 .taken)) refl
+    let f = passed {t = fits (a .c) m} (p .before .fits2 .ensures) (p .if1 .left) in
+    intern-malformed (a .c) m m (now (a .name)) _ f (malformed _ (k .result) (k .ensures) (c .if2 .taken)) refl
 
 canonical-requires : tie.Need-canonical-requires
 canonical-requires c κs = search needs
 
-search-requires : tie.Need-search-requires
-search-requires c κs =
-    let a = c .before .before .before .before .before .before .before .before .before .before .before .before .before .before .before .before .args in
-    let fits2 = c .before .before .before .before .before .before .before .fits2 in
-    let if1 = c .before .before .before .before .before .before .if1 in
+-- ---- past the tests, once for every need after them
+
+abbrev start : tie.After-canonical → tie.Start
+start c = c .before .before .before .before .before .before .before .before .before .before .before .before .before
+
+tested : (c : tie.After-canonical)
+    → (let a = (start c) .args in
+    Tested (a .c) (tables (now (a .resources)) (now (a .statements)) (now (a .index)) (now (a .text)))
+    (now (a .name)) (now (c .canonical .result)))
+tested c =
+    let a = (start c) .args in
     let m = tables (now (a .resources)) (now (a .statements)) (now (a .index)) (now (a .text)) in
-    let w = now (a .name) in
-    let f = sym (fits2 .ensures) ∙ not-false (fits2 .result) (if1 .left) in
-    readable (a .c) m f
+    let k = c .before .before .name-kind in
+    record {
+      fit = passed {t = fits (a .c) m} (c .before .before .before .before .fits2 .ensures)
+          (c .before .before .before .if1 .left);
+      well = formed _ (k .result) (k .ensures) (c .before .if2 .left);
+      left = c .canonical .ensures;
+    }
+
+-- the answer where nothing is written, by where the search ended
+answers : (c : tie.After-search) (o : IndexPlace) → c .search .result ≡ o
+    → (let p = c .before .before .before .before in
+    let a = (start p) .args in
+    let m = tables (now (a .resources)) (now (a .statements)) (now (a .index)) (now (a .text)) in
+    (r : Interned) → after m r ≡ internAs (a .c) m (now (p .canonical .result)) o
+    → InternAnswer (a .c) m m (now (a .name)) r)
+answers c o e r d =
+    intern-searched _ _ _ _ r _ (tested (c .before .before .before .before))
+    (d ∙ ap (internAs _ _ _) (sym e ∙ c .search .ensures))
+
+search-requires : tie.Need-search-requires
+search-requires c κs = readable _ _ (tested (c .before .before .before) .fit)
 
 enum-known-n : tie.Need-enum-known-n
 enum-known-n c = search needs
@@ -89,21 +112,11 @@ enum-known-at c = search needs
 
 one-name-more-requires : tie.Need-one-name-more-requires
 one-name-more-requires c κs =
-    let a = c .before .before .before .before .before .before .before .before .before .before .before .before .before .before .before .before .before .before .before .before .args in
-    let fits2 = c .before .before .before .before .before .before .before .before .before .before .before .fits2 in
-    let if1 = c .before .before .before .before .before .before .before .before .before .before .if1 in
-    let name-kind = c .before .before .before .before .before .before .before .before .before .name-kind in
-    let if2 = c .before .before .before .before .before .before .before .before .if2 in
-    let m = tables (now (a .resources)) (now (a .statements)) (now (a .index)) (now (a .text)) in
-    let w = now (a .name) in
-    let canonical = c .before .before .before .before .before .before .before .canonical in
-    let n′ = now (canonical .result) in
-    let f = sym (fits2 .ensures) ∙ not-false (fits2 .result) (if1 .left) in
-    let b = formed w (name-kind .result) (name-kind .ensures) (if2 .left) in
-    let r = fits-room (a .c) m f in
+    let t = tested (c .before .before .before .before .before .before .before) in
+    let r = fits-room _ _ (t .fit) in
     -- both spellings are short enough: what tells them apart is the room
-    let left = left-short n′ w (canonical .ensures) b in
-    let spelled = form-short w b in
+    let left = left-short _ _ _ _ t in
+    let spelled = form-short _ (t .well) in
     (omega arith, r .few-resources, r .few-bytes)
 
 fits-requires-2 : tie.Need-fits-requires-2
@@ -118,46 +131,39 @@ same-length-8 c = search needs
 same-length-9 : tie.Need-same-length-9
 same-length-9 c = search needs
 
+-- the name is new: its place in the index, and whether there is room for it
+abbrev shortened : tie.After-fits3 → tie.After-canonical
+shortened c = c .before .before .before .before .before .before .before .before .before .before .before .before
+
+missed : (c : tie.After-fits3)
+    → (let p = shortened c in
+    let a = (start p) .args in
+    Before (c .before .before .before .before .before .before .at .given .0 .0)
+    ≡ place (a .c) (tables (now (a .resources)) (now (a .statements)) (now (a .index)) (now (a .text)))
+    (now (p .canonical .result)))
+missed c =
+    let p = c .before .before .before .before .before .before in
+    sym (p .at .given .1) ∙ p .before .before .search .ensures
+
+grown : (c : tie.After-fits3)
+    → (let p = shortened c in
+    let a = (start p) .args in
+    c .fits3 .result ≡ fits (oneNameMore (a .c) (now (p .canonical .result)))
+    (tables (now (a .resources)) (now (a .statements)) (now (a .index)) (now (a .text))))
+grown c = rw (c .before .before .before .before .one-name-more .ensures) at (c .fits3 .ensures)
+
 returns-3 : tie.Need-returns-3
 returns-3 c =
-    let a = c .before .before .before .before .before .before .before .before .before .before .before .before .before .before .before .before .before .before .before .before .before .before .before .before .before .before .args in
-    let fits2 = c .before .before .before .before .before .before .before .before .before .before .before .before .before .before .before .before .before .fits2 in
-    let if1 = c .before .before .before .before .before .before .before .before .before .before .before .before .before .before .before .before .if1 in
-    let name-kind = c .before .before .before .before .before .before .before .before .before .before .before .before .before .before .before .name-kind in
-    let if2 = c .before .before .before .before .before .before .before .before .before .before .before .before .before .before .if2 in
-    let search = c .before .before .before .before .before .before .before .before .before .search in
-    let at = c .before .before .before .before .before .before .before .at in
-    let one-name-more = c .before .before .before .before .before .one-name-more in
-    let fits3 = c .before .fits3 in
-    let if3 = c .if3 in
-    let m = tables (now (a .resources)) (now (a .statements)) (now (a .index)) (now (a .text)) in
-    let w = now (a .name) in
-    let canonical = c .before .before .before .before .before .before .before .before .before .before .before .before .before .canonical in
-    let n′ = now (canonical .result) in
-    let f = sym (fits2 .ensures) ∙ not-false (fits2 .result) (if1 .left) in
-    let b = formed w (name-kind .result) (name-kind .ensures) (if2 .left) in
-    let s = sym (at .given .1) ∙ search .ensures in
-    let g = (rw (one-name-more .ensures) at (sym (fits3 .ensures) ∙ not-true (fits3 .result) (if3 .taken))) in
-    intern-full (a .c) m n′ w (canonical .ensures) f b _ s g
+    let p = c .before in
+    intern-full _ _ _ _ (tested (shortened p)) _ (missed p) (failed (grown p) (c .if3 .taken))
 
 append-requires : tie.Need-append-requires
 append-requires c κs =
-    let a = c .before .before .before .before .before .before .before .before .before .before .before .before .before .before .before .before .before .before .before .before .before .before .before .before .before .before .before .before .before .args in
-    let fits2 = c .before .before .before .before .before .before .before .before .before .before .before .before .before .before .before .before .before .before .before .before .fits2 in
-    let if1 = c .before .before .before .before .before .before .before .before .before .before .before .before .before .before .before .before .before .before .before .if1 in
-    let search = c .before .before .before .before .before .before .before .before .before .before .before .before .search in
-    let at = c .before .before .before .before .before .before .before .before .before .before .at in
-    let one-name-more = c .before .before .before .before .before .before .before .before .one-name-more in
-    let fits3 = c .before .before .before .before .fits3 in
-    let if3 = c .before .before .before .if3 in
+    let p = c .before .before .before .before in
+    let a = (start (shortened p)) .args in
     let m = tables (now (a .resources)) (now (a .statements)) (now (a .index)) (now (a .text)) in
-    let w = now (a .name) in
-    let canonical = c .before .before .before .before .before .before .before .before .before .before .before .before .before .before .before .before .canonical in
-    let n′ = now (canonical .result) in
-    let f = sym (fits2 .ensures) ∙ not-false (fits2 .result) (if1 .left) in
-    let s = sym (at .given .1) ∙ search .ensures in
-    let g = (rw (one-name-more .ensures) at (sym (fits3 .ensures) ∙ not-false (fits3 .result) (if3 .left))) in
-    has-room (a .c) m n′ _ g (miss-within (a .c) (m .resources) (m .index) (m .text) n′ _ s)
+    let room = passed (grown p) (c .before .before .before .if3 .left) in
+    has-room (a .c) m _ _ room (miss-within (a .c) m _ _ (missed p))
 
 same-length-10 : tie.Need-same-length-10
 same-length-10 c = search needs
@@ -170,21 +176,7 @@ same-length-12 c = search needs
 
 returns-4 : tie.Need-returns-4
 unfolding internAs
-returns-4 c =
-    let a = c .before .before .before .before .before .before .before .before .before .before .before .before .before .before .before .before .before .before .before .before .args in
-    let fits2 = c .before .before .before .before .before .before .before .before .before .before .before .fits2 in
-    let if1 = c .before .before .before .before .before .before .before .before .before .before .if1 in
-    let name-kind = c .before .before .before .before .before .before .before .before .before .name-kind in
-    let if2 = c .before .before .before .before .before .before .before .before .if2 in
-    let search = c .before .before .before .search in
-    let n = c .before .n in
-    let m = tables (now (a .resources)) (now (a .statements)) (now (a .index)) (now (a .text)) in
-    let w = now (a .name) in
-    let canonical = c .before .before .before .before .before .before .before .canonical in
-    let n′ = now (canonical .result) in
-    let f = sym (fits2 .ensures) ∙ not-false (fits2 .result) (if1 .left) in
-    let b = formed w (name-kind .result) (name-kind .ensures) (if2 .left) in
-    intern-searched (a .c) m m w _ n′ (canonical .ensures) f b (ap (internAs (a .c) m n′) (sym (n .given .1) ∙ search .ensures))
+returns-4 c = answers (c .before .before .before) _ (c .before .n .given .1) _ refl
 
 same-length-13 : tie.Need-same-length-13
 same-length-13 c = search needs
@@ -197,21 +189,7 @@ same-length-15 c = search needs
 
 returns-5 : tie.Need-returns-5
 unfolding internAs
-returns-5 c =
-    let a = c .before .before .before .before .before .before .before .before .before .before .before .before .before .before .before .before .before .before .before .args in
-    let fits2 = c .before .before .before .before .before .before .before .before .before .before .fits2 in
-    let if1 = c .before .before .before .before .before .before .before .before .before .if1 in
-    let name-kind = c .before .before .before .before .before .before .before .before .name-kind in
-    let if2 = c .before .before .before .before .before .before .before .if2 in
-    let search = c .before .before .search in
-    let enum-told = c .enum-told in
-    let m = tables (now (a .resources)) (now (a .statements)) (now (a .index)) (now (a .text)) in
-    let w = now (a .name) in
-    let canonical = c .before .before .before .before .before .before .canonical in
-    let n′ = now (canonical .result) in
-    let f = sym (fits2 .ensures) ∙ not-false (fits2 .result) (if1 .left) in
-    let b = formed w (name-kind .result) (name-kind .ensures) (if2 .left) in
-    intern-searched (a .c) m m w _ n′ (canonical .ensures) f b (ap (internAs (a .c) m n′) (sym (enum-told .given .1) ∙ search .ensures))
+returns-5 c = answers (c .before .before) _ (c .enum-told .given .1) _ refl
 
 same-length-16 : tie.Need-same-length-16
 same-length-16 c = search needs
@@ -224,27 +202,12 @@ same-length-18 c = search needs
 
 returns-6 : tie.Need-returns-6
 returns-6 c =
-    let a = c .before .before .before .before .before .before .before .before .before .before .before .before .before .before .before .before .before .before .before .before .before .before .before .before .before .before .before .before .before .before .before .before .before .before .before .before .args in
-    let fits2 = c .before .before .before .before .before .before .before .before .before .before .before .before .before .before .before .before .before .before .before .before .before .before .before .before .before .before .before .fits2 in
-    let if1 = c .before .before .before .before .before .before .before .before .before .before .before .before .before .before .before .before .before .before .before .before .before .before .before .before .before .before .if1 in
-    let name-kind = c .before .before .before .before .before .before .before .before .before .before .before .before .before .before .before .before .before .before .before .before .before .before .before .before .before .name-kind in
-    let if2 = c .before .before .before .before .before .before .before .before .before .before .before .before .before .before .before .before .before .before .before .before .before .before .before .before .if2 in
-    let search = c .before .before .before .before .before .before .before .before .before .before .before .before .before .before .before .before .before .before .before .search in
-    let at = c .before .before .before .before .before .before .before .before .before .before .before .before .before .before .before .before .before .at in
-    let one-name-more = c .before .before .before .before .before .before .before .before .before .before .before .before .before .before .before .one-name-more in
-    let fits3 = c .before .before .before .before .before .before .before .before .before .before .before .fits3 in
-    let if3 = c .before .before .before .before .before .before .before .before .before .before .if3 in
-    let append = c .before .before .before .before .before .before .append in
-    let m = tables (now (a .resources)) (now (a .statements)) (now (a .index)) (now (a .text)) in
-    let w = now (a .name) in
-    let canonical = c .before .before .before .before .before .before .before .before .before .before .before .before .before .before .before .before .before .before .before .before .before .before .before .canonical in
-    let n′ = now (canonical .result) in
-    let f = sym (fits2 .ensures) ∙ not-false (fits2 .result) (if1 .left) in
-    let b = formed w (name-kind .result) (name-kind .ensures) (if2 .left) in
-    let s = sym (at .given .1) ∙ search .ensures in
-    let g = (rw (one-name-more .ensures) at (sym (fits3 .ensures) ∙ not-false (fits3 .result) (if3 .left))) in
-    intern-new (a .c) m n′ w (canonical .ensures) f b _ (name-kind .result) _ _ _ _ s g (one-name-more .ensures) (name-kind .ensures)
-    (append .ensures)
+    let q = c .before .before .before .before .before .before in
+    let p = q .before .before .before .before .before in
+    let k = (shortened p) .before .before .name-kind in
+    let room = passed (grown p) (q .before .before .before .before .if3 .left) in
+    intern-new _ _ _ _ (tested (shortened p)) _ (k .result) _ _ _ _ (missed p) room
+    (p .before .before .before .before .one-name-more .ensures) (k .ensures) (q .append .ensures)
 
 pub intern-spec : {M : Type 1} → statement M
 intern-spec =

@@ -38,7 +38,8 @@ part-result-start c = search needs
 
 part-result-end : tie.Need-part-result-end
 part-result-end c =
-    let i = subst (Inside (now (c .before .before .before .args .text))) (c .before .a .given .1) (c .before .before .before .pre) in
+    let s = c .before .before .before in
+    let i = subst (Inside (now (s .args .text))) (c .before .a .given .1) (s .pre) in
     omega (arith, i)
 
 returns : tie.Need-returns

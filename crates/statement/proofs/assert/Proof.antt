@@ -1,11 +1,12 @@
 use native.Mathlib.Omega.{arith}
-use mathlib.Core.Path.{sym, _∙_, ap}
+use mathlib.Core.Path.{_≡_, sym, _∙_, ap}
 use denote.Ref.{now}
 use Rattle.statement_record.proofs.Records.{grows-all}
 use Rattle.statement.proofs.Operations.{appendable, located-in, assert-refused, assert-at, assert-found}
 use Rattle.store.specs.Statement.{asserting}
+use Rattle.statement_target.specs.declared.target.Located.the-variants.{At}
+use Rattle.statement_target.specs.Targets.{assertTarget}
 use Rattle.store.specs.Tables.{tables}
-use Prim.Native.Nat.{ℕ}
 use borrow.Author.Needs.{needs}
 use Rattle.statement.proofs.assert.Statement.{statement}
 use Rattle.statement.proofs.assert.Tie as tie
@@ -24,13 +25,17 @@ enum-known-e c = search needs
 enum-known-n : tie.Need-enum-known-n
 enum-known-n c = search needs
 
+-- where the target is record n
+target : (c : tie.After-n)
+    → (let a = c .before .before .before .before .before .before .before .before .before .args in
+    assertTarget (a .c) (tables (now (a .resources)) (now (a .statements)) (now (a .index)) (now (a .text))) (a .x)
+    ≡ At (c .n .given .0 .0))
+target c = sym (c .before .before .assert-target .ensures) ∙ c .n .given .1
+
 append-requires : tie.Need-append-requires
 append-requires c κs =
-    let a = c .before .before .before .before .before .before .before .before .before .before .before .before .before .before .args in
-    let m = tables (now (a .resources)) (now (a .statements)) (now (a .index)) (now (a .text)) in
-    let n = c .before .before .before .before .before .n .given .0 .0 in
-    let f = assert-found (a .c) m (a .x) n (sym (c .before .before .before .before .before .before .before .assert-target .ensures) ∙ c .before .before .before .before .before .n .given .1) in
-    appendable (a .c) m (f .0) (a .x) (n .0) (f .1) (f .2)
+    let f = assert-found _ _ _ _ (target (c .before .before .before .before .before)) in
+    appendable _ _ (f .0) _ _ (f .1) (f .2)
 
 same-length : tie.Need-same-length
 same-length c = search needs
@@ -40,20 +45,20 @@ same-length-2 c = search needs
 
 returns : tie.Need-returns
 returns c =
-    let a = c .before .before .before .before .before .before .before .before .before .before .before .before .before .before .before .before .before .before .before .args in
+    let p = c .before .before .before .before .before .before .before .before .before .before in
+    let a = p .before .before .before .before .before .before .before .before .before .args in
     let m = tables (now (a .resources)) (now (a .statements)) (now (a .index)) (now (a .text)) in
-    let n = c .before .before .before .before .before .before .before .before .before .before .n .given .0 .0 in
-    c .before .before .before .before .append .ensures .leaves (now (a .index)) (now (a .text)) ∙ ap (λ (k : ℕ). asserting (a .c) m (a .x) k) (sym (c .before .before .before .before .before .before .before .if1 .taken))
-    ∙ assert-at (a .c) m (a .x) n (sym (c .before .before .before .before .before .before .before .before .before .before .before .before .assert-target .ensures) ∙ c .before .before .before .before .before .before .before .before .before .before .n .given .1)
+    c .before .before .before .before .append .ensures .leaves _ _
+    ∙ ap (asserting (a .c) m (a .x)) (sym (c .before .before .before .before .before .before .before .if1 .taken))
+    ∙ assert-at (a .c) m (a .x) _ (target p)
 
 revive-requires : tie.Need-revive-requires
 revive-requires c κs =
-    let a = c .before .before .before .before .before .before .before .before .before .before .before .before .before .before .args in
-    let m = tables (now (a .resources)) (now (a .statements)) (now (a .index)) (now (a .text)) in
-    let n = c .before .before .before .before .before .n .given .0 .0 in
-    let f = assert-found (a .c) m (a .x) n (sym (c .before .before .before .before .before .before .before .assert-target .ensures) ∙ c .before .before .before .before .before .n .given .1) in (
-      record { from-one = omega arith; whole = located-in (a .c) m (f .0) (a .x) (n .0) (f .2) },
-      grows-all (a .c) (now (a .resources)) (a .x) (appendable (a .c) m (f .0) (a .x) (n .0) (f .1) (f .2)),
+    let p = c .before .before .before .before .before in
+    let f = assert-found _ _ _ _ (target p) in (
+      record { from-one = omega arith; whole = located-in _ _ (f .0) _ _ (f .2) },
+      grows-all (p .before .before .before .before .before .before .before .before .before .args .c) _ _
+          (appendable _ _ (f .0) _ _ (f .1) (f .2)),
     )
 
 same-length-3 : tie.Need-same-length-3
@@ -64,9 +69,8 @@ same-length-4 c = search needs
 
 returns-2 : tie.Need-returns-2
 returns-2 c =
-    let a = c .before .before .before .before .before .before .before .before .before .before .args in
-    let m = tables (now (a .resources)) (now (a .statements)) (now (a .index)) (now (a .text)) in
-    assert-refused (a .c) m (a .x) (c .before .e .given .0 .0) (sym (c .before .before .before .assert-target .ensures) ∙ c .before .e .given .1)
+    let e = c .before .e in
+    assert-refused _ _ _ (e .given .0 .0) (sym (c .before .before .before .assert-target .ensures) ∙ e .given .1)
 
 same-length-5 : tie.Need-same-length-5
 same-length-5 c = search needs
@@ -76,10 +80,8 @@ same-length-6 c = search needs
 
 returns-3 : tie.Need-returns-3
 returns-3 c =
-    let a = c .before .before .before .before .before .before .before .before .before .before .before .before .before .before .before .before .before .before .before .args in
-    let m = tables (now (a .resources)) (now (a .statements)) (now (a .index)) (now (a .text)) in
-    let n = c .before .before .before .before .before .before .before .before .before .before .n .given .0 .0 in
-    c .before .before .before .before .revive .ensures .leaves (now (a .index)) (now (a .text)) ∙ assert-at (a .c) m (a .x) n (sym (c .before .before .before .before .before .before .before .before .before .before .before .before .assert-target .ensures) ∙ c .before .before .before .before .before .before .before .before .before .before .n .given .1)
+    let p = c .before .before .before .before in
+    p .revive .ensures .leaves _ _ ∙ assert-at _ _ _ _ (target (p .before .before .before .before .before .before))
 
 pub assert-spec : {M : Type 1} → statement M
 assert-spec =

@@ -23,8 +23,13 @@ same-length-2 c = search needs
 
 returns : tie.Need-returns
 returns c =
-    let a = c .before .before .before .before .before .before .before .before .before .before .before .before .args in
-    record { exact = assert-kept (a .c) (tables (now (a .resources)) (now (a .statements)) (now (a .index)) (now (a .text))) _ (a .x) (c .before .before .before .before .before .assert .result) (c .counters-after .result) (c .before .before .before .before .before .assert .ensures) (c .counters-after .ensures) }
+    let p = c .before .before .before .before .before in
+    let a = p .before .before .before .before .before .before .before .args in
+    let m = tables (now (a .resources)) (now (a .statements)) (now (a .index)) (now (a .text)) in
+    record {
+      exact = assert-kept (a .c) m _ (a .x) (p .assert .result) (c .counters-after .result) (p .assert .ensures)
+          (c .counters-after .ensures);
+    }
 
 pub assert-kept-spec : {M : Type 1} → statement M
 assert-kept-spec =

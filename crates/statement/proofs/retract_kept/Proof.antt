@@ -19,9 +19,10 @@ same-length-2 c = search needs
 
 returns : tie.Need-returns
 returns c =
-    let a = c .before .before .before .before .before .before .before .before .before .before .before .args in
+    let p = c .before .before .before .before in
+    let a = p .before .before .before .before .before .before .before .args in
     let m = tables (now (a .resources)) (now (a .statements)) (now (a .index)) (now (a .text)) in
-    record { exact = retract-kept (a .c) m _ (a .x) (c .before .before .before .before .retract .result) (c .before .before .before .before .retract .ensures) }
+    record { exact = retract-kept (a .c) m _ (a .x) (p .retract .result) (p .retract .ensures) }
 
 pub retract-kept-spec : {M : Type 1} → statement M
 retract-kept-spec =

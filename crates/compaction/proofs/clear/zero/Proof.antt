@@ -12,10 +12,11 @@ use Rattle.compaction.proofs.clear.zero.Reads as reads
 use Rattle.compaction.proofs.clear.zero.Lts as lts
 
 abbrev Inv-loop : tie.InvT-loop
-Inv-loop words₀ start n i₀ words i = (i ≤ n) × (length words ≡ length words₀) × (words ≡ sets words₀ start (replicate i 0))
+Inv-loop words₀ start size i₀ words i =
+    (i ≤ size) × (length words ≡ length words₀) × (words ≡ sets words₀ start (replicate i 0))
 
 abbrev μ-loop : tie.MeasureT-loop
-μ-loop words₀ start n i₀ words i = n - i
+μ-loop words₀ start size i₀ words i = size - i
 
 loop-holds : tie.Need-loop-holds Inv-loop μ-loop
 loop-holds c = (omega arith, refl, refl)
@@ -50,7 +51,7 @@ same-length c = search needs
 returns : tie.Need-returns Inv-loop μ-loop
 returns c =
     let loop = c .before .loop in
-    let e : loop .i ≡ c .before .before .args .n = omega arith in
+    let e : loop .i ≡ c .before .before .args .size = omega arith in
     rw e at (loop .inv .2)
 
 pub zero-spec : {M : Type 1} → statement M

@@ -14,12 +14,12 @@ use Rattle.compaction.proofs.sweep.sweep.Lts as lts
 use Rattle.compaction.proofs.sweep.sweep_one.Reads as sweep-one-reads
 
 abbrev Inv-loop : tie.InvT-loop
-Inv-loop resources₀ statements₀ n t₀ done₀ resources statements t done =
-    (done ≤ n) × (length resources ≡ length resources₀) × (length statements ≡ length statements₀)
-    × (swept t resources statements ≡ sweep done (swept 0 resources₀ statements₀))
+Inv-loop resources₀ statements₀ t live₀ done₀ resources statements live done =
+    (done ≤ t) × (length resources ≡ length resources₀) × (length statements ≡ length statements₀)
+    × (swept live resources statements ≡ sweep done (swept 0 resources₀ statements₀))
 
 abbrev μ-loop : tie.MeasureT-loop
-μ-loop resources₀ statements₀ n t₀ done₀ resources statements t done = n - done
+μ-loop resources₀ statements₀ t live₀ done₀ resources statements live done = t - done
 
 loop-holds : tie.Need-loop-holds Inv-loop μ-loop
 loop-holds c =
@@ -56,7 +56,7 @@ same-length-2 c = search needs
 returns : tie.Need-returns Inv-loop μ-loop
 returns c =
     let loop = c .before .loop in
-    let e : loop .done ≡ c .before .before .before .before .args .n = omega arith in
+    let e : loop .done ≡ c .before .before .before .before .args .t = omega arith in
     rw e at (loop .inv .3)
 
 pub sweep-spec : {M : Type 1} → statement M

@@ -21,24 +21,28 @@ same-length c = search needs
 returns : tie.Need-returns
 returns c =
     let a = c .before .before .before .before .before .args in
-    let the-flag-at = c .before .flag-at in
-    let if1 = c .if1 in
-    step-passed (a .n .0) (a .t) (now (a .resources)) (now (a .statements)) (sym (the-flag-at .ensures) ∙ if1 .taken)
+    step-passed (a .n .0) (a .live) (now (a .resources)) (now (a .statements))
+    (sym (c .before .flag-at .ensures) ∙ c .if1 .taken)
 
 triple-at-requires : tie.Need-triple-at-requires
 triple-at-requires c κs = search needs
 
 write-record-requires : tie.Need-write-record-requires
 write-record-requires c κs =
-    let pre = c .before .before .before .before .before .before .before .before .before .pre in
-    (rw (c .before .before .triple-at .ensures) (record { each = λ p. pre .linkable .each p .resource-in }), omega (arith, pre .few, pre .in-table .whole))
+    let pre = c .before .before .before .before .before .before .before .before .before .pre in (
+      rw (c .before .before .triple-at .ensures) (record { each = λ p. pre .linkable .each p .resource-in }),
+      omega (arith, pre .few, pre .in-table .whole),
+    )
 
 link-record-requires : tie.Need-link-record-requires
 link-record-requires c κs =
-    rw (c .before .before .before .before .before .before .triple-at .ensures) (c .before .before .before .before .before .before .before .before .before .before .before .before .before .pre .linkable)
+    let p = c .before .before .before .before .before .before in
+    rw (p .triple-at .ensures) (p .before .before .before .before .before .before .before .pre .linkable)
 
 add-result : tie.Need-add-result
-add-result c = omega (arith, c .before .before .before .before .before .before .before .before .before .before .before .before .before .before .before .before .pre .linkable .few)
+add-result c =
+    let p = c .before .before .before .before .before .before in
+    omega (arith, p .before .before .before .before .before .before .before .before .before .before .pre .linkable .few)
 
 same-length-2 : tie.Need-same-length-2
 same-length-2 c = search needs
@@ -48,15 +52,13 @@ same-length-3 c = search needs
 
 returns-2 : tie.Need-returns-2
 returns-2 c =
-    let a = c .before .before .before .before .before .before .before .before .before .before .before .before .before .before .before .before .args in
-    let the-flag-at = c .before .before .before .before .before .before .before .before .before .before .before .before .flag-at in
-    let if1 = c .before .before .before .before .before .before .before .before .before .before .before .if1 in
-    let the-triple-at = c .before .before .before .before .before .before .before .before .before .triple-at in
-    let the-write-record = c .before .before .before .before .before .before .write-record in
-    let the-link-record = c .before .before .link-record in
-    rw (the-link-record .ensures, the-write-record .ensures, the-triple-at .ensures)
-    (step-moved (a .n .0) (a .t) (now (a .resources)) (now (a .statements)) _ (omega arith)
-    (λ e. if1 .left (the-flag-at .ensures ∙ e)))
+    let r = c .before .before .before .before .before .before in
+    let q = r .before .before .before in
+    let p = q .before .before in
+    let a = p .before .before .before .before .before .args in
+    rw (c .before .before .link-record .ensures, r .write-record .ensures, q .triple-at .ensures)
+    (step-moved (a .n .0) (a .live) (now (a .resources)) (now (a .statements)) _ (omega arith)
+    (λ e. p .if1 .left (p .before .flag-at .ensures ∙ e)))
 
 pub sweep-one-spec : {M : Type 1} → statement M
 sweep-one-spec =

@@ -15,7 +15,8 @@ use Rattle.dictionary.proofs.extend.write_record.Lts as lts
 
 abbrev Inv-loop : tie.InvT-loop
 Inv-loop resources₀ r offset kind start i₀ resources i =
-    (i ≤ resourceWords) × (length resources ≡ length resources₀) × (resources ≡ sets resources₀ (resourceWords * r) (replicate i 0))
+    (i ≤ resourceWords) × (length resources ≡ length resources₀)
+    × (resources ≡ sets resources₀ (resourceWords * r) (replicate i 0))
 
 abbrev μ-loop : tie.MeasureT-loop
 μ-loop resources₀ r offset kind start i₀ resources i = resourceWords - i

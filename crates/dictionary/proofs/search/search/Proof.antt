@@ -1,8 +1,10 @@
-use Rattle.dictionary.proofs.Steps.{Going, search-end, search-less, search-more, search-same, search-damaged}
+use Rattle.dictionary.proofs.Steps.{Going, After, search-end, search-turn}
 use Rattle.dictionary.specs.Search.{searched}
+use Rattle.dictionary.specs.declared.search.Compared.{Compared}
+use Rattle.dictionary.specs.declared.search.Compared.the-variants.{Less, Same, More, Unreadable}
 use denote.Ref.{now}
 use native.Mathlib.Omega.{arith}
-use mathlib.Core.Path.{refl, sym, _∙_}
+use mathlib.Core.Path.{_≡_, refl, sym, _∙_}
 use Prim.Native.Nat.{_-_, _≤_}
 use borrow.Author.Needs.{needs}
 use Rattle.dictionary.proofs.search.search.Statement.{statement}
@@ -17,6 +19,18 @@ Inv-loop c resources index text name lo₀ hi₀ lo hi =
 
 abbrev μ-loop : tie.MeasureT-loop
 μ-loop c resources index text name lo₀ hi₀ lo hi = hi - lo
+
+-- what the search answers from here on, by what the probe compared
+turn : (c : tie.After-probe Inv-loop μ-loop) (o : Compared) → c .probe .result ≡ o
+    → (let a = c .before .before .before .before .before .before .before .args in
+    let loop = c .before .before .loop in
+    After (a .c) (now (a .resources)) (now (a .index)) (now (a .text)) (now (a .name))
+    (searched (a .c) (now (a .resources)) (now (a .index)) (now (a .text)) (now (a .name))) (loop .lo) (loop .hi) o)
+turn c o e =
+    let a = c .before .before .before .before .before .before .before .args in
+    let loop = c .before .before .loop in
+    search-turn (a .c) (now (a .resources)) (now (a .index)) (now (a .text)) (now (a .name)) _ (loop .lo) (loop .hi)
+    (loop .inv .2) (c .before .loop-test .taken) o (sym (c .probe .ensures) ∙ e)
 
 loop-holds : tie.Need-loop-holds Inv-loop μ-loop
 loop-holds c = (omega arith, omega arith, (16, omega arith, refl))
@@ -40,18 +54,7 @@ loop-less : tie.Need-loop-less Inv-loop μ-loop
 loop-less c = search needs
 
 loop-again : tie.Need-loop-again Inv-loop μ-loop
-loop-again c =
-    let a = c .before .before .before .before .before .before .before .before .before .args in
-    let loop = c .before .before .before .before .loop in
-    let loop-test = c .before .before .before .loop-test in
-    let probe = c .before .before .probe in
-    let enum-told = c .enum-told in (
-      omega arith,
-      omega arith,
-      search-less (a .c) (now (a .resources)) (now (a .index)) (now (a .text)) (now (a .name))
-          (searched (a .c) (now (a .resources)) (now (a .index)) (now (a .text)) (now (a .name)))
-          (loop .lo) (loop .hi) (loop .inv .2) (loop-test .taken) (sym (probe .ensures) ∙ enum-told .given .1),
-    )
+loop-again c = (omega arith, omega arith, turn (c .before .before) Less (c .enum-told .given .1))
 
 enum-told-2 : tie.Need-enum-told-2 Inv-loop μ-loop
 enum-told-2 c = search needs
@@ -60,18 +63,7 @@ loop-less-2 : tie.Need-loop-less-2 Inv-loop μ-loop
 loop-less-2 c = search needs
 
 loop-again-2 : tie.Need-loop-again-2 Inv-loop μ-loop
-loop-again-2 c =
-    let a = c .before .before .before .before .before .before .before .before .before .args in
-    let loop = c .before .before .before .before .loop in
-    let loop-test = c .before .before .before .loop-test in
-    let probe = c .before .before .probe in
-    let enum-told2 = c .enum-told2 in (
-      omega arith,
-      omega arith,
-      search-more (a .c) (now (a .resources)) (now (a .index)) (now (a .text)) (now (a .name))
-          (searched (a .c) (now (a .resources)) (now (a .index)) (now (a .text)) (now (a .name)))
-          (loop .lo) (loop .hi) (loop .inv .2) (loop-test .taken) (sym (probe .ensures) ∙ enum-told2 .given .1),
-    )
+loop-again-2 c = (omega arith, omega arith, turn (c .before .before) More (c .enum-told2 .given .1))
 
 enum-told-3 : tie.Need-enum-told-3 Inv-loop μ-loop
 enum-told-3 c = search needs
@@ -86,38 +78,20 @@ shared-slice-read-t16 : tie.Need-shared-slice-read-t16 Inv-loop μ-loop
 shared-slice-read-t16 c = search needs
 
 returns : tie.Need-returns Inv-loop μ-loop
-returns c =
-    let a = c .before .before .before .before .before .before .before .before .before .before .args in
-    let loop = c .before .before .before .before .before .loop in
-    let loop-test = c .before .before .before .before .loop-test in
-    let probe = c .before .before .before .probe in
-    let enum-told3 = c .before .enum-told3 in
-    cc (search-same (a .c) (now (a .resources)) (now (a .index)) (now (a .text)) (now (a .name))
-    (searched (a .c) (now (a .resources)) (now (a .index)) (now (a .text)) (now (a .name)))
-    (loop .lo) (loop .hi) (loop .inv .2) (loop-test .taken) (sym (probe .ensures) ∙ enum-told3 .given .1))
+returns c = cc (turn (c .before .before .before) Same (c .before .enum-told3 .given .1))
 
 enum-told-4 : tie.Need-enum-told-4 Inv-loop μ-loop
 enum-told-4 c = search needs
 
 returns-2 : tie.Need-returns-2 Inv-loop μ-loop
-returns-2 c =
-    let a = c .before .before .before .before .before .before .before .before .before .args in
-    let loop = c .before .before .before .before .loop in
-    let loop-test = c .before .before .before .loop-test in
-    let probe = c .before .before .probe in
-    let enum-told4 = c .enum-told4 in
-    cc (search-damaged (a .c) (now (a .resources)) (now (a .index)) (now (a .text)) (now (a .name))
-    (searched (a .c) (now (a .resources)) (now (a .index)) (now (a .text)) (now (a .name)))
-    (loop .lo) (loop .hi) (loop .inv .2) (loop-test .taken) (sym (probe .ensures) ∙ enum-told4 .given .1))
+returns-2 c = cc (turn (c .before .before) Unreadable (c .enum-told4 .given .1))
 
 returns-3 : tie.Need-returns-3 Inv-loop μ-loop
 returns-3 c =
     let a = c .before .before .before .before .before .before .args in
     let loop = c .before .loop in
-    let loop-test = c .loop-test in
-    cc (search-end (a .c) (now (a .resources)) (now (a .index)) (now (a .text)) (now (a .name))
-    (searched (a .c) (now (a .resources)) (now (a .index)) (now (a .text)) (now (a .name)))
-    (loop .lo) (loop .hi) (loop .inv .2) (loop-test .left))
+    cc (search-end (a .c) (now (a .resources)) (now (a .index)) (now (a .text)) (now (a .name)) _ (loop .lo) (loop .hi)
+    (loop .inv .2) (c .loop-test .left))
 
 pub search-spec : {M : Type 1} → statement M
 search-spec =

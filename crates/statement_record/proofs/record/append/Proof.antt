@@ -21,10 +21,19 @@ same-length : tie.Need-same-length
 same-length c = search needs
 
 returns : tie.Need-returns
-returns c = record { leaves = λ i t. let a = c .before .before .before .before .before .args in full (now (a .resources)) (now (a .statements)) i t (a .c) (a .x) (failed (c .before .has-room .ensures) (c .if1 .taken)) }
+returns c =
+    let a = c .before .before .before .before .before .args in
+    let none = failed (c .before .has-room .ensures) (c .if1 .taken) in
+    record { leaves = λ i t. full (now (a .resources)) (now (a .statements)) i t (a .c) (a .x) none }
 
 write-record-requires : tie.Need-write-record-requires
-write-record-requires c κs = let a = c .before .before .before .before .before .before .before .args in (record { each = λ p. c .before .before .before .before .before .before .before .pre .each p .resource-in }, room-in (a .c .statements) (length (now (a .statements))) (passed (c .before .before .before .has-room .ensures) (c .before .before .if1 .left)))
+write-record-requires c κs =
+    let s = c .before .before .before .before .before .before .before in
+    let a = s .args in
+    let room = passed (c .before .before .before .has-room .ensures) (c .before .before .if1 .left) in (
+      record { each = λ p. s .pre .each p .resource-in },
+      room-in (a .c .statements) (length (now (a .statements))) room,
+    )
 
 link-record-requires : tie.Need-link-record-requires
 link-record-requires c κs = search needs
@@ -40,9 +49,16 @@ same-length-3 c = search needs
 
 returns-2 : tie.Need-returns-2
 returns-2 c =
-    let a = c .before .before .before .before .before .before .before .before .before .before .before .before .before .before .before .args in
+    let linked = c .before .before .before in
+    let written = linked .before .before .before .before in
+    let asked = written .before .before .before in
+    let a = asked .before .before .before .before .before .args in
     let e : a .c .statements + 1 ≡ suc (a .c .statements) = omega arith in
-    record { leaves = λ i t. rw (c .before .before .before .link-record .ensures, c .before .before .before .before .before .before .before .write-record .ensures, e) (new (now (a .resources)) (now (a .statements)) i t (a .c) (a .x) (passed (c .before .before .before .before .before .before .before .before .before .before .before .has-room .ensures) (c .before .before .before .before .before .before .before .before .before .before .if1 .left))) }
+    let room = passed (asked .before .has-room .ensures) (asked .if1 .left) in
+    record {
+      leaves = λ i t. rw (linked .link-record .ensures, written .write-record .ensures, e)
+          (new (now (a .resources)) (now (a .statements)) i t (a .c) (a .x) room);
+    }
 
 pub append-spec : {M : Type 1} → statement M
 append-spec =

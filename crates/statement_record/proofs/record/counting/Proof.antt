@@ -13,20 +13,28 @@ live-at-requires : tie.Need-live-at-requires
 live-at-requires c κs = c .before .pre .each Subject
 
 returns : tie.Need-returns
-returns c = let a = c .before .before .before .args in sym (counting-none (now (a .resources)) (a .x) Subject (sym (c .before .live-at .ensures) ∙ c .if1 .taken))
+returns c =
+    let a = c .before .before .before .args in
+    sym (counting-none (now (a .resources)) (a .x) Subject (sym (c .before .live-at .ensures) ∙ c .if1 .taken))
 
 live-at-requires-2 : tie.Need-live-at-requires-2
 live-at-requires-2 c κs = c .before .before .before .pre .each Predicate
 
 returns-2 : tie.Need-returns-2
-returns-2 c = let a = c .before .before .before .before .before .args in sym (counting-none (now (a .resources)) (a .x) Predicate (sym (c .before .live-at2 .ensures) ∙ c .if2 .taken))
+returns-2 c =
+    let a = c .before .before .before .before .before .args in
+    sym (counting-none (now (a .resources)) (a .x) Predicate (sym (c .before .live-at2 .ensures) ∙ c .if2 .taken))
 
 live-at-requires-3 : tie.Need-live-at-requires-3
 live-at-requires-3 c κs = c .before .before .before .before .before .pre .each Object
 
 returns-3 : tie.Need-returns-3
-returns-3 c = let a = c .before .before .before .before .before .before .args in
-    counting-last (now (a .resources)) (a .x) (c .live-at3 .result) (λ e. c .before .before .before .if1 .left (c .before .before .before .before .live-at .ensures ∙ e)) (λ e. c .before .if2 .left (c .before .before .live-at2 .ensures ∙ e)) (c .live-at3 .ensures)
+returns-3 c =
+    let a = c .before .before .before .before .before .before .args in
+    let q = c .before in
+    let p = q .before .before in
+    counting-last (now (a .resources)) (a .x) (c .live-at3 .result) (λ e. p .if1 .left (p .before .live-at .ensures ∙ e))
+    (λ e. q .if2 .left (q .before .live-at2 .ensures ∙ e)) (c .live-at3 .ensures)
 
 pub counting-spec : {M : Type 1} → statement M
 counting-spec =

@@ -13,10 +13,14 @@ use Rattle.statement_record.proofs.record.has_room.Reads as reads
 use Rattle.statement_record.proofs.record.has_room.Lts as lts
 
 returns : tie.Need-returns
-returns c = sym (le-ltb (c .before .args .t) (min (length (now (c .before .args .statements)) / statementWords) maxStatements) (omega arith))
+returns c =
+    let a = c .before .args in
+    sym (le-ltb (a .t) (min (length (now (a .statements)) / statementWords) maxStatements) (omega arith))
 
 returns-2 : tie.Need-returns-2
-returns-2 c = short (c .before .args .t) (length (now (c .before .args .statements)) / statementWords) (c .if1 .left)
+returns-2 c =
+    let a = c .before .args in
+    short (a .t) (length (now (a .statements)) / statementWords) (c .if1 .left)
 
 pub has-room-spec : {M : Type 1} → statement M
 has-room-spec = tie.close (tie.spec returns returns-2)

@@ -88,4 +88,24 @@ cast-i c = search needs
 pub link-first-spec : {M : Type 1} → statement M
 link-first-spec =
     tie.close
-    (tie.spec count-at-requires live-at-requires cast-i sub-i mul-i offset-requires add-i add-resources mul-resources slice-write-resources add-resources-2 add-resources-3 mul-resources-2 slice-write-resources-2 add-resources-4 add-resources-5 mul-resources-3 slice-write-resources-3 same-length returns)
+    (tie.spec
+    count-at-requires
+    live-at-requires
+    cast-i
+    sub-i
+    mul-i
+    offset-requires
+    add-i
+    add-resources
+    mul-resources
+    slice-write-resources
+    add-resources-2
+    add-resources-3
+    mul-resources-2
+    slice-write-resources-2
+    add-resources-4
+    add-resources-5
+    mul-resources-3
+    slice-write-resources-3
+    same-length
+    returns)

@@ -6,13 +6,19 @@ use Rattle.statement_record.proofs.record.moved.Reads as reads
 use Rattle.statement_record.proofs.record.moved.Lts as lts
 
 add-result : tie.Need-add-result
-add-result c = let h = movable-up (c .before .args .up) (c .before .args .count) (c .if1 .taken) (c .before .pre) in omega arith
+add-result c =
+    let a = c .before .args in
+    let h = movable-up (a .up) (a .count) (c .if1 .taken) (c .before .pre) in
+    omega arith
 
 returns : tie.Need-returns
 returns c = moved-up (c .before .args .up) (c .before .args .count) (c .if1 .taken)
 
 sub-result : tie.Need-sub-result
-sub-result c = let h = movable-down (c .before .args .up) (c .before .args .count) (c .if1 .left) (c .before .pre) in omega arith
+sub-result c =
+    let a = c .before .args in
+    let h = movable-down (a .up) (a .count) (c .if1 .left) (c .before .pre) in
+    omega arith
 
 returns-2 : tie.Need-returns-2
 returns-2 c = moved-down (c .before .args .up) (c .before .args .count) (c .if1 .left)

@@ -26,15 +26,29 @@ same-length-2 : tie.Need-same-length-2
 same-length-2 c = search needs
 
 returns : tie.Need-returns
-returns c = let a = c .before .before .before .before .before .before .before .before .before .before .before .before .before .args in
-    record { leaves = λ i t. rw (c .before .before .tally .ensures, c .before .before .before .before .before .before .set-flag .ensures) (revived (now (a .resources)) (now (a .statements)) i t (a .c) (a .x) (a .n .0) (c .before .before .before .before .before .before .before .before .before .before .before .before .before .pre .0 .from-one) (sym (c .before .before .before .before .before .before .before .before .before .flag-at .ensures) ∙ c .before .before .before .before .before .before .before .before .if1 .taken)) }
+returns c =
+    let flag = c .before .before .before .before .before .before in
+    let p = flag .before .before in
+    let s = p .before .before .before .before .before in
+    let a = s .args in
+    let flagged = sym (p .before .flag-at .ensures) ∙ p .if1 .taken in
+    record {
+      leaves = λ i t. rw (c .before .before .tally .ensures, flag .set-flag .ensures)
+          (revived (now (a .resources)) (now (a .statements)) i t (a .c) (a .x) (a .n .0) (s .pre .0 .from-one)
+          flagged);
+    }
 
 same-length-3 : tie.Need-same-length-3
 same-length-3 c = search needs
 
 returns-2 : tie.Need-returns-2
-returns-2 c = let a = c .before .before .before .before .before .args in
-    record { leaves = λ i t. already (now (a .resources)) (now (a .statements)) i t (a .c) (a .x) (a .n .0) (c .before .before .before .before .before .pre .0 .from-one) (λ e. c .if1 .left (c .before .flag-at .ensures ∙ e)) }
+returns-2 c =
+    let s = c .before .before .before .before .before in
+    let a = s .args in
+    record {
+      leaves = λ i t. already (now (a .resources)) (now (a .statements)) i t (a .c) (a .x) (a .n .0)
+          (s .pre .0 .from-one) (λ e. c .if1 .left (c .before .flag-at .ensures ∙ e));
+    }
 
 pub revive-spec : {M : Type 1} → statement M
 revive-spec =

@@ -1,8 +1,7 @@
 use denote.Ref.{now}
-use native.Mathlib.Omega.{arith}
-use Rattle.store.specs.declared.Position.the-variants.{Subject, Predicate, Object}
+use Rattle.store.specs.declared.Position.the-variants.{Subject}
 use Rattle.store.specs.Statement.{tally}
-use Rattle.statement_record.proofs.Records.{tally-keeps}
+use Rattle.statement_record.proofs.Records.{tally-second, tally-third}
 use borrow.Author.Needs.{needs}
 use Rattle.statement_record.proofs.record.tally.Statement.{statement}
 use Rattle.statement_record.proofs.record.tally.Tie as tie
@@ -14,16 +13,18 @@ tally-at-requires : tie.Need-tally-at-requires
 tally-at-requires c κs = c .before .before .pre .each Subject
 
 tally-at-requires-2 : tie.Need-tally-at-requires-2
-tally-at-requires-2 c κs = let a = c .before .before .before .before .before .before .args in let e = c .before .before .before .before .before .before .pre .each in
-    rw (c .before .before .before .tally-at .ensures)
-    (tally-keeps (a .up) Subject (a .x .subject .0) (now (a .resources)) (e Subject .resource-in) Predicate (a .x .predicate .0) (λ e. omega arith) (e Predicate))
+tally-at-requires-2 c κs =
+    let s = c .before .before .before .before .before .before in
+    let a = s .args in
+    rw (c .before .before .before .tally-at .ensures) (tally-second (a .up) (now (a .resources)) (a .x) (s .pre))
 
 tally-at-requires-3 : tie.Need-tally-at-requires-3
-tally-at-requires-3 c κs = let a = c .before .before .before .before .before .before .before .before .before .before .args in let r = now (a .resources) in let e = c .before .before .before .before .before .before .before .before .before .before .pre .each in
-    let k = tally-keeps (a .up) Subject (a .x .subject .0) r (e Subject .resource-in) in
-    rw (c .before .before .before .tally-at2 .ensures, c .before .before .before .before .before .before .before .tally-at .ensures)
-    (tally-keeps (a .up) Predicate (a .x .predicate .0) _ (k Predicate (a .x .predicate .0) (λ e. omega arith) (e Predicate) .resource-in) Object (a .x .object .0) (λ e. omega arith)
-    (k Object (a .x .object .0) (λ e. omega arith) (e Object)))
+tally-at-requires-3 c κs =
+    let p = c .before .before .before in
+    let q = p .before .before .before .before in
+    let s = q .before .before .before in
+    let a = s .args in
+    rw (p .tally-at2 .ensures, q .tally-at .ensures) (tally-third (a .up) (now (a .resources)) (a .x) (s .pre))
 
 same-length : tie.Need-same-length
 same-length c = search needs

@@ -48,4 +48,16 @@ cast-i c = search needs
 pub tally-at-spec : {M : Type 1} → statement M
 tally-at-spec =
     tie.close
-    (tie.spec live-at-requires cast-i sub-i mul-i offset-requires add-i add-i-2 moved-requires mul-resources slice-write-resources same-length returns)
+    (tie.spec
+    live-at-requires
+    cast-i
+    sub-i
+    mul-i
+    offset-requires
+    add-i
+    add-i-2
+    moved-requires
+    mul-resources
+    slice-write-resources
+    same-length
+    returns)

@@ -103,7 +103,8 @@ returns c =
     let e4 : i + 3 + 1 ≡ suc (suc (suc (suc i))) = omega arith in
     let e5 : i + 3 + 2 ≡ suc (suc (suc (suc (suc i)))) = omega arith in
     let e6 : i + 6 ≡ suc (suc (suc (suc (suc (suc i))))) = omega arith in
-    rw (e1, e2, e4, e5, e3, e6, ← c .before .before .first-at .ensures, ← c .before .first-at2 .ensures, ← c .first-at3 .ensures)
+    let q = c .before in
+    rw (e1, e2, e4, e5, e3, e6, ← q .before .first-at .ensures, ← q .first-at2 .ensures, ← c .first-at3 .ensures)
 
 pub write-record-spec : {M : Type 1} → statement M
 write-record-spec =
