@@ -91,14 +91,15 @@ pub fn unmet(bound: Solution) -> Matched
     }
 }
 
-// A triple meets a pattern, subject, predicate, object in turn: an open variable takes the resource, anything else must be it.
-// One copy of what is bound is written in place.
+// A triple meets a pattern, subject, predicate, object in turn: an open variable takes the resource, anything else must
+// be it. One copy of what is bound is written in place.
 pub fn meet(x: QueryPattern, t: Triple, bound: Solution) -> Matched
     requires { ⌜ PatternOk x ⌝ }
     ensures { λ m. ⌜ m ≡ matchedAs bound (match x t (bound .values)) ⌝ }
 {
     let mut b = bound;
     let mut k: u32 = 0;
+    // The first k words meet their resources, and b is what is bound by then.
     while k < PATTERN_WORDS as u32 {
         let w = word_at(x, k);
         let n = number_at(t, k);

@@ -402,7 +402,8 @@ unfolding walk
 walk-backtracks r t res stm ps zero v l l′ up up′ h e = absurd (h refl)
 walk-backtracks r t res stm ps (suc b) v l l′ up up′ h e = rw (walk, e)
 
--- from stack q₀ with v₀ visits made to q with v: the walk from the one is the walk from the other, which has no more to do
+-- from stack q₀ with v₀ visits made to q with v: the walk from the one is the walk from the other, which has no more
+-- to do
 pub record Walking (r t : ℕ) (res stm ws : List ℕ) (budget : ℕ) (q₀ : Stack) (v₀ : ℕ) (q : Stack) (v : ℕ) : Type 0 where
   pub within : v ≤ budget
   pub stands : Stands r t stm ws q

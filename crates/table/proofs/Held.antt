@@ -1,24 +1,21 @@
--- A number in range names a record that lies whole in its table, where the counters are within capacity. Assumes nothing.
+-- A number in range names a record that lies whole in its table, where the counters are within capacity. Assumes
+-- nothing.
 use mathlib.Core.Path.{_≡_}
 use mathlib.Core.Bool.{true}
 use Prim.Native.Nat.{ℕ, _<_, _≤_}
 use native.Mathlib.Omega.{arith}
-use lib.Dec.{leb, ltb}
-use borrow.Author.Tests.{leb-true, ltb-true}
 use Rattle.store.specs.declared.Counters.{Counters}
 use Rattle.store.specs.Tables.{Tables, fits}
 use Rattle.store.specs.Reading.{inRange}
 use Rattle.table.specs.Held.{StatementHeld, ResourceHeld}
-use Rattle.store.proofs.Tests.{and-l, and-r}
+use Rattle.store.proofs.Tests.{range-in}
 use Rattle.table.proofs.Capacity.{fits-room}
 
 pub from-one : (n x : ℕ) → inRange n x ≡ true → 0 < x
-unfolding inRange
-from-one n x e = ltb-true 0 x (and-l (ltb 0 x) (leb x n) e)
+from-one n x e = range-in n x e .0
 
 pub up-to : (n x : ℕ) → inRange n x ≡ true → x ≤ n
-unfolding inRange
-up-to n x e = leb-true x n (and-r (ltb 0 x) (leb x n) e)
+up-to n x e = range-in n x e .1
 
 module _ (c : Counters) (m : Tables) (f : fits c m ≡ true) (x : ℕ) where
   pub statement-held : inRange (c .statements) x ≡ true → StatementHeld (m .statements) x
