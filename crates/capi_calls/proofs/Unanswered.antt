@@ -8,6 +8,7 @@ use Prim.Native.Nat.{ℕ}
 use lib.ListN.{length}
 use lib.Dec.{eqb, ltb}
 use Rattle.store.specs.declared.Refusal.{Refusal}
+use Rattle.store.specs.declared.Refusal.the-variants.{StaleCursor}
 use Rattle.store.specs.declared.Lookup.{Lookup}
 use Rattle.store.specs.declared.Lookup.the-variants.{Number, Absent, Refused as NotFound}
 use Rattle.store.specs.declared.NameRead.{NameRead}
@@ -38,7 +39,7 @@ use Rattle.graph.specs.Query.{Answer, refused, found, ended, spent, packed, ans
 use Rattle.graph.specs.Place.{placeOf}
 use Rattle.graph.specs.Values.{queryOpenedValues}
 use native.Mathlib.Omega.{arith}
-use borrow.Author.Tests.{ltb-true, ltb-false}
+use borrow.Author.Tests.{ne-eqb, ltb-true, ltb-false}
 use Rattle.store.proofs.Cases.{assert-refused, retract-refused}
 use Rattle.store.proofs.Limits.{reclaim-refuses}
 use Rattle.store.proofs.Numbers.{refuses, not-beyond}

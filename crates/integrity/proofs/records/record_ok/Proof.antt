@@ -1,13 +1,14 @@
 use mathlib.Core.Path.{sym, _∙_}
 use borrow.Author.Tests.{not-true, not-false}
 use Rattle.integrity.specs.Records.{recordOk}
+use Rattle.table.proofs.Held.{triple-held}
 use borrow.Author.Needs.{needs}
 use Rattle.integrity.proofs.records.record_ok.Statement.{statement}
 use Rattle.integrity.proofs.records.record_ok.Tie as tie
 use Rattle.integrity.proofs.records.record_ok.Reads as reads
 use Rattle.integrity.proofs.records.record_ok.Lts as lts
 use Rattle.table.proofs.known.Reads as known-reads
-use Rattle.integrity.proofs.records.kinds_permitted.Reads as kinds-permitted-reads
+use Rattle.table.proofs.word.kinds_permitted.Reads as kinds-permitted-reads
 use Rattle.table.proofs.word.flag_at.Reads as flag-at-reads
 use Rattle.table.proofs.word.triple_at.Reads as triple-at-reads
 
@@ -29,8 +30,8 @@ kinds-permitted-requires : tie.Need-kinds-permitted-requires
 kinds-permitted-requires c κs =
     let the-known = c .before .known in
     let if1 = c .if1 in
-    let h = sym (the-known .ensures) ∙ not-false (the-known .result) (if1 .left) in
-    search needs
+    let pre = c .before .before .before .before .before .pre in
+    triple-held _ _ _ (pre .0 .in-resources) (sym (the-known .ensures) ∙ not-false (the-known .result) (if1 .left))
 
 returns-2 : tie.Need-returns-2
 unfolding recordOk
