@@ -73,6 +73,12 @@ unfolding better
 better-unbound x cost q All e = rw (eq-eqb (at q x) 0 e)
 better-unbound x cost q (By p) e = rw (eq-eqb (at q x) 0 e)
 
+-- a bound one is the better of two by its count
+pub better-bound-one : (x : Triple) (cost : Position → ℕ) (q p : Position) (ch : Chain) (y n k : ℕ) → ch ≡ By p
+    → y ≡ at q x → (y ≡ 0 → ⊥) → n ≡ cost q → k ≡ cost p → better x cost q ch ≡ cond (ltb n k) (By q) (By p)
+unfolding better
+better-bound-one x cost q p ch y n k e f h g i = rw (e, ← f, ne-eqb y 0 h, ← g, ← i)
+
 pub bound-all : (x : Triple) → bound All x ≡ true
 unfolding bound
 bound-all x = refl

@@ -173,8 +173,10 @@ walk-within link ok hit falls (suc b) (suc i) =
     visited (ok i) (hit i) (falls i) (walk-within link ok hit falls b (link i))
   where
     visited : (o h : Bool) → (o ≡ true → link i ≤ i) → numberIn (walk link ok hit b (link i)) ≤ link i
-        → numberIn (elim o [ false ↦ none
-        | true ↦ elim h [ true ↦ some (found (suc i) 1 (link i)) | false ↦ afterVisit (walk link ok hit b (link i)) ] ])
+        → numberIn (elim o [
+          | false ↦ none
+          | true ↦ elim h [ true ↦ some (found (suc i) 1 (link i)) | false ↦ afterVisit (walk link ok hit b (link i)) ]
+        ])
         ≤ suc i
     visited false h f d = omega arith
     visited true true f d = omega arith

@@ -37,6 +37,7 @@ module _ (c : Counters) (m : Tables) (f : fits c m ≡ true) (x : ℕ) where
       record { from-one = omega arith; whole = omega arith }
 
 -- the resources of a known triple lie in the table
-pub triple-held : (res : List ℕ) (r : ℕ) (x : Triple) → resourceWords * r ≤ length res → known r x ≡ true → TripleHeld res x
+pub triple-held : (res : List ℕ) (r : ℕ) (x : Triple) → resourceWords * r ≤ length res → known r x ≡ true
+    → TripleHeld res x
 triple-held res r x room e =
     record { each = λ p. let h = known-high r x e p in record { from-one = known-low r x e p; whole = omega arith } }

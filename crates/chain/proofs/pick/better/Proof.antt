@@ -1,8 +1,8 @@
-use mathlib.Core.Path.{_≡_, sym, _∙_}
+use mathlib.Core.Path.{_≡_, sym, ap, _∙_}
 use mathlib.Core.Bool.{cond}
 use denote.Ref.{now}
 use lib.Dec.{ltb}
-use Rattle.chain.proofs.Chains.{held-bound, held-chain, better-unbound}
+use Rattle.chain.proofs.Chains.{held-bound, held-chain, better-unbound, better-bound-one}
 use Rattle.store.specs.declared.Position.{Position}
 use Rattle.store.specs.declared.Chain.the-variants.{By}
 use Rattle.store.specs.Shared.{at, better}
@@ -17,22 +17,21 @@ start c = c .before .before
 
 -- where a position was picked before, the lesser count decides
 counted : (c : tie.After-count-at2)
-    → (let s = start (c .before .before .before .before .before .before .before .before) in
-    better (s .args .x) (λ (p : Position). countAt (now (s .args .resources)) p (at p (s .args .x))) (s .args .q)
-    (s .args .best)
-    ≡ cond (ltb (c .before .count-at .result) (c .count-at2 .result)) (By (s .args .q))
-    (By (c .before .before .before .before .best .given .0 .0)))
-unfolding better
+    → (let d = c .before .before .before .before in
+    let a = start (d .before .before .before .before) .args in
+    better (a .x) (λ (p : Position). countAt (now (a .resources)) p (at p (a .x))) (a .q) (a .best)
+    ≡ cond (ltb (c .before .count-at .result) (c .count-at2 .result)) (By (a .q)) (By (d .best .given .0 .0)))
 counted c =
     let d = c .before .before .before .before in
-    rw (
-      d .best .given .1,
-      ← d .before .before .before .before .at .ensures,
-      ne-eqb _ _ (d .before .before .if1 .left),
-      ← c .before .before .at2 .ensures,
-      ← c .before .count-at .ensures,
-      ← c .count-at2 .ensures,
-    )
+    let e = d .before .before .before .before in
+    let a = start e .args in
+    let res = now (a .resources) in
+    let p = d .best .given in
+    better-bound-one (a .x) (λ (p : Position). countAt res p (at p (a .x))) (a .q) (p .0 .0) (a .best)
+    (e .at .result .0) (c .before .count-at .result) (c .count-at2 .result) (p .1) (e .at .ensures)
+    (d .before .before .if1 .left)
+    (c .before .count-at .ensures ∙ ap (countAt res (a .q)) (e .at .ensures))
+    (c .count-at2 .ensures ∙ ap (countAt res (p .0 .0)) (c .before .before .at2 .ensures))
 
 at-requires : tie.Need-at-requires
 at-requires c κs = search needs
