@@ -177,8 +177,9 @@ written-past (e ∷ up) i h =
     let q : i ≢ length up = omega arith in getD-set-other (written up) (length up) i e noLevel q
     ∙ written-past up i (omega arith)
 
-written-at : (ls : List Level) (d i : ℕ) → d ≤ maxPatterns → i < d → getD (written (levelsOf ls d)) i noLevel
-    ≡ getD ls i noLevel
+-- what stands there before them
+pub written-at : (ls : List Level) (d i : ℕ) → d ≤ maxPatterns → i < d
+    → getD (written (levelsOf ls d)) i noLevel ≡ getD ls i noLevel
 unfolding written levelsOf
 written-at ls zero i h q = absurd (omega arith)
 written-at ls (suc d) i h q =
