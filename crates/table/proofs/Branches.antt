@@ -33,3 +33,6 @@ first-refuses x rest e h = rw (failed e h)
 pub second-refuses : {A : Type 0} {a b s t : Bool} (x y rest : A) → a ≡ s → not a ≡ false → b ≡ t → not b ≡ true
     → y ≡ unless s x (unless t y rest)
 second-refuses x y rest e h f g = rw (passed e h, failed f g)
+
+pub both-passed : {a b s t : Bool} → a ≡ s → not a ≡ false → b ≡ t → not b ≡ false → (s ≡ true) × (t ≡ true)
+both-passed e h f g = (passed e h, passed f g)

@@ -3,7 +3,7 @@ use mathlib.Core.Path.{_≡_}
 use mathlib.Core.Bool.{true}
 use Rattle.chain.specs.Chains.{PatternHeld}
 use Rattle.chain.proofs.Chains.{pick-bound}
-use Rattle.table.proofs.Branches.{passed, failed, first-refuses, second-refuses}
+use Rattle.table.proofs.Branches.{passed, failed, first-refuses, second-refuses, both-passed}
 use Rattle.scan.proofs.Cursors.{within-held}
 use Rattle.store.specs.Shared.{within}
 use Rattle.store.specs.Tables.{Tables, lent, fits}
@@ -20,14 +20,14 @@ start c = c .before .before .before .before .before .before .before .before
 abbrev tablesOf : tie.Start → Tables
 tablesOf s = let a = s .args in lent (a .resources) (a .statements) (a .index) (a .text)
 
-fit : (c : tie.Else2) → fits (start c .args .c) (tablesOf (start c)) ≡ true
-fit c = passed (c .before .before .before .fits2 .ensures) (c .before .before .if1 .left)
-
-low : (c : tie.Else2) → within (start c .args .c .resources) (start c .args .x) ≡ true
-low c = passed (c .before .within .ensures) (c .if2 .left)
+tests : (c : tie.Else2) → (let s = start c in
+    (fits (s .args .c) (tablesOf s) ≡ true) × (within (s .args .c .resources) (s .args .x) ≡ true))
+tests c =
+    both-passed (c .before .before .before .fits2 .ensures) (c .before .before .if1 .left) (c .before .within .ensures)
+    (c .if2 .left)
 
 held : (c : tie.Else2) → PatternHeld (now (start c .args .resources)) (start c .args .x)
-held c = within-held (start c .args .c) (tablesOf (start c)) (fit c) (start c .args .x) (low c)
+held c = within-held (start c .args .c) (tablesOf (start c)) (tests c .0) (start c .args .x) (tests c .1)
 
 -- ---- the needs
 
@@ -53,8 +53,8 @@ pickable-requires c κs = held c
 returns-3 : tie.Need-returns-3
 unfolding openOf
 returns-3 c =
-    let d = c .before .before in
-    simp (fit d, low d, failed (c .before .pickable .ensures) (c .if3 .taken))
+    let t = tests (c .before .before) in
+    simp (t .0, t .1, failed (c .before .pickable .ensures) (c .if3 .taken))
 
 pick-chain-requires : tie.Need-pick-chain-requires
 pick-chain-requires c κs = held (c .before .before)
@@ -67,10 +67,10 @@ start-of-requires c κs =
 returns-4 : tie.Need-returns-4
 unfolding openOf
 returns-4 c =
-    let d = c .before .before .before .before in
+    let t = tests (c .before .before .before .before) in
     simp (
-      fit d,
-      low d,
+      t .0,
+      t .1,
       passed (c .before .before .before .pickable .ensures) (c .before .before .if3 .left),
       ← c .before .pick-chain .ensures,
       ← c .start-of .ensures,
