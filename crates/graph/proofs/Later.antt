@@ -1,6 +1,7 @@
--- A place once accepted stays accepted until a reclaim is answered, on any tables: no other call takes a record away or changes its triple
--- (`Kept`), and the number of reclaims tells whether one was answered. So a cursor that a next call answered is never refused 6 later
--- (`KeptClaim`, put together in `Onwards`). No call takes a name away, and a sound store stays sound. Assumes nothing.
+-- A place once accepted stays accepted until a reclaim is answered, on any tables: no other call takes a record away or
+-- changes its triple (`Kept`), and the number of reclaims tells whether one was answered. So a cursor that a next call
+-- answered is never refused 6 later (`KeptClaim`, put together in `Onwards`). No call takes a name away, and a sound
+-- store stays sound. Assumes nothing.
 use mathlib.Core.Path.{_≡_, refl, _∙_}
 use mathlib.Core.Bool.{true}
 use mathlib.Core.List.{List, [], _∷_}
@@ -29,12 +30,13 @@ use Rattle.store.specs.Values.{reclaimedValues}
 use Rattle.store.specs.Model.{Call, intern, assert, retract, open′, next, reclaim, byValue, updating}
 use Rattle.store.specs.Walk.{holdsResource}
 use Rattle.store.specs.Scan.{recordOk}
-use Rattle.store.specs.Statement.{locate, kindsOk, withFlag, counting, asserting, assertOf, retracting, retractOf, countersAfter}
-use Rattle.store.specs.Statement.{assertUpdatingOf, retractUpdatingOf}
+use Rattle.store.specs.Statement.{locate, kindsOk, withFlag, counting, asserting, assertOf, retracting, retractOf}
+use Rattle.store.specs.Statement.{countersAfter, assertUpdatingOf, retractUpdatingOf}
 use Rattle.store.specs.Dictionary.{indexPlaceOf, roomFor, internAs, internOf}
 use Rattle.store.specs.Reclaim.{reclaimOf}
 use Rattle.store.specs.Soundness.{Sound}
-use Rattle.store.specs.History.{Store, store, capacitiesOf, internedCounters, afterReclaim, callStore, storeReplies, storeAfter}
+use Rattle.store.specs.History.{Store, store, capacitiesOf, internedCounters, afterReclaim, callStore, storeReplies}
+use Rattle.store.specs.History.{storeAfter}
 use Rattle.store.specs.Claims.{listsOf, reclaims, reclaimsIn}
 use Rattle.store.proofs.Tests.{decide, cond-all, known-more}
 use Rattle.store.proofs.Words.{triple-same, append-term-old, flag-term}
@@ -122,8 +124,10 @@ keeps-same : (c : Counters) (m : Tables) → Keeps c m c m
 keeps-same c m = (record { resources = omega arith; records = omega arith; terms = λ p i h. refl }, refl)
 
 flag-keeps : (f : ℕ → ℕ) (v : ℕ) (c : Counters) (m : Tables) (x : Triple) (i : ℕ) → Keeps c m c (withFlag f v m x i)
-flag-keeps f v c m x i =
-    (record { resources = omega arith; records = omega arith; terms = λ p j h. flag-term (m .statements) i v p j }, refl)
+flag-keeps f v c m x i = (
+  record { resources = omega arith; records = omega arith; terms = λ p j h. flag-term (m .statements) i v p j },
+  refl,
+)
 
 module _ (c : Counters) (m : Tables) where
   abbrev AssertKeeps : Tables × Asserted → Type 0
@@ -194,14 +198,16 @@ module _ (c : Counters) (m : Tables) where
   unfolding internOf
   intern-keeps w =
       cond-all InternKeeps (fits c m) _ _
-      (cond-all InternKeeps (wellFormed w) _ _ (interned-keeps (canonical w) (indexPlaceOf c m (canonical w))) (keeps-same c m))
+      (cond-all InternKeeps (wellFormed w) _ _
+      (interned-keeps (canonical w) (indexPlaceOf c m (canonical w))) (keeps-same c m))
       (keeps-same c m)
 
   -- a reclaim that is refused leaves all; one that is answered is one more
   abbrev reclaimAnswered : Tables × Reclaimed → ℕ
   reclaimAnswered a = reclaims reclaim (reclaimedValues (a .1))
 
-  reclaim-refused : reclaimAnswered (reclaimOf c m) ≡ 0 → Keeps c m (afterReclaim c ((reclaimOf c m) .1)) ((reclaimOf c m) .0)
+  reclaim-refused : reclaimAnswered (reclaimOf c m) ≡ 0
+      → Keeps c m (afterReclaim c ((reclaimOf c m) .1)) ((reclaimOf c m) .0)
   unfolding reclaimOf
   reclaim-refused =
       decide (fits c m)
@@ -251,7 +257,8 @@ call-keeps s reclaim n = reclaim-refused (s .counters) (s .tables) n
 
 -- the number counts the reclaims answered, and no name is taken away
 abbrev Onward : Store → Store → ℕ → Type 0
-Onward s s′ n = (s′ .counters .generation ≡ s .counters .generation + n) × (s .counters .resources ≤ s′ .counters .resources)
+Onward s s′ n =
+    (s′ .counters .generation ≡ s .counters .generation + n) × (s .counters .resources ≤ s′ .counters .resources)
 
 kept-onward : (s : Store) (a : Call) → StoreKeeps s ((callStore s a) .0) → Onward s ((callStore s a) .0) 0
 kept-onward s a K = (omega (arith, K .1), K .0 .resources)
@@ -288,7 +295,8 @@ module _ (c : Counters) (m : Tables) (S : Sound c m) where
   sound-once a =
       let k = capacitiesOf m in
       let l = listsOf (store c m []) in
-      agreeing-sound k _ _ (call-agrees k (store c m []) l (sound-agrees c m S) a .1) (tidy-call l (sound-tidy c m S) k a)
+      agreeing-sound k _ _ (call-agrees k (store c m []) l (sound-agrees c m S) a .1)
+      (tidy-call l (sound-tidy c m S) k a)
 
 -- the cursors of open listings do not matter
 call-sound : (s : Store) → SoundStore s → (a : Call) → SoundStore ((callStore s a) .0)
