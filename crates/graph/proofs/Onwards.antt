@@ -42,7 +42,8 @@ use Rattle.graph.proofs.Generations.{stale-number}
 use Rattle.graph.proofs.Solve.{statements}
 use Rattle.graph.proofs.Reading.{Reached, Outcome, walk-outcome, intact-ok, pruned-same}
 use Rattle.graph.proofs.Place.{fromPlace, Gives, any-place, place-keeps}
-use Rattle.graph.proofs.Later.{place-kept, calls-keep, calls-onward, calls-sound}
+use Rattle.store.proofs.Onward.{calls-keep, calls-onward}
+use Rattle.graph.proofs.Later.{place-kept, calls-sound}
 use Rattle.graph.proofs.Accepted.{words-more}
 use Rattle.graph.proofs.Solutions.{single}
 use Rattle.graph.proofs.Calls.{words-few, statements-are, fit, low, everything, in-order, next-is}
