@@ -8,10 +8,11 @@ use lib.ListN.{set}
 use lib.Dec.{eqb}
 use borrow.Author.Tests.{eq-eqb, ne-eqb, le-leb, lt-leb}
 use Rattle.store.specs.declared.Triple.{Triple}
+use Rattle.store.specs.Shared.{at}
 use Rattle.graph.specs.declared.QueryPattern.{QueryPattern}
 use Rattle.graph.specs.Query.{bindWord, match, andThen}
-use Rattle.graph.specs.Words.{Bindings, resource, boundTo, firstVariable, valueOf}
-use Rattle.pattern.specs.Matching.{patternWords, WordFits, wordAt, numberAt}
+use Rattle.graph.specs.Words.{Bindings, resource, boundTo, firstVariable, valueOf, wordAt}
+use Rattle.pattern.specs.Matching.{patternWords, WordFits, position}
 
 -- ---- the number a word stands for
 
@@ -57,7 +58,7 @@ module _ (x : QueryPattern) (t : Triple) where
   from-end (suc (suc zero)) b h = absurd (omega arith)
   from-end (suc (suc (suc k))) b h = refl
 
-  from-none : (k : ℕ) (b : Bindings) → k < patternWords → bindWord (wordAt x k) (numberAt t k) b ≡ none
+  from-none : (k : ℕ) (b : Bindings) → k < patternWords → bindWord (wordAt (position k) x) (at (position k) t) b ≡ none
       → matchFrom x t k b ≡ none
   unfolding matchFrom match
   from-none zero b h e = rw e
@@ -65,8 +66,8 @@ module _ (x : QueryPattern) (t : Triple) where
   from-none (suc (suc zero)) b h e = e
   from-none (suc (suc (suc k))) b h e = absurd (omega arith)
 
-  from-some : (k : ℕ) (b b′ : Bindings) → k < patternWords → bindWord (wordAt x k) (numberAt t k) b ≡ some b′
-      → matchFrom x t k b ≡ matchFrom x t (k + 1) b′
+  from-some : (k : ℕ) (b b′ : Bindings) → k < patternWords
+      → bindWord (wordAt (position k) x) (at (position k) t) b ≡ some b′ → matchFrom x t k b ≡ matchFrom x t (k + 1) b′
   unfolding matchFrom match
   from-some zero b b′ h e = rw e
   from-some (suc zero) b b′ h e = rw e
@@ -83,8 +84,8 @@ pub record Meeting : Type 0 where
   pub n : ℕ
   pub b : Bindings
   pub left : k < patternWords
-  pub word-is : w ≡ wordAt x k
-  pub number-is : n ≡ numberAt t k
+  pub word-is : w ≡ wordAt (position k) x
+  pub number-is : n ≡ at (position k) t
   pub fits : WordFits w
 
 module _ (m : Meeting) where
