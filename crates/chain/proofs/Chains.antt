@@ -1,4 +1,5 @@
--- Laws of the pick: a pattern within R lies in its table; what is picked is bound and starts within T. Assumes nothing.
+-- Laws of the pick: a pattern within R lies in its table, and so do the resources that it binds; what is picked is
+-- bound and starts within T. Assumes nothing.
 use mathlib.Core.Path.{_≡_, refl, sym}
 use mathlib.Core.Bool.{Bool, true, false, cond, not, _&&_, _||_, false≢true}
 use mathlib.Core.List.{List}
@@ -16,6 +17,7 @@ use Rattle.store.specs.Shared.{at, better, pick}
 use Rattle.store.specs.Tables.{resourceWords, firstAt, countAt}
 use Rattle.store.specs.Walk.{pickChain, pickable, startOf}
 use Rattle.store.proofs.Tests.{and-l, and-r, all3-at}
+use Rattle.table.specs.Held.{ResourceHeld}
 use Rattle.chain.specs.Chains.{PatternHeld, bound}
 
 -- ---- tests
@@ -33,8 +35,14 @@ nonzero (suc i) = rw (ne-eqb (suc i) 0 (omega arith), lt-ltb 0 (suc i) (omega ar
 -- ---- a pattern in its table
 
 -- a pattern within R lies in a table of R records
-pub held : (res : List ℕ) (n : ℕ) (x : Triple) → resourceWords * n ≤ length res → ((p : Position) → at p x ≤ n) → PatternHeld res x
+pub held : (res : List ℕ) (n : ℕ) (x : Triple) → resourceWords * n ≤ length res → ((p : Position) → at p x ≤ n)
+    → PatternHeld res x
 held res n x h f = record { each = λ p. let q = f p in omega arith }
+
+-- the resource y that it binds at a position
+pub held-bound : (res : List ℕ) (x : Triple) (p : Position) (y : ℕ) → PatternHeld res x → y ≡ at p x → (y ≡ 0 → ⊥)
+    → ResourceHeld res y
+held-bound res x p y h e n = record { from-one = omega arith; whole = rw e (h .each p) }
 
 -- ---- the pick
 
@@ -52,23 +60,37 @@ module _ (x : Triple) (cost : Position → ℕ) where
       less true h = h
       less false h = e
 
-      decide : (t : Bool) → eqb (at q x) 0 ≡ t → bound (cond (eqb (at q x) 0) (By p) (cond (ltb (cost q) (cost p)) (By q) (By p))) x ≡ true
+      decide : (t : Bool) → eqb (at q x) 0 ≡ t
+          → bound (cond (eqb (at q x) 0) (By p) (cond (ltb (cost q) (cost p)) (By q) (By p))) x ≡ true
       decide true d = rw d e
-      decide false d = rw d (less (ltb (cost q) (cost p)) (lt-ltb 0 (at q x) (let z = eqb-false (at q x) 0 d in omega arith)))
+      decide false d =
+          rw d (less (ltb (cost q) (cost p)) (lt-ltb 0 (at q x) (let z = eqb-false (at q x) 0 d in omega arith)))
 
 -- a position that is not bound changes nothing
-pub better-unbound : (x : Triple) (cost : Position → ℕ) (q : Position) (ch : Chain) → at q x ≡ 0 → ch ≡ better x cost q ch
+pub better-unbound : (x : Triple) (cost : Position → ℕ) (q : Position) (ch : Chain) → at q x ≡ 0
+    → ch ≡ better x cost q ch
 unfolding better
 better-unbound x cost q All e = rw (eq-eqb (at q x) 0 e)
 better-unbound x cost q (By p) e = rw (eq-eqb (at q x) 0 e)
+
+-- a bound one is the better of two by its count
+pub better-bound-one : (x : Triple) (cost : Position → ℕ) (q p : Position) (ch : Chain) (y n k : ℕ) → ch ≡ By p
+    → y ≡ at q x → (y ≡ 0 → ⊥) → n ≡ cost q → k ≡ cost p → better x cost q ch ≡ cond (ltb n k) (By q) (By p)
+unfolding better
+better-bound-one x cost q p ch y n k e f h g i = rw (e, ← f, ne-eqb y 0 h, ← g, ← i)
 
 pub bound-all : (x : Triple) → bound All x ≡ true
 unfolding bound
 bound-all x = refl
 
-pub bound-at : (x : Triple) (ch : Chain) (p : Position) → ch ≡ By p → bound ch x ≡ true → 1 ≤ at p x
+bound-at : (x : Triple) (ch : Chain) (p : Position) → ch ≡ By p → bound ch x ≡ true → 1 ≤ at p x
 unfolding bound
 bound-at x ch p d e = ltb-true 0 (at p x) (rw d at e)
+
+-- a chain's own resource lies in the table
+pub held-chain : (res : List ℕ) (x : Triple) (ch : Chain) (p : Position) (y : ℕ)
+    → PatternHeld res x × (bound ch x ≡ true) → ch ≡ By p → y ≡ at p x → ResourceHeld res y
+held-chain res x ch p y h d e = let b = bound-at x ch p d (h .1) in held-bound res x p y (h .0) e (λ z. omega arith)
 
 pub pick-bound : (res : List ℕ) (x : Triple) → bound (pickChain res x) x ≡ true
 unfolding pickChain pick
@@ -76,18 +98,24 @@ pick-bound res x =
     let f : Position → ℕ = λ q. countAt res q (at q x) in
     better-bound x f Object _ (better-bound x f Predicate _ (better-bound x f Subject All (bound-all x)))
 
--- the first record of a bound chain that can be picked is within T
-pub start-within : (t : ℕ) (res : List ℕ) (x : Triple) → pickable t res x ≡ true → (ch : Chain) → bound ch x ≡ true → startOf t res ch x ≤ t
-unfolding pickable startOf bound
-start-within t res x e All h = omega arith
-start-within t res x e (By p) h =
-    let f : Position → Bool = λ q. eqb (at q x) 0 || (leb (countAt res q (at q x)) t && leb (firstAt res q (at q x)) t) in
-    let b = ltb-true 0 (at p x) h in
-    leb-true (firstAt res p (at p x)) t (and-r (leb (countAt res p (at p x)) t) _ (or-r (eqb (at p x) 0) _ (all3-at f e p) (ne-eqb (at p x) 0 (omega arith))))
+-- ---- a pattern that can be picked
 
--- the count at a bound position of a pattern that can be picked is within T
-pub count-within : (t : ℕ) (res : List ℕ) (x : Triple) → pickable t res x ≡ true → (p : Position) → 1 ≤ at p x → countAt res p (at p x) ≤ t
-unfolding pickable
-count-within t res x e p h =
-    let f : Position → Bool = λ q. eqb (at q x) 0 || (leb (countAt res q (at q x)) t && leb (firstAt res q (at q x)) t) in
-    leb-true (countAt res p (at p x)) t (and-l _ (leb (firstAt res p (at p x)) t) (or-r (eqb (at p x) 0) _ (all3-at f e p) (ne-eqb (at p x) 0 (omega arith))))
+module _ (t : ℕ) (res : List ℕ) (x : Triple) (e : pickable t res x ≡ true) where
+  -- count and first at a bound position are within T
+  within-at : (p : Position) → 1 ≤ at p x → leb (countAt res p (at p x)) t && leb (firstAt res p (at p x)) t ≡ true
+  unfolding pickable
+  within-at p h =
+      let f : Position → Bool =
+      λ q. eqb (at q x) 0 || (leb (countAt res q (at q x)) t && leb (firstAt res q (at q x)) t) in
+      or-r (eqb (at p x) 0) _ (all3-at f e p) (ne-eqb (at p x) 0 (omega arith))
+
+  -- the first record of a bound chain
+  pub start-within : (ch : Chain) → bound ch x ≡ true → startOf t res ch x ≤ t
+  unfolding startOf bound
+  start-within All h = omega arith
+  start-within (By p) h =
+      leb-true (firstAt res p (at p x)) t
+      (and-r (leb (countAt res p (at p x)) t) _ (within-at p (ltb-true 0 (at p x) h)))
+
+  pub count-within : (p : Position) → 1 ≤ at p x → countAt res p (at p x) ≤ t
+  count-within p h = leb-true (countAt res p (at p x)) t (and-l _ (leb (firstAt res p (at p x)) t) (within-at p h))

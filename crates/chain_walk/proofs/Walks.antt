@@ -1,4 +1,5 @@
--- Laws of the walk: at each way out of a turn, and its next turn; the record found lies at or below the first. Assumes nothing.
+-- Laws of the walk: at each way out of a turn, and its next turn; the record found lies at or below the first. Assumes
+-- nothing.
 use mathlib.Core.Path.{_≡_, refl, ap}
 use mathlib.Core.Bool.{Bool, true, false, cond, _&&_}
 use mathlib.Core.List.{List}
@@ -19,7 +20,7 @@ use Rattle.chain_walk.specs.declared.walk.Sought.{Sought}
 use Rattle.chain_walk.specs.declared.walk.Visited.the-variants.{Damaged as BadRecord, Hit, Miss}
 use Rattle.chain_walk.specs.Walks.{hits, visitOf}
 
--- ---- the walk
+-- ---- visits counted
 
 -- v visits more
 abbrev pub plus : ℕ → Option Step → Option Step
@@ -40,21 +41,57 @@ plus-after v (some (found n w r)) = ap (λ (z : ℕ). some (found n z r)) (omega
 plus-after v (some (ended w)) = ap (λ (z : ℕ). some (ended z)) (omega arith)
 plus-after v (some (spent w r)) = ap (λ (z : ℕ). some (spent z r)) (omega arith)
 
--- what a visit's tests were
-pub was-damaged : (a b : Bool) (m : StatementId) → cond a (cond b (Hit m) (Miss m)) BadRecord ≡ BadRecord → a ≡ false
-was-damaged true true m e = let z : _≡_ {A = ℕ} 0 1 = cc in absurd (omega arith)
-was-damaged true false m e = let z : _≡_ {A = ℕ} 0 1 = cc in absurd (omega arith)
-was-damaged false b m e = refl
+-- ---- a visit
 
-pub was-hit : (a b : Bool) (m k : StatementId) → cond a (cond b (Hit m) (Miss m)) BadRecord ≡ Hit k → (a ≡ true) × (b ≡ true) × (m ≡ k)
-was-hit true true m k e = (refl, refl, cc)
-was-hit true false m k e = let z : _≡_ {A = ℕ} 0 1 = cc in absurd (omega arith)
-was-hit false b m k e = let z : _≡_ {A = ℕ} 0 1 = cc in absurd (omega arith)
+damaged-test : (a b : Bool) (m : StatementId) → cond a (cond b (Hit m) (Miss m)) BadRecord ≡ BadRecord → a ≡ false
+damaged-test true true m e = let z : _≡_ {A = ℕ} 0 1 = cc in absurd (omega arith)
+damaged-test true false m e = let z : _≡_ {A = ℕ} 0 1 = cc in absurd (omega arith)
+damaged-test false b m e = refl
 
-pub was-miss : (a b : Bool) (m k : StatementId) → cond a (cond b (Hit m) (Miss m)) BadRecord ≡ Miss k → (a ≡ true) × (b ≡ false) × (m ≡ k)
-was-miss true true m k e = let z : _≡_ {A = ℕ} 0 1 = cc in absurd (omega arith)
-was-miss true false m k e = (refl, refl, cc)
-was-miss false b m k e = let z : _≡_ {A = ℕ} 0 1 = cc in absurd (omega arith)
+hit-test : (a b : Bool) (m k : StatementId) → cond a (cond b (Hit m) (Miss m)) BadRecord ≡ Hit k
+    → (a ≡ true) × (b ≡ true) × (m ≡ k)
+hit-test true true m k e = (refl, refl, cc)
+hit-test true false m k e = let z : _≡_ {A = ℕ} 0 1 = cc in absurd (omega arith)
+hit-test false b m k e = let z : _≡_ {A = ℕ} 0 1 = cc in absurd (omega arith)
+
+miss-test : (a b : Bool) (m k : StatementId) → cond a (cond b (Hit m) (Miss m)) BadRecord ≡ Miss k
+    → (a ≡ true) × (b ≡ false) × (m ≡ k)
+miss-test true true m k e = let z : _≡_ {A = ℕ} 0 1 = cc in absurd (omega arith)
+miss-test true false m k e = (refl, refl, cc)
+miss-test false b m k e = let z : _≡_ {A = ℕ} 0 1 = cc in absurd (omega arith)
+
+-- what the tests of entry i were, and its next
+module _ (k : Sought) (r : ℕ) (stm : List ℕ) (ch : Chain) (x : Triple) (i : ℕ) where
+  abbrev after : StatementId
+  after = record { 0 = linkOf stm ch i }
+
+  pub was-damaged : visitOf k r stm ch x i ≡ BadRecord → visitable r stm ch x i ≡ false
+  unfolding visitOf
+  was-damaged e = damaged-test (visitable r stm ch x i) (hits k stm x i) after e
+
+  pub was-hit : (m : StatementId) → visitOf k r stm ch x i ≡ Hit m
+      → (visitable r stm ch x i ≡ true) × (hits k stm x i ≡ true) × (linkOf stm ch i ≡ m .0)
+  unfolding visitOf
+  was-hit m e =
+      let a = hit-test (visitable r stm ch x i) (hits k stm x i) after m e in
+      (a .0, a .1, ap (λ (n : StatementId). n .0) (a .2))
+
+  pub was-miss : (m : StatementId) → visitOf k r stm ch x i ≡ Miss m
+      → (visitable r stm ch x i ≡ true) × (hits k stm x i ≡ false) × (linkOf stm ch i ≡ m .0)
+  unfolding visitOf
+  was-miss m e =
+      let a = miss-test (visitable r stm ch x i) (hits k stm x i) after m e in
+      (a .0, a .1, ap (λ (n : StatementId). n .0) (a .2))
+
+-- a record that can be visited has a falling link
+pub falling : (r : ℕ) (stm : List ℕ) (ch : Chain) (x : Triple) (i : ℕ) → visitable r stm ch x i ≡ true
+    → linkOf stm ch i ≤ i
+unfolding visitable
+falling r stm ch x i e =
+    leb-true (linkOf stm ch i) i
+    (and-l _ (leb (flagAt stm i) 1) (and-r (holdsResource stm ch x i) _ (and-r (known r (tripleAt stm i)) _ e)))
+
+-- ---- the walk turn by turn
 
 module _ (k : Sought) (r : ℕ) (stm : List ℕ) (ch : Chain) (x : Triple) where
   -- the walk from record n with `left` visits left, v visits made
@@ -73,47 +110,43 @@ module _ (k : Sought) (r : ℕ) (stm : List ℕ) (ch : Chain) (x : Triple) where
   walk-spent v zero (suc i) h e = ap (λ (z : ℕ). some (spent z (suc i))) (omega arith)
   walk-spent v (suc b) (suc i) h e = absurd (omega arith)
 
-  pub walk-damaged : (v left n : ℕ) → (n ≡ 0 → ⊥) → (left ≡ 0 → ⊥) → visitOf k r stm ch x (n - 1) ≡ BadRecord → onward v left n ≡ none
-  unfolding walk visitOf
+  pub walk-damaged : (v left n : ℕ) → (n ≡ 0 → ⊥) → (left ≡ 0 → ⊥) → visitOf k r stm ch x (n - 1) ≡ BadRecord
+      → onward v left n ≡ none
+  unfolding walk
   walk-damaged v left zero h f e = absurd (h refl)
   walk-damaged v zero (suc i) h f e = absurd (f refl)
   walk-damaged v (suc b) (suc i) h f e =
       let d : suc i - 1 ≡ i = omega arith in
-      let a = was-damaged (visitable r stm ch x i) (hits k stm x i) (record { 0 = linkOf stm ch i }) (rw d at e) in
-      rw (walk, a)
+      rw (walk, was-damaged k r stm ch x i (rw d at e))
 
-  pub walk-hit : (v left n : ℕ) (m : StatementId) → (n ≡ 0 → ⊥) → (left ≡ 0 → ⊥) → visitOf k r stm ch x (n - 1) ≡ Hit m → onward v left n ≡ some (found n (v + 1) (m .0))
-  unfolding walk visitOf
+  pub walk-hit : (v left n : ℕ) (m : StatementId) → (n ≡ 0 → ⊥) → (left ≡ 0 → ⊥)
+      → visitOf k r stm ch x (n - 1) ≡ Hit m → onward v left n ≡ some (found n (v + 1) (m .0))
+  unfolding walk
   walk-hit v left zero m h f e = absurd (h refl)
   walk-hit v zero (suc i) m h f e = absurd (f refl)
   walk-hit v (suc b) (suc i) m h f e =
       let d : suc i - 1 ≡ i = omega arith in
-      let a = was-hit (visitable r stm ch x i) (hits k stm x i) (record { 0 = linkOf stm ch i }) m (rw d at e) in
-      let z : linkOf stm ch i ≡ m .0 = ap (λ (n : StatementId). n .0) (a .2) in
-      rw (walk, a .0, a .1, z)
+      let a = was-hit k r stm ch x i m (rw d at e) in
+      rw (walk, a .0, a .1, a .2)
 
-  pub walk-miss : (v left n : ℕ) (m : StatementId) → (n ≡ 0 → ⊥) → (left ≡ 0 → ⊥) → visitOf k r stm ch x (n - 1) ≡ Miss m → onward v left n ≡ onward (v + 1) (left - 1) (m .0)
-  unfolding walk visitOf
+  pub walk-miss : (v left n : ℕ) (m : StatementId) → (n ≡ 0 → ⊥) → (left ≡ 0 → ⊥)
+      → visitOf k r stm ch x (n - 1) ≡ Miss m → onward v left n ≡ onward (v + 1) (left - 1) (m .0)
+  unfolding walk
   walk-miss v left zero m h f e = absurd (h refl)
   walk-miss v zero (suc i) m h f e = absurd (f refl)
   walk-miss v (suc b) (suc i) m h f e =
       let d : suc i - 1 ≡ i = omega arith in
       let g : suc b - 1 ≡ b = omega arith in
-      let a = was-miss (visitable r stm ch x i) (hits k stm x i) (record { 0 = linkOf stm ch i }) m (rw d at e) in
-      let z : linkOf stm ch i ≡ m .0 = ap (λ (n : StatementId). n .0) (a .2) in
-      rw (walk, a .0, a .1, z, g) (plus-after v (walk (linkOf stm ch) (visitable r stm ch x) (hits k stm x) b (m .0)))
+      let a = was-miss k r stm ch x i m (rw d at e) in
+      rw (walk, a .0, a .1, a .2, g)
+      (plus-after v (walk (linkOf stm ch) (visitable r stm ch x) (hits k stm x) b (m .0)))
 
   -- a visit that goes on gives a lower record
   pub visit-falls : (n : ℕ) (m : StatementId) → (n ≡ 0 → ⊥) → visitOf k r stm ch x (n - 1) ≡ Miss m → m .0 < n
-  unfolding visitOf visitable
   visit-falls n m h e =
-      let i = n - 1 in
-      let l = leb (linkOf stm ch i) i in
-      let f = leb (flagAt stm i) 1 in
-      let a = was-miss (visitable r stm ch x i) (hits k stm x i) (record { 0 = linkOf stm ch i }) m e in
-      let b = and-l l f (and-r (holdsResource stm ch x i) (l && f) (and-r (known r (tripleAt stm i)) (holdsResource stm ch x i && (l && f)) (a .0))) in
-      let d = leb-true (linkOf stm ch i) i b in
-      let z : linkOf stm ch i ≡ m .0 = ap (λ (n : StatementId). n .0) (a .2) in
+      let a = was-miss k r stm ch x (n - 1) m e in
+      let d = falling r stm ch x (n - 1) (a .0) in
+      let z = a .2 in
       omega arith
 
 -- ---- the record found
@@ -130,26 +163,24 @@ number-after (some (ended w)) = refl
 number-after (some (spent w r)) = refl
 
 -- a walk over falling links finds no record above its first
-pub walk-within : (link : ℕ → ℕ) (ok hit : ℕ → Bool) → ((i : ℕ) → ok i ≡ true → link i ≤ i) → (b n : ℕ) → numberIn (walk link ok hit b n) ≤ n
+pub walk-within : (link : ℕ → ℕ) (ok hit : ℕ → Bool) → ((i : ℕ) → ok i ≡ true → link i ≤ i) → (b n : ℕ)
+    → numberIn (walk link ok hit b n) ≤ n
 unfolding walk
 walk-within link ok hit falls zero zero = omega arith
 walk-within link ok hit falls zero (suc i) = omega arith
 walk-within link ok hit falls (suc b) zero = omega arith
-walk-within link ok hit falls (suc b) (suc i) = visited (ok i) (hit i) (falls i) (walk-within link ok hit falls b (link i))
+walk-within link ok hit falls (suc b) (suc i) =
+    visited (ok i) (hit i) (falls i) (walk-within link ok hit falls b (link i))
   where
     visited : (o h : Bool) → (o ≡ true → link i ≤ i) → numberIn (walk link ok hit b (link i)) ≤ link i
-        → numberIn (elim o [ false ↦ none | true ↦ elim h [ true ↦ some (found (suc i) 1 (link i)) | false ↦ afterVisit (walk link ok hit b (link i)) ] ]) ≤ suc i
+        → numberIn (elim o [
+          | false ↦ none
+          | true ↦ elim h [ true ↦ some (found (suc i) 1 (link i)) | false ↦ afterVisit (walk link ok hit b (link i)) ]
+        ])
+        ≤ suc i
     visited false h f d = omega arith
     visited true true f d = omega arith
     visited true false f d = let e = f refl in rw (number-after (walk link ok hit b (link i))) (omega arith)
-
--- a record that can be visited has a falling link
-pub falling : (r : ℕ) (stm : List ℕ) (ch : Chain) (x : Triple) (i : ℕ) → visitable r stm ch x i ≡ true → linkOf stm ch i ≤ i
-unfolding visitable
-falling r stm ch x i e =
-    let l = leb (linkOf stm ch i) i in
-    let f = leb (flagAt stm i) 1 in
-    leb-true (linkOf stm ch i) i (and-l l f (and-r (holdsResource stm ch x i) (l && f) (and-r (known r (tripleAt stm i)) (holdsResource stm ch x i && (l && f)) e)))
 
 -- ---- a cursor
 

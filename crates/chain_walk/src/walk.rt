@@ -23,7 +23,8 @@ ghost use Rattle.store.specs.Scan.{recordOk};
 ghost use Rattle.table.specs.Held.{StatementHeld};
 ghost use Rattle.chain_walk.specs.Walks.{hits, visitOf, stepOf};
 
-// What a walk seeks: the record with the pattern's three numbers, retracted or not, or the first live match of a pattern.
+// What a walk seeks: the record with the pattern's three numbers, retracted or not, or the first live match of a
+// pattern.
 pub enum Sought {
     Same,
     LiveMatch,
@@ -148,6 +149,7 @@ pub fn walk(
 {
     let mut n = from;
     let mut visits: u32 = 0;
+    // `visits` records from `from` on were visited, none of them damaged or what is sought; n is the next on the chain.
     let found = loop {
         if n.0 == 0 {
             return Walked::Ended(visits);

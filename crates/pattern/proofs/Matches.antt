@@ -8,10 +8,11 @@ use lib.ListN.{set}
 use lib.Dec.{eqb}
 use borrow.Author.Tests.{eq-eqb, ne-eqb, le-leb, lt-leb}
 use Rattle.store.specs.declared.Triple.{Triple}
+use Rattle.store.specs.Shared.{at}
 use Rattle.graph.specs.declared.QueryPattern.{QueryPattern}
 use Rattle.graph.specs.Query.{bindWord, match, andThen}
-use Rattle.graph.specs.Words.{Bindings, resource, boundTo, firstVariable, valueOf}
-use Rattle.pattern.specs.Matching.{patternWords, WordFits, wordAt, numberAt}
+use Rattle.graph.specs.Words.{Bindings, resource, boundTo, firstVariable, valueOf, wordAt}
+use Rattle.pattern.specs.Matching.{patternWords, WordFits, position}
 
 -- ---- the number a word stands for
 
@@ -57,7 +58,7 @@ module _ (x : QueryPattern) (t : Triple) where
   from-end (suc (suc zero)) b h = absurd (omega arith)
   from-end (suc (suc (suc k))) b h = refl
 
-  from-none : (k : ℕ) (b : Bindings) → k < patternWords → bindWord (wordAt x k) (numberAt t k) b ≡ none
+  from-none : (k : ℕ) (b : Bindings) → k < patternWords → bindWord (wordAt (position k) x) (at (position k) t) b ≡ none
       → matchFrom x t k b ≡ none
   unfolding matchFrom match
   from-none zero b h e = rw e
@@ -65,47 +66,75 @@ module _ (x : QueryPattern) (t : Triple) where
   from-none (suc (suc zero)) b h e = e
   from-none (suc (suc (suc k))) b h e = absurd (omega arith)
 
-  from-some : (k : ℕ) (b b′ : Bindings) → k < patternWords → bindWord (wordAt x k) (numberAt t k) b ≡ some b′
-      → matchFrom x t k b ≡ matchFrom x t (k + 1) b′
+  from-some : (k : ℕ) (b b′ : Bindings) → k < patternWords
+      → bindWord (wordAt (position k) x) (at (position k) t) b ≡ some b′ → matchFrom x t k b ≡ matchFrom x t (k + 1) b′
   unfolding matchFrom match
   from-some zero b b′ h e = rw e
   from-some (suc zero) b b′ h e = rw e
   from-some (suc (suc zero)) b b′ h e = e
   from-some (suc (suc (suc k))) b b′ h e = absurd (omega arith)
 
-  -- the word w and the resource n at place k: a number, an open variable, a bound one
-  module _ (k w n : ℕ) (b : Bindings) (h : k < patternWords) (e : w ≡ wordAt x k) (f : n ≡ numberAt t k)
-      (o : WordFits w) where
-    none-of : bindWord w n b ≡ none → matchFrom x t k b ≡ none
-    none-of d = from-none k b h (rw (e, f) at d)
+-- ---- the code's turn: the word w and the resource n at place k
 
-    some-of : (b′ : Bindings) → bindWord w n b ≡ some b′ → matchFrom x t k b ≡ matchFrom x t (k + 1) b′
-    some-of b′ d = from-some k b b′ h (rw (e, f) at d)
+pub record Meeting : Type 0 where
+  pub x : QueryPattern
+  pub t : Triple
+  pub k : ℕ
+  pub w : ℕ
+  pub n : ℕ
+  pub b : Bindings
+  pub left : k < patternWords
+  pub word-is : w ≡ wordAt (position k) x
+  pub number-is : n ≡ at (position k) t
+  pub fits : WordFits w
 
-    other : (valueOf b w ≡ 0 → ⊥) → (valueOf b w ≡ n → ⊥) → matchFrom x t k b ≡ none
-    other z d = none-of (bind-bound b w n z ∙ rw (ne-eqb (valueOf b w) n d))
+module _ (m : Meeting) where
+  -- the match from here, and from the next word on
+  abbrev here : Option Bindings
+  here = matchFrom (m .x) (m .t) (m .k) (m .b)
 
-    same : (valueOf b w ≡ 0 → ⊥) → valueOf b w ≡ n → matchFrom x t k b ≡ matchFrom x t (k + 1) b
-    same z d = some-of b (bind-bound b w n z ∙ rw (eq-eqb (valueOf b w) n d))
+  abbrev after : Bindings → Option Bindings
+  after b = matchFrom (m .x) (m .t) (m .k + 1) b
 
-    number-value : w < firstVariable → (valueOf b w ≡ w) × (valueOf b w ≡ 0 → ⊥)
-    number-value l = let v = value-number b w l in let y = o .some-word in (v, λ z. absurd (omega arith))
+  abbrev value : ℕ
+  value = valueOf (m .b) (m .w)
 
-    pub number-unmet : w < firstVariable → (w ≡ n → ⊥) → matchFrom x t k b ≡ none
-    number-unmet l d = let v = number-value l in other (v .1) (λ z. d (sym (v .0) ∙ z))
+  none-of : bindWord (m .w) (m .n) (m .b) ≡ none → here ≡ none
+  none-of d = from-none (m .x) (m .t) (m .k) (m .b) (m .left) (rw (m .word-is, m .number-is) at d)
 
-    pub number-met : w < firstVariable → w ≡ n → matchFrom x t k b ≡ matchFrom x t (k + 1) b
-    number-met l d = let v = number-value l in same (v .1) (v .0 ∙ d)
+  some-of : (b′ : Bindings) → bindWord (m .w) (m .n) (m .b) ≡ some b′ → here ≡ after b′
+  some-of b′ d = from-some (m .x) (m .t) (m .k) (m .b) b′ (m .left) (rw (m .word-is, m .number-is) at d)
 
-    module _ (l : firstVariable ≤ w) where
-      pub open-met : boundTo b (w - firstVariable) ≡ 0
-          → matchFrom x t k b ≡ matchFrom x t (k + 1) (set b (w - firstVariable) (resource n))
-      open-met d = some-of (set b (w - firstVariable) (resource n)) (bind-open b w n (value-variable b w l ∙ d))
+  other : (value ≡ 0 → ⊥) → (value ≡ m .n → ⊥) → here ≡ none
+  other z d = none-of (bind-bound (m .b) (m .w) (m .n) z ∙ rw (ne-eqb value (m .n) d))
 
-      pub bound-unmet : (boundTo b (w - firstVariable) ≡ 0 → ⊥) → (boundTo b (w - firstVariable) ≡ n → ⊥)
-          → matchFrom x t k b ≡ none
-      bound-unmet z d = let v = value-variable b w l in other (λ y. z (sym v ∙ y)) (λ y. d (sym v ∙ y))
+  same : (value ≡ 0 → ⊥) → value ≡ m .n → here ≡ after (m .b)
+  same z d = some-of (m .b) (bind-bound (m .b) (m .w) (m .n) z ∙ rw (eq-eqb value (m .n) d))
 
-      pub bound-met : (boundTo b (w - firstVariable) ≡ 0 → ⊥) → boundTo b (w - firstVariable) ≡ n
-          → matchFrom x t k b ≡ matchFrom x t (k + 1) b
-      bound-met z d = let v = value-variable b w l in same (λ y. z (sym v ∙ y)) (v ∙ d)
+  -- a number
+  number-value : m .w < firstVariable → (value ≡ m .w) × (value ≡ 0 → ⊥)
+  number-value l = let v = value-number (m .b) (m .w) l in let y = m .fits .some-word in (v, λ z. absurd (omega arith))
+
+  pub number-unmet : m .w < firstVariable → (m .w ≡ m .n → ⊥) → here ≡ none
+  number-unmet l d = let v = number-value l in other (v .1) (λ z. d (sym (v .0) ∙ z))
+
+  pub number-met : m .w < firstVariable → m .w ≡ m .n → here ≡ after (m .b)
+  number-met l d = let v = number-value l in same (v .1) (v .0 ∙ d)
+
+  -- a variable, open or bound
+  module _ (l : firstVariable ≤ m .w) where
+    abbrev bound : ℕ
+    bound = boundTo (m .b) (m .w - firstVariable)
+
+    value-is : value ≡ bound
+    value-is = value-variable (m .b) (m .w) l
+
+    pub open-met : bound ≡ 0 → here ≡ after (set (m .b) (m .w - firstVariable) (resource (m .n)))
+    open-met d =
+        some-of (set (m .b) (m .w - firstVariable) (resource (m .n))) (bind-open (m .b) (m .w) (m .n) (value-is ∙ d))
+
+    pub bound-unmet : (bound ≡ 0 → ⊥) → (bound ≡ m .n → ⊥) → here ≡ none
+    bound-unmet z d = other (λ y. z (sym value-is ∙ y)) (λ y. d (sym value-is ∙ y))
+
+    pub bound-met : (bound ≡ 0 → ⊥) → bound ≡ m .n → here ≡ after (m .b)
+    bound-met z d = same (λ y. z (sym value-is ∙ y)) (value-is ∙ d)

@@ -3,7 +3,8 @@ use mathlib.Core.Bool.{true, false, cond}
 use mathlib.Core.Option.{Option, none, some}
 use Prim.Native.Nat.{ℕ, _+_, _<_}
 use lib.Dec.{eqb}
-use Rattle.store.specs.declared.Triple.{Triple}
+use Rattle.store.specs.declared.Position.{Position}
+use Rattle.store.specs.declared.Position.the-variants.{Subject, Predicate, Object}
 use Rattle.graph.specs.declared.QueryPattern.{QueryPattern}
 use Rattle.graph.specs.declared.Solution.{Solution}
 use Rattle.graph.specs.Words.{Bindings, firstVariable, variables}
@@ -23,12 +24,9 @@ pub record PatternOk (x : QueryPattern) : Type 0 where
   pub p-fits : WordFits (x .predicate)
   pub o-fits : WordFits (x .object)
 
--- the word and the resource at place k: 0 subject, 1 predicate, 2 object
-abbrev pub wordAt : QueryPattern → ℕ → ℕ
-wordAt x k = cond (eqb k 0) (x .subject) (cond (eqb k 1) (x .predicate) (x .object))
-
-abbrev pub numberAt : Triple → ℕ → ℕ
-numberAt t k = cond (eqb k 0) (t .subject .0) (cond (eqb k 1) (t .predicate .0) (t .object .0))
+-- the position of a pattern's word k: 0 subject, 1 predicate, 2 object
+abbrev pub position : ℕ → Position
+position k = cond (eqb k 0) Subject (cond (eqb k 1) Predicate Object)
 
 abbrev pub matchedAs : Solution → Option Bindings → Matched
 matchedAs b none = record { hit = false; bound = b }

@@ -9,8 +9,9 @@ use store::Triple;
 ghost use mathlib.Core.Path.{_≡_};
 ghost use mathlib.Core.Option.{none};
 ghost use Rattle.graph.specs.Query.{match};
-ghost use Rattle.graph.specs.Words.{unbound, valueOf, under};
-ghost use Rattle.pattern.specs.Matching.{PatternOk, WordFits, wordAt, numberAt, matchedAs};
+ghost use Rattle.store.specs.Shared.{at};
+ghost use Rattle.graph.specs.Words.{wordAt, unbound, valueOf, under};
+ghost use Rattle.pattern.specs.Matching.{PatternOk, WordFits, position, matchedAs};
 
 // Whether a triple meets a pattern, and what is bound from now on; where it does not, what was bound before.
 // The array comes first: copies of it then start at a whole word.
@@ -57,7 +58,7 @@ pub fn under(bound: Solution, x: QueryPattern) -> Triple
 // A pattern's word at place k: 0 subject, 1 predicate, 2 object.
 pub fn word_at(x: QueryPattern, k: u32) -> u32
     requires { ⌜ PatternOk x ⌝ }
-    ensures { λ w. ⌜ (w ≡ wordAt x k) × WordFits w ⌝ }
+    ensures { λ w. ⌜ (w ≡ wordAt (position k) x) × WordFits w ⌝ }
 {
     if k == 0 {
         return x.subject;
@@ -70,7 +71,7 @@ pub fn word_at(x: QueryPattern, k: u32) -> u32
 
 // A triple's resource at place k.
 pub fn number_at(t: Triple, k: u32) -> ResourceId
-    ensures { λ n. ⌜ n .0 ≡ numberAt t k ⌝ }
+    ensures { λ n. ⌜ n .0 ≡ at (position k) t ⌝ }
 {
     if k == 0 {
         return t.subject;
@@ -91,14 +92,15 @@ pub fn unmet(bound: Solution) -> Matched
     }
 }
 
-// A triple meets a pattern, subject, predicate, object in turn: an open variable takes the resource, anything else must be it.
-// One copy of what is bound is written in place.
+// A triple meets a pattern, subject, predicate, object in turn: an open variable takes the resource, anything else must
+// be it. One copy of what is bound is written in place.
 pub fn meet(x: QueryPattern, t: Triple, bound: Solution) -> Matched
     requires { ⌜ PatternOk x ⌝ }
     ensures { λ m. ⌜ m ≡ matchedAs bound (match x t (bound .values)) ⌝ }
 {
     let mut b = bound;
     let mut k: u32 = 0;
+    // The first k words meet their resources, and b is what is bound by then.
     while k < PATTERN_WORDS as u32 {
         let w = word_at(x, k);
         let n = number_at(t, k);

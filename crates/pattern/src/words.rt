@@ -39,6 +39,7 @@ pub fn words_ok(r: u32, words: &[u32]) -> bool
         return false;
     }
     let mut i = 0;
+    // Each of the first i words is a number or a variable.
     while i < n {
         if !word_ok(r, words[i]) {
             return false;

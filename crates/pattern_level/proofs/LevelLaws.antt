@@ -16,13 +16,14 @@ use Rattle.store.specs.Walk.{linkOf}
 use Rattle.graph.specs.declared.QueryPattern.{QueryPattern}
 use Rattle.graph.specs.declared.Solution.{Solution}
 use Rattle.graph.specs.declared.Level.{Level}
-use Rattle.graph.specs.Query.{match, orElse, recordAt, past, levelRetracted, intact, anyRetracted, remains, nextPattern, binds, asked}
+use Rattle.graph.specs.Query.{match, orElse, recordAt, past, levelRetracted, intact, anyRetracted, remains}
+use Rattle.graph.specs.Query.{nextPattern, binds, asked}
 use Rattle.graph.specs.Place.{level, noLevel, levelsOf, written}
 use Rattle.graph.specs.Words.{pattern, maxPatterns, Bindings, unbound, under}
 use Rattle.pattern.specs.declared.binding.Matched.{Matched}
 use Rattle.pattern.specs.Matching.{matchedAs}
 use Rattle.pattern_level.specs.Levels.{levelIntact}
-use Rattle.store.proofs.Tests.{decide}
+use Rattle.store.proofs.Tests.{decide, and-l, and-r}
 use Rattle.graph.proofs.Laws.{prev-minus, levels-length}
 
 -- ---- a record's number and its entry
@@ -93,6 +94,27 @@ bindings-step stm ps ls i x y b m e d f k =
     ap (λ (z : Matched). z .bound .values) k ∙ bound-or b (match x y (b .values))
     ∙ rw (e, d, f, ← record-at stm ((getD ls i noLevel) .statement .0)) (sym (binds-step 0 0 stm ps ls i))
 
+-- ---- a test of the first levels, one level more at a time
+
+module _ (all one : ℕ → Bool) (step : (i : ℕ) → all (i + 1) ≡ one i && all i) where
+  more : (d : ℕ) → all (suc d) ≡ one d && all d
+  more d = let q : suc d ≡ d + 1 = omega arith in ap all q ∙ step d
+
+  -- one that fails is enough
+  pub first-fails : (i d : ℕ) → i ≤ d → all i ≡ false → all d ≡ false
+  first-fails i zero h e = let q : i ≡ 0 = omega arith in rw q at e
+  first-fails i (suc d) h e =
+      decide (eqb i (suc d)) (λ k. rw (eqb-true i (suc d) k) at e)
+      (λ k. let n = eqb-false i (suc d) k in more d ∙ rw (first-fails i d (omega arith) e) (and-false (one d)))
+
+  -- each passes
+  pub each-passes : (d : ℕ) → all d ≡ true → (i : ℕ) → i < d → one i ≡ true
+  each-passes zero e i h = absurd (omega arith)
+  each-passes (suc d) e i h =
+      let f = sym (more d) ∙ e in
+      decide (eqb i d) (λ k. rw (eqb-true i d k) (and-l _ (all d) f))
+      (λ k. let n = eqb-false i d k in each-passes d (and-r (one d) _ f) i (omega arith))
+
 -- ---- 9 before any visit
 
 module _ (stm : List ℕ) (ls : List Level) where
@@ -105,18 +127,16 @@ module _ (stm : List ℕ) (ls : List Level) where
   unfolding intact levelsOf levelIntact
   intact-step i = let q : i + 1 ≡ suc i = omega arith in rw (q, intact, levelsOf)
 
-  pub intact-false : (i d : ℕ) → i ≤ d → intact stm (levelsOf ls i) ≡ false → intact stm (levelsOf ls d) ≡ false
-  intact-false i zero h e = let q : i ≡ 0 = omega arith in rw q at e
-  intact-false i (suc d) h e =
-      decide (eqb i (suc d)) (λ k. rw (eqb-true i (suc d) k) at e)
-      (λ k.
-      let n = eqb-false i (suc d) k in
-      let q : suc d ≡ d + 1 = omega arith in
-      rw q (intact-step d ∙ rw (intact-false i d (omega arith) e) (and-false (levelIntact stm (getD ls d noLevel)))))
+  pub intact-each : (d : ℕ) → intact stm (levelsOf ls d) ≡ true → (i : ℕ) → i < d
+      → levelIntact stm (getD ls i noLevel) ≡ true
+  intact-each =
+      each-passes (λ i. intact stm (levelsOf ls i)) (λ i. levelIntact stm (getD ls i noLevel)) intact-step
 
   -- the loop over the levels that 9 tests before any visit
   pub intact-miss : (i d : ℕ) → i < d → levelIntact stm (getD ls i noLevel) ≡ false → intact stm (levelsOf ls d) ≡ false
-  intact-miss i d h e = intact-false (i + 1) d (omega arith) (intact-step i ∙ rw e)
+  intact-miss i d h e =
+      first-fails (λ i. intact stm (levelsOf ls i)) (λ i. levelIntact stm (getD ls i noLevel)) intact-step (i + 1) d
+      (omega arith) (intact-step i ∙ rw e)
 
   pub intact-hit : (i : ℕ) → levelIntact stm (getD ls i noLevel) ≡ true → intact stm (levelsOf ls i) ≡ true
       → intact stm (levelsOf ls (i + 1)) ≡ true
@@ -128,8 +148,8 @@ module _ (stm : List ℕ) (ls : List Level) where
   unfolding anyRetracted levelsOf
   retracted-none = refl
 
-  pub retracted-step : (i : ℕ) → levelRetracted stm (getD ls i noLevel) ≡ false → anyRetracted stm (levelsOf ls i) ≡ false
-      → anyRetracted stm (levelsOf ls (i + 1)) ≡ false
+  pub retracted-step : (i : ℕ) → levelRetracted stm (getD ls i noLevel) ≡ false
+      → anyRetracted stm (levelsOf ls i) ≡ false → anyRetracted stm (levelsOf ls (i + 1)) ≡ false
   unfolding anyRetracted levelsOf
   retracted-step i e f = let q : i + 1 ≡ suc i = omega arith in rw (q, anyRetracted, levelsOf, e, f)
 

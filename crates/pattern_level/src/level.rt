@@ -1,7 +1,9 @@
-// The levels of a query's place: one for each pattern entered, its chain and a record on it (paper 01, "Next of a question").
+// The levels of a query's place: one for each pattern entered, its chain and a record on it (paper 01, "Next of a
+// question").
 //
-// Levels stand in an array, the first pattern first; a function is told how many of them count.
-// What each entered record must be for its words to be read is asked of the caller, who has tested it (refusal 6) or visited the record.
+// Levels stand in an array, the first pattern first; a function is told how many of them count. What each entered
+// record must be for its words to be read is asked of the caller, who has tested it (refusal 6) or visited the
+// record.
 use chain_walk::walk::link_of;
 use graph::Level;
 use graph::MAX_PATTERNS;
@@ -72,6 +74,7 @@ pub fn bindings(
 {
     let mut bound = none_bound();
     let mut i: u32 = 0;
+    // `bound` is what the first i levels bind.
     while i < d {
         let l = levels[i as usize];
         let n = l.statement;
@@ -90,6 +93,7 @@ pub fn intact(statements: &[u32], levels: [Level; MAX_PATTERNS], d: u32) -> bool
     ensures { λ b. ⌜ b ≡ intact (now (statements .entry)) (levelsOf levels d) ⌝ }
 {
     let mut i: u32 = 0;
+    // The records of the first i levels are intact.
     while i < d {
         let l = levels[i as usize];
         if !level_intact(statements, l) {
@@ -106,6 +110,7 @@ pub fn first_retracted(statements: &[u32], levels: [Level; MAX_PATTERNS], d: u32
     ensures { λ i. ⌜ FirstRetracted (now (statements .entry)) levels d i ⌝ }
 {
     let mut i: u32 = 0;
+    // No record of the first i levels is retracted.
     while i < d {
         let l = levels[i as usize];
         if level_retracted(statements, l) {
@@ -126,6 +131,7 @@ pub fn remains(statements: &[u32], levels: [Level; MAX_PATTERNS], top: u32) -> b
         return true;
     }
     let mut i = top;
+    // No record remains on the chains of the levels from i on.
     while i > 0 {
         let e = levels[(i - 1) as usize];
         let after = past(statements, e);
@@ -148,6 +154,7 @@ pub fn written(levels: [Level; MAX_PATTERNS], d: u32) -> [Level; MAX_PATTERNS]
     };
     let mut out = [none; MAX_PATTERNS];
     let mut i: u32 = 0;
+    // `out` has the first i levels, zeros past them.
     while i < d {
         let l = levels[i as usize];
         out[i as usize] = l;

@@ -1,14 +1,13 @@
 -- Laws of a place: refusal 6 for one level, for the levels of an array, for a cursor, and what is bound where it does
 -- not apply. Assumes nothing.
 use mathlib.Core.Path.{_≡_, refl, sym, ap, _∙_}
-use mathlib.Core.Bool.{true, false, _&&_, and-false, false≢true}
+use mathlib.Core.Bool.{Bool, true, false, _&&_, false≢true}
 use mathlib.Core.List.{List}
 use mathlib.Core.Option.{Option, none, some}
 use Prim.Native.Nat.{ℕ, zero, suc, _+_, _-_, _≤_, _<_}
 use native.Mathlib.Omega.{arith}
 use lib.ListN.{length, getD}
-use lib.Dec.{eqb}
-use borrow.Author.Tests.{eqb-true, eqb-false, lt-ltb, le-ltb, le-leb, lt-leb}
+use borrow.Author.Tests.{lt-ltb, le-ltb, le-leb, lt-leb}
 use Rattle.store.specs.declared.Triple.{Triple}
 use Rattle.store.specs.Shared.{known}
 use Rattle.store.specs.Tables.{tripleAt}
@@ -24,9 +23,8 @@ use Rattle.graph.specs.Words.{pattern, Bindings, under}
 use Rattle.pattern.specs.declared.binding.Matched.{Matched}
 use Rattle.pattern.specs.Matching.{matchedAs}
 use Rattle.pattern_place.specs.Tested.{levelOk, LevelTested, LevelsTested, deepestOk, InsideTested, PlaceTested}
-use Rattle.store.proofs.Tests.{decide}
 use Rattle.graph.proofs.Laws.{levels-length}
-use Rattle.pattern_level.proofs.LevelLaws.{record-at, bound-or, next-at, binds-step}
+use Rattle.pattern_level.proofs.LevelLaws.{record-at, bound-or, next-at, binds-step, first-fails, each-passes}
 
 -- ---- one entered level
 
@@ -44,30 +42,26 @@ module _ (r t : ℕ) (stm : List ℕ) (x : QueryPattern) (b : Bindings) (e : Lev
   unfolding levelOk
   ok-chain h k f = rw (lt-ltb 0 (e .statement .0) (omega arith), le-leb (e .statement .0) t k, f)
 
+  ok-record : (e .statement .0 ≡ 0 → ⊥) → e .statement .0 ≤ t → chainOk (e .chain) (under b x) ≡ true
+      → levelOk r t stm x b e
+      ≡ known r (tripleAt stm (e .statement .0 - 1)) && isSome (match x (tripleAt stm (e .statement .0 - 1)) b)
+  unfolding levelOk
+  ok-record h k f =
+      rw (
+        record-at stm (e .statement .0),
+        lt-ltb 0 (e .statement .0) (omega arith),
+        le-leb (e .statement .0) t k,
+        f,
+      )
+
   pub ok-known : (e .statement .0 ≡ 0 → ⊥) → e .statement .0 ≤ t → chainOk (e .chain) (under b x) ≡ true
       → known r (tripleAt stm (e .statement .0 - 1)) ≡ false → levelOk r t stm x b e ≡ false
-  unfolding levelOk
-  ok-known h k f g = rw (
-    record-at stm (e .statement .0),
-    lt-ltb 0 (e .statement .0) (omega arith),
-    le-leb
-        (e .statement .0) t k,
-    f,
-    g,
-  )
+  ok-known h k f g = ok-record h k f ∙ rw g
 
   pub ok-match : (e .statement .0 ≡ 0 → ⊥) → e .statement .0 ≤ t → chainOk (e .chain) (under b x) ≡ true
       → known r (tripleAt stm (e .statement .0 - 1)) ≡ true
       → levelOk r t stm x b e ≡ isSome (match x (tripleAt stm (e .statement .0 - 1)) b)
-  unfolding levelOk
-  ok-match h k f g = rw (
-    record-at stm (e .statement .0),
-    lt-ltb 0 (e .statement .0) (omega arith),
-    le-leb
-        (e .statement .0) t k,
-    f,
-    g,
-  )
+  ok-match h k f g = ok-record h k f ∙ rw g
 
 hit-some : (b : Solution) (o : Option Bindings) → matchedAs b o .hit ≡ isSome o
 hit-some b none = refl
@@ -103,16 +97,18 @@ module _ (r t : ℕ) (stm : List ℕ) (ps : List QueryPattern) (ls : List Level)
   unfolding enteredOk levelsOf levelOk asked
   entered-step i = let q : i + 1 ≡ suc i = omega arith in rw (q, enteredOk, levelsOf, next-at ps ls i)
 
-  pub entered-false : (i d : ℕ) → i ≤ d → enteredOk stm ps r t (levelsOf ls i) ≡ false
-      → enteredOk stm ps r t (levelsOf ls d) ≡ false
-  entered-false i zero h e = let q : i ≡ 0 = omega arith in rw q at e
-  entered-false i (suc d) h e =
-      decide (eqb i (suc d)) (λ k. rw (eqb-true i (suc d) k) at e)
-      (λ k.
-      let n = eqb-false i (suc d) k in
-      let q : suc d ≡ d + 1 = omega arith in
-      rw q (entered-step d ∙ rw (entered-false i d (omega arith) e)
-      (and-false (levelOk r t stm (getD ps d (pattern 0 0 0)) (binds stm ps (levelsOf ls d)) (getD ls d noLevel)))))
+  -- of the first i levels, and of level i
+  abbrev first-ok : ℕ → Bool
+  first-ok i = enteredOk stm ps r t (levelsOf ls i)
+
+  abbrev one-ok : ℕ → Bool
+  one-ok i = levelOk r t stm (getD ps i (pattern 0 0 0)) (binds stm ps (levelsOf ls i)) (getD ls i noLevel)
+
+  pub entered-false : (i d : ℕ) → i ≤ d → first-ok i ≡ false → first-ok d ≡ false
+  entered-false = first-fails first-ok one-ok entered-step
+
+  pub entered-each : (d : ℕ) → first-ok d ≡ true → (i : ℕ) → i < d → one-ok i ≡ true
+  entered-each = each-passes first-ok one-ok entered-step
 
 -- the loop over the levels that 6 tests: one that fails, one more, all of them
 module _ (r t : ℕ) (stm : List ℕ) (ps : List QueryPattern) (ls : List Level) (i : ℕ) (x : QueryPattern)

@@ -1,6 +1,8 @@
-// The place of a query's cursor, tested level by level: where it is none, next refuses 6 (paper 01, "Next of a question").
+// The place of a query's cursor, tested level by level: where it is none, next refuses 6 (paper 01, "Next of a
+// question").
 //
-// A test that holds hands on what the levels before the deepest bind, so that a reading that goes on does not bind them again.
+// A test that holds hands on what the levels before the deepest bind, so that a reading that goes on does not bind them
+// again.
 use chain::pick::chain_ok;
 use chain_walk::walk::record_ok;
 use graph::Level;
@@ -79,6 +81,7 @@ pub fn levels_ok(
 {
     let mut bound = none_bound();
     let mut i: u32 = 0;
+    // The first i levels can have been entered, and `bound` is what they bind.
     while i < d {
         let l = levels[i as usize];
         let m = level_ok(c, statements, pattern_at(words, i), bound, l);

@@ -2,28 +2,28 @@
 -- first pattern. Assumes nothing.
 use mathlib.Core.Path.{_≡_, refl, sym, ap, _∙_}
 use mathlib.Core.Logic.{_≢_}
-use mathlib.Core.Bool.{Bool, true, false, _&&_, _||_, or-true, false≢true}
+use mathlib.Core.Bool.{Bool, true, false, _&&_, _||_, or-true}
 use mathlib.Core.List.{List, [], _∷_}
-use Prim.Native.Nat.{ℕ, zero, suc, _+_, _*_, _-_, _≤_, _<_}
+use Prim.Native.Nat.{ℕ, zero, suc, _*_, _-_, _≤_, _<_}
 use native.Mathlib.Omega.{arith}
 use lib.ListN.{length, getD, set}
-use lib.Seq.{getD-set-same, getD-set-other}
+use lib.Seq.{getD-set-other}
 use lib.Dec.{eqb, leb, ltb}
-use borrow.Author.Tests.{eqb-true, eqb-false, eq-eqb, ne-eqb, ltb-true, leb-true, lt-ltb}
+use borrow.Author.Tests.{eqb-true, eqb-false, eq-eqb, ne-eqb, ltb-true, ltb-false, leb-true}
 use Rattle.store.specs.declared.Refusal.the-variants.{Damaged as Nine}
 use Rattle.store.specs.declared.Counters.{Counters}
 use Rattle.store.specs.declared.Triple.{Triple}
 use Rattle.store.specs.Shared.{known}
 use Rattle.store.specs.Tables.{Tables, fits, statementWords, flagAt}
-use Rattle.store.specs.Scan.{chainOk, recordOk}
+use Rattle.store.specs.Scan.{chainOk}
 use Rattle.graph.specs.declared.QueryPattern.{QueryPattern}
 use Rattle.graph.specs.declared.Solution.{Solution}
 use Rattle.graph.specs.declared.Level.{Level}
 use Rattle.graph.specs.Query.{match, isSome, recordAt, past, levelRetracted, intact, anyRetracted, pruned, binds, asked}
 use Rattle.graph.specs.Words.{patternsOf, pattern, maxPatterns, wordsOk, Bindings, unbound, under}
 use Rattle.graph.specs.Place.{noLevel, start, inside, levelsOf, insideOf, written, finish}
-use Rattle.graph.specs.Query.{enteredOk, placeOk, refused, found, enter, begun, walk, resume}
-use Rattle.pattern_level.specs.Levels.{LevelsHeld, levelIntact, FirstRetracted}
+use Rattle.graph.specs.Query.{placeOk, Answer, refused, found, enter, begun, walk, resume}
+use Rattle.pattern_level.specs.Levels.{LevelsHeld, FirstRetracted}
 use Rattle.pattern_place.specs.Tested.{levelOk}
 use Rattle.query_stack.specs.declared.stack.Stack.{Stack}
 use Rattle.query_stack.specs.declared.stack.Outcome.{Outcome}
@@ -34,9 +34,9 @@ use Rattle.query_walk.specs.Turn.{Ready, Stands, onto, turnAs, TurnIs}
 use Rattle.query.specs.Resume.{onwardAs, Pruned}
 use Rattle.store.proofs.Tests.{decide, and-l, and-r}
 use Rattle.table.proofs.Capacity.{fits-room}
-use Rattle.graph.proofs.Laws.{levels-length, levels-set, written-length}
-use Rattle.pattern_level.proofs.LevelLaws.{intact-step, intact-at, written-step, binds-none, asked-is}
-use Rattle.pattern_place.proofs.PlaceLaws.{entered-step}
+use Rattle.graph.proofs.Laws.{levels-length, levels-set, written-length, written-at, PlaceTested, place-tests}
+use Rattle.pattern_level.proofs.LevelLaws.{intact-at, intact-each, binds-none, asked-is}
+use Rattle.pattern_place.proofs.PlaceLaws.{entered-each}
 use Rattle.query_stack.proofs.Stacks.{stack-is}
 use Rattle.query_walk.proofs.Stands.{ready-query, Sure, sure-none, top-is, stands-new}
 use Rattle.query_walk.proofs.Turns.{levels-none, entering}
@@ -86,58 +86,14 @@ module _ (r t : ℕ) (stm : List ℕ) (x : QueryPattern) (b : Bindings) (e : Lev
       and-l _ (isSome (match x (recordAt stm (e .statement .0)) b))
       (and-r (chainOk (e .chain) (under b x)) _ (and-r (ltb 0 (e .statement .0) && leb (e .statement .0) t) _ h))
 
--- of each of the first d
-module _ (r t : ℕ) (stm : List ℕ) (ps : List QueryPattern) (ls : List Level) where
-  pub entered-each : (d : ℕ) → enteredOk stm ps r t (levelsOf ls d) ≡ true → (i : ℕ) → i < d
-      → levelOk r t stm (getD ps i (pattern 0 0 0)) (binds stm ps (levelsOf ls i)) (getD ls i noLevel) ≡ true
-  entered-each zero e i h = absurd (omega arith)
-  entered-each (suc d) e i h =
-      let q : suc d ≡ d + 1 = omega arith in
-      let f = sym (entered-step r t stm ps ls d) ∙ (rw q at e) in
-      decide (eqb i d) (λ k. rw (eqb-true i d k) (and-l _ (enteredOk stm ps r t (levelsOf ls d)) f))
-      (λ k.
-      let n = eqb-false i d k in
-      entered-each d (and-r (levelOk r t stm (getD ps d (pattern 0 0 0)) (binds stm ps (levelsOf ls d))
-      (getD ls d noLevel)) _ f) i (omega arith))
-
--- and 9 before any visit
-module _ (stm : List ℕ) (ls : List Level) where
-  pub intact-each : (d : ℕ) → intact stm (levelsOf ls d) ≡ true → (i : ℕ) → i < d
-      → levelIntact stm (getD ls i noLevel) ≡ true
-  intact-each zero e i h = absurd (omega arith)
-  intact-each (suc d) e i h =
-      let q : suc d ≡ d + 1 = omega arith in
-      let f = sym (intact-step stm ls d) ∙ (rw q at e) in
-      decide (eqb i d) (λ k. rw (eqb-true i d k) (and-l _ (intact stm (levelsOf ls d)) f))
-      (λ k. let n = eqb-false i d k in intact-each d (and-r (levelIntact stm (getD ls d noLevel)) _ f) i (omega arith))
-
 -- of a place
 module _ (r t : ℕ) (stm : List ℕ) (ps : List QueryPattern) (ls : List Level) (top : ℕ)
     (ok : placeOk stm ps r t (inside (getD ls top noLevel) (levelsOf ls top)) ≡ true) where
-  rest : enteredOk stm ps r t (levelsOf ls top)
-      && (leb ((getD ls top noLevel) .statement .0) t
-      && (chainOk ((getD ls top noLevel) .chain) (asked stm ps (levelsOf ls top))
-      && recordOk stm ((getD ls top noLevel) .chain) (asked stm ps (levelsOf ls top))
-      ((getD ls top noLevel) .statement .0)))
-      ≡ true
-  unfolding placeOk
-  rest = and-r (ltb (length (levelsOf ls top)) (length ps)) _ ok
+  tests : PlaceTested r t stm ps (getD ls top noLevel) (levelsOf ls top)
+  tests = place-tests r t stm ps (getD ls top noLevel) (levelsOf ls top) .0 ok
 
   pub top-few : top < length ps
-  unfolding placeOk
-  top-few =
-      let q = ltb-true (length (levelsOf ls top)) (length ps)
-      (and-l (ltb (length (levelsOf ls top)) (length ps)) _ ok) in
-      let e = levels-length ls top in
-      omega arith
-
-  pub entered-ok : enteredOk stm ps r t (levelsOf ls top) ≡ true
-  entered-ok = and-l (enteredOk stm ps r t (levelsOf ls top)) _ rest
-
-  pub top-within : (getD ls top noLevel) .statement .0 ≤ t
-  top-within =
-      leb-true ((getD ls top noLevel) .statement .0) t
-      (and-l (leb ((getD ls top noLevel) .statement .0) t) _ (and-r (enteredOk stm ps r t (levelsOf ls top)) _ rest))
+  top-few = let q = tests .room in let e = levels-length ls top in omega arith
 
   pub levels-held : top ≤ maxPatterns → statementWords * t ≤ length stm → LevelsHeld stm ls top
   levels-held h g =
@@ -145,7 +101,7 @@ module _ (r t : ℕ) (stm : List ℕ) (ps : List QueryPattern) (ls : List Level)
         few = h;
         each =
             λ i f.
-            let q = ok-number r t stm _ _ (getD ls i noLevel) (entered-each r t stm ps ls top entered-ok i f) in
+            let q = ok-number r t stm _ _ (getD ls i noLevel) (entered-each r t stm ps ls top (tests .entered) i f) in
             record { from-one = q .0; whole = let w = q .1 in omega arith };
       }
 
@@ -155,7 +111,7 @@ module _ (r t : ℕ) (stm : List ℕ) (ps : List QueryPattern) (ls : List Level)
       record {
         at-each =
             λ i f.
-            let o = entered-each r t stm ps ls top entered-ok i f in
+            let o = entered-each r t stm ps ls top (tests .entered) i f in
             let q = ok-number r t stm _ _ (getD ls i noLevel) o in
             let d = sym (intact-at stm (getD ls i noLevel) (q .0)) ∙ intact-each stm ls top e i f in
             record {
@@ -171,12 +127,14 @@ module _ (r t : ℕ) (stm : List ℕ) (ps : List QueryPattern) (ls : List Level)
 -- ---- the levels below a retracted record
 
 module _ (stm : List ℕ) (ls : List Level) where
-  any-retracted : (i d : ℕ) → i < d → levelRetracted stm (getD ls i noLevel) ≡ true → anyRetracted stm (levelsOf ls d) ≡ true
+  any-retracted : (i d : ℕ) → i < d → levelRetracted stm (getD ls i noLevel) ≡ true
+      → anyRetracted stm (levelsOf ls d) ≡ true
   unfolding anyRetracted levelsOf
   any-retracted i zero h e = absurd (omega arith)
   any-retracted i (suc d) h e =
       decide (eqb i d)
-      (λ z. let f : levelRetracted stm (getD ls d noLevel) ≡ true = rw (eqb-true i d z) at e in rw (anyRetracted, levelsOf, f))
+      (λ z. let f : levelRetracted stm (getD ls d noLevel) ≡ true = rw (eqb-true i d z) at e in
+      rw (anyRetracted, levelsOf, f))
       (λ z. let n = eqb-false i d z in
       ap (λ (b : Bool). levelRetracted stm (getD ls d noLevel) || b) (any-retracted i d (omega arith) e)
       ∙ or-true (levelRetracted stm (getD ls d noLevel)))
@@ -210,25 +168,11 @@ module _ (stm : List ℕ) (ls : List Level) where
       rw z (pruned-down i top (getD ls top noLevel) h (k .here h) (k .none-before)))
       (λ z.
       let a = k .among in
-      let q : i ≡ top = decide (eqb i top) (λ y. eqb-true i top y)
-      (λ y. let n = eqb-false i top y in absurd (false≢true (sym z ∙ lt-ltb i top (omega arith)))) in
+      let h = ltb-false i top z in
+      let q : i ≡ top = omega arith in
       rw z (rw q (pruned-none (getD ls top noLevel) (levelsOf ls top) (rw q at (k .none-before)))))
 
 -- ---- levels written out
-
-pub written-get : (ls : List Level) (d i : ℕ) → d ≤ maxPatterns → i < d → getD (written (levelsOf ls d)) i noLevel
-    ≡ getD ls i noLevel
-written-get ls zero i h g = absurd (omega arith)
-written-get ls (suc d) i h g =
-    let y : suc d ≡ d + 1 = omega arith in
-    let w = written (levelsOf ls d) in
-    let z = written-length (levelsOf ls d) in
-    ap (λ (n : ℕ). getD (written (levelsOf ls n)) i noLevel) y
-    ∙ ap (λ (l : List Level). getD l i noLevel) (written-step ls d)
-    ∙ decide (eqb i d)
-    (λ e. rw (eqb-true i d e) (getD-set-same w d (getD ls d noLevel) noLevel (omega arith)))
-    (λ e. let n : i ≢ d = eqb-false i d e in getD-set-other w d i (getD ls d noLevel) noLevel n
-    ∙ written-get ls d i (omega arith) (omega arith))
 
 pub levels-ext : (ls ks : List Level) (d : ℕ) → ((i : ℕ) → i < d → getD ls i noLevel ≡ getD ks i noLevel)
     → levelsOf ls d ≡ levelsOf ks d
@@ -245,7 +189,7 @@ written-held stm ls top i l h k =
       each =
           λ j g.
           let n : j ≢ i = omega arith in
-          rw (getD-set-other (written (levelsOf ls i)) i j l noLevel n, written-get ls i j (omega arith) g)
+          rw (getD-set-other (written (levelsOf ls i)) i j l noLevel n, written-at ls i j (omega arith) g)
           (k .each j (omega arith));
     }
 
@@ -259,7 +203,7 @@ pub written-levels : (ls : List Level) (i : ℕ) (l : Level) → i ≤ maxPatter
     → levelsOf (set (written (levelsOf ls i)) i l) i ≡ levelsOf ls i
 written-levels ls i l h =
     levels-set (written (levelsOf ls i)) i i l (omega arith)
-    ∙ levels-ext (written (levelsOf ls i)) ls i (λ j g. written-get ls i j h g)
+    ∙ levels-ext (written (levelsOf ls i)) ls i (λ j g. written-at ls i j h g)
 
 pub pruned-kept : (stm : List ℕ) (ps : List QueryPattern) (ls : List Level) (top i : ℕ) (b : Solution) (x : Triple)
     (p : QueryPattern)
@@ -293,14 +237,14 @@ module _ (r t : ℕ) (res stm ws : List ℕ) (k : Ready r t res stm ws) (ls : Li
   small = let a = few in let b = (ready-query r t res stm ws k) .few in omega arith
 
   own-levels : levelsOf own (s .top) ≡ levelsOf ls (s .top)
-  own-levels = let h = small in levels-ext own ls (s .top) (λ i g. written-get ls (s .top) i (omega arith) g)
+  own-levels = let h = small in levels-ext own ls (s .top) (λ i g. written-at ls (s .top) i (omega arith) g)
 
   own-sure : Sure r t stm own (s .top)
   own-sure =
       let h = small in
       let a = p .first .among in
       let u = levels-sure r t stm (patternsOf ws) ls top ok safe in
-      record { at-each = λ i g. rw (written-get ls (s .top) i (omega arith) g) (u .at-each i (omega arith)) }
+      record { at-each = λ i g. rw (written-at ls (s .top) i (omega arith) g) (u .at-each i (omega arith)) }
 
   next-within : next .statement .0 ≤ t
   next-within =
@@ -312,9 +256,9 @@ module _ (r t : ℕ) (res stm ws : List ℕ) (k : Ready r t res stm ws) (ls : Li
       rw z (omega arith))
       (λ z.
       let a = p .first .among in
-      let q : s .top ≡ top = decide (eqb (s .top) top) (λ y. eqb-true (s .top) top y)
-      (λ y. let n = eqb-false (s .top) top y in absurd (false≢true (sym z ∙ lt-ltb (s .top) top (omega arith)))) in
-      let w = top-within r t stm (patternsOf ws) ls top ok in
+      let h = ltb-false (s .top) top z in
+      let q : s .top ≡ top = omega arith in
+      let w = tests r t stm (patternsOf ws) ls top ok .within in
       rw z (rw q w))
 
   pub pruned-stands : Stands r t stm ws s
@@ -326,69 +270,93 @@ module _ (r t : ℕ) (res stm ws : List ℕ) (k : Ready r t res stm ws) (ls : Li
       (ap (binds stm (patternsOf ws)) (levels-set own (s .top) (s .top) next (omega arith)))
       (ap (asked stm (patternsOf ws)) (levels-set own (s .top) (s .top) next (omega arith))))
 
-  pub pruned-top : (pruned stm (getD ls top noLevel) (levelsOf ls top)) .0 ≡ deepest s
+  pruned-top : (pruned stm (getD ls top noLevel) (levelsOf ls top)) .0 ≡ deepest s
   pruned-top =
       ap (λ (x : Level × List Level). x .0) (pruned-at stm ls top (s .top) (p .first))
       ∙ sym (ap (λ (q : Stack). deepest q) (p .made) ∙ top-is r t stm ws own (s .top) next few small
       (written-length (levelsOf ls (s .top))))
 
-  pub pruned-up : (pruned stm (getD ls top noLevel) (levelsOf ls top)) .1 ≡ entered s
+  pruned-up : (pruned stm (getD ls top noLevel) (levelsOf ls top)) .1 ≡ entered s
   pruned-up =
       ap (λ (x : Level × List Level). x .1) (pruned-at stm ls top (s .top) (p .first))
       ∙ sym (ap (λ (q : Stack). entered q) (p .made) ∙ levels-set own (s .top) (s .top) next (omega arith) ∙ own-levels)
 
--- ---- resume, case by case
-
-module _ (r t : ℕ) (res stm : List ℕ) (ps : List QueryPattern) (l : Level) (up : List Level) (budget : ℕ) where
-  pub resume-damaged : intact stm up ≡ false → resume r t res stm ps (inside l up) budget ≡ refused Nine
+  -- and the walk from it is the answer
+  pub resumes : (budget : ℕ)
+      → resume r t res stm (patternsOf ws) (inside (getD ls top noLevel) (levelsOf ls top)) budget
+      ≡ walk r t res stm (patternsOf ws) budget (deepest s) (entered s) 0
   unfolding resume
-  resume-damaged e = rw e
+  resumes budget = rw (safe, pruned-top, pruned-up)
 
-  pub resume-inside : (s : Stack) → intact stm up ≡ true → (pruned stm l up) .0 ≡ deepest s → (pruned stm l up) .1
-      ≡ entered s
-      → resume r t res stm ps (inside l up) budget ≡ walk r t res stm ps budget (deepest s) (entered s) 0
-  unfolding resume
-  resume-inside s e f g = rw (e, f, g)
+pub resume-damaged : (r t : ℕ) (res stm : List ℕ) (ps : List QueryPattern) (l : Level) (up : List Level) (budget : ℕ)
+    → intact stm up ≡ false → resume r t res stm ps (inside l up) budget ≡ refused Nine
+unfolding resume
+resume-damaged r t res stm ps l up budget e = rw e
 
 -- ---- the first pattern
 
-module _ (r t : ℕ) (res stm ws : List ℕ) (budget : ℕ) where
-  pub begin-none : length (patternsOf ws) ≡ 0 → resume r t res stm (patternsOf ws) start budget ≡ found unbound 0 finish
+pub begin-none : (r t : ℕ) (res stm ws : List ℕ) (budget : ℕ) → length (patternsOf ws) ≡ 0
+    → resume r t res stm (patternsOf ws) start budget ≡ found unbound 0 finish
+unfolding resume
+begin-none r t res stm ws budget e = rw (eq-eqb (length (patternsOf ws)) 0 e)
+
+-- the first of some patterns entered, and what is then written over an array of levels
+pub record First : Type 0 where
+  pub r : ℕ
+  pub t : ℕ
+  pub res : List ℕ
+  pub stm : List ℕ
+  pub ws : List ℕ
+  pub budget : ℕ
+  pub ready : Ready r t res stm ws
+  pub some-pattern : length (patternsOf ws) ≡ 0 → ⊥
+  pub ls : List Level
+  pub size : length ls ≡ maxPatterns
+  pub b : Solution
+  pub open-all : b .values ≡ unbound
+  pub m : Turned
+  pub made : m ≡ enteredAs t res (under (b .values) (getD (patternsOf ws) 0 (pattern 0 0 0))) 0 b
+
+module _ (h : First) where
+  abbrev all : List QueryPattern
+  all = patternsOf (h .ws)
+
+  abbrev stack : Stack
+  stack = onto (h .ls) (h .m)
+
+  abbrev asked-for : Answer
+  asked-for = resume (h .r) (h .t) (h .res) (h .stm) all start (h .budget)
+
+  first-turn : TurnIs (h .r) (h .t) (h .stm) (h .ws) (enter (h .r) (h .t) (h .res) (h .stm) all []) (h .ls) (h .m)
+  first-turn =
+      let n = h .some-pattern in
+      rw (h .made, ← levels-none (h .ls))
+      (entering (h .r) (h .t) (h .res) (h .stm) (h .ws) (h .ls) 0 (h .b) (omega arith) (omega arith) (h .size)
+      (sure-none (h .r) (h .t) (h .stm) (h .ls)) (h .open-all ∙ sym (binds-none 0 0 (h .stm) all (h .ls))))
+
+  starts : (o : Outcome) → h .m .outcome ≡ o
+      → asked-for ≡ begun (h .r) (h .t) (h .res) (h .stm) all (h .budget) (turnAs o stack)
   unfolding resume
-  begin-none e = rw (eq-eqb (length (patternsOf ws)) 0 e)
+  starts o f =
+      rw (ne-eqb (length all) 0 (h .some-pattern))
+      (ap (begun (h .r) (h .t) (h .res) (h .stm) all (h .budget))
+      (sym (first-turn .told) ∙ ap (λ (z : Outcome). turnAs z stack) f))
 
-  module _ (k : Ready r t res stm ws) (some-pattern : length (patternsOf ws) ≡ 0 → ⊥) (ls : List Level)
-      (size : length ls ≡ maxPatterns) (b : Solution) (open-all : b .values ≡ unbound) (m : Turned)
-      (e : m ≡ enteredAs t res (under (b .values) (getD (patternsOf ws) 0 (pattern 0 0 0))) 0 b) where
-    first-turn : TurnIs r t stm ws (enter r t res stm (patternsOf ws) []) ls m
-    first-turn =
-        rw (e, ← levels-none ls)
-        (entering r t res stm ws ls 0 b (omega arith) (omega arith) size (sure-none r t stm ls)
-        (open-all ∙ sym (binds-none 0 0 stm (patternsOf ws) ls)))
+  pub begin-damaged : h .m .outcome ≡ Damaged → asked-for ≡ refused Nine
+  unfolding begun
+  begin-damaged f = starts Damaged f
 
-    starts : (o : Outcome) → m .outcome ≡ o → resume r t res stm (patternsOf ws) start budget
-        ≡ begun r t res stm (patternsOf ws) budget (turnAs o (onto ls m))
-    unfolding resume
-    starts o f =
-        rw (ne-eqb (length (patternsOf ws)) 0 some-pattern)
-        (ap (begun r t res stm (patternsOf ws) budget) (sym (first-turn .told)
-        ∙ ap (λ (z : Outcome). turnAs z (onto ls m)) f))
+  pub begin-whole : h .m .outcome ≡ Whole → asked-for ≡ refused Nine
+  unfolding begun
+  begin-whole f = starts Whole f
 
-    pub begin-damaged : m .outcome ≡ Damaged → resume r t res stm (patternsOf ws) start budget ≡ refused Nine
-    unfolding begun
-    begin-damaged f = starts Damaged f
+  pub begin-onward : h .m .outcome ≡ Onward
+      → asked-for ≡ walk (h .r) (h .t) (h .res) (h .stm) all (h .budget) (deepest stack) (entered stack) 0
+  unfolding begun
+  begin-onward f = starts Onward f
 
-    pub begin-whole : m .outcome ≡ Whole → resume r t res stm (patternsOf ws) start budget ≡ refused Nine
-    unfolding begun
-    begin-whole f = starts Whole f
+  pub begin-stands : h .m .outcome ≡ Onward → Stands (h .r) (h .t) (h .stm) (h .ws) stack
+  begin-stands f = first-turn .stands f
 
-    pub begin-onward : m .outcome ≡ Onward → resume r t res stm (patternsOf ws) start budget
-        ≡ walk r t res stm (patternsOf ws) budget (deepest (onto ls m)) (entered (onto ls m)) 0
-    unfolding begun
-    begin-onward f = starts Onward f
-
-    pub begin-stands : m .outcome ≡ Onward → Stands r t stm ws (onto ls m)
-    begin-stands f = first-turn .stands f
-
-    pub begin-slot : m .top < maxPatterns
-    begin-slot = first-turn .slot
+  pub begin-slot : h .m .top < maxPatterns
+  begin-slot = first-turn .slot

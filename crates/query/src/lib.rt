@@ -1,7 +1,8 @@
-// Queries, the paper's question of several patterns: open and next, on tables, words and cursors that hold anything. Nothing is written.
+// Queries, the paper's question of several patterns: open and next, on tables, words and cursors that hold anything.
+// Nothing is written.
 //
-// The words are passed at each call, and the cursor holds none of them: a cursor of another query, or of another store, is judged by
-// refusals 13 and 6 alone. Refusals, in the order tested: open 1, 8; next 1, 8, 13, 6, 7, 9.
+// The words are passed at each call, and the cursor holds none of them: a cursor of another query, or of another
+// store, is judged by refusals 13 and 6 alone. Refusals, in the order tested: open 1, 8; next 1, 8, 13, 6, 7, 9.
 use crate::resume::resume;
 use graph::Progress;
 use graph::QueryAnswer;
@@ -19,7 +20,7 @@ ghost use mathlib.Core.Path.{_≡_};
 ghost use Rattle.store.specs.Tables.{tables, lent};
 ghost use Rattle.graph.specs.Query.{openQueryOf, nextQueryOf};
 
-pub mod resume;
+mod resume;
 
 // Open a query: 1; 8 if the words are no query; else the cursor before the first solution, with the number of reclaims.
 // Beside a refusal the cursor is zero.
@@ -52,8 +53,8 @@ pub fn query_open(
     }
 }
 
-// Next of a query: 1; 8; 13 if the cursor, at the start and at the end too, has another number of reclaims; 6; 7 if the budget is 0; 9;
-// else found, ended or spent, with the visits made and the cursor from now on.
+// Next of a query: 1; 8; 13 if the cursor, at the start and at the end too, has another number of reclaims; 6; 7 if the
+// budget is 0; 9; else found, ended or spent, with the visits made and the cursor from now on.
 pub fn query_next(
     c: Counters,
     resources: &[u32],

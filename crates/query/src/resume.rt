@@ -1,4 +1,5 @@
-// Where a next call goes on: before the first pattern, within its levels, or at the end (paper 01, "Next of a question").
+// Where a next call goes on: before the first pattern, within its levels, or at the end (paper 01, "Next of a
+// question").
 use graph::Level;
 use graph::MAX_PATTERNS;
 use graph::Progress;
@@ -36,7 +37,8 @@ ghost use Rattle.pattern_place.specs.Tested.{Handed};
 ghost use Rattle.query_walk.specs.Turn.{Ready};
 ghost use Rattle.query.specs.Resume.{Pruned, onwardAs};
 
-// Before the first solution: the first pattern is entered, at no visit. No patterns give one empty solution, with the end as place.
+// Before the first solution: the first pattern is entered, at no visit. No patterns give one empty solution, with the
+// end as place.
 pub fn begin(
     c: Counters,
     resources: &[u32],

@@ -1,8 +1,8 @@
-// The stack of a query's walk: the place with what it binds kept beside it,
-// so that a visit that misses changes one number and copies nothing (paper 01, "Next of a question").
+// The stack of a query's walk: the place with what it binds kept beside it, so that a visit that misses changes one
+// number and copies nothing (paper 01, "Next of a question").
 //
-// A turn of the walk leaves the deepest level, visits its record, or enters the next pattern;
-// each is a function here, and so are the replies that a walk ends with. A reply's cursor has the number of reclaims that it is given.
+// A turn of the walk leaves the deepest level, visits its record, or enters the next pattern; each is a function
+// here, and so are the replies that a walk ends with. A reply's cursor has the number of reclaims that it is given.
 use chain::pick::pick_chain;
 use chain::pick::pickable;
 use chain::pick::start_of;
@@ -61,8 +61,8 @@ pub enum Outcome {
     Whole,
 }
 
-// What a turn writes over the stack: what the levels before the deepest bind; the deepest level's pattern under them; that level;
-// its number, from 0. The array comes first: copies of it then start at a whole word.
+// What a turn writes over the stack: what the levels before the deepest bind; the deepest level's pattern under them;
+// that level; its number, from 0. The array comes first: copies of it then start at a whole word.
 pub struct Turned {
     pub bound: Solution,
     pub asked: Triple,
@@ -197,9 +197,9 @@ pub fn enter(t: u32, resources: &[u32], words: &[u32], top: u32, bound: Solution
     }
 }
 
-// A live record of level l that the chain's scan would give is put to the pattern: no match, on along the chain to record `next`;
-// a match of the last pattern, a whole solution; of an earlier one, the next pattern is entered at once.
-// Before it, b is bound, and the pattern is x.
+// A live record of level l that the chain's scan would give is put to the pattern: no match, on along the chain to
+// record `next`; a match of the last pattern, a whole solution; of an earlier one, the next pattern is entered at
+// once. Before it, b is bound, and the pattern is x.
 pub fn tried(
     t: u32,
     resources: &[u32],

@@ -175,8 +175,8 @@ module _ (x : QueryPattern) (t : Triple) (b b′ : Bindings) where
       second b₁ (some b₂) p q d = (b₁, b₂, q, p, d)
 
       first : (o : Option Bindings) → bindWord (x .subject) (t .subject .0) b ≡ o
-          → andThen o (λ b. andThen (bindWord (x .predicate) (t .predicate .0) b) (λ b. bindWord (x .object) (t .object .0) b))
-          ≡ some b′
+          → andThen o (λ b. andThen (bindWord (x .predicate) (t .predicate .0) b)
+          (λ b. bindWord (x .object) (t .object .0) b)) ≡ some b′
           → (b₁ : Bindings) × (b₂ : Bindings) × (bindWord (x .subject) (t .subject .0) b ≡ some b₁)
           × (bindWord (x .predicate) (t .predicate .0) b₁ ≡ some b₂)
           × (bindWord (x .object) (t .object .0) b₂ ≡ some b′)

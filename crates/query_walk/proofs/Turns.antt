@@ -24,7 +24,8 @@ use Rattle.chain_walk.specs.Walks.{hits, visitOf}
 use Rattle.graph.specs.declared.QueryPattern.{QueryPattern}
 use Rattle.graph.specs.declared.Solution.{Solution}
 use Rattle.graph.specs.declared.Level.{Level}
-use Rattle.graph.specs.Query.{match, recordAt, past, levelRetracted, backtrack, nextPattern, binds, asked, Turn, bad, go, whole}
+use Rattle.graph.specs.Query.{match, recordAt, past, levelRetracted, backtrack, nextPattern, binds, asked}
+use Rattle.graph.specs.Query.{Turn, bad, go, whole}
 use Rattle.graph.specs.Place.{level, noLevel, inside, levelsOf}
 use Rattle.graph.specs.Words.{patternsOf, pattern, maxPatterns, Bindings, under}
 use Rattle.graph.specs.Query.{Answer, refused, found, ended, enter, hit, tried, visit, walk}
@@ -58,12 +59,10 @@ levels-down ls d h = let q : d ≡ (d - 1) + 1 = omega arith in ap (levelsOf ls)
 
 module _ (stm : List ℕ) where
   -- where a stack has run out
-  pub backtracked : (q : Stack) → ((deepest q) .statement .0 ≡ 0 → ⊥) → backtrack stm (deepest q) (entered q)
-      ≡ deepest q ∷ entered q
-  backtracked q h = backtrack-stop stm (deepest q) (entered q) h
-
-  pub backtracked-none : (q : Stack) → q .top ≡ 0 → (deepest q) .statement .0 ≡ 0 → backtrack stm (deepest q) (entered q) ≡ []
-  backtracked-none q e h = ap (backtrack stm (deepest q)) (ap (levelsOf (q .levels)) e ∙ levels-none (q .levels))
+  pub backtracked-none : (q : Stack) → q .top ≡ 0 → (deepest q) .statement .0 ≡ 0
+      → backtrack stm (deepest q) (entered q) ≡ []
+  backtracked-none q e h =
+      ap (backtrack stm (deepest q)) (ap (levelsOf (q .levels)) e ∙ levels-none (q .levels))
       ∙ backtrack-none stm (deepest q) h
 
 -- the stack popped: what holds of it, and nothing is lost
@@ -84,7 +83,8 @@ module _ (r t : ℕ) (stm ws : List ℕ) (q : Stack) (s : Stands r t stm ws q) (
       (sure-less r t stm ls (q .top) d (omega arith) (sure-of r t stm ws q s)) (omega arith) refl refl)
 
   pub popped-backtracks : (deepest q) .statement .0 ≡ 0
-      → backtrack stm (deepest q) (entered q) ≡ backtrack stm (deepest (onto (q .levels) m)) (entered (onto (q .levels) m))
+      → backtrack stm (deepest q) (entered q)
+      ≡ backtrack stm (deepest (onto (q .levels) m)) (entered (onto (q .levels) m))
   popped-backtracks z =
       let n = s .few in
       let ls = q .levels in
@@ -183,7 +183,8 @@ module _ (r t : ℕ) (res stm ws : List ℕ) (k : Ready r t res stm ws) (q : Sta
   meeting-is x y e f = rw (e, f, s .bound-is, ← next-at (patternsOf ws) (q .levels) (q .top), ← record-at stm num)
 
   -- a live match of the pattern under the bindings is what may match; nothing else does
-  live : hits LiveMatch stm (q .asked) (num - 1) ≡ not (levelRetracted stm (deepest q)) && agrees (q .asked) (recordAt stm num)
+  live : hits LiveMatch stm (q .asked) (num - 1)
+      ≡ not (levelRetracted stm (deepest q)) && agrees (q .asked) (recordAt stm num)
   unfolding hits matches entryAt
   live = rw (retracted-at stm (deepest q), record-at stm num)
 
@@ -216,36 +217,29 @@ module _ (r t : ℕ) (res stm ws : List ℕ) (k : Ready r t res stm ws) (q : Sta
   visited = visitOf LiveMatch r stm chainOf (q .asked) (num - 1)
 
   pub visit-damaged : visited ≡ BadRecord → visit r t res stm (patternsOf ws) (deepest q) (entered q) ≡ bad
-  unfolding visit visitOf
-  visit-damaged e =
-      let a = was-damaged (visitable r stm chainOf (q .asked) (num - 1)) (hits LiveMatch stm (q .asked) (num - 1))
-      (record { 0 = linkOf stm chainOf (num - 1) }) e in
-      rw (prev-minus num, ← s .asked-is, a)
+  unfolding visit
+  visit-damaged e = rw (prev-minus num, ← s .asked-is, was-damaged LiveMatch r stm chainOf (q .asked) (num - 1) e)
 
   pub visit-missed : (m : StatementId) → visited ≡ Miss m → (num ≡ 0 → ⊥)
-      → (visit r t res stm (patternsOf ws) (deepest q) (entered q) ≡ go (level chainOf (m .0)) (entered q)) × (m .0 < num)
-  unfolding visit visitOf tried
+      → (visit r t res stm (patternsOf ws) (deepest q) (entered q) ≡ go (level chainOf (m .0)) (entered q))
+      × (m .0 < num)
+  unfolding visit tried
   visit-missed m e z =
-      let a = was-miss (visitable r stm chainOf (q .asked) (num - 1)) (hits LiveMatch stm (q .asked) (num - 1))
-      (record { 0 = linkOf stm chainOf (num - 1) }) m e in
+      let a = was-miss LiveMatch r stm chainOf (q .asked) (num - 1) m e in
       let f = falling r stm chainOf (q .asked) (num - 1) (a .0) in
-      let y : linkOf stm chainOf (num - 1) ≡ m .0 = ap (λ (n : StatementId). n .0) (a .2) in
+      let y = a .2 in
       (rw (prev-minus num, ← s .asked-is, a .0, hit-none (a .1), past-at stm (deepest q), y), omega arith)
 
   pub visit-hit : (m : StatementId) → visited ≡ Hit m → (num ≡ 0 → ⊥)
       → (visit r t res stm (patternsOf ws) (deepest q) (entered q)
       ≡ tried r t res stm (patternsOf ws) (deepest q) (entered q) meeting)
       × Visitable r stm q × (m .0 ≡ linkOf stm chainOf (num - 1))
-  unfolding visit visitOf
+  unfolding visit
   visit-hit m e z =
-      let a = was-hit (visitable r stm chainOf (q .asked) (num - 1)) (hits LiveMatch stm (q .asked) (num - 1))
-      (record { 0 = linkOf stm chainOf (num - 1) }) m e in (
+      let a = was-hit LiveMatch r stm chainOf (q .asked) (num - 1) m e in (
         rw (prev-minus num, ← s .asked-is, a .0, hit-live (a .1)),
-        record {
-          some-record = omega arith;
-          sound = a .0;
-        },
-        sym (ap (λ (n : StatementId). n .0) (a .2)),
+        record { some-record = omega arith; sound = a .0 },
+        sym (a .2),
       )
 
   -- on along the chain: the same stack at a lower record
@@ -395,14 +389,15 @@ module _ (r t : ℕ) (res stm ws : List ℕ) (k : Ready r t res stm ws) (q : Sta
 -- ---- the loops
 
 -- once a further visit may be made, the walk goes by where chains that have run out are left
-walk-backtracks : (r t : ℕ) (res stm : List ℕ) (ps : List QueryPattern) (left v : ℕ) (l l′ : Level) (up up′ : List Level)
-    → (left ≡ 0 → ⊥) → backtrack stm l up ≡ backtrack stm l′ up′
+walk-backtracks : (r t : ℕ) (res stm : List ℕ) (ps : List QueryPattern) (left v : ℕ) (l l′ : Level)
+    (up up′ : List Level) → (left ≡ 0 → ⊥) → backtrack stm l up ≡ backtrack stm l′ up′
     → walk r t res stm ps left l up v ≡ walk r t res stm ps left l′ up′ v
 unfolding walk
 walk-backtracks r t res stm ps zero v l l′ up up′ h e = absurd (h refl)
 walk-backtracks r t res stm ps (suc b) v l l′ up up′ h e = rw (walk, e)
 
--- from stack q₀ with v₀ visits made to q with v: the walk from the one is the walk from the other, which has no more to do
+-- from stack q₀ with v₀ visits made to q with v: the walk from the one is the walk from the other, which has no more
+-- to do
 pub record Walking (r t : ℕ) (res stm ws : List ℕ) (budget : ℕ) (q₀ : Stack) (v₀ : ℕ) (q : Stack) (v : ℕ) : Type 0 where
   pub within : v ≤ budget
   pub stands : Stands r t stm ws q
@@ -451,6 +446,11 @@ module _ (h : Here) where
   abbrev Onward-to : Stack → ℕ → Type 0
   Onward-to = Walking (h .r) (h .t) (h .res) (h .stm) (h .ws) (h .budget) (h .q) (h .v)
 
+  -- the stack with another deepest level
+  abbrev at-level : Level → Stack
+  at-level l =
+      record { top = h .q .top; levels = set (h .q .levels) (h .q .top) l; bound = h .q .bound; asked = h .q .asked }
+
   some-left : h .budget - h .v ≡ 0 → ⊥
   some-left z = let n = h .left in omega arith
 
@@ -479,8 +479,8 @@ module _ (h : Here) where
         within = omega arith;
         stands = popped-stands (h .r) (h .t) (h .stm) (h .ws) (h .q) (h .stands) o slot-here m made;
         same =
-            walk-backtracks (h .r) (h .t) (h .res) (h .stm) ps (h .budget - h .v) (h .v) last (deepest (onto (h .q .levels) m))
-            up (entered (onto (h .q .levels) m)) some-left
+            walk-backtracks (h .r) (h .t) (h .res) (h .stm) ps (h .budget - h .v) (h .v) last
+            (deepest (onto (h .q .levels) m)) up (entered (onto (h .q .levels) m)) some-left
             (popped-backtracks (h .r) (h .t) (h .stm) (h .ws) (h .q) (h .stands) o slot-here m made e);
         less = omega arith;
       }
@@ -493,7 +493,7 @@ module _ (h : Here) where
     turnHere = visit (h .r) (h .t) (h .res) (h .stm) ps last up
 
     backtracked-here : backtrack (h .stm) last up ≡ last ∷ up
-    backtracked-here = backtracked (h .stm) (h .q) some-record
+    backtracked-here = backtrack-stop (h .stm) last up some-record
 
     -- the record lies in the table
     pub visit-needs : (1 ≤ last .statement .0) × (statementWords * last .statement .0 ≤ length (h .stm))
@@ -504,7 +504,8 @@ module _ (h : Here) where
 
     bad-here : turnHere ≡ bad → fromHere ≡ refused Nine
     bad-here d =
-        turn-bad (h .r) (h .t) (h .res) (h .stm) ps last up (h .v) (h .budget - h .v) last up some-left backtracked-here d
+        turn-bad (h .r) (h .t) (h .res) (h .stm) ps last up (h .v) (h .budget - h .v) last up some-left
+        backtracked-here d
 
     go-here : (l : Level) (ls : List Level) (p : Stack) → turnHere ≡ go l ls → l ≡ deepest p → ls ≡ entered p
         → Stands (h .r) (h .t) (h .stm) (h .ws) p → p .top < maxPatterns + h .q .top → Onward-to p (h .v + 1)
@@ -526,16 +527,12 @@ module _ (h : Here) where
         bad-here (visit-damaged (h .r) (h .t) (h .res) (h .stm) (h .ws) (h .ready) (h .q) (h .stands) d)
 
     pub sees-miss : (n : StatementId) (l : Level) → seen ≡ Miss n → l ≡ level (last .chain) (n .0)
-        → Onward-to
-        (record { top = h .q .top; levels = set (h .q .levels) (h .q .top) l; bound = h .q .bound; asked = h .q .asked })
-        (h .v + 1)
+        → Onward-to (at-level l) (h .v + 1)
     sees-miss n l d f =
         let x = visit-missed (h .r) (h .t) (h .res) (h .stm) (h .ws) (h .ready) (h .q) (h .stands) n d some-record in
         let y = h .stands .next-within in
         let p = moved-place (h .r) (h .t) (h .res) (h .stm) (h .ws) (h .ready) (h .q) (h .stands) l in
-        go-here (level (last .chain) (n .0)) up
-        (record { top = h .q .top; levels = set (h .q .levels) (h .q .top) l; bound = h .q .bound; asked = h .q .asked })
-        (x .0) (sym (p .0 ∙ f)) (sym (p .1))
+        go-here (level (last .chain) (n .0)) up (at-level l) (x .0) (sym (p .0 ∙ f)) (sym (p .1))
         (rw f (moved-stands (h .r) (h .t) (h .res) (h .stm) (h .ws) (h .ready) (h .q) (h .stands) (n .0)
         (omega (arith, x .1))))
         (omega arith)
@@ -545,7 +542,8 @@ module _ (h : Here) where
           × (n .0 ≡ linkOf (h .stm) (last .chain) (last .statement .0 - 1))
       hit-here = visit-hit (h .r) (h .t) (h .res) (h .stm) (h .ws) (h .ready) (h .q) (h .stands) n d some-record
 
-      pub try-needs : QueryOk (h .ws) × (h .q .top < length ps) × NextHeld (h .res) (h .stm) ps (h .q .top) last (h .q .bound)
+      pub try-needs : QueryOk (h .ws) × (h .q .top < length ps)
+          × NextHeld (h .res) (h .stm) ps (h .q .top) last (h .q .bound)
       try-needs = (
         ready-query (h .r) (h .t) (h .res) (h .stm) (h .ws) (h .ready),
         h .stands .few,

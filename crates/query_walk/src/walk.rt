@@ -1,4 +1,5 @@
-// The walk of a query: level by level along the chains, up to the first whole solution (paper 01, "Next of a question").
+// The walk of a query: level by level along the chains, up to the first whole solution (paper 01, "Next of a
+// question").
 use chain_walk::walk::Visited;
 use graph::QueryAnswer;
 use query_stack::stack::Outcome;
@@ -19,8 +20,8 @@ ghost use Rattle.graph.specs.Words.{patternsOf};
 ghost use Rattle.query_stack.specs.Stack.{deepest, entered};
 ghost use Rattle.query_walk.specs.Turn.{Ready, Stands};
 
-// The walk from a place, with at most `budget` visits, left from inside at the first whole solution, with the stack that has bound it.
-// Chains that have run out are left only once a further visit is sought.
+// The walk from a place, with at most `budget` visits, left from inside at the first whole solution, with the stack
+// that has bound it. Chains that have run out are left only once a further visit is sought.
 pub fn walk(
     c: Counters,
     resources: &[u32],
@@ -36,6 +37,8 @@ pub fn walk(
 {
     let mut q = from;
     let mut visits: u32 = 0;
+    // Here and in the loop within: `visits` were made and no solution found, and the walk from q with what is left of
+    // the budget answers as the walk asked for.
     let found = 'walk: loop {
         // Along the deepest level's chain; a match enters the next pattern.
         loop {

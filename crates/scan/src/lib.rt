@@ -1,8 +1,8 @@
 // Pattern scans (paper 01, "Open a listing", "Next of a listing").
 //
 // Each operation takes the counters and all four tables and answers on any words in them, and on any cursor: what it
-// answers is its definition in `store`. Refusals are tested in the paper's order: open 1, 4, 9; next 1, 13, 6, 7, 9. Nothing
-// is written.
+// answers is its definition in `store`. Refusals are tested in the paper's order: open 1, 4, 9; next 1, 13, 6, 7, 9.
+// Nothing is written.
 use chain::pick::chain_ok;
 use chain::pick::pick_chain;
 use chain::pick::pickable;
@@ -27,7 +27,8 @@ ghost use Rattle.store.specs.Tables.{tables, lent, statementWords};
 ghost use Rattle.store.specs.Scan.{cursorIn, openOf, nextOf};
 ghost use Rattle.scan.specs.Cursors.{CursorTested};
 
-// Open a pattern scan: a cursor of the store's generation, before the first record of the bound position of least count.
+// Open a pattern scan: a cursor of the store's generation, before the first record of the bound position of least
+// count.
 pub fn scan_open(
     c: Counters,
     resources: &[u32],
@@ -86,8 +87,8 @@ fn moved(q: ScanCursor, next: StatementId) -> ScanCursor
     m
 }
 
-// Next of a pattern scan: the first live match within the budget, or that the chain or the budget has ended. A cursor of
-// another generation is refused before the rest of it is tested: a reclaim numbers statements anew.
+// Next of a pattern scan: the first live match within the budget, or that the chain or the budget has ended. A cursor
+// of another generation is refused before the rest of it is tested: a reclaim numbers statements anew.
 pub fn scan_next(
     c: Counters,
     resources: &[u32],

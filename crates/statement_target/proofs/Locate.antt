@@ -1,5 +1,5 @@
--- Laws of locating a triple's record: a known triple lies in its table; by the walk that code makes; the record lies within T, and so do
--- the counts and live counts of its resources. Assumes nothing.
+-- Laws of locating a triple's record: a known triple lies in its table; by the walk that code makes; the record lies
+-- within T, and so do the counts and live counts of its resources. Assumes nothing.
 use mathlib.Core.Path.{_≡_, refl, sym, ap, _∙_}
 use mathlib.Core.Bool.{Bool, true, false, cond, _&&_}
 use mathlib.Core.List.{List, []}
@@ -63,7 +63,8 @@ module _ (c : Counters) (m : Tables) (x : Triple) where
   -- the walk that code makes, from the chain picked and its first record
   pub locate-walk : (a : Walked) (ch : Chain) (n : ℕ) → ready (c .statements) (m .resources) x ≡ true
       → ch ≡ pickChain (m .resources) x → n ≡ startOf (c .statements) (m .resources) ch x
-      → stepOf a ≡ walk (linkOf (m .statements) ch) (visitable (c .resources) (m .statements) ch x) (hits Same (m .statements) x) (c .statements) n
+      → stepOf a ≡ walk (linkOf (m .statements) ch) (visitable (c .resources) (m .statements) ch x)
+      (hits Same (m .statements) x) (c .statements) n
       → locate c m x ≡ located (stepOf a)
   unfolding seek hits
   locate-walk a ch n p d e w = let s : stepOf a ≡ seek c m x = w ∙ rw (e, d) in locate-seek p ∙ ap located (sym s)
@@ -77,16 +78,20 @@ module _ (c : Counters) (m : Tables) (x : Triple) where
       shape false o e = let z : _≡_ {A = ℕ} 0 1 = cc in absurd (omega arith)
 
   locate-pickable : (n : ℕ) → locate c m x ≡ some n → pickable (c .statements) (m .resources) x ≡ true
-  locate-pickable n e = and-l (pickable (c .statements) (m .resources) x) (countable (m .resources) x) (locate-ready n e)
+  locate-pickable n e =
+      and-l (pickable (c .statements) (m .resources) x) (countable (m .resources) x) (locate-ready n e)
 
   -- the count of a bound position's resource is within T
-  pub locate-count : (n : ℕ) → locate c m x ≡ some n → (p : Position) → 1 ≤ at p x → countAt (m .resources) p (at p x) ≤ c .statements
+  pub locate-count : (n : ℕ) → locate c m x ≡ some n → (p : Position) → 1 ≤ at p x
+      → countAt (m .resources) p (at p x) ≤ c .statements
   locate-count n e = count-within (c .statements) (m .resources) x (locate-pickable n e)
 
   -- and the live count within the count
-  pub locate-live : (n : ℕ) → locate c m x ≡ some n → (p : Position) → liveAt (m .resources) p (at p x) ≤ countAt (m .resources) p (at p x)
+  pub locate-live : (n : ℕ) → locate c m x ≡ some n → (p : Position)
+      → liveAt (m .resources) p (at p x) ≤ countAt (m .resources) p (at p x)
   locate-live n e =
-      countable-at (m .resources) x (and-r (pickable (c .statements) (m .resources) x) (countable (m .resources) x) (locate-ready n e))
+      countable-at (m .resources) x
+      (and-r (pickable (c .statements) (m .resources) x) (countable (m .resources) x) (locate-ready n e))
 
   pub locate-within : (n : ℕ) → locate c m x ≡ some n → n ≤ c .statements
   unfolding seek
@@ -94,7 +99,9 @@ module _ (c : Counters) (m : Tables) (x : Triple) where
       let p = locate-pickable n e in
       let ch = pickChain (m .resources) x in
       let s = start-within (c .statements) (m .resources) x p ch (pick-bound (m .resources) x) in
-      let w = walk-within (linkOf (m .statements) ch) (visitable (c .resources) (m .statements) ch x) (λ i. same x (tripleAt (m .statements) i)) (falling (c .resources) (m .statements) ch x) (c .statements) (startOf (c .statements) (m .resources) ch x) in
+      let w = walk-within (linkOf (m .statements) ch) (visitable (c .resources) (m .statements) ch x)
+      (λ i. same x (tripleAt (m .statements) i)) (falling (c .resources) (m .statements) ch x) (c .statements)
+      (startOf (c .statements) (m .resources) ch x) in
       let d = number (seek c m x) (sym (locate-seek (locate-ready n e)) ∙ e) in
       omega arith
     where
@@ -103,6 +110,7 @@ module _ (c : Counters) (m : Tables) (x : Triple) where
       number (some s) e = cc
 
 -- the index and the text are not read
-pub locate-any : (c : Counters) (res stm index text : List ℕ) (x : Triple) → locate c (tables res stm index text) x ≡ locate c (tables res stm [] []) x
+pub locate-any : (c : Counters) (res stm index text : List ℕ) (x : Triple)
+    → locate c (tables res stm index text) x ≡ locate c (tables res stm [] []) x
 unfolding locate seek
 locate-any c res stm index text x = refl

@@ -1,5 +1,5 @@
--- Refusal 1, test by test: a counter over its capacity, or all within; and what counters within capacity say of the tables' lengths.
--- Assumes nothing.
+-- Refusal 1, test by test: a counter over its capacity, or all within; and what counters within capacity say of the
+-- tables' lengths. Assumes nothing.
 use mathlib.Core.Path.{_≡_}
 use mathlib.Core.Bool.{true, false}
 use Prim.Native.Nat.{_*_, _≤_, _<_}
@@ -9,7 +9,8 @@ use lib.Dec.{leb}
 use borrow.Author.Tests.{le-leb, lt-leb}
 use Rattle.store.specs.declared.Counters.{Counters}
 use Rattle.store.proofs.Tests.{fits-parts}
-use Rattle.store.specs.Tables.{Tables, fits, resourceCapacity, statementCapacity, textCapacity, resourceWords, statementWords}
+use Rattle.store.specs.Tables.{Tables, fits, resourceCapacity, statementCapacity, textCapacity}
+use Rattle.store.specs.Tables.{resourceWords, statementWords}
 use Rattle.store.specs.Shared.{maxResources, maxStatements, maxText, maxReclaims}
 
 -- ---- refusal 1
@@ -21,19 +22,29 @@ module _ (c : Counters) (m : Tables) where
 
   pub over-statements : c .resources ≤ resourceCapacity m → statementCapacity m < c .statements → fits c m ≡ false
   unfolding fits
-  over-statements a h = rw (le-leb (c .resources) (resourceCapacity m) a, lt-leb (c .statements) (statementCapacity m) h)
+  over-statements a h =
+      rw (le-leb (c .resources) (resourceCapacity m) a, lt-leb (c .statements) (statementCapacity m) h)
 
-  pub over-text : c .resources ≤ resourceCapacity m → c .statements ≤ statementCapacity m → textCapacity m < c .text → fits c m ≡ false
+  pub over-text : c .resources ≤ resourceCapacity m → c .statements ≤ statementCapacity m → textCapacity m < c .text
+      → fits c m ≡ false
   unfolding fits
   over-text a b h =
-      rw (le-leb (c .resources) (resourceCapacity m) a, le-leb (c .statements) (statementCapacity m) b, lt-leb (c .text) (textCapacity m) h)
+      rw (
+        le-leb (c .resources) (resourceCapacity m) a,
+        le-leb (c .statements) (statementCapacity m) b,
+        lt-leb (c .text) (textCapacity m) h,
+      )
 
   -- where the tables have room, the number of reclaims decides
-  pub reclaims-decide : c .resources ≤ resourceCapacity m → c .statements ≤ statementCapacity m → c .text ≤ textCapacity m
-      → leb (c .generation) maxReclaims ≡ fits c m
+  pub reclaims-decide : c .resources ≤ resourceCapacity m → c .statements ≤ statementCapacity m
+      → c .text ≤ textCapacity m → leb (c .generation) maxReclaims ≡ fits c m
   unfolding fits
   reclaims-decide a b d =
-      rw (le-leb (c .resources) (resourceCapacity m) a, le-leb (c .statements) (statementCapacity m) b, le-leb (c .text) (textCapacity m) d)
+      rw (
+        le-leb (c .resources) (resourceCapacity m) a,
+        le-leb (c .statements) (statementCapacity m) b,
+        le-leb (c .text) (textCapacity m) d,
+      )
 
   -- counters within capacity: the records and bytes in use lie in the tables
   pub record Room : Type 0 where

@@ -11,5 +11,12 @@ sets-snoc [] l b x = rw add-zero
 sets-snoc (v ∷ vs) l b x = rw (add-suc, ← suc-add) (sets-snoc vs (set l b v) (suc b) x)
 
 -- one zero more
-pub zero-turn : (t l : List ℕ) (b i : ℕ) → t ≡ sets l b (replicate i 0) → set t (b + i) 0 ≡ sets l b (replicate (i + 1) 0)
-zero-turn t l b i e = rw (e, ← replicate-append-replicate {A = ℕ} i 1 0, sets-snoc (replicate i 0) l b 0, length-replicate {A = ℕ} i 0)
+pub zero-turn : (t l : List ℕ) (b i : ℕ) → t ≡ sets l b (replicate i 0)
+    → set t (b + i) 0 ≡ sets l b (replicate (i + 1) 0)
+zero-turn t l b i e =
+    rw (
+      e,
+      ← replicate-append-replicate {A = ℕ} i 1 0,
+      sets-snoc (replicate i 0) l b 0,
+      length-replicate {A = ℕ} i 0,
+    )

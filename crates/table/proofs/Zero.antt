@@ -1,5 +1,5 @@
--- The search for a name's zero byte, one law for each way out of the loop and one for a turn; and that a name found lies in the text.
--- Assumes nothing.
+-- The search for a name's zero byte, one law for each way out of the loop and one for a turn; and that a name found
+-- lies in the text. Assumes nothing.
 use mathlib.Core.Path.{_≡_, refl}
 use mathlib.Core.Bool.{Bool, true, false}
 use mathlib.Core.List.{List}
@@ -14,7 +14,7 @@ use Rattle.store.specs.declared.ResourceId.{ResourceId}
 use Rattle.store.specs.declared.Refusal.{Refusal}
 use Rattle.store.specs.declared.NameRead.the-variants.{Span, Refused}
 use Rattle.store.specs.Tables.{Tables, fits, offsetAt, word}
-use Rattle.store.specs.Reading.{inRange, zeroFrom, spanTo, nameSpanOf}
+use Rattle.store.specs.Reading.{inRange, nameWindow, zeroFrom, spanTo, nameSpanOf}
 use Rattle.table.proofs.Capacity.{fits-room}
 
 module _ (t : List ℕ) (e : ℕ) where
@@ -23,7 +23,8 @@ module _ (t : List ℕ) (e : ℕ) where
   zero-here zero o l h z = absurd (omega arith)
   zero-here (suc left) o l h z = rw (zeroFrom, lt-ltb o e h, eq-eqb (word t o) 0 z)
 
-  pub zero-on : (left o : ℕ) → 0 < left → o < e → (word t o ≡ 0 → ⊥) → zeroFrom t e left o ≡ zeroFrom t e (left - 1) (o + 1)
+  pub zero-on : (left o : ℕ) → 0 < left → o < e → (word t o ≡ 0 → ⊥)
+      → zeroFrom t e left o ≡ zeroFrom t e (left - 1) (o + 1)
   unfolding zeroFrom
   zero-on zero o l h z = absurd (omega arith)
   zero-on (suc left) o l h z =
@@ -78,17 +79,20 @@ span-in o e a k none h q = absurd (refused-span _ a k q)
 span-in o e a k (some y) h q = let b : o ≡ a = cc in let d : y - o ≡ k = cc in let i = h y refl in omega arith
 
 -- a span told lies in the text, its zero byte too
-pub name-in : (c : Counters) (m : Tables) (n : ResourceId) (a k : ℕ) → nameSpanOf c m n ≡ Span a k → a + k < length (m .text)
+pub name-in : (c : Counters) (m : Tables) (n : ResourceId) (a k : ℕ) → nameSpanOf c m n ≡ Span a k
+    → a + k < length (m .text)
 unfolding nameSpanOf
 name-in c m n a k = capacity (fits c m) refl
   where
     o : ℕ
     o = offsetAt (m .resources) (n .0)
 
-    range : fits c m ≡ true → (b : Bool) → inRange (c .resources) (n .0) ≡ b → nameSpanOf c m n ≡ Span a k → a + k < length (m .text)
+    range : fits c m ≡ true → (b : Bool) → inRange (c .resources) (n .0) ≡ b → nameSpanOf c m n ≡ Span a k
+        → a + k < length (m .text)
     range f true q = rw (f, q) (λ p.
         let r = fits-room c m f in
-        let i = span-in o (c .text) a k (zeroFrom (m .text) (c .text) 256 o) (zero-in (m .text) (c .text) 256 o) p in
+        let z = zeroFrom (m .text) (c .text) nameWindow o in
+        let i = span-in o (c .text) a k z (zero-in (m .text) (c .text) nameWindow o) p in
         omega arith)
     range f false q = rw (f, q) (λ p. absurd (refused-span _ a k p))
 

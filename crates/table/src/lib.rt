@@ -27,7 +27,8 @@ pub const RESOURCE_WORDS: usize = 11;
 
 pub const STATEMENT_WORDS: usize = 7;
 
-// Words of a resource record after the three firsts: the three counts, the name's offset, its kind, the three live counts.
+// Words of a resource record after the three firsts: the three counts, the name's offset, its kind, the three live
+// counts.
 pub const COUNT: usize = 3;
 
 pub const OFFSET: usize = 6;
@@ -44,7 +45,8 @@ pub const FLAG: usize = 6;
 // A name of the longest kind and its zero byte.
 pub const NAME_WINDOW: usize = Counters::MAX_NAME as usize + 1;
 
-// Whether no counter exceeds its capacity, nor the reclaims so far their maximum. Every operation of the store refuses 1 where this is false.
+// Whether no counter exceeds its capacity, nor the reclaims so far their maximum. Every operation of the store
+// refuses 1 where this is false.
 pub fn fits(c: Counters, resources: &[u32], statements: &[u32], index: &[u32], text: &[u8]) -> bool
     ensures { λ b. ⌜ b ≡ fits c (lent (resources .entry) (statements .entry) (index .entry) (text .entry)) ⌝ }
 {
@@ -98,7 +100,8 @@ pub fn known(n: u32, x: Triple) -> bool
     in_range(n, x.object.0)
 }
 
-// Read a statement. Refusals: 1; 4 if the number is 0 or above T; 9 if a resource is outside 1..R or the flag exceeds 1.
+// Read a statement. Refusals: 1; 4 if the number is 0 or above T; 9 if a resource is outside 1..R or the flag exceeds
+// 1.
 pub fn read_statement(
     c: Counters,
     resources: &[u32],
@@ -126,8 +129,8 @@ pub fn read_statement(
     StatementRead::Is(spo, flag)
 }
 
-// Name of a number: where its bytes are in the text, the zero byte not included. Refusals: 1; 4 if the number is 0 or above R; 9 if the
-// offset is at or past B, or no zero byte follows within 256 bytes and before B.
+// Name of a number: where its bytes are in the text, the zero byte not included. Refusals: 1; 4 if the number is 0 or
+// above R; 9 if the offset is at or past B, or no zero byte follows within 256 bytes and before B.
 pub fn name_span(
     c: Counters,
     resources: &[u32],

@@ -1,4 +1,5 @@
-// Words of a record at a position in general. Each function asks that its record lies in the table; the operations see to it.
+// Words of a record at a position in general. Each function asks that its record lies in the table; the operations
+// see to it.
 use store::NameRead;
 use store::Position;
 use store::Refusal;
@@ -9,7 +10,8 @@ ghost use mathlib.Core.Path.{_≡_};
 ghost use Prim.Native.Nat.{_+_, _*_, _-_, _<_, _≤_, min};
 ghost use lib.ListN.{length};
 ghost use Rattle.store.specs.Shared.{kindsPermitted};
-ghost use Rattle.store.specs.Tables.{resourceWords, statementWords, off, word, termAt, nextAt, flagAt, tripleAt, firstAt, countAt, offsetAt, kindAt, liveAt};
+ghost use Rattle.store.specs.Tables.{resourceWords, statementWords, off, word, termAt, nextAt, flagAt, tripleAt};
+ghost use Rattle.store.specs.Tables.{firstAt, countAt, offsetAt, kindAt, liveAt};
 ghost use Rattle.store.specs.Reading.{nameWindow, zeroFrom, spanTo};
 ghost use Rattle.table.specs.Held.{StatementHeld, ResourceHeld, TripleHeld};
 
@@ -140,8 +142,8 @@ pub fn lesser(a: usize, b: usize) -> usize
     if a < b { a } else { b }
 }
 
-// The name that starts at an offset of the text: it is closed by a zero byte within 256 bytes and before `end`, or it is damaged.
-// The offset may be any word: nothing is read at or past `end`.
+// The name that starts at an offset of the text: it is closed by a zero byte within 256 bytes and before `end`, or it
+// is damaged. The offset may be any word: nothing is read at or past `end`.
 pub fn span_at(text: &[u8], end: u32, from: u32) -> NameRead
     requires { ⌜ end ≤ length (now text) ⌝ }
     ensures { λ r. ⌜ r ≡ spanTo from (zeroFrom (now (text .entry)) end nameWindow from) ⌝ }

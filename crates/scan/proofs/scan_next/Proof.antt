@@ -1,60 +1,100 @@
-use Rattle.table.proofs.Branches.{passed, failed}
 use native.Mathlib.Omega.{arith}
-use mathlib.Core.Path.{sym, _∙_, ap}
+use mathlib.Core.Path.{_≡_, sym, _∙_, ap}
+use mathlib.Core.Bool.{true}
 use denote.Ref.{now}
 use borrow.Author.Tests.{eq-eqb, ne-eqb}
+use Rattle.table.proofs.Branches.{passed, failed, first-refuses}
 use Rattle.table.proofs.Capacity.{fits-room}
 use Rattle.scan.proofs.Cursors.{cursor-within, next-walk}
 use Rattle.chain_walk.specs.Walks.{stepOf}
 use Rattle.chain_walk.specs.declared.walk.Walked.{Walked}
-use Rattle.store.specs.Scan.{scannedAs, nextOf}
-use Rattle.store.specs.Tables.{tables}
+use Rattle.store.specs.Scan.{cursorOk, scannedAs, nextOf}
+use Rattle.store.specs.Tables.{Tables, lent, fits}
 use borrow.Author.Needs.{needs}
 use Rattle.scan.proofs.scan_next.Statement.{statement}
 use Rattle.scan.proofs.scan_next.Tie as tie
-use Rattle.scan.proofs.scan_next.Reads as reads
-use Rattle.scan.proofs.scan_next.Lts as lts
-use Rattle.scan.proofs.cursor_ok.Reads as cursor-ok-reads
-use Rattle.chain_walk.proofs.walk.walk.Reads as walk-reads
-use Rattle.scan.proofs.moved.Reads as moved-reads
-use Rattle.table.proofs.fits.Reads as fits-reads
+
+-- ---- where neither 1 nor 13 is refused
+
+abbrev start : tie.Else2 → tie.Start
+start c = c .before .before .before .before .before .before .before .before .before
+
+abbrev tablesOf : tie.Start → Tables
+tablesOf s = let a = s .args in lent (a .resources) (a .statements) (a .index) (a .text)
+
+fit : (c : tie.Else2) → fits (start c .args .c) (tablesOf (start c)) ≡ true
+fit c = passed (c .before .before .before .before .fits2 .ensures) (c .before .before .before .if1 .left)
+
+own-number : (c : tie.Else2) → start c .args .q .generation ≡ start c .args .c .generation
+own-number c = omega arith
+
+-- ---- nor 6
+
+abbrev before-test : tie.Else3 → tie.Else2
+before-test c = c .before .before
+
+taken : (c : tie.Else3)
+    → (let s = start (before-test c) in cursorOk (s .args .c) (tablesOf s) (s .args .q) ≡ true)
+taken c =
+    let a = start (before-test c) .args in
+    passed (c .before .cursor-ok .ensures .tells (now (a .resources)) (now (a .index)) (now (a .text))) (c .if3 .left)
+
+-- the answer to what the walk came to
+answered : (c : tie.After-walk) (w : Walked) → c .walk .result ≡ w
+    → (let s = start (before-test (c .before .before .before)) in
+    scannedAs (s .args .q) (stepOf w) ≡ nextOf (s .args .c) (tablesOf s) (s .args .q) (s .args .budget))
+answered c w e =
+    let d = c .before .before .before in
+    let s = start (before-test d) in
+    sym (next-walk (s .args .c) (tablesOf s) (s .args .q) (c .walk .result) (s .args .budget) (fit (before-test d))
+    (own-number (before-test d)) (taken d) (c .before .before .if4 .left) (c .walk .ensures)
+    ∙ ap (λ (w : Walked). scannedAs (s .args .q) (stepOf w)) e)
+
+-- ---- the needs
 
 fits-requires : tie.Need-fits-requires
 fits-requires c κs = search needs
 
 returns : tie.Need-returns
 unfolding nextOf
-returns c = simp (failed (c .before .fits2 .ensures) (c .if1 .taken))
+returns c = first-refuses _ _ (c .before .fits2 .ensures) (c .if1 .taken)
 
 returns-2 : tie.Need-returns-2
 unfolding nextOf
 returns-2 c =
     let a = c .before .before .before .before .before .before .before .before .before .args in
-    rw (passed (c .before .before .before .before .fits2 .ensures) (c .before .before .before .if1 .left), ne-eqb (a .q .generation) (a .c .generation) (λ e. omega arith))
+    rw (
+      passed (c .before .before .before .before .fits2 .ensures) (c .before .before .before .if1 .left),
+      ne-eqb (a .q .generation) (a .c .generation) (λ e. omega arith),
+    )
 
 cursor-ok-requires : tie.Need-cursor-ok-requires
-cursor-ok-requires c κs = let a = c .before .before .before .before .before .before .before .before .before .args in
-    let m = tables (now (a .resources)) (now (a .statements)) (now (a .index)) (now (a .text)) in fits-room (a .c) m (passed (c .before .before .before .before .fits2 .ensures) (c .before .before .before .if1 .left)) .in-statements
+cursor-ok-requires c κs = fits-room (start c .args .c) (tablesOf (start c)) (fit c) .in-statements
 
 returns-3 : tie.Need-returns-3
 unfolding nextOf
 returns-3 c =
-    let a = c .before .before .before .before .before .before .before .before .before .before .before .args in
-    rw (passed (c .before .before .before .before .before .before .fits2 .ensures) (c .before .before .before .before .before .if1 .left), eq-eqb (a .q .generation) (a .c .generation) (omega arith), failed (c .before .cursor-ok .ensures .tells (now (a .resources)) (now (a .index)) (now (a .text))) (c .if3 .taken))
+    let d = c .before .before in
+    let a = start d .args in
+    rw (
+      fit d,
+      eq-eqb _ _ (own-number d),
+      failed (c .before .cursor-ok .ensures .tells (now (a .resources)) (now (a .index)) (now (a .text)))
+          (c .if3 .taken),
+    )
 
 returns-4 : tie.Need-returns-4
 unfolding nextOf
 returns-4 c =
-    let a = c .before .before .before .before .before .before .before .before .before .before .before .before .args in
-    rw (passed (c .before .before .before .before .before .before .before .fits2 .ensures) (c .before .before .before .before .before .before .if1 .left), eq-eqb (a .q .generation) (a .c .generation) (omega arith), passed (c .before .before .cursor-ok .ensures .tells (now (a .resources)) (now (a .index)) (now (a .text))) (c .before .if3 .left), eq-eqb _ _ (c .if4 .taken))
+    let d = before-test (c .before) in
+    rw (fit d, eq-eqb _ _ (own-number d), taken (c .before), eq-eqb _ _ (c .if4 .taken))
 
 walk-requires : tie.Need-walk-requires
 walk-requires c κs =
-    let a = c .before .before .before .before .before .before .before .before .before .before .before .before .before .args in
-    let m = tables (now (a .resources)) (now (a .statements)) (now (a .index)) (now (a .text)) in
-    let f = passed (c .before .before .before .before .before .before .before .before .fits2 .ensures) (c .before .before .before .before .before .before .before .if1 .left) in
-    let k = cursor-within (a .c) m (a .q) (passed (c .before .before .before .cursor-ok .ensures .tells (now (a .resources)) (now (a .index)) (now (a .text))) (c .before .before .if3 .left)) in
-    let s = fits-room (a .c) m f .in-statements in
+    let d = c .before .before in
+    let s = start (before-test d) in
+    let k = cursor-within (s .args .c) (tablesOf s) (s .args .q) (taken d) in
+    let i = fits-room (s .args .c) (tablesOf s) (fit (before-test d)) .in-statements in
     omega arith
 
 enum-known-n : tie.Need-enum-known-n
@@ -79,20 +119,19 @@ enum-told : tie.Need-enum-told
 enum-told c = search needs
 
 returns-5 : tie.Need-returns-5
-returns-5 c = let a = c .before .before .before .before .before .before .before .before .before .before .before .before .before .before .before .before .before .before .args in
-    let m = tables (now (a .resources)) (now (a .statements)) (now (a .index)) (now (a .text)) in rw (c .moved .ensures) (sym (next-walk (a .c) m (a .q) (c .before .before .before .before .walk .result) (a .budget) (passed (c .before .before .before .before .before .before .before .before .before .before .before .before .before .fits2 .ensures) (c .before .before .before .before .before .before .before .before .before .before .before .before .if1 .left)) (omega arith) (passed (c .before .before .before .before .before .before .before .before .cursor-ok .ensures .tells (now (a .resources)) (now (a .index)) (now (a .text))) (c .before .before .before .before .before .before .before .if3 .left)) (c .before .before .before .before .before .before .if4 .left) (c .before .before .before .before .walk .ensures) ∙ ap (λ (w : Walked). scannedAs (a .q) (stepOf w)) (c .before .before .n .given .1)))
+returns-5 c =
+    rw (c .moved .ensures) (answered (c .before .before .before .before) _ (c .before .before .n .given .1))
 
 returns-6 : tie.Need-returns-6
-returns-6 c = let a = c .before .before .before .before .before .before .before .before .before .before .before .before .before .before .before .before .before .before .args in
-    let m = tables (now (a .resources)) (now (a .statements)) (now (a .index)) (now (a .text)) in rw (c .moved2 .ensures) (sym (next-walk (a .c) m (a .q) (c .before .before .before .before .walk .result) (a .budget) (passed (c .before .before .before .before .before .before .before .before .before .before .before .before .before .fits2 .ensures) (c .before .before .before .before .before .before .before .before .before .before .before .before .if1 .left)) (omega arith) (passed (c .before .before .before .before .before .before .before .before .cursor-ok .ensures .tells (now (a .resources)) (now (a .index)) (now (a .text))) (c .before .before .before .before .before .before .before .if3 .left)) (c .before .before .before .before .before .before .if4 .left) (c .before .before .before .before .walk .ensures) ∙ ap (λ (w : Walked). scannedAs (a .q) (stepOf w)) (c .before .before .visits .given .1)))
+returns-6 c =
+    rw (c .moved2 .ensures) (answered (c .before .before .before .before) _ (c .before .before .visits .given .1))
 
 returns-7 : tie.Need-returns-7
-returns-7 c = let a = c .before .before .before .before .before .before .before .before .before .before .before .before .before .before .before .before .before .before .args in
-    let m = tables (now (a .resources)) (now (a .statements)) (now (a .index)) (now (a .text)) in rw (c .moved3 .ensures) (sym (next-walk (a .c) m (a .q) (c .before .before .before .before .walk .result) (a .budget) (passed (c .before .before .before .before .before .before .before .before .before .before .before .before .before .fits2 .ensures) (c .before .before .before .before .before .before .before .before .before .before .before .before .if1 .left)) (omega arith) (passed (c .before .before .before .before .before .before .before .before .cursor-ok .ensures .tells (now (a .resources)) (now (a .index)) (now (a .text))) (c .before .before .before .before .before .before .before .if3 .left)) (c .before .before .before .before .before .before .if4 .left) (c .before .before .before .before .walk .ensures) ∙ ap (λ (w : Walked). scannedAs (a .q) (stepOf w)) (c .before .before .visits2 .given .1)))
+returns-7 c =
+    rw (c .moved3 .ensures) (answered (c .before .before .before .before) _ (c .before .before .visits2 .given .1))
 
 returns-8 : tie.Need-returns-8
-returns-8 c = let a = c .before .before .before .before .before .before .before .before .before .before .before .before .before .before .before .before .args in
-    let m = tables (now (a .resources)) (now (a .statements)) (now (a .index)) (now (a .text)) in sym (next-walk (a .c) m (a .q) (c .before .before .walk .result) (a .budget) (passed (c .before .before .before .before .before .before .before .before .before .before .before .fits2 .ensures) (c .before .before .before .before .before .before .before .before .before .before .if1 .left)) (omega arith) (passed (c .before .before .before .before .before .before .cursor-ok .ensures .tells (now (a .resources)) (now (a .index)) (now (a .text))) (c .before .before .before .before .before .if3 .left)) (c .before .before .before .before .if4 .left) (c .before .before .walk .ensures) ∙ ap (λ (w : Walked). scannedAs (a .q) (stepOf w)) (c .enum-told .given .1))
+returns-8 c = answered (c .before .before) _ (c .enum-told .given .1)
 
 pub scan-next-spec : {M : Type 1} → statement M
 scan-next-spec =

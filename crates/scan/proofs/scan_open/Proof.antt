@@ -1,53 +1,80 @@
 use denote.Ref.{now}
+use mathlib.Core.Path.{_≡_}
+use mathlib.Core.Bool.{true}
+use Rattle.chain.specs.Chains.{PatternHeld}
 use Rattle.chain.proofs.Chains.{pick-bound}
-use Rattle.table.proofs.Branches.{passed, failed}
+use Rattle.table.proofs.Branches.{passed, failed, first-refuses, second-refuses, both-passed}
 use Rattle.scan.proofs.Cursors.{within-held}
-use Rattle.store.specs.Tables.{tables}
+use Rattle.store.specs.Shared.{within}
+use Rattle.store.specs.Tables.{Tables, lent, fits}
 use Rattle.store.specs.Scan.{openOf}
 use borrow.Author.Needs.{needs}
 use Rattle.scan.proofs.scan_open.Statement.{statement}
 use Rattle.scan.proofs.scan_open.Tie as tie
-use Rattle.scan.proofs.scan_open.Reads as reads
-use Rattle.scan.proofs.scan_open.Lts as lts
-use Rattle.chain.proofs.pick.pick_chain.Reads as pick-chain-reads
-use Rattle.chain.proofs.pick.pickable.Reads as pickable-reads
-use Rattle.chain.proofs.pick.start_of.Reads as start-of-reads
-use Rattle.table.proofs.triple.within.Reads as within-reads
-use Rattle.table.proofs.fits.Reads as fits-reads
+
+-- ---- where neither 1 nor 4 is refused
+
+abbrev start : tie.Else2 → tie.Start
+start c = c .before .before .before .before .before .before .before .before
+
+abbrev tablesOf : tie.Start → Tables
+tablesOf s = let a = s .args in lent (a .resources) (a .statements) (a .index) (a .text)
+
+tests : (c : tie.Else2) → (let s = start c in
+    (fits (s .args .c) (tablesOf s) ≡ true) × (within (s .args .c .resources) (s .args .x) ≡ true))
+tests c =
+    both-passed (c .before .before .before .fits2 .ensures) (c .before .before .if1 .left) (c .before .within .ensures)
+    (c .if2 .left)
+
+held : (c : tie.Else2) → PatternHeld (now (start c .args .resources)) (start c .args .x)
+held c = within-held (start c .args .c) (tablesOf (start c)) (tests c .0) (start c .args .x) (tests c .1)
+
+-- ---- the needs
 
 fits-requires : tie.Need-fits-requires
 fits-requires c κs = search needs
 
 returns : tie.Need-returns
 unfolding openOf
-returns c = simp (failed (c .before .fits2 .ensures) (c .if1 .taken))
+returns c = first-refuses _ _ (c .before .fits2 .ensures) (c .if1 .taken)
 
 within-requires : tie.Need-within-requires
 within-requires c κs = search needs
 
 returns-2 : tie.Need-returns-2
 unfolding openOf
-returns-2 c = simp (passed (c .before .before .before .fits2 .ensures) (c .before .before .if1 .left), failed (c .before .within .ensures) (c .if2 .taken))
+returns-2 c =
+    second-refuses _ _ _ (c .before .before .before .fits2 .ensures) (c .before .before .if1 .left)
+    (c .before .within .ensures) (c .if2 .taken)
 
 pickable-requires : tie.Need-pickable-requires
-pickable-requires c κs = let a = c .before .before .before .before .before .before .before .before .args in
-    let m = tables (now (a .resources)) (now (a .statements)) (now (a .index)) (now (a .text)) in within-held (a .c) m (passed (c .before .before .before .fits2 .ensures) (c .before .before .if1 .left)) (a .x) (passed (c .before .within .ensures) (c .if2 .left))
+pickable-requires c κs = held c
 
 returns-3 : tie.Need-returns-3
 unfolding openOf
-returns-3 c = simp (passed (c .before .before .before .before .before .fits2 .ensures) (c .before .before .before .before .if1 .left), passed (c .before .before .before .within .ensures) (c .before .before .if2 .left), failed (c .before .pickable .ensures) (c .if3 .taken))
+returns-3 c =
+    let t = tests (c .before .before) in
+    simp (t .0, t .1, failed (c .before .pickable .ensures) (c .if3 .taken))
 
 pick-chain-requires : tie.Need-pick-chain-requires
-pick-chain-requires c κs = let a = c .before .before .before .before .before .before .before .before .before .before .args in
-    let m = tables (now (a .resources)) (now (a .statements)) (now (a .index)) (now (a .text)) in within-held (a .c) m (passed (c .before .before .before .before .before .fits2 .ensures) (c .before .before .before .before .if1 .left)) (a .x) (passed (c .before .before .before .within .ensures) (c .before .before .if2 .left))
+pick-chain-requires c κs = held (c .before .before)
 
 start-of-requires : tie.Need-start-of-requires
-start-of-requires c κs = let a = c .before .before .before .before .before .before .before .before .before .before .before .args in
-    let m = tables (now (a .resources)) (now (a .statements)) (now (a .index)) (now (a .text)) in (within-held (a .c) m (passed (c .before .before .before .before .before .before .fits2 .ensures) (c .before .before .before .before .before .if1 .left)) (a .x) (passed (c .before .before .before .before .within .ensures) (c .before .before .before .if2 .left)), rw (c .pick-chain .ensures) (pick-bound (now (a .resources)) (a .x)))
+start-of-requires c κs =
+    let d = c .before .before .before in
+    (held d, rw (c .pick-chain .ensures) (pick-bound (now (start d .args .resources)) (start d .args .x)))
 
 returns-4 : tie.Need-returns-4
 unfolding openOf
-returns-4 c = simp (passed (c .before .before .before .before .before .before .before .fits2 .ensures) (c .before .before .before .before .before .before .if1 .left), passed (c .before .before .before .before .before .within .ensures) (c .before .before .before .before .if2 .left), passed (c .before .before .before .pickable .ensures) (c .before .before .if3 .left), ← c .before .pick-chain .ensures, ← c .start-of .ensures)
+returns-4 c =
+    let t = tests (c .before .before .before .before) in
+    simp (
+      t .0,
+      t .1,
+      passed (c .before .before .before .pickable .ensures) (c .before .before .if3 .left),
+      ← c .before .pick-chain .ensures,
+      ← c .start-of .ensures,
+    )
 
 pub scan-open-spec : {M : Type 1} → statement M
 scan-open-spec =

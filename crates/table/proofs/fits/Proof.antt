@@ -4,8 +4,6 @@ use borrow.Author.Needs.{needs}
 use Rattle.table.proofs.Capacity.{over-resources, over-statements, over-text, reclaims-decide}
 use Rattle.table.proofs.fits.Statement.{statement}
 use Rattle.table.proofs.fits.Tie as tie
-use Rattle.table.proofs.fits.Reads as reads
-use Rattle.table.proofs.fits.Lts as lts
 
 cast-r : tie.Need-cast-r
 cast-r c = search needs

@@ -3,8 +3,6 @@ use native.Mathlib.Omega.{arith}
 use borrow.Author.Tests.{lt-ltb, le-ltb}
 use Rattle.table.proofs.in_range.Statement.{statement}
 use Rattle.table.proofs.in_range.Tie as tie
-use Rattle.table.proofs.in_range.Reads as reads
-use Rattle.table.proofs.in_range.Lts as lts
 
 returns : tie.Need-returns
 unfolding inRange

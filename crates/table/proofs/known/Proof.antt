@@ -1,20 +1,16 @@
 use Rattle.store.specs.Reading.{inRange}
 use Rattle.store.specs.Shared.{known}
-use mathlib.Core.Path.{sym, _∙_}
-use borrow.Author.Tests.{not-true, not-false}
 use borrow.Author.Needs.{needs}
+use Rattle.table.proofs.Branches.{first-fails, second-fails, third-tells}
 use Rattle.table.proofs.known.Statement.{statement}
 use Rattle.table.proofs.known.Tie as tie
-use Rattle.table.proofs.known.Reads as reads
-use Rattle.table.proofs.known.Lts as lts
-use Rattle.table.proofs.in_range.Reads as in-range-reads
 
 in-range-requires : tie.Need-in-range-requires
 in-range-requires c κs = search needs
 
 returns : tie.Need-returns
 unfolding known inRange
-returns c = rw (sym (c .before .in-range .ensures) ∙ not-true (c .before .in-range .result) (c .if1 .taken))
+returns c = first-fails _ (c .before .in-range .ensures) (c .if1 .taken)
 
 in-range-requires-2 : tie.Need-in-range-requires-2
 in-range-requires-2 c κs = search needs
@@ -22,12 +18,8 @@ in-range-requires-2 c κs = search needs
 returns-2 : tie.Need-returns-2
 unfolding known inRange
 returns-2 c =
-    rw (
-      sym (c .before .before .before .in-range .ensures) ∙ not-false (c .before .before .before .in-range .result)
-          (c .before .before .if1 .left),
-      sym (c .before .in-range2 .ensures) ∙ not-true (c .before .in-range2 .result)
-          (c .if2 .taken),
-    )
+    second-fails _ (c .before .before .before .in-range .ensures) (c .before .before .if1 .left)
+    (c .before .in-range2 .ensures) (c .if2 .taken)
 
 in-range-requires-3 : tie.Need-in-range-requires-3
 in-range-requires-3 c κs = search needs
@@ -35,13 +27,8 @@ in-range-requires-3 c κs = search needs
 returns-3 : tie.Need-returns-3
 unfolding known inRange
 returns-3 c =
-    rw (
-      sym (c .before .before .before .before .in-range .ensures) ∙ not-false
-          (c .before .before .before .before .in-range .result) (c .before .before .before .if1 .left),
-      sym
-          (c .before .before .in-range2 .ensures) ∙ not-false (c .before .before .in-range2 .result) (c .before .if2 .left),
-    )
-    (c .in-range3 .ensures)
+    third-tells (c .before .before .before .before .in-range .ensures) (c .before .before .before .if1 .left)
+    (c .before .before .in-range2 .ensures) (c .before .if2 .left) (c .in-range3 .ensures)
 
 pub known-spec : {M : Type 1} → statement M
 known-spec =

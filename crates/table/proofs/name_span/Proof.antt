@@ -1,29 +1,36 @@
-use Rattle.store.specs.Reading.{nameSpanOf}
+use Rattle.store.specs.Reading.{inRange, nameSpanOf}
+use Rattle.store.specs.Tables.{Tables, lent, fits}
+use Rattle.table.proofs.Branches.{passed, first-refuses, second-refuses}
 use Rattle.table.proofs.Capacity.{fits-room}
 use Rattle.table.proofs.Held.{resource-held}
-use Rattle.store.specs.Tables.{tables}
-use denote.Ref.{now}
-use mathlib.Core.Path.{sym, _∙_}
-use borrow.Author.Tests.{not-true, not-false}
+use mathlib.Core.Path.{_≡_}
+use mathlib.Core.Bool.{true}
 use borrow.Author.Needs.{needs}
 use Rattle.table.proofs.name_span.Statement.{statement}
 use Rattle.table.proofs.name_span.Tie as tie
-use Rattle.table.proofs.name_span.Reads as reads
-use Rattle.table.proofs.name_span.Lts as lts
-use Rattle.table.proofs.fits.Reads as fits-reads
-use Rattle.table.proofs.in_range.Reads as in-range-reads
-use Rattle.table.proofs.word.offset_at.Reads as offset-at-reads
-use Rattle.table.proofs.word.span_at.Reads as span-at-reads
+
+-- ---- where neither 1 nor 4 is refused
+
+abbrev start : tie.Else2 → tie.Start
+start c = c .before .before .before .before .before .before .before .before
+
+abbrev tablesOf : tie.Start → Tables
+tablesOf s = let a = s .args in lent (a .resources) (a .statements) (a .index) (a .text)
+
+fit : (c : tie.Else2) → fits (start c .args .c) (tablesOf (start c)) ≡ true
+fit c = passed (c .before .before .before .fits2 .ensures) (c .before .before .if1 .left)
+
+numbered : (c : tie.Else2) → inRange (start c .args .c .resources) (start c .args .n .0) ≡ true
+numbered c = passed (c .before .in-range .ensures) (c .if2 .left)
+
+-- ---- the needs
 
 fits-requires : tie.Need-fits-requires
 fits-requires c κs = search needs
 
 returns : tie.Need-returns
 unfolding nameSpanOf
-returns c =
-    let fits2 = c .before .fits2 in
-    let if1 = c .if1 in
-    rw (sym (fits2 .ensures) ∙ not-true (fits2 .result) (if1 .taken))
+returns c = first-refuses _ _ (c .before .fits2 .ensures) (c .if1 .taken)
 
 in-range-requires : tie.Need-in-range-requires
 in-range-requires c κs = search needs
@@ -31,50 +38,22 @@ in-range-requires c κs = search needs
 returns-2 : tie.Need-returns-2
 unfolding nameSpanOf
 returns-2 c =
-    let fits2 = c .before .before .before .fits2 in
-    let if1 = c .before .before .if1 in
-    let in-range = c .before .in-range in
-    let if2 = c .if2 in
-    rw (
-      sym (fits2 .ensures) ∙ not-false (fits2 .result) (if1 .left),
-      sym (in-range .ensures) ∙ not-true
-          (in-range .result) (if2 .taken),
-    )
+    second-refuses _ _ _ (c .before .before .before .fits2 .ensures) (c .before .before .if1 .left)
+    (c .before .in-range .ensures) (c .if2 .taken)
 
 offset-at-requires : tie.Need-offset-at-requires
 offset-at-requires c κs =
-    let a = c .before .before .before .before .before .before .before .before .args in
-    let fits2 = c .before .before .before .fits2 in
-    let if1 = c .before .before .if1 in
-    let in-range = c .before .in-range in
-    let if2 = c .if2 in
-    resource-held (a .c) (tables (now (a .resources)) (now (a .statements)) (now (a .index)) (now (a .text)))
-    (sym (fits2 .ensures) ∙ not-false (fits2 .result) (if1 .left)) (a .n .0)
-    (sym (in-range .ensures) ∙ not-false (in-range .result) (if2 .left))
+    resource-held (start c .args .c) (tablesOf (start c)) (fit c) (start c .args .n .0) (numbered c)
 
 span-at-requires : tie.Need-span-at-requires
 span-at-requires c κs =
-    let a = c .before .before .before .before .before .before .before .before .before .args in
-    let fits2 = c .before .before .before .before .fits2 in
-    let if1 = c .before .before .before .if1 in
-    fits-room (a .c) (tables (now (a .resources)) (now (a .statements)) (now (a .index)) (now (a .text)))
-    (sym (fits2 .ensures) ∙ not-false (fits2 .result) (if1 .left)) .in-text
+    let s = start (c .before) in fits-room (s .args .c) (tablesOf s) (fit (c .before)) .in-text
 
 returns-3 : tie.Need-returns-3
 unfolding nameSpanOf
 returns-3 c =
-    let fits2 = c .before .before .before .before .before .fits2 in
-    let if1 = c .before .before .before .before .if1 in
-    let in-range = c .before .before .before .in-range in
-    let if2 = c .before .before .if2 in
-    let offset-at = c .before .offset-at in
-    let span-at = c .span-at in
-    rw (
-      sym (fits2 .ensures) ∙ not-false (fits2 .result) (if1 .left),
-      sym (in-range .ensures) ∙ not-false
-          (in-range .result) (if2 .left),
-      ← offset-at .ensures,
-    ) (span-at .ensures)
+    let d = c .before .before in
+    rw (fit d, numbered d, ← c .before .offset-at .ensures) (c .span-at .ensures)
 
 pub name-span-spec : {M : Type 1} → statement M
 name-span-spec =

@@ -1,12 +1,9 @@
-use Rattle.chain.proofs.Chains.{bound-at}
+use denote.Ref.{now}
+use Rattle.chain.proofs.Chains.{held-chain}
 use Rattle.store.specs.Walk.{startOf}
 use borrow.Author.Needs.{needs}
 use Rattle.chain.proofs.pick.start_of.Statement.{statement}
 use Rattle.chain.proofs.pick.start_of.Tie as tie
-use Rattle.chain.proofs.pick.start_of.Reads as reads
-use Rattle.chain.proofs.pick.start_of.Lts as lts
-use Rattle.table.proofs.triple.at.Reads as at-reads
-use Rattle.table.proofs.word.first_at.Reads as first-at-reads
 
 enum-told : tie.Need-enum-told
 enum-told c = search needs
@@ -18,7 +15,10 @@ at-requires : tie.Need-at-requires
 at-requires c κs = search needs
 
 first-at-requires : tie.Need-first-at-requires
-first-at-requires c κs = let a = c .before .before .before .before .before .args in let y = bound-at (a .x) (a .chain) (c .before .before .chain .given .0 .0) (c .before .before .chain .given .1) (c .before .before .before .before .before .pre .1) in record { from-one = rw (c .at .ensures) y; whole = rw (c .at .ensures) (c .before .before .before .before .before .pre .0 .each (c .before .before .chain .given .0 .0)) }
+first-at-requires c κs =
+    let s = c .before .before .before .before .before in
+    let p = c .before .before .chain .given in
+    held-chain (now (s .args .resources)) (s .args .x) (s .args .chain) (p .0 .0) _ (s .pre) (p .1) (c .at .ensures)
 
 returns : tie.Need-returns
 unfolding startOf

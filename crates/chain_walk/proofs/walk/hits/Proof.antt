@@ -5,12 +5,6 @@ use Rattle.chain_walk.specs.Walks.{hits}
 use borrow.Author.Needs.{needs}
 use Rattle.chain_walk.proofs.walk.hits.Statement.{statement}
 use Rattle.chain_walk.proofs.walk.hits.Tie as tie
-use Rattle.chain_walk.proofs.walk.hits.Reads as reads
-use Rattle.chain_walk.proofs.walk.hits.Lts as lts
-use Rattle.table.proofs.triple.agrees.Reads as agrees-reads
-use Rattle.table.proofs.triple.same.Reads as same-reads
-use Rattle.table.proofs.word.flag_at.Reads as flag-at-reads
-use Rattle.table.proofs.word.triple_at.Reads as triple-at-reads
 
 triple-at-requires : tie.Need-triple-at-requires
 triple-at-requires c κs = search needs
@@ -29,18 +23,30 @@ flag-at-requires c κs = search needs
 
 returns : tie.Need-returns
 unfolding hits matches entryAt
-returns c = rw (c .before .before .enum-told2 .given .1) (simp (← c .before .before .before .before .triple-at .ensures, ← c .before .flag-at .ensures, eq-eqb _ _ (c .if1 .taken)))
+returns c =
+    rw (c .before .before .enum-told2 .given .1) (simp (
+      ← c .before .before .before .before .triple-at .ensures,
+      ← c .before .flag-at .ensures,
+      eq-eqb _ _ (c .if1 .taken),
+    ))
 
 agrees-requires : tie.Need-agrees-requires
 agrees-requires c κs = search needs
 
 returns-2 : tie.Need-returns-2
 unfolding hits matches entryAt
-returns-2 c = rw (c .before .enum-told .given .1) (simp (← c .before .before .before .triple-at .ensures, ← c .same .ensures))
+returns-2 c =
+    rw (c .before .enum-told .given .1) (simp (← c .before .before .before .triple-at .ensures, ← c .same .ensures))
 
 returns-3 : tie.Need-returns-3
 unfolding hits matches entryAt
-returns-3 c = rw (c .before .before .before .enum-told2 .given .1) (simp (← c .before .before .before .before .before .triple-at .ensures, ← c .before .before .flag-at .ensures, ne-eqb _ _ (c .before .if1 .left), ← c .agrees .ensures))
+returns-3 c =
+    rw (c .before .before .before .enum-told2 .given .1) (simp (
+      ← c .before .before .before .before .before .triple-at .ensures,
+      ← c .before .before .flag-at .ensures,
+      ne-eqb _ _ (c .before .if1 .left),
+      ← c .agrees .ensures,
+    ))
 
 pub hits-spec : {M : Type 1} → statement M
 hits-spec =

@@ -2,10 +2,6 @@ use Rattle.store.specs.Walk.{holdsResource}
 use borrow.Author.Needs.{needs}
 use Rattle.chain_walk.proofs.walk.holds_resource.Statement.{statement}
 use Rattle.chain_walk.proofs.walk.holds_resource.Tie as tie
-use Rattle.chain_walk.proofs.walk.holds_resource.Reads as reads
-use Rattle.chain_walk.proofs.walk.holds_resource.Lts as lts
-use Rattle.table.proofs.triple.at.Reads as at-reads
-use Rattle.table.proofs.word.term_at.Reads as term-at-reads
 
 enum-told : tie.Need-enum-told
 enum-told c = search needs
@@ -25,7 +21,12 @@ returns c = rw (c .enum-told .given .1)
 
 returns-2 : tie.Need-returns-2
 unfolding holdsResource
-returns-2 c = rw (c .before .before .before .before .before .chain .given .1, ← c .before .before .before .at .ensures, ← c .before .before .term-at .ensures)
+returns-2 c =
+    rw (
+      c .before .before .before .before .before .chain .given .1,
+      ← c .before .before .before .at .ensures,
+      ← c .before .before .term-at .ensures,
+    )
 
 pub holds-resource-spec : {M : Type 1} → statement M
 holds-resource-spec =

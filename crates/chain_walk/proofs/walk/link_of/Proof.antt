@@ -2,9 +2,6 @@ use Rattle.store.specs.Walk.{linkOf}
 use borrow.Author.Needs.{needs}
 use Rattle.chain_walk.proofs.walk.link_of.Statement.{statement}
 use Rattle.chain_walk.proofs.walk.link_of.Tie as tie
-use Rattle.chain_walk.proofs.walk.link_of.Reads as reads
-use Rattle.chain_walk.proofs.walk.link_of.Lts as lts
-use Rattle.table.proofs.word.next_at.Reads as next-at-reads
 
 enum-told : tie.Need-enum-told
 enum-told c = search needs

@@ -3,11 +3,6 @@ use Rattle.chain_walk.specs.Walks.{visitOf}
 use borrow.Author.Needs.{needs}
 use Rattle.chain_walk.proofs.walk.visit.Statement.{statement}
 use Rattle.chain_walk.proofs.walk.visit.Tie as tie
-use Rattle.chain_walk.proofs.walk.visit.Reads as reads
-use Rattle.chain_walk.proofs.walk.visit.Lts as lts
-use Rattle.chain_walk.proofs.walk.hits.Reads as hits-reads
-use Rattle.chain_walk.proofs.walk.link_of.Reads as link-of-reads
-use Rattle.chain_walk.proofs.walk.visitable.Reads as visitable-reads
 
 visitable-requires : tie.Need-visitable-requires
 visitable-requires c κs = search needs
@@ -24,11 +19,23 @@ hits-requires c κs = search needs
 
 returns-2 : tie.Need-returns-2
 unfolding visitOf
-returns-2 c = simp (passed (c .before .before .before .before .visitable .ensures) (c .before .before .before .if1 .left), ← c .before .before .link-of .ensures, ← c .before .hits .ensures, c .if2 .taken)
+returns-2 c =
+    simp (
+      passed (c .before .before .before .before .visitable .ensures) (c .before .before .before .if1 .left),
+      ← c .before .before .link-of .ensures,
+      ← c .before .hits .ensures,
+      c .if2 .taken,
+    )
 
 returns-3 : tie.Need-returns-3
 unfolding visitOf
-returns-3 c = simp (passed (c .before .before .before .before .visitable .ensures) (c .before .before .before .if1 .left), ← c .before .before .link-of .ensures, ← c .before .hits .ensures, c .if2 .left)
+returns-3 c =
+    simp (
+      passed (c .before .before .before .before .visitable .ensures) (c .before .before .before .if1 .left),
+      ← c .before .before .link-of .ensures,
+      ← c .before .hits .ensures,
+      c .if2 .left,
+    )
 
 pub visit-spec : {M : Type 1} → statement M
 visit-spec =

@@ -1,6 +1,7 @@
 use denote.Ref.{now}
 use native.Mathlib.Omega.{arith}
-use Rattle.chain_walk.proofs.Walks.{onward, plus-none, walk-ended, walk-spent, walk-damaged, walk-hit, walk-miss, visit-falls}
+use Rattle.chain_walk.proofs.Walks.{onward, plus-none, walk-ended, walk-spent, walk-damaged, walk-hit, walk-miss}
+use Rattle.chain_walk.proofs.Walks.{visit-falls}
 use Rattle.chain_walk.specs.Walks.{hits}
 use Rattle.store.specs.Walk.{linkOf, visitable, walk}
 use Rattle.store.specs.Tables.{statementWords}
@@ -10,17 +11,29 @@ use Prim.Native.Nat.{_+_, _-_, _*_, _≤_}
 use borrow.Author.Needs.{needs}
 use Rattle.chain_walk.proofs.walk.walk.Statement.{statement}
 use Rattle.chain_walk.proofs.walk.walk.Tie as tie
-use Rattle.chain_walk.proofs.walk.walk.Reads as reads
-use Rattle.chain_walk.proofs.walk.walk.Lts as lts
-use Rattle.chain_walk.proofs.walk.visit.Reads as visit-reads
 
 abbrev Inv-loop : tie.InvT-loop
 Inv-loop statements r chain x sought budget n₀ visits₀ n visits =
     (statementWords * n .0 ≤ length statements) × (visits ≤ budget)
-    × (onward sought r statements chain x visits (budget - visits) (n .0) ≡ walk (linkOf statements chain) (visitable r statements chain x) (hits sought statements x) budget (n₀ .0))
+    × (onward sought r statements chain x visits (budget - visits) (n .0)
+    ≡ walk (linkOf statements chain) (visitable r statements chain x) (hits sought statements x) budget (n₀ .0))
 
 abbrev μ-loop : tie.MeasureT-loop
 μ-loop statements r chain x sought budget n₀ visits₀ n visits = budget - visits
+
+-- ---- where a record is visited
+
+abbrev start : tie.At-loop Inv-loop μ-loop → tie.Start Inv-loop μ-loop
+start c = c .before .before
+
+abbrev before-visit : tie.After-visit Inv-loop μ-loop → tie.At-loop Inv-loop μ-loop
+before-visit c = c .before .before .before .before
+
+more-left : (c : tie.After-visit Inv-loop μ-loop)
+    → (let d = before-visit c in start d .args .budget - d .loop .visits ≡ 0 → ⊥)
+more-left c z = let h = c .before .if2 .left in let l = before-visit c .loop in h (omega arith)
+
+-- ---- the needs
 
 loop-holds : tie.Need-loop-holds Inv-loop μ-loop
 loop-holds c =
@@ -30,13 +43,17 @@ loop-holds c =
 
 returns : tie.Need-returns Inv-loop μ-loop
 returns c =
-    let l = c .before .before .loop in let a = c .before .before .before .before .args in
-    sym (walk-ended (a .sought) (a .r) (now (a .statements)) (a .chain) (a .x) (l .visits) (a .budget - l .visits) (l .n .0) (c .if1 .taken)) ∙ l .inv .2
+    let l = c .before .before .loop in
+    let a = start (c .before .before) .args in
+    sym (walk-ended (a .sought) (a .r) (now (a .statements)) (a .chain) (a .x) (l .visits) (a .budget - l .visits)
+    (l .n .0) (c .if1 .taken)) ∙ l .inv .2
 
 returns-2 : tie.Need-returns-2 Inv-loop μ-loop
 returns-2 c =
-    let l = c .before .before .before .loop in let a = c .before .before .before .before .before .args in
-    sym (walk-spent (a .sought) (a .r) (now (a .statements)) (a .chain) (a .x) (l .visits) (a .budget - l .visits) (l .n .0) (c .before .if1 .left) (omega arith)) ∙ l .inv .2
+    let l = c .before .before .before .loop in
+    let a = start (c .before .before .before) .args in
+    sym (walk-spent (a .sought) (a .r) (now (a .statements)) (a .chain) (a .x) (l .visits) (a .budget - l .visits)
+    (l .n .0) (c .before .if1 .left) (omega arith)) ∙ l .inv .2
 
 add-visits : tie.Need-add-visits Inv-loop μ-loop
 add-visits c = search needs
@@ -49,10 +66,12 @@ enum-told c = search needs
 
 returns-3 : tie.Need-returns-3 Inv-loop μ-loop
 returns-3 c =
-    let l = c .before .before .before .before .before .before .loop in let a = c .before .before .before .before .before .before .before .before .args in
-    let e = sym (c .before .before .visit .ensures) ∙ c .enum-told .given .1 in
-    let h = c .before .before .before .if2 .left in
-    sym (walk-damaged (a .sought) (a .r) (now (a .statements)) (a .chain) (a .x) (l .visits) (a .budget - l .visits) (l .n .0) (c .before .before .before .before .if1 .left) (λ d. h (omega arith)) e) ∙ l .inv .2
+    let v = c .before .before in
+    let l = before-visit v .loop in
+    let a = start (before-visit v) .args in
+    sym (walk-damaged (a .sought) (a .r) (now (a .statements)) (a .chain) (a .x) (l .visits) (a .budget - l .visits)
+    (l .n .0) (v .before .before .if1 .left) (more-left v) (sym (v .visit .ensures) ∙ c .enum-told .given .1))
+    ∙ l .inv .2
 
 enum-known-m : tie.Need-enum-known-m Inv-loop μ-loop
 enum-known-m c = search needs
@@ -65,21 +84,29 @@ loop-less c = search needs
 
 loop-again : tie.Need-loop-again Inv-loop μ-loop
 loop-again c =
-    let l = c .before .before .before .before .before .before .before .loop in let a = c .before .before .before .before .before .before .before .before .before .args in
+    let v = c .before .before .before in
+    let l = before-visit v .loop in
+    let a = start (before-visit v) .args in
     let m = c .before .m2 .given .0 .0 in
-    let e = sym (c .before .before .before .visit .ensures) ∙ c .before .m2 .given .1 in
-    let h = c .before .before .before .before .if2 .left in
-    let f = visit-falls (a .sought) (a .r) (now (a .statements)) (a .chain) (a .x) (l .n .0) m (c .before .before .before .before .before .if1 .left) e in
-    let z : a .budget - (l .visits + 1) ≡ a .budget - l .visits - 1 = omega arith in
-    (omega arith, omega arith, rw z (sym (walk-miss (a .sought) (a .r) (now (a .statements)) (a .chain) (a .x) (l .visits) (a .budget - l .visits) (l .n .0) m (c .before .before .before .before .before .if1 .left) (λ d. h (omega arith)) e) ∙ l .inv .2))
+    let e = sym (v .visit .ensures) ∙ c .before .m2 .given .1 in
+    let h = v .before .before .if1 .left in
+    let f = visit-falls (a .sought) (a .r) (now (a .statements)) (a .chain) (a .x) (l .n .0) m h e in
+    let z : a .budget - (l .visits + 1) ≡ a .budget - l .visits - 1 = omega arith in (
+      omega arith,
+      omega arith,
+      rw z (sym (walk-miss (a .sought) (a .r) (now (a .statements)) (a .chain) (a .x) (l .visits)
+          (a .budget - l .visits) (l .n .0) m h (more-left v) e) ∙ l .inv .2),
+    )
 
 returns-4 : tie.Need-returns-4 Inv-loop μ-loop
 returns-4 c =
-    let l = c .before .before .before .before .before .before .before .loop in let a = c .before .before .before .before .before .before .before .before .before .args in
-    let m = c .before .m .given .0 .0 in
-    let e = sym (c .before .before .before .visit .ensures) ∙ c .before .m .given .1 in
-    let h = c .before .before .before .before .if2 .left in
-    sym (walk-hit (a .sought) (a .r) (now (a .statements)) (a .chain) (a .x) (l .visits) (a .budget - l .visits) (l .n .0) m (c .before .before .before .before .before .if1 .left) (λ d. h (omega arith)) e) ∙ l .inv .2
+    let v = c .before .before .before in
+    let l = before-visit v .loop in
+    let a = start (before-visit v) .args in
+    let m = c .before .m .given in
+    sym (walk-hit (a .sought) (a .r) (now (a .statements)) (a .chain) (a .x) (l .visits) (a .budget - l .visits)
+    (l .n .0) (m .0 .0) (v .before .before .if1 .left) (more-left v) (sym (v .visit .ensures) ∙ m .1))
+    ∙ l .inv .2
 
 pub walk-spec : {M : Type 1} → statement M
 walk-spec =

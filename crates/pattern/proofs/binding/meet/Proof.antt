@@ -1,4 +1,4 @@
-use Rattle.pattern.proofs.Matches.{matchFrom, from-start, from-end, number-unmet, number-met, open-met}
+use Rattle.pattern.proofs.Matches.{matchFrom, from-start, from-end, Meeting, number-unmet, number-met, open-met}
 use Rattle.pattern.proofs.Matches.{bound-unmet, bound-met}
 use Rattle.pattern.specs.Matching.{patternWords, matchedAs}
 use Rattle.graph.specs.Query.{match}
@@ -15,10 +15,32 @@ Inv-loop x t bound b₀ k₀ b k = match x t (bound .values) ≡ matchFrom x t k
 abbrev μ-loop : tie.MeasureT-loop
 μ-loop x t bound b₀ k₀ b k = patternWords - k
 
+-- ---- where a word and its resource are read
+
+abbrev at-loop : tie.After-number-at Inv-loop μ-loop → tie.At-loop Inv-loop μ-loop
+at-loop c = c .before .before .before
+
+abbrev turn : tie.After-number-at Inv-loop μ-loop → Meeting
+turn c =
+    let a = at-loop c .before .args in
+    let l = at-loop c .loop in
+    record {
+      x = a .x;
+      t = a .t;
+      k = l .k;
+      w = c .before .word-at .result;
+      n = c .number-at .result .0;
+      b = l .b .values;
+      left = c .before .before .loop-test .taken;
+      word-is = c .before .word-at .ensures .0;
+      number-is = c .number-at .ensures;
+      fits = c .before .word-at .ensures .1;
+    }
+
+-- ---- the needs
+
 loop-holds : tie.Need-loop-holds Inv-loop μ-loop
-loop-holds c =
-    let a = c .args in
-    from-start (a .x) (a .t) (a .bound .values)
+loop-holds c = let a = c .args in from-start (a .x) (a .t) (a .bound .values)
 
 cast-loop : tie.Need-cast-loop Inv-loop μ-loop
 cast-loop c = search needs
@@ -37,32 +59,17 @@ unmet-requires c κs = search needs
 
 returns : tie.Need-returns Inv-loop μ-loop
 returns c =
-    let a = c .before .before .before .before .before .before .before .before .args in
-    let loop = c .before .before .before .before .before .before .before .loop in
-    let loop-test = c .before .before .before .before .before .before .loop-test in
-    let word-at = c .before .before .before .before .before .word-at in
-    let number-at = c .before .before .before .before .number-at in
-    let if1 = c .before .before .before .if1 in
-    let if2 = c .before .if2 in
-    let unmet = c .unmet in
-    unmet .ensures ∙ ap (matchedAs (a .bound)) (sym (loop .inv ∙ number-unmet (a .x) (a .t) (loop .k)
-    (word-at .result) (number-at .result .0) (loop .b .values) (loop-test .taken) (word-at .ensures .0)
-    (number-at .ensures) (word-at .ensures .1) (if1 .taken) (if2 .taken)))
+    let d = c .before .before .before .before in
+    c .unmet .ensures ∙ ap (matchedAs (at-loop d .before .args .bound))
+    (sym (at-loop d .loop .inv ∙ number-unmet (turn d) (c .before .before .before .if1 .taken) (c .before .if2 .taken)))
 
 loop-less : tie.Need-loop-less Inv-loop μ-loop
 loop-less c = search needs
 
 loop-again : tie.Need-loop-again Inv-loop μ-loop
 loop-again c =
-    let a = c .before .before .before .before .before .before .before .args in
-    let loop = c .before .before .before .before .before .before .loop in
-    let loop-test = c .before .before .before .before .before .loop-test in
-    let word-at = c .before .before .before .before .word-at in
-    let number-at = c .before .before .before .number-at in
-    let if1 = c .before .before .if1 in
-    let if2 = c .if2 in
-    loop .inv ∙ number-met (a .x) (a .t) (loop .k) (word-at .result) (number-at .result .0) (loop .b .values)
-    (loop-test .taken) (word-at .ensures .0) (number-at .ensures) (word-at .ensures .1) (if1 .taken) (if2 .left)
+    let d = c .before .before .before in
+    at-loop d .loop .inv ∙ number-met (turn d) (c .before .before .if1 .taken) (c .if2 .left)
 
 cast-v : tie.Need-cast-v Inv-loop μ-loop
 cast-v c = search needs
@@ -84,58 +91,35 @@ loop-less-2 c = search needs
 
 loop-again-2 : tie.Need-loop-again-2 Inv-loop μ-loop
 loop-again-2 c =
-    let a = c .before .before .before .before .before .before .before .before .args in
-    let loop = c .before .before .before .before .before .before .before .loop in
-    let loop-test = c .before .before .before .before .before .before .loop-test in
-    let word-at = c .before .before .before .before .before .word-at in
-    let number-at = c .before .before .before .before .number-at in
-    let if1 = c .before .before .before .if1 in
-    let if3 = c .if3 in
-    loop .inv ∙ open-met (a .x) (a .t) (loop .k) (word-at .result) (number-at .result .0) (loop .b .values)
-    (loop-test .taken) (word-at .ensures .0) (number-at .ensures) (word-at .ensures .1) (if1 .left) (if3 .taken)
+    let d = c .before .before .before .before in
+    at-loop d .loop .inv ∙ open-met (turn d) (c .before .before .before .if1 .left) (c .if3 .taken)
 
 unmet-requires-2 : tie.Need-unmet-requires-2 Inv-loop μ-loop
 unmet-requires-2 c κs = search needs
 
 returns-2 : tie.Need-returns-2 Inv-loop μ-loop
 returns-2 c =
-    let a = c .before .before .before .before .before .before .before .before .before .before .before .before .args in
-    let loop = c .before .before .before .before .before .before .before .before .before .before .before .loop in
-    let loop-test = c .before .before .before .before .before .before .before .before .before .before .loop-test in
-    let word-at = c .before .before .before .before .before .before .before .before .before .word-at in
-    let number-at = c .before .before .before .before .before .before .before .before .number-at in
-    let if1 = c .before .before .before .before .before .before .before .if1 in
-    let if3 = c .before .before .before .before .if3 in
-    let if4 = c .before .if4 in
-    let unmet2 = c .unmet2 in
-    unmet2 .ensures ∙ ap (matchedAs (a .bound)) (sym (loop .inv ∙ bound-unmet (a .x) (a .t) (loop .k)
-    (word-at .result) (number-at .result .0) (loop .b .values) (loop-test .taken) (word-at .ensures .0)
-    (number-at .ensures) (word-at .ensures .1) (if1 .left) (if3 .left) (if4 .taken)))
+    let e = c .before .before .before .before .before .before .before in
+    let d = e .before in
+    c .unmet2 .ensures ∙ ap (matchedAs (at-loop d .before .args .bound))
+    (sym (at-loop d .loop .inv ∙ bound-unmet (turn d) (e .if1 .left) (c .before .before .before .before .if3 .left)
+    (c .before .if4 .taken)))
 
 loop-less-3 : tie.Need-loop-less-3 Inv-loop μ-loop
 loop-less-3 c = search needs
 
 loop-again-3 : tie.Need-loop-again-3 Inv-loop μ-loop
 loop-again-3 c =
-    let a = c .before .before .before .before .before .before .before .before .before .before .before .args in
-    let loop = c .before .before .before .before .before .before .before .before .before .before .loop in
-    let loop-test = c .before .before .before .before .before .before .before .before .before .loop-test in
-    let word-at = c .before .before .before .before .before .before .before .before .word-at in
-    let number-at = c .before .before .before .before .before .before .before .number-at in
-    let if1 = c .before .before .before .before .before .before .if1 in
-    let if3 = c .before .before .before .if3 in
-    let if4 = c .if4 in
-    loop .inv ∙ bound-met (a .x) (a .t) (loop .k) (word-at .result) (number-at .result .0) (loop .b .values)
-    (loop-test .taken) (word-at .ensures .0) (number-at .ensures) (word-at .ensures .1) (if1 .left) (if3 .left)
-    (if4 .left)
+    let e = c .before .before .before .before .before .before in
+    let d = e .before in
+    at-loop d .loop .inv ∙ bound-met (turn d) (e .if1 .left) (c .before .before .before .if3 .left) (c .if4 .left)
 
 returns-3 : tie.Need-returns-3 Inv-loop μ-loop
 returns-3 c =
     let a = c .before .before .args in
-    let loop = c .before .loop in
-    let loop-test = c .loop-test in
-    ap (matchedAs (a .bound)) (sym (loop .inv ∙ from-end (a .x) (a .t) (loop .k) (loop .b .values)
-    (let h = loop-test .left in omega arith)))
+    let l = c .before .loop in
+    ap (matchedAs (a .bound)) (sym (l .inv ∙ from-end (a .x) (a .t) (l .k) (l .b .values)
+    (let h = c .loop-test .left in omega arith)))
 
 pub meet-spec : {M : Type 1} → statement M
 meet-spec =

@@ -7,7 +7,8 @@ flag-at-requires : tie.Need-flag-at-requires
 flag-at-requires c κs = search needs
 
 returns : tie.Need-returns
-returns c = let a = c .before .before .before .args in rw (retracted-at (a .statements .now) (a .l), ← c .flag-at .ensures)
+returns c =
+    let a = c .before .before .before .args in rw (retracted-at (a .statements .now) (a .l), ← c .flag-at .ensures)
 
 pub level-retracted-spec : {M : Type 1} → statement M
 level-retracted-spec = tie.close (tie.spec flag-at-requires returns)

@@ -1,4 +1,5 @@
-use Rattle.query.proofs.Resuming.{begin-none, begin-slot, begin-damaged, begin-whole, begin-onward, begin-stands}
+use Rattle.query.proofs.Resuming.{begin-none, First, begin-slot, begin-damaged, begin-whole, begin-onward}
+use Rattle.query.proofs.Resuming.{begin-stands}
 use Rattle.query_stack.proofs.Stacks.{answer-is}
 use Rattle.query_walk.proofs.Stands.{ready-query, asked-held}
 use Rattle.graph.proofs.Laws.{written-length}
@@ -10,19 +11,58 @@ use Rattle.graph.specs.declared.QueryCursor.{QueryCursor}
 use mathlib.Core.List.{[]}
 use lib.ListN.{length}
 use native.Mathlib.Omega.{arith}
-use Prim.Native.Nat.{_<_}
+use Prim.Native.Nat.{ℕ, _<_}
 use mathlib.Core.Path.{_≡_, sym, ap, _∙_}
 use borrow.Author.Needs.{needs}
 use Rattle.query.proofs.resume.begin.Statement.{statement}
 use Rattle.query.proofs.resume.begin.Tie as tie
 
+-- ---- where there is a pattern, and where the first is entered
+
+abbrev start : tie.Else1 → tie.Start
+start c = c .before .before .before .before .before
+
+some-pattern : (c : tie.Else1) → length (patternsOf (start c .args .words .now)) ≡ 0 → ⊥
+some-pattern c y = c .if1 .left (c .before .patterns .ensures ∙ y)
+
+abbrev first : tie.After-enter → First
+first c =
+    let d = c .before .before .before .before in
+    let a = start d .args in
+    let bare = c .before .before .before .no-levels2 in
+    record {
+      r = a .c .resources;
+      t = a .c .statements;
+      res = a .resources .now;
+      stm = a .statements .now;
+      ws = a .words .now;
+      budget = a .budget;
+      ready = start d .pre;
+      some-pattern = some-pattern d;
+      ls = bare .result .levels;
+      size = ap (λ (x : QueryCursor). length (x .levels)) (bare .ensures) ∙ written-length [];
+      b = c .before .none-bound2 .result;
+      open-all = c .before .none-bound2 .ensures;
+      m = c .enter .result;
+      made = c .enter .ensures;
+    }
+
+-- the reclaims that the answer carries
+abbrev number : tie.After-enter → ℕ
+number c = start (c .before .before .before .before) .args .c .generation
+
+-- where the outcome is looked at
+abbrev entered : tie.After-struct-known → tie.After-enter
+entered c = c .before .before .before .before
+
+-- ---- the needs
+
 patterns-requires : tie.Need-patterns-requires
 patterns-requires c κs =
-    let a = c .before .before .before .args in
-    let pre = c .before .before .before .pre in
-    let r = a .c .resources in let t = a .c .statements in let res = a .resources .now in
-    let stm = a .statements .now in let ws = a .words .now in let k = pre in
-    (ready-query r t res stm ws k) .few
+    let s = c .before .before .before in
+    let a = s .args in
+    ready-query (a .c .resources) (a .c .statements) (a .resources .now) (a .statements .now) (a .words .now) (s .pre)
+    .few
 
 none-bound-requires : tie.Need-none-bound-requires
 none-bound-requires c κs = search needs
@@ -34,15 +74,11 @@ returns : tie.Need-returns
 unfolding packed cursorAt
 returns c =
     let a = c .before .before .before .before .before .before .before .args in
-    let pre = c .before .before .before .before .before .before .before .pre in
-    let patterns = c .before .before .before .patterns in
-    let if1 = c .before .before .if1 in
     let none-bound = c .before .none-bound in
-    let no-levels = c .no-levels in
-    let r = a .c .resources in let t = a .c .statements in let res = a .resources .now in
-    let stm = a .statements .now in let ws = a .words .now in let k = pre in
-    answer-is _ _ (none-bound .result) _ (no-levels .result) _ (none-bound .ensures) (no-levels .ensures) ∙ ap
-    (packed (a .c .generation)) (sym (begin-none r t res stm ws (a .budget) (sym (patterns .ensures) ∙ if1 .taken)))
+    answer-is _ _ (none-bound .result) _ (c .no-levels .result) _ (none-bound .ensures) (c .no-levels .ensures)
+    ∙ ap (packed (a .c .generation)) (sym (begin-none (a .c .resources) (a .c .statements) (a .resources .now)
+    (a .statements .now) (a .words .now) (a .budget)
+    (sym (c .before .before .before .patterns .ensures) ∙ c .before .before .if1 .taken)))
 
 no-levels-requires-2 : tie.Need-no-levels-requires-2
 no-levels-requires-2 c κs = search needs
@@ -52,19 +88,16 @@ none-bound-requires-2 c κs = search needs
 
 enter-requires : tie.Need-enter-requires
 enter-requires c κs =
-    let a = c .before .before .before .before .before .before .before .before .args in
-    let pre = c .before .before .before .before .before .before .before .before .pre in
-    let patterns = c .before .before .before .before .patterns in
-    let if1 = c .before .before .before .if1 in
-    let none-bound2 = c .none-bound2 in
-    let r = a .c .resources in let t = a .c .statements in let res = a .resources .now in
-    let stm = a .statements .now in let ws = a .words .now in let k = pre in
-    let z : length (patternsOf ws) ≡ 0 → ⊥ = λ y. if1 .left (patterns .ensures ∙ y) in
-    let h : 0 < length (patternsOf ws) = omega arith in (
-      ready-query r t res stm ws k,
+    let d = c .before .before .before in
+    let a = start d .args in
+    let k = start d .pre in
+    let z = some-pattern d in
+    let h : 0 < length (patternsOf (a .words .now)) = omega arith in (
+      ready-query (a .c .resources) (a .c .statements) (a .resources .now) (a .statements .now) (a .words .now) k,
       h,
-      asked-held r t res stm ws k (none-bound2 .result .values) 0
-          (rw (none-bound2 .ensures) (low-none r variables)) h,
+      asked-held (a .c .resources) (a .c .statements) (a .resources .now) (a .statements .now) (a .words .now) k
+          (c .none-bound2 .result .values) 0
+          (rw (c .none-bound2 .ensures) (low-none (a .c .resources) variables)) h,
     )
 
 cast-levels : tie.Need-cast-levels
@@ -74,22 +107,7 @@ mul-levels : tie.Need-mul-levels
 mul-levels c = search needs
 
 array-set-from-levels : tie.Need-array-set-from-levels
-array-set-from-levels c =
-    let a = c .before .before .before .before .before .before .before .before .before .before .before .before
-    .before .args in
-    let pre = c .before .before .before .before .before .before .before .before .before .before .before .before
-    .before .pre in
-    let patterns = c .before .before .before .before .before .before .before .before .before .patterns in
-    let if1 = c .before .before .before .before .before .before .before .before .if1 in
-    let no-levels2 = c .before .before .before .before .before .before .before .no-levels2 in
-    let none-bound2 = c .before .before .before .before .before .none-bound2 in
-    let enter = c .before .before .before .before .enter in
-    let r = a .c .resources in let t = a .c .statements in let res = a .resources .now in
-    let stm = a .statements .now in let ws = a .words .now in let k = pre in
-    let z : length (patternsOf ws) ≡ 0 → ⊥ = λ y. if1 .left (patterns .ensures ∙ y) in
-    let size = ap (λ (x : QueryCursor). length (x .levels)) (no-levels2 .ensures) ∙ written-length [] in
-    let x = begin-slot r t res stm ws (a .budget) k z (no-levels2 .result .levels) size (none-bound2 .result)
-    (none-bound2 .ensures) (enter .result) (enter .ensures) in omega arith
+array-set-from-levels c = let n = begin-slot (first (entered c)) in omega arith
 
 enum-told : tie.Need-enum-told
 enum-told c = search needs
@@ -102,25 +120,7 @@ enum-told-2 c = search needs
 
 walk-requires : tie.Need-walk-requires
 walk-requires c κs =
-    let a = c .before .before .before .before .before .before .before .before .before .before .before .before
-    .before .before .before .args in
-    let pre = c .before .before .before .before .before .before .before .before .before .before .before .before
-    .before .before .before .pre in
-    let patterns = c .before .before .before .before .before .before .before .before .before .before .before
-    .patterns in
-    let if1 = c .before .before .before .before .before .before .before .before .before .before .if1 in
-    let no-levels2 = c .before .before .before .before .before .before .before .before .before .no-levels2 in
-    let none-bound2 = c .before .before .before .before .before .before .before .none-bound2 in
-    let enter = c .before .before .before .before .before .before .enter in
-    let enum-told2 = c .enum-told2 in
-    let r = a .c .resources in let t = a .c .statements in let res = a .resources .now in
-    let stm = a .statements .now in let ws = a .words .now in let k = pre in
-    let z : length (patternsOf ws) ≡ 0 → ⊥ = λ y. if1 .left (patterns .ensures ∙ y) in
-    let size = ap (λ (x : QueryCursor). length (x .levels)) (no-levels2 .ensures) ∙ written-length [] in (
-      k,
-      begin-stands r t res stm ws (a .budget) k z (no-levels2 .result .levels) size (none-bound2 .result)
-          (none-bound2 .ensures) (enter .result) (enter .ensures) (enum-told2 .given .1),
-    )
+    let d = entered (c .before .before) in (first d .ready, begin-stands (first d) (c .enum-told2 .given .1))
 
 enum-told-3 : tie.Need-enum-told-3
 enum-told-3 c = search needs
@@ -131,67 +131,19 @@ refused-requires-2 c κs = search needs
 returns-2 : tie.Need-returns-2
 unfolding packed
 returns-2 c =
-    let a = c .before .before .before .before .before .before .before .before .before .before .before .before
-    .before .before .before .before .args in
-    let pre = c .before .before .before .before .before .before .before .before .before .before .before .before
-    .before .before .before .before .pre in
-    let patterns = c .before .before .before .before .before .before .before .before .before .before .before
-    .before .patterns in
-    let if1 = c .before .before .before .before .before .before .before .before .before .before .before .if1 in
-    let no-levels2 = c .before .before .before .before .before .before .before .before .before .before .no-levels2 in
-    let none-bound2 = c .before .before .before .before .before .before .before .before .none-bound2 in
-    let enter = c .before .before .before .before .before .before .before .enter in
-    let enum-told = c .before .enum-told in
-    let refused = c .refused in
-    let r = a .c .resources in let t = a .c .statements in let res = a .resources .now in
-    let stm = a .statements .now in let ws = a .words .now in let k = pre in
-    let z : length (patternsOf ws) ≡ 0 → ⊥ = λ y. if1 .left (patterns .ensures ∙ y) in
-    let size = ap (λ (x : QueryCursor). length (x .levels)) (no-levels2 .ensures) ∙ written-length [] in
-    refused .ensures ∙ ap (packed (a .c .generation)) (sym (begin-damaged r t res stm ws (a .budget) k z (no-levels2 .result .levels)
-    size (none-bound2 .result) (none-bound2 .ensures) (enter .result) (enter .ensures) (enum-told .given .1)))
+    let d = entered (c .before .before .before) in
+    c .refused .ensures ∙ ap (packed (number d)) (sym (begin-damaged (first d) (c .before .enum-told .given .1)))
 
 returns-3 : tie.Need-returns-3
 returns-3 c =
-    let a = c .before .before .before .before .before .before .before .before .before .before .before .before
-    .before .before .before .before .args in
-    let pre = c .before .before .before .before .before .before .before .before .before .before .before .before
-    .before .before .before .before .pre in
-    let patterns = c .before .before .before .before .before .before .before .before .before .before .before
-    .before .patterns in
-    let if1 = c .before .before .before .before .before .before .before .before .before .before .before .if1 in
-    let no-levels2 = c .before .before .before .before .before .before .before .before .before .before .no-levels2 in
-    let none-bound2 = c .before .before .before .before .before .before .before .before .none-bound2 in
-    let enter = c .before .before .before .before .before .before .before .enter in
-    let enum-told2 = c .before .enum-told2 in
-    let walk = c .walk in
-    let r = a .c .resources in let t = a .c .statements in let res = a .resources .now in
-    let stm = a .statements .now in let ws = a .words .now in let k = pre in
-    let z : length (patternsOf ws) ≡ 0 → ⊥ = λ y. if1 .left (patterns .ensures ∙ y) in
-    let size = ap (λ (x : QueryCursor). length (x .levels)) (no-levels2 .ensures) ∙ written-length [] in
-    walk .ensures ∙ ap (packed (a .c .generation)) (sym (begin-onward r t res stm ws (a .budget) k z (no-levels2 .result .levels) size
-    (none-bound2 .result) (none-bound2 .ensures) (enter .result) (enter .ensures) (enum-told2 .given .1)))
+    let d = entered (c .before .before .before) in
+    c .walk .ensures ∙ ap (packed (number d)) (sym (begin-onward (first d) (c .before .enum-told2 .given .1)))
 
 returns-4 : tie.Need-returns-4
 unfolding packed
 returns-4 c =
-    let a = c .before .before .before .before .before .before .before .before .before .before .before .before
-    .before .before .before .before .args in
-    let pre = c .before .before .before .before .before .before .before .before .before .before .before .before
-    .before .before .before .before .pre in
-    let patterns = c .before .before .before .before .before .before .before .before .before .before .before
-    .before .patterns in
-    let if1 = c .before .before .before .before .before .before .before .before .before .before .before .if1 in
-    let no-levels2 = c .before .before .before .before .before .before .before .before .before .before .no-levels2 in
-    let none-bound2 = c .before .before .before .before .before .before .before .before .none-bound2 in
-    let enter = c .before .before .before .before .before .before .before .enter in
-    let enum-told3 = c .before .enum-told3 in
-    let refused2 = c .refused2 in
-    let r = a .c .resources in let t = a .c .statements in let res = a .resources .now in
-    let stm = a .statements .now in let ws = a .words .now in let k = pre in
-    let z : length (patternsOf ws) ≡ 0 → ⊥ = λ y. if1 .left (patterns .ensures ∙ y) in
-    let size = ap (λ (x : QueryCursor). length (x .levels)) (no-levels2 .ensures) ∙ written-length [] in
-    refused2 .ensures ∙ ap (packed (a .c .generation)) (sym (begin-whole r t res stm ws (a .budget) k z (no-levels2 .result .levels)
-    size (none-bound2 .result) (none-bound2 .ensures) (enter .result) (enter .ensures) (enum-told3 .given .1)))
+    let d = entered (c .before .before .before) in
+    c .refused2 .ensures ∙ ap (packed (number d)) (sym (begin-whole (first d) (c .before .enum-told3 .given .1)))
 
 pub begin-spec : {M : Type 1} → statement M
 begin-spec =

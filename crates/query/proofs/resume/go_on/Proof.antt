@@ -1,26 +1,48 @@
-use mathlib.Core.Path.{sym, ap, _∙_}
+use mathlib.Core.Path.{_≡_, sym, ap, _∙_}
+use mathlib.Core.Bool.{true}
 use native.Mathlib.Omega.{arith}
-use borrow.Author.Tests.{not-true, not-false}
 use lib.ListN.{getD}
-use Rattle.graph.specs.Query.{packed}
+use Rattle.graph.specs.Query.{packed, intact}
 use Rattle.graph.specs.Place.{levelsOf, noLevel}
 use Rattle.graph.specs.Words.{patternsOf}
+use Rattle.table.proofs.Branches.{passed, failed}
+use Rattle.pattern_level.specs.Levels.{QueryOk, LevelsHeld}
 use Rattle.query_walk.proofs.Stands.{ready-query}
-use Rattle.query.proofs.Resuming.{top-few, levels-held, resume-damaged, resume-inside, pruned-stands, pruned-top}
-use Rattle.query.proofs.Resuming.{pruned-up}
+use Rattle.query.proofs.Resuming.{top-few, levels-held, resume-damaged, pruned-stands, resumes}
 use borrow.Author.Needs.{needs}
 use Rattle.query.proofs.resume.go_on.Statement.{statement}
 use Rattle.query.proofs.resume.go_on.Tie as tie
 
+-- ---- what a place that 6 accepts gives
+
+query-ok : (s : tie.Start) → QueryOk (s .args .words .now)
+query-ok s =
+    let a = s .args in
+    ready-query (a .c .resources) (a .c .statements) (a .resources .now) (a .statements .now) (a .words .now)
+    (s .pre .0)
+
+held : (s : tie.Start) → LevelsHeld (s .args .statements .now) (s .args .levels) (s .args .top)
+held s =
+    let a = s .args in
+    let n = top-few (a .c .resources) (a .c .statements) (a .statements .now) (patternsOf (a .words .now)) (a .levels)
+    (a .top) (s .pre .1) in
+    let e = query-ok s .few in
+    levels-held (a .c .resources) (a .c .statements) (a .statements .now) (patternsOf (a .words .now)) (a .levels)
+    (a .top) (s .pre .1) (omega arith) (s .pre .0 .in-statements)
+
+-- ---- where its records are intact
+
+abbrev start : tie.Else1 → tie.Start
+start c = c .before .before .before .before .before
+
+safe : (c : tie.Else1)
+    → (let a = start c .args in intact (a .statements .now) (levelsOf (a .levels) (a .top)) ≡ true)
+safe c = passed (c .before .intact .ensures) (c .if1 .left)
+
+-- ---- the needs
+
 intact-requires : tie.Need-intact-requires
-intact-requires c κs =
-    let a = c .before .before .before .args in let r = a .c .resources in let t = a .c .statements in
-    let res = a .resources .now in let stm = a .statements .now in let ws = a .words .now in
-    let k = c .before .before .before .pre .0 in let ps = patternsOf ws in let ls = a .levels in
-    let ok = c .before .before .before .pre .1 in let n = top-few r t stm ps ls (a .top) ok in
-    let e = (ready-query r t res stm ws k) .few in
-    let h = levels-held r t stm ps ls (a .top) ok (omega arith) (k .in-statements) in
-    h
+intact-requires c κs = held (c .before .before .before)
 
 refused-requires : tie.Need-refused-requires
 refused-requires c κs = search needs
@@ -28,52 +50,38 @@ refused-requires c κs = search needs
 returns : tie.Need-returns
 unfolding packed
 returns c =
-    let a = c .before .before .before .before .before .before .args in let r = a .c .resources in
-    let t = a .c .statements in let res = a .resources .now in let stm = a .statements .now in
-    let ws = a .words .now in let k = c .before .before .before .before .before .before .pre .0 in
-    let ps = patternsOf ws in let ls = a .levels in
-    let ok = c .before .before .before .before .before .before .pre .1 in
-    c .refused .ensures
-    ∙ ap (packed (a .c .generation)) (sym (resume-damaged r t res stm ps (getD ls (a .top) noLevel) (levelsOf ls (a .top)) (a .budget)
-    (sym (c .before .before .intact .ensures) ∙ not-true (c .before .before .intact .result) (c .before .if1 .taken))))
+    let a = c .before .before .before .before .before .before .args in
+    c .refused .ensures ∙ ap (packed (a .c .generation)) (sym (resume-damaged (a .c .resources) (a .c .statements)
+    (a .resources .now) (a .statements .now) (patternsOf (a .words .now)) (getD (a .levels) (a .top) noLevel)
+    (levelsOf (a .levels) (a .top)) (a .budget) (failed (c .before .before .intact .ensures) (c .before .if1 .taken))))
 
 pruned-requires : tie.Need-pruned-requires
 pruned-requires c κs =
-    let a = c .before .before .before .before .before .args in let r = a .c .resources in
-    let t = a .c .statements in let res = a .resources .now in let stm = a .statements .now in
-    let ws = a .words .now in let k = c .before .before .before .before .before .pre .0 in let ps = patternsOf ws in
-    let ls = a .levels in let ok = c .before .before .before .before .before .pre .1 in
-    let n = top-few r t stm ps ls (a .top) ok in let e = (ready-query r t res stm ws k) .few in
-    let h = levels-held r t stm ps ls (a .top) ok (omega arith) (k .in-statements) in
-    (ready-query r t res stm ws k, n, h, c .before .before .before .before .before .pre .2)
+    let s = start c in
+    let a = s .args in (
+      query-ok s,
+      top-few (a .c .resources) (a .c .statements) (a .statements .now) (patternsOf (a .words .now)) (a .levels)
+          (a .top) (s .pre .1),
+      held s,
+      s .pre .2,
+    )
 
 walk-requires : tie.Need-walk-requires
 walk-requires c κs =
-    let a = c .before .before .before .before .before .before .args in let r = a .c .resources in
-    let t = a .c .statements in let res = a .resources .now in let stm = a .statements .now in
-    let ws = a .words .now in let k = c .before .before .before .before .before .before .pre .0 in
-    let ps = patternsOf ws in let ls = a .levels in
-    let ok = c .before .before .before .before .before .before .pre .1 in (
-      k,
-      pruned-stands r t res stm ws k ls (a .top) ok (sym (c .before .before .intact .ensures)
-          ∙ not-false (c .before .before .intact .result) (c .before .if1 .left)) (c .pruned .result)
-          (c .pruned .ensures),
+    let s = start (c .before) in
+    let a = s .args in (
+      s .pre .0,
+      pruned-stands (a .c .resources) (a .c .statements) (a .resources .now) (a .statements .now) (a .words .now)
+          (s .pre .0) (a .levels) (a .top) (s .pre .1) (safe (c .before)) (c .pruned .result) (c .pruned .ensures),
     )
 
 returns-2 : tie.Need-returns-2
 returns-2 c =
-    let a = c .before .before .before .before .before .before .before .args in let r = a .c .resources in
-    let t = a .c .statements in let res = a .resources .now in let stm = a .statements .now in
-    let ws = a .words .now in let k = c .before .before .before .before .before .before .before .pre .0 in
-    let ps = patternsOf ws in let ls = a .levels in
-    let ok = c .before .before .before .before .before .before .before .pre .1 in
-    let e = sym (c .before .before .before .intact .ensures)
-    ∙ not-false (c .before .before .before .intact .result) (c .before .before .if1 .left) in
-    let s = c .before .pruned .result in
-    c .walk .ensures
-    ∙ ap (packed (a .c .generation)) (sym (resume-inside r t res stm ps (getD ls (a .top) noLevel) (levelsOf ls (a .top)) (a .budget) s e
-    (pruned-top r t res stm ws k ls (a .top) ok e s (c .before .pruned .ensures))
-    (pruned-up r t res stm ws k ls (a .top) ok e s (c .before .pruned .ensures))))
+    let s = start (c .before .before) in
+    let a = s .args in
+    c .walk .ensures ∙ ap (packed (a .c .generation)) (sym (resumes (a .c .resources) (a .c .statements)
+    (a .resources .now) (a .statements .now) (a .words .now) (s .pre .0) (a .levels) (a .top) (s .pre .1)
+    (safe (c .before .before)) (c .before .pruned .result) (c .before .pruned .ensures) (a .budget)))
 
 pub go-on-spec : {M : Type 1} → statement M
 go-on-spec =

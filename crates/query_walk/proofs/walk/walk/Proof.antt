@@ -51,10 +51,11 @@ begins : (c : tie.Start Inv-loop μ-loop Inv-walk μ-walk) (q : Stack) (v : ℕ)
     → Walks c q v q v
 begins c q v =
     let a = c .args in
-    walks-here (a .c .resources) (a .c .statements) (a .resources .now) (a .statements .now) (a .words .now) (a .budget) q v
+    walks-here (a .c .resources) (a .c .statements) (a .resources .now) (a .statements .now) (a .words .now) (a .budget)
+    q v
 
-goes-on : (c : tie.Start Inv-loop μ-loop Inv-walk μ-walk) (q₀ : Stack) (v₀ : ℕ) (q₁ : Stack) (v₁ : ℕ) (q : Stack) (v : ℕ)
-    → Walks c q₀ v₀ q₁ v₁ → Walks c q₁ v₁ q v → Walks c q₀ v₀ q v
+goes-on : (c : tie.Start Inv-loop μ-loop Inv-walk μ-walk) (q₀ : Stack) (v₀ : ℕ) (q₁ : Stack) (v₁ : ℕ) (q : Stack)
+    (v : ℕ) → Walks c q₀ v₀ q₁ v₁ → Walks c q₁ v₁ q v → Walks c q₀ v₀ q v
 goes-on c =
     let a = c .args in
     walks-on (a .c .resources) (a .c .statements) (a .resources .now) (a .statements .now) (a .words .now) (a .budget)
@@ -126,7 +127,9 @@ walk-holds : tie.Need-walk-holds Inv-loop μ-loop Inv-walk μ-walk
 walk-holds c = let d = c .before .before .before in begins d (d .args .from) 0 (omega arith) (d .pre .1)
 
 loop-holds : tie.Need-loop-holds Inv-loop μ-loop Inv-walk μ-walk
-loop-holds c = begins (c .before .before .before .before) (c .walk .q) (c .walk .visits) (c .walk .inv .within) (c .walk .inv .stands)
+loop-holds c =
+    let w = c .walk in
+    begins (c .before .before .before .before) (w .q) (w .visits) (w .inv .within) (w .inv .stands)
 
 out-of-budget-requires : tie.Need-out-of-budget-requires Inv-loop μ-loop Inv-walk μ-walk
 out-of-budget-requires c κs =
@@ -144,8 +147,8 @@ returns c =
     let a = (start (c .before .before)) .args in
     let p = c .before .before .loop in
     let e = c .before .if1 .taken in
-    c .out-of-budget .ensures ∙ answers (c .before .before) _ (walk-over (a .c .resources) (a .c .statements) (a .resources .now)
-    (a .statements .now) (patternsOf (a .words .now)) (deepest (p .q)) (entered (p .q)) (p .visits)
+    c .out-of-budget .ensures ∙ answers (c .before .before) _ (walk-over (a .c .resources) (a .c .statements)
+    (a .resources .now) (a .statements .now) (patternsOf (a .words .now)) (deepest (p .q)) (entered (p .q)) (p .visits)
     (a .budget - p .visits) (omega arith))
 
 cast-l : tie.Need-cast-l Inv-loop μ-loop Inv-walk μ-walk
@@ -175,8 +178,8 @@ returns-2 : tie.Need-returns-2 Inv-loop μ-loop Inv-walk μ-walk
 unfolding packed
 returns-2 c =
     let d = c .before .before .before in
-    c .refused .ensures ∙ answers ((before-visit d) .before) _ (sees-damaged (here (before-visit d)) (d .before .before .if2 .left)
-    (sym (d .seen .ensures) ∙ c .before .enum-told .given .1))
+    c .refused .ensures ∙ answers ((before-visit d) .before) _ (sees-damaged (here (before-visit d))
+    (d .before .before .if2 .left) (sym (d .seen .ensures) ∙ c .before .enum-told .given .1))
 
 enum-known-n : tie.Need-enum-known-n Inv-loop μ-loop Inv-walk μ-walk
 enum-known-n c = search needs
@@ -237,13 +240,15 @@ returns-3 : tie.Need-returns-3 Inv-loop μ-loop Inv-walk μ-walk
 unfolding packed
 returns-3 c =
     let d = c .before .before .before .before .before .before .before in
-    c .refused2 .ensures ∙ answers ((before-visit (before-match d)) .before) _ (tried-damaged (tried d) (c .before .enum-told2 .given .1))
+    c .refused2 .ensures
+    ∙ answers ((before-visit (before-match d)) .before) _ (tried-damaged (tried d) (c .before .enum-told2 .given .1))
 
 enum-told-3 : tie.Need-enum-told-3 Inv-loop μ-loop Inv-walk μ-walk
 enum-told-3 c = search needs
 
 loop-less-2 : tie.Need-loop-less-2 Inv-loop μ-loop Inv-walk μ-walk
-loop-less-2 c = let n = here (before-visit (before-match (c .before .before .before .before .before .before))) .left in omega arith
+loop-less-2 c =
+    let n = here (before-visit (before-match (c .before .before .before .before .before .before))) .left in omega arith
 
 loop-again-2 : tie.Need-loop-again-2 Inv-loop μ-loop Inv-walk μ-walk
 loop-again-2 c =
@@ -261,7 +266,8 @@ ended-requires c κs = search needs
 returns-4 : tie.Need-returns-4 Inv-loop μ-loop Inv-walk μ-walk
 returns-4 c =
     let d = c .before .before .before .before .before in
-    c .ended .ensures ∙ answers (d .before) _ (runs-out (here d) (c .before .if3 .taken) (c .before .before .if2 .taken))
+    c .ended .ensures
+    ∙ answers (d .before) _ (runs-out (here d) (c .before .if3 .taken) (c .before .before .if2 .taken))
 
 popped-requires : tie.Need-popped-requires Inv-loop μ-loop Inv-walk μ-walk
 popped-requires c κs = pop-needs (here (c .before .before .before .before)) (let n = c .if3 .left in omega arith)
@@ -286,8 +292,8 @@ walk-again c =
     let l = (before-pop d) .before in
     let w = l .before .walk in
     goes-on (start l) ((start l) .args .from) 0 (w .q) (w .visits) _ _ (w .inv) (goes-on (start l) (w .q) (w .visits)
-    (l .loop .q) (l .loop .visits) _ _ (l .loop .inv) (pops (here (before-pop d)) (d .popped .result) (d .popped .ensures)
-    ((popped-top d) .0) (d .before .before .if2 .taken)))
+    (l .loop .q) (l .loop .visits) _ _ (l .loop .inv) (pops (here (before-pop d)) (d .popped .result)
+    (d .popped .ensures) ((popped-top d) .0) (d .before .before .if2 .taken)))
 
 whole-requires : tie.Need-whole-requires Inv-loop μ-loop Inv-walk μ-walk
 whole-requires c κs = tried-top (tried (c .before .before .before .before .before .before))
@@ -295,7 +301,8 @@ whole-requires c κs = tried-top (tried (c .before .before .before .before .befo
 returns-5 : tie.Need-returns-5 Inv-loop μ-loop Inv-walk μ-walk
 returns-5 c =
     let d = c .before .before .before .before .before .before .before in
-    c .whole .ensures ∙ answers ((before-visit (before-match d)) .before) _ (tried-whole (tried d) (c .before .enum-told4 .given .1))
+    c .whole .ensures
+    ∙ answers ((before-visit (before-match d)) .before) _ (tried-whole (tried d) (c .before .enum-told4 .given .1))
 
 pub walk-spec : {M : Type 1} → statement M
 walk-spec =

@@ -1,10 +1,6 @@
 use borrow.Author.Needs.{needs}
 use Rattle.statement_target.proofs.target.countable_at.Statement.{statement}
 use Rattle.statement_target.proofs.target.countable_at.Tie as tie
-use Rattle.statement_target.proofs.target.countable_at.Reads as reads
-use Rattle.statement_target.proofs.target.countable_at.Lts as lts
-use Rattle.table.proofs.word.live_at.Reads as live-at-reads
-use Rattle.table.proofs.word.count_at.Reads as count-at-reads
 
 live-at-requires : tie.Need-live-at-requires
 live-at-requires c κs = search needs

@@ -5,10 +5,6 @@ use Rattle.store.specs.declared.Position.the-variants.{Subject, Predicate, Obje
 use borrow.Author.Needs.{needs}
 use Rattle.statement_target.proofs.target.kinds_ok.Statement.{statement}
 use Rattle.statement_target.proofs.target.kinds_ok.Tie as tie
-use Rattle.statement_target.proofs.target.kinds_ok.Reads as reads
-use Rattle.statement_target.proofs.target.kinds_ok.Lts as lts
-use Rattle.table.proofs.in_range.Reads as in-range-reads
-use Rattle.table.proofs.word.kind_at.Reads as kind-at-reads
 
 kind-at-requires : tie.Need-kind-at-requires
 kind-at-requires c κs = c .before .pre .each Subject
@@ -28,7 +24,13 @@ in-range-requires-2 c κs = search needs
 
 returns-2 : tie.Need-returns-2
 unfolding kindsOk inRange
-returns-2 c = simp (← c .before .before .before .before .before .kind-at .ensures, passed (c .before .before .before .before .in-range .ensures) (c .before .before .before .if1 .left), ← c .before .before .kind-at2 .ensures, failed (c .before .in-range2 .ensures) (c .if2 .taken))
+returns-2 c =
+    simp (
+      ← c .before .before .before .before .before .kind-at .ensures,
+      passed (c .before .before .before .before .in-range .ensures) (c .before .before .before .if1 .left),
+      ← c .before .before .kind-at2 .ensures,
+      failed (c .before .in-range2 .ensures) (c .if2 .taken),
+    )
 
 kind-at-requires-3 : tie.Need-kind-at-requires-3
 kind-at-requires-3 c κs = c .before .before .before .before .before .before .before .pre .each Object
@@ -38,7 +40,16 @@ in-range-requires-3 c κs = search needs
 
 returns-3 : tie.Need-returns-3
 unfolding kindsOk inRange
-returns-3 c = simp (← c .before .before .before .before .before .before .before .kind-at .ensures, passed (c .before .before .before .before .before .before .in-range .ensures) (c .before .before .before .before .before .if1 .left), ← c .before .before .before .before .kind-at2 .ensures, passed (c .before .before .before .in-range2 .ensures) (c .before .before .if2 .left), ← c .before .kind-at3 .ensures, ← c .in-range3 .ensures)
+returns-3 c =
+    let d = c .before .before in
+    simp (
+      ← d .before .before .before .before .before .kind-at .ensures,
+      passed (d .before .before .before .before .in-range .ensures) (d .before .before .before .if1 .left),
+      ← d .before .before .kind-at2 .ensures,
+      passed (d .before .in-range2 .ensures) (d .if2 .left),
+      ← c .before .kind-at3 .ensures,
+      ← c .in-range3 .ensures,
+    )
 
 pub kinds-ok-spec : {M : Type 1} → statement M
 kinds-ok-spec =

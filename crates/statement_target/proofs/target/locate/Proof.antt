@@ -1,47 +1,76 @@
-use mathlib.Core.Path.{sym, _∙_, ap}
-use Rattle.store.proofs.Tests.{and-l}
-use Rattle.store.specs.Walk.{pickable}
-use Rattle.store.specs.Statement.{countable}
-use native.Mathlib.Omega.{arith}
-use denote.Ref.{now}
-use Rattle.chain.proofs.Chains.{pick-bound, start-within}
-use Rattle.table.proofs.Branches.{failed, passed}
-use Rattle.statement_target.proofs.Locate.{held-pattern, locate-damaged, locate-walk, located, ready}
-use Rattle.chain_walk.specs.Walks.{stepOf}
-use Rattle.statement_target.specs.Targets.{locatedAs}
-use Rattle.chain_walk.specs.declared.walk.Walked.{Walked}
+use mathlib.Core.Path.{_≡_, sym, _∙_, ap}
+use mathlib.Core.Bool.{true}
 use mathlib.Core.Option.{Option}
 use mathlib.Core.List.{[]}
 use Prim.Native.Nat.{ℕ}
-use Rattle.store.specs.Tables.{tables}
+use native.Mathlib.Omega.{arith}
+use denote.Ref.{now}
+use Rattle.store.specs.Walk.{pickable}
+use Rattle.store.specs.Statement.{countable, locate}
+use Rattle.store.specs.Tables.{Tables, tables}
+use Rattle.store.proofs.Tests.{and-l}
+use Rattle.table.proofs.Branches.{failed, passed}
+use Rattle.chain.proofs.Chains.{pick-bound, start-within}
+use Rattle.chain_walk.specs.declared.walk.Walked.{Walked}
+use Rattle.chain_walk.specs.Walks.{stepOf}
+use Rattle.statement_target.specs.Targets.{locatedAs}
+use Rattle.statement_target.proofs.Locate.{held-pattern, locate-damaged, locate-walk, located, ready}
 use borrow.Author.Needs.{needs}
 use Rattle.statement_target.proofs.target.locate.Statement.{statement}
 use Rattle.statement_target.proofs.target.locate.Tie as tie
-use Rattle.statement_target.proofs.target.locate.Reads as reads
-use Rattle.statement_target.proofs.target.locate.Lts as lts
-use Rattle.chain.proofs.pick.pick_chain.Reads as pick-chain-reads
-use Rattle.chain.proofs.pick.start_of.Reads as start-of-reads
-use Rattle.chain_walk.proofs.walk.walk.Reads as walk-reads
-use Rattle.statement_target.proofs.target.ready.Reads as ready-reads
+
+-- ---- where the walk may begin
+
+abbrev start : tie.Else1 → tie.Start
+start c = c .before .before .before .before
+
+-- the index and the text are not read
+abbrev tablesOf : tie.Start → Tables
+tablesOf s = tables (now (s .args .resources)) (now (s .args .statements)) [] []
+
+can-begin : (c : tie.Else1) → (let a = start c .args in ready (a .c .statements) (now (a .resources)) (a .x) ≡ true)
+can-begin c = passed (c .before .ready .ensures) (c .if1 .left)
+
+-- the answer to what the walk came to
+answered : (c : tie.After-walk) (w : Walked) → c .walk .result ≡ w
+    → (let s = start (c .before .before .before) in
+    locatedAs (located (stepOf w)) ≡ locatedAs (locate (s .args .c) (tablesOf s) (s .args .x)))
+answered c w e =
+    let d = c .before .before .before in
+    let s = start d in
+    sym (ap (λ (o : Option ℕ). locatedAs o) (locate-walk (s .args .c) (tablesOf s) (s .args .x) (c .walk .result)
+    (c .before .before .pick-chain .result) (c .before .start-of .result .0) (can-begin d)
+    (c .before .before .pick-chain .ensures) (c .before .start-of .ensures) (c .walk .ensures))
+    ∙ ap (λ (w : Walked). locatedAs (located (stepOf w))) e)
+
+-- ---- the needs
 
 ready-requires : tie.Need-ready-requires
 ready-requires c κs = search needs
 
 returns : tie.Need-returns
-returns c = let a = c .before .before .before .before .args in sym (ap (λ (o : Option ℕ). locatedAs o) (locate-damaged (a .c) (tables (now (a .resources)) (now (a .statements)) [] []) (a .x) (failed (c .before .ready .ensures) (c .if1 .taken))))
+returns c =
+    let s = c .before .before .before .before in
+    sym (ap (λ (o : Option ℕ). locatedAs o) (locate-damaged (s .args .c) (tablesOf s) (s .args .x)
+    (failed (c .before .ready .ensures) (c .if1 .taken))))
 
 pick-chain-requires : tie.Need-pick-chain-requires
-pick-chain-requires c κs = let a = c .before .before .before .before .args in held-pattern (now (a .resources)) (a .x) (c .before .before .before .before .pre .0)
+pick-chain-requires c κs = let s = start c in held-pattern (now (s .args .resources)) (s .args .x) (s .pre .0)
 
 start-of-requires : tie.Need-start-of-requires
-start-of-requires c κs = let a = c .before .before .before .before .before .args in (held-pattern (now (a .resources)) (a .x) (c .before .before .before .before .before .pre .0), rw (c .pick-chain .ensures) (pick-bound (now (a .resources)) (a .x)))
+start-of-requires c κs =
+    let s = start (c .before) in
+    let res = now (s .args .resources) in
+    (held-pattern res (s .args .x) (s .pre .0), rw (c .pick-chain .ensures) (pick-bound res (s .args .x)))
 
 walk-requires : tie.Need-walk-requires
 walk-requires c κs =
-    let a = c .before .before .before .before .before .before .args in
-    let p = and-l (pickable (a .c .statements) (now (a .resources)) (a .x)) (countable (now (a .resources)) (a .x))
-    (passed (c .before .before .before .ready .ensures) (c .before .before .if1 .left)) in
-    let s = start-within (a .c .statements) (now (a .resources)) (a .x) p (c .before .pick-chain .result) (rw (c .before .pick-chain .ensures) (pick-bound (now (a .resources)) (a .x))) in
+    let d = c .before .before in
+    let a = start d .args in
+    let res = now (a .resources) in
+    let p = and-l (pickable (a .c .statements) res (a .x)) (countable res (a .x)) (can-begin d) in
+    let s = start-within (a .c .statements) res (a .x) p (c .before .pick-chain .result)
+    (rw (c .before .pick-chain .ensures) (pick-bound res (a .x))) in
     rw (c .start-of .ensures) (omega arith)
 
 enum-known-n : tie.Need-enum-known-n
@@ -57,16 +86,16 @@ enum-told-3 : tie.Need-enum-told-3
 enum-told-3 c = search needs
 
 returns-2 : tie.Need-returns-2
-returns-2 c = let a = c .before .before .before .before .before .before .before .before .before .before .args in sym (ap (λ (o : Option ℕ). locatedAs o) (locate-walk (a .c) (tables (now (a .resources)) (now (a .statements)) [] []) (a .x) (c .before .before .before .walk .result) (c .before .before .before .before .before .pick-chain .result) (c .before .before .before .before .start-of .result .0) (passed (c .before .before .before .before .before .before .before .ready .ensures) (c .before .before .before .before .before .before .if1 .left)) (c .before .before .before .before .before .pick-chain .ensures) (c .before .before .before .before .start-of .ensures) (c .before .before .before .walk .ensures)) ∙ ap (λ (w : Walked). locatedAs (located (stepOf w))) (c .before .n .given .1))
+returns-2 c = answered (c .before .before .before) _ (c .before .n .given .1)
 
 returns-3 : tie.Need-returns-3
-returns-3 c = let a = c .before .before .before .before .before .before .before .before .before .args in sym (ap (λ (o : Option ℕ). locatedAs o) (locate-walk (a .c) (tables (now (a .resources)) (now (a .statements)) [] []) (a .x) (c .before .before .walk .result) (c .before .before .before .before .pick-chain .result) (c .before .before .before .start-of .result .0) (passed (c .before .before .before .before .before .before .ready .ensures) (c .before .before .before .before .before .if1 .left)) (c .before .before .before .before .pick-chain .ensures) (c .before .before .before .start-of .ensures) (c .before .before .walk .ensures)) ∙ ap (λ (w : Walked). locatedAs (located (stepOf w))) (c .enum-told .given .1))
+returns-3 c = answered (c .before .before) _ (c .enum-told .given .1)
 
 returns-4 : tie.Need-returns-4
-returns-4 c = let a = c .before .before .before .before .before .before .before .before .before .args in sym (ap (λ (o : Option ℕ). locatedAs o) (locate-walk (a .c) (tables (now (a .resources)) (now (a .statements)) [] []) (a .x) (c .before .before .walk .result) (c .before .before .before .before .pick-chain .result) (c .before .before .before .start-of .result .0) (passed (c .before .before .before .before .before .before .ready .ensures) (c .before .before .before .before .before .if1 .left)) (c .before .before .before .before .pick-chain .ensures) (c .before .before .before .start-of .ensures) (c .before .before .walk .ensures)) ∙ ap (λ (w : Walked). locatedAs (located (stepOf w))) (c .enum-told2 .given .1))
+returns-4 c = answered (c .before .before) _ (c .enum-told2 .given .1)
 
 returns-5 : tie.Need-returns-5
-returns-5 c = let a = c .before .before .before .before .before .before .before .before .before .args in sym (ap (λ (o : Option ℕ). locatedAs o) (locate-walk (a .c) (tables (now (a .resources)) (now (a .statements)) [] []) (a .x) (c .before .before .walk .result) (c .before .before .before .before .pick-chain .result) (c .before .before .before .start-of .result .0) (passed (c .before .before .before .before .before .before .ready .ensures) (c .before .before .before .before .before .if1 .left)) (c .before .before .before .before .pick-chain .ensures) (c .before .before .before .start-of .ensures) (c .before .before .walk .ensures)) ∙ ap (λ (w : Walked). locatedAs (located (stepOf w))) (c .enum-told3 .given .1))
+returns-5 c = answered (c .before .before) _ (c .enum-told3 .given .1)
 
 pub locate-spec : {M : Type 1} → statement M
 locate-spec =

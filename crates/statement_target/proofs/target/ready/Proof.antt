@@ -4,10 +4,6 @@ use Rattle.statement_target.proofs.Locate.{held-pattern}
 use borrow.Author.Needs.{needs}
 use Rattle.statement_target.proofs.target.ready.Statement.{statement}
 use Rattle.statement_target.proofs.target.ready.Tie as tie
-use Rattle.statement_target.proofs.target.ready.Reads as reads
-use Rattle.statement_target.proofs.target.ready.Lts as lts
-use Rattle.chain.proofs.pick.pickable.Reads as pickable-reads
-use Rattle.statement_target.proofs.target.countable.Reads as countable-reads
 
 pickable-requires : tie.Need-pickable-requires
 pickable-requires c κs = let a = c .before .args in held-pattern (now (a .resources)) (a .x) (c .before .pre)

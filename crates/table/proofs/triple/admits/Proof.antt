@@ -1,8 +1,6 @@
 use borrow.Author.Tests.{eq-eqb, ne-eqb}
 use Rattle.table.proofs.triple.admits.Statement.{statement}
 use Rattle.table.proofs.triple.admits.Tie as tie
-use Rattle.table.proofs.triple.admits.Reads as reads
-use Rattle.table.proofs.triple.admits.Lts as lts
 
 returns : tie.Need-returns
 returns c = simp (eq-eqb _ _ (c .if1 .taken))

@@ -2,8 +2,6 @@ use Rattle.store.specs.Shared.{same}
 use borrow.Author.Tests.{eq-eqb, ne-eqb}
 use Rattle.table.proofs.triple.same.Statement.{statement}
 use Rattle.table.proofs.triple.same.Tie as tie
-use Rattle.table.proofs.triple.same.Reads as reads
-use Rattle.table.proofs.triple.same.Lts as lts
 
 returns : tie.Need-returns
 unfolding same
@@ -15,7 +13,8 @@ returns-2 c = simp (eq-eqb _ _ (c .before .before .before .if1 .left), ne-eqb _ 
 
 returns-3 : tie.Need-returns-3
 unfolding same
-returns-3 c = rw (eq-eqb _ _ (c .before .before .before .before .before .if1 .left), eq-eqb _ _ (c .before .before .if2 .left))
+returns-3 c =
+    rw (eq-eqb _ _ (c .before .before .before .before .before .if1 .left), eq-eqb _ _ (c .before .before .if2 .left))
 
 pub same-spec : {M : Type 1} → statement M
 same-spec = tie.close (tie.spec returns returns-2 returns-3)

@@ -2,8 +2,6 @@ use Rattle.store.specs.Shared.{within}
 use borrow.Author.Tests.{le-leb, lt-leb}
 use Rattle.table.proofs.triple.within.Statement.{statement}
 use Rattle.table.proofs.triple.within.Tie as tie
-use Rattle.table.proofs.triple.within.Reads as reads
-use Rattle.table.proofs.triple.within.Lts as lts
 
 returns : tie.Need-returns
 unfolding within

@@ -2,9 +2,6 @@ use borrow.Author.Needs.{needs}
 use Rattle.store.specs.Tables.{flagAt}
 use Rattle.table.proofs.word.flag_at.Statement.{statement}
 use Rattle.table.proofs.word.flag_at.Tie as tie
-use Rattle.table.proofs.word.flag_at.Reads as reads
-use Rattle.table.proofs.word.flag_at.Lts as lts
-use Rattle.table.proofs.word.statement_word.Reads as statement-word-reads
 
 statement-word-requires : tie.Need-statement-word-requires
 statement-word-requires c κs = search needs

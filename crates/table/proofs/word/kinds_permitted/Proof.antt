@@ -3,9 +3,6 @@ use borrow.Author.Tests.{eq-eqb, ne-eqb}
 use Rattle.store.specs.declared.Position.the-variants.{Subject, Predicate}
 use Rattle.table.proofs.word.kinds_permitted.Statement.{statement}
 use Rattle.table.proofs.word.kinds_permitted.Tie as tie
-use Rattle.table.proofs.word.kinds_permitted.Reads as reads
-use Rattle.table.proofs.word.kinds_permitted.Lts as lts
-use Rattle.table.proofs.word.kind_at.Reads as kind-at-reads
 
 kind-at-requires : tie.Need-kind-at-requires
 kind-at-requires c κs = c .before .pre .each Subject

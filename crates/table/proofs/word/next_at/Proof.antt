@@ -2,10 +2,6 @@ use borrow.Author.Needs.{needs}
 use Rattle.store.specs.Tables.{nextAt}
 use Rattle.table.proofs.word.next_at.Statement.{statement}
 use Rattle.table.proofs.word.next_at.Tie as tie
-use Rattle.table.proofs.word.next_at.Reads as reads
-use Rattle.table.proofs.word.next_at.Lts as lts
-use Rattle.table.proofs.word.offset.Reads as offset-reads
-use Rattle.table.proofs.word.statement_word.Reads as statement-word-reads
 
 offset-requires : tie.Need-offset-requires
 offset-requires c κs = search needs

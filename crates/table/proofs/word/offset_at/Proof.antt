@@ -2,9 +2,6 @@ use borrow.Author.Needs.{needs}
 use Rattle.store.specs.Tables.{offsetAt}
 use Rattle.table.proofs.word.offset_at.Statement.{statement}
 use Rattle.table.proofs.word.offset_at.Tie as tie
-use Rattle.table.proofs.word.offset_at.Reads as reads
-use Rattle.table.proofs.word.offset_at.Lts as lts
-use Rattle.table.proofs.word.resource_word.Reads as resource-word-reads
 
 resource-word-requires : tie.Need-resource-word-requires
 resource-word-requires c κs = search needs

@@ -2,21 +2,19 @@ use Prim.Native.Nat.{_+_, _-_, _≤_}
 use mathlib.Core.Path.{_≡_, sym, ap, _∙_}
 use native.Mathlib.Omega.{arith}
 use denote.Ref.{now}
-use Rattle.store.specs.Reading.{zeroFrom, spanTo}
+use Rattle.store.specs.Reading.{nameWindow, zeroFrom, spanTo}
 use Rattle.table.proofs.Zero.{zero-here, zero-on, zero-none}
 use borrow.Author.Needs.{needs}
 use Rattle.table.proofs.word.span_at.Statement.{statement}
 use Rattle.table.proofs.word.span_at.Tie as tie
-use Rattle.table.proofs.word.span_at.Reads as reads
-use Rattle.table.proofs.word.span_at.Lts as lts
-use Rattle.table.proofs.word.lesser.Reads as lesser-reads
 
 abbrev Inv-loop : tie.InvT-loop
 Inv-loop text end from start stop at₀ at =
-    (from ≤ at) × (at ≤ from + 256) × (zeroFrom text end 256 from ≡ zeroFrom text end (from + 256 - at) at)
+    (from ≤ at) × (at ≤ from + nameWindow)
+    × (zeroFrom text end nameWindow from ≡ zeroFrom text end (from + nameWindow - at) at)
 
 abbrev μ-loop : tie.MeasureT-loop
-μ-loop text end from start stop at₀ at = from + 256 - at
+μ-loop text end from start stop at₀ at = from + nameWindow - at
 
 add-lesser : tie.Need-add-lesser Inv-loop μ-loop
 add-lesser c = search needs
@@ -28,7 +26,7 @@ loop-holds : tie.Need-loop-holds Inv-loop μ-loop
 loop-holds c = (
   omega arith,
   omega arith,
-  let e : c .before .before .args .from + 256 - c .before .before .args .from ≡ 256 = omega arith in rw e,
+  let e : c .before .before .args .from + nameWindow - c .before .before .args .from ≡ nameWindow = omega arith in rw e,
 )
 
 shared-slice-read-if1 : tie.Need-shared-slice-read-if1 Inv-loop μ-loop
@@ -47,7 +45,7 @@ returns c =
     let if1 = c .if1 in
     sym
     (ap (spanTo (a .from))
-    (loop .inv .2 ∙ zero-here (now (a .text)) (a .end) (a .from + 256 - loop .at) (loop .at) (omega arith)
+    (loop .inv .2 ∙ zero-here (now (a .text)) (a .end) (a .from + nameWindow - loop .at) (loop .at) (omega arith)
     (omega arith) (if1 .taken)))
 
 add-at : tie.Need-add-at Inv-loop μ-loop
@@ -59,12 +57,13 @@ loop-less c = search needs
 loop-again : tie.Need-loop-again Inv-loop μ-loop
 loop-again c = let l = c .before .before .before .loop in
     let a = c .before .before .before .before .before .before .args in
-    let e : a .from + 256 - l .at - 1 ≡ a .from + 256 - (l .at + 1) = omega arith in (
+    let e : a .from + nameWindow - l .at - 1 ≡ a .from + nameWindow - (l .at + 1) = omega arith in (
       omega arith,
       omega arith,
       l .inv .2
           ∙ (rw e at
-          (zero-on (now (a .text)) (a .end) (a .from + 256 - l .at) (l .at) (omega arith) (omega arith) (c .if1 .left))),
+          (zero-on (now (a .text)) (a .end) (a .from + nameWindow - l .at) (l .at) (omega arith) (omega arith)
+          (c .if1 .left))),
     )
 
 returns-2 : tie.Need-returns-2 Inv-loop μ-loop
@@ -73,7 +72,7 @@ returns-2 c =
     let loop = c .before .loop in
     sym
     (ap (spanTo (a .from))
-    (loop .inv .2 ∙ zero-none (now (a .text)) (a .end) (a .from + 256 - loop .at) (loop .at) (omega arith)))
+    (loop .inv .2 ∙ zero-none (now (a .text)) (a .end) (a .from + nameWindow - loop .at) (loop .at) (omega arith)))
 
 pub span-at-spec : {M : Type 1} → statement M
 span-at-spec =

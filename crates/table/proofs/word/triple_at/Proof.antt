@@ -2,9 +2,6 @@ use borrow.Author.Needs.{needs}
 use Rattle.store.specs.Tables.{tripleAt}
 use Rattle.table.proofs.word.triple_at.Statement.{statement}
 use Rattle.table.proofs.word.triple_at.Tie as tie
-use Rattle.table.proofs.word.triple_at.Reads as reads
-use Rattle.table.proofs.word.triple_at.Lts as lts
-use Rattle.table.proofs.word.term_at.Reads as term-at-reads
 
 term-at-requires : tie.Need-term-at-requires
 term-at-requires c κs = search needs
