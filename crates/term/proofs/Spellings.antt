@@ -9,6 +9,7 @@ use Rattle.term.specs.Bytes.{iriByte, firstByte, labelByte, letter, alnu
 use Rattle.term.specs.Grammar as g
 use Rattle.term.specs.Spelling.{labelOrDot, lastOf, SpelledIri, SpelledBlank, Group, AllGroups, groups, SpelledTag}
 use Rattle.term.specs.Spelling.{IriIsSpelled, BlankIsSpelled, TagIsSpelled}
+use Rattle.term.proofs.Booleans.{other}
 use Rattle.term.proofs.Names.{never}
 
 -- ---- IRIs
@@ -48,15 +49,9 @@ wide : (b : ℕ) → labelByte b ≡ true → labelOrDot b ≡ true
 unfolding labelOrDot
 wide b e = label-wide b (eqb b 46) e
 
-label-off : (b : ℕ) (t : Bool) → eqb b 46 ≡ t → labelByte b ≡ true → t ≡ false
+off : (labelByte 46 ≡ false) × (firstByte 46 ≡ false)
 unfolding labelByte firstByte alnum letter
-label-off b true e h = never (rw (eqb-true b 46 e) at h)
-label-off b false e h = refl
-
-first-off : (b : ℕ) (t : Bool) → eqb b 46 ≡ t → firstByte b ≡ true → t ≡ false
-unfolding firstByte alnum letter
-first-off b true e h = never (rw (eqb-true b 46 e) at h)
-first-off b false e h = refl
+off = (refl, refl)
 
 wide-dot : labelOrDot 46 ≡ true
 unfolding labelOrDot
@@ -64,13 +59,13 @@ wide-dot = refl
 
 -- what may follow a label's first byte, in the wider class, and its last byte is no dot
 label-fine : {s : List ℕ} → g.LabelRest s → All labelOrDot s × ((d : ℕ) → eqb (lastOf d s) 46 ≡ false)
-label-fine (g.LabelRest.last {b = b} e) = ((wide b e, tt), λ d. label-off b (eqb b 46) refl e)
+label-fine (g.LabelRest.last {b = b} e) = ((wide b e, tt), λ d. other labelByte 46 b (off .0) e)
 label-fine (g.LabelRest.byte {b = b} e r) = ((wide b e, label-fine r .0), λ d. label-fine r .1 b)
 label-fine (g.LabelRest.dot r) = ((wide-dot, label-fine r .0), λ d. label-fine r .1 46)
 
 blank-spelled : {l : List ℕ} → g.Blank l → SpelledBlank l
 blank-spelled (g.Blank.single {b = b} e) =
-    record { first = b; later = []; starts = e; fine = tt; ends = first-off b (eqb b 46) refl e; spells = refl }
+    record { first = b; later = []; starts = e; fine = tt; ends = other firstByte 46 b (off .1) e; spells = refl }
 blank-spelled (g.Blank.longer {b = b} {s = s} e r) =
     record { first = b; later = s; starts = e; fine = label-fine r .0; ends = label-fine r .1 b; spells = refl }
 

@@ -24,7 +24,7 @@ add-byte-at : tie.Need-add-byte-at
 add-byte-at c =
     let h =
     inside-byte (c .before .before .before .args .bytes .now) (c .before .before .before .args .at) 94
-    (omega arith) (sym (c .before .byte-at .ensures) ∙ c .if1 .left) in
+    (omega arith) (c .before .byte-at .ensures) (c .if1 .left) in
     omega arith
 
 byte-at-requires-2 : tie.Need-byte-at-requires-2
@@ -35,7 +35,7 @@ add-t8 c =
     let h =
     inside-byte (c .before .before .before .before .before .args .bytes .now)
     (c .before .before .before .before .before .args .at) 94 (omega arith)
-    (sym (c .before .before .before .byte-at .ensures) ∙ c .before .before .if1 .left) in
+    (c .before .before .before .byte-at .ensures) (c .before .before .if1 .left) in
     omega arith
 
 returns-2 : tie.Need-returns-2
@@ -53,7 +53,7 @@ add-iri c =
     let s = c .before .before .before .before .before .args .bytes .now in
     let h =
     inside-byte s (c .before .before .before .before .before .args .at + 1) 60 (omega arith)
-    (sym (c .before .byte-at2 .ensures) ∙ c .if2 .left) in
+    (c .before .byte-at2 .ensures) (c .if2 .left) in
     omega arith
 
 iri-requires : tie.Need-iri-requires
