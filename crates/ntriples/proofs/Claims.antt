@@ -18,47 +18,23 @@ use Rattle.ntriples.specs.declared.Span.{Span}
 use Rattle.ntriples.specs.declared.Line.{Line}
 use Rattle.ntriples.specs.declared.LineRead.{LineRead}
 use Rattle.ntriples.specs.declared.Line.the-variants as answer
-use Rattle.ntriples.specs.Grammar.{
-  span,
-  white,
-  Trail,
-  Subject,
-  Predicate,
-  Object,
-  Triple,
-  subjectSpan,
-  predicateSpan,
-  objectSpan,
-  ShortTerms,
-  Within,
-  Viable,
-  Longest,
-}
+use Rattle.ntriples.specs.Grammar.{span, Trail, Subject, Predicate, Object, Triple, subjectSpan}
+use Rattle.ntriples.specs.Grammar.{predicateSpan, objectSpan, ShortTerms, Within, Viable, Longest}
 use Rattle.ntriples.specs.Reader.{Outcome, Empty, Terms, Fails, lineOf}
 use Rattle.ntriples.specs.Reader.{answerOf, readSpelled, shortPart, shortLine, readOf}
 use Rattle.ntriples.specs.Grammar.{FirstLine, bytesOf, Values, values, noPart, valuesOf}
 use Rattle.ntriples.specs.TermOf.{termOf}
 use Rattle.ntriples.specs.Standard as standard
-use Rattle.ntriples.specs.Claims.{
-  objectPart,
-  Derived,
-  Underivable,
-  Enterable,
-  Meant,
-  answerAt,
-  LineAnswered,
-  Reading,
-  ReadsALine,
-  OneFirstLine,
-  OneDerivation,
-}
+use Rattle.ntriples.specs.Claims.{objectPart, Derived, Underivable, Enterable, Meant, LineAnswered}
+use Rattle.ntriples.specs.Claims.{ReadsALine, OneFirstLine, OneDerivation}
 use Rattle.ntriples.proofs.Rest.{Derives, ShortParts}
 use Rattle.ntriples.proofs.Reading.{continued, answered, reads, unique, Stopped, stopped}
 use Rattle.ntriples.proofs.Derivation.{partsOf, rest-of, derivation, within-back, within-forth, viable-is}
 use Rattle.ntriples.proofs.Lines.{line-found, line-exists, line-first}
 use Rattle.ntriples.proofs.Terms.{canonical-term}
 use Rattle.ntriples.proofs.Standard.{subject-name, predicate-name, object-name, subset-of-standard}
-use Rattle.ntriples.proofs.Unambiguous.{cons-both, one-standard-derivation}
+use Rattle.ntriples.proofs.Unambiguous.{one-standard-derivation}
+use Rattle.term.proofs.Lists.{cons-same}
 use Rattle.ntriples.proofs.StandardTerms.{subject-term, predicate-term, term-of-standard}
 
 -- a line with a derivation is read so
@@ -166,8 +142,7 @@ further (x ∷ f) b (y ∷ f′) b′ e h =
       later = w .later;
       more = w .more;
       back = w .back;
-      front = cons-both y x f′ _ (sym xy)
-          (w .front);
+      front = cons-same (sym xy) (w .front);
     }
 
 not-longer : (m : ℕ) (l : List ℕ) (k k′ : ℕ) → Longest m l k → Longest m l k′ → k < k′ → ⊥

@@ -12,22 +12,8 @@ use Rattle.term.specs.Grammar.{Name}
 use Rattle.term.specs.Grammar as names
 use Rattle.term.proofs.Names.{never}
 use Rattle.ntriples.specs.declared.Span.{Span}
-use Rattle.ntriples.specs.Grammar.{
-  span,
-  white,
-  Trail,
-  Subject,
-  Predicate,
-  Object,
-  Triple,
-  subjectSpan,
-  predicateSpan,
-  objectSpan,
-  Short,
-  ShortTerms,
-  Within,
-  Viable,
-}
+use Rattle.ntriples.specs.Grammar.{span, white, Trail, Subject, Predicate, Object, Triple, subjectSpan}
+use Rattle.ntriples.specs.Grammar.{predicateSpan, objectSpan, ShortTerms, Within, Viable}
 use Rattle.ntriples.specs.Reader.{Outcome, Empty, Terms, kindAllowed}
 use Rattle.ntriples.proofs.Rest.{Rest, Derives, ShortParts, ShortOutcome, Continued}
 use Rattle.ntriples.proofs.Residual.{shift, plus-zero}

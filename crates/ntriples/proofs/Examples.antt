@@ -11,21 +11,8 @@ use Rattle.ntriples.specs.declared.Line.{Line}
 use Rattle.ntriples.specs.declared.Line.the-variants.{End, Nothing, Triple, Refused}
 use Rattle.ntriples.specs.declared.LineRead.{LineRead}
 use Rattle.ntriples.specs.Grammar.{span, white, commentByte}
-use Rattle.ntriples.specs.Reader.{
-  kindAllowed,
-  isDot,
-  opens,
-  dotted,
-  afterOf,
-  enterOf,
-  gapOf,
-  goesOnOf,
-  leaveOf,
-  advanceOf,
-  stateOf,
-  endOf,
-  lineOf,
-}
+use Rattle.ntriples.specs.Reader.{kindAllowed, isDot, opens, dotted, afterOf, enterOf, gapOf, goesOnOf, leaveOf}
+use Rattle.ntriples.specs.Reader.{advanceOf, stateOf, endOf, lineOf}
 use Rattle.ntriples.specs.Reader.{untilLf, hasLf, dropCr, firstLineOf, takenOf, answerOf, readSpelled, shortLine, readOf}
 use Rattle.ntriples.specs.TermOf.{inner, lexicalFrom, suffixFrom, literalWith, termOf}
 

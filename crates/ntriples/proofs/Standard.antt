@@ -10,6 +10,7 @@ use Rattle.term.specs.Bytes as b
 use Rattle.term.specs.Bytes.{between, among, All}
 use Rattle.term.specs.Scanner.{firstKindOf}
 use Rattle.term.specs.Grammar as g
+use Rattle.term.proofs.Booleans.{decide}
 use Rattle.term.proofs.Names.{never, name-kind}
 use Rattle.term.proofs.Turn.{unlike}
 use Rattle.ntriples.specs.Grammar.{white, commentByte, Trail, Subject, Predicate, Object, Triple}
@@ -40,10 +41,6 @@ among-in (y ∷ ys) xs c f h =
 not-among : (t : Bool) (ys xs : List ℕ) (c : ℕ) → among ys c ≡ t → All (among xs) ys → among xs c ≡ false → t ≡ false
 not-among true ys xs c e f h = never (sym h ∙ among-in ys xs c f e)
 not-among false ys xs c e f h = refl
-
-pub split : {C : Type 0} (t : Bool) → (t ≡ true → C) → (t ≡ false → C) → C
-split true f g = f refl
-split false f g = g refl
 
 except-is : (cs : List ℕ) (lo c : ℕ) → among cs c ≡ false → between lo 0x10FFFF c ≡ true → except cs lo c ≡ true
 except-is cs lo c e h = rw (e, h)
@@ -91,14 +88,14 @@ comment-byte c h =
 letter-byte : (c : ℕ) → b.letter c ≡ true → std.letter c ≡ true
 unfolding b.letter std.letter
 letter-byte c h =
-    split (between 97 122 c) (λ p. rw p)
+    decide (between 97 122 c) (λ p. rw p)
     (λ p. cases (λ x. x ≡ true) (between 65 90 c) true (between 97 122 c) (λ e _. rw (p, e)) (λ _ k. rw k) h)
 
 alnum-byte : (c : ℕ) → b.alnum c ≡ true → std.letterOrDigit c ≡ true
 unfolding b.alnum b.letter std.letterOrDigit
 alnum-byte c h =
-    split (between 97 122 c) (λ p. rw p)
-    (λ p. split (between 65 90 c) (λ q. rw (p, q)) (λ q. let k : between 48 57 c ≡ true = rw (q, p) at h in rw (p, q, k)))
+    decide (between 97 122 c) (λ p. rw p)
+    (λ p. decide (between 65 90 c) (λ q. rw (p, q)) (λ q. let k : between 48 57 c ≡ true = rw (q, p) at h in rw (p, q, k)))
 
 base-byte : (c : ℕ) → b.letter c ≡ true → std.PN-CHARS-BASE c ≡ true
 unfolding b.letter std.PN-CHARS-BASE
@@ -129,7 +126,7 @@ first-byte c h =
 label-byte : (c : ℕ) → b.labelByte c ≡ true → std.PN-CHARS c ≡ true
 unfolding b.labelByte std.PN-CHARS
 label-byte c h =
-    split (std.PN-CHARS-U c) (λ p. rw p)
+    decide (std.PN-CHARS-U c) (λ p. rw p)
     (λ p. cases (λ x. x ≡ true) (eqb c 45) true (b.firstByte c) (λ e _. rw (p, e))
     (λ q k. first-cases c (λ e. rw (under-byte c e)) (λ e. rw (base-under c e)) (λ e. rw (p, q, e)) k) h)
 

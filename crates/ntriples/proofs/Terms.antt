@@ -15,7 +15,8 @@ use Rattle.term.specs.Canonical.{xsdString, stringEnding, writesString, canonic
 use Rattle.term.specs.declared.Scan.{Scan}
 use Rattle.term.specs.declared.Scan.the-variants.{Start, IriOpen, Under, Text, Escape, Quote, Bad}
 use Rattle.term.proofs.Names.{never, kinds, name-forth}
-use Rattle.term.proofs.Booleans.{decide}
+use Rattle.term.proofs.Booleans.{decide, other}
+use Rattle.term.proofs.Lists.{head-same, tail-same, cons-same, no-nil}
 use Rattle.term.proofs.WellFormed.{name-positive}
 use Rattle.term.proofs.Shortened.{kept, rejoined, writes-joined, at-quote, isQuote, past-quote, quote-last, canonical-name}
 use Rattle.ntriples.specs.Standard.{RdfTerm, iri, blank, literal, tagged, unescaped}
@@ -73,10 +74,7 @@ inner-is g.IriRest.close = refl
 -- a byte of a text is neither the quote nor `\`
 pub plain : (b : ℕ) → textByte b ≡ true → (eqb b 34 ≡ false) × (eqb b 92 ≡ false)
 unfolding textByte among
-plain b h =
-    cases (λ x. x ≡ true) (among (34 ∷ (92 ∷ [])) b) false _ (λ _ z. never z)
-    (λ e _. cases (λ x. x ≡ false) (eqb b 34) true (among (92 ∷ []) b) (λ _ z. never (sym z))
-    (λ p k. cases (λ x. x ≡ false) (eqb b 92) true false (λ _ z. never (sym z)) (λ q _. (p, q)) k) e) h
+plain b h = (other textByte 34 b refl h, other textByte 92 b refl h)
 
 lexical-is : {s : List ℕ} (r : g.TextRest s) → lexicalFrom false s ≡ lexicalOf r
 unfolding lexicalFrom
@@ -159,15 +157,6 @@ pair-odd c h = pair-cases c (λ e. rw e) (λ e. rw e) (λ e. rw e) (λ e. rw e) 
 byte-no-pair : {C : Type 0} (b c : ℕ) → textByte b ≡ true → pairByte c ≡ true → b ≡ unescaped c → C
 byte-no-pair b c h k e = never (sym (pair-odd c k) ∙ rw (← e) h)
 
-no-cons : {C : Type 0} (b : ℕ) (s : List ℕ) → b ∷ s ≡ [] → C
-no-cons b s e = let z : _≡_ {A = ℕ} 0 1 = cc in absurd (omega arith)
-
-first-of : (b c : ℕ) (s t : List ℕ) → b ∷ s ≡ c ∷ t → b ≡ c
-first-of b c s t e = cc
-
-rest-of : (b c : ℕ) (s t : List ℕ) → b ∷ s ≡ c ∷ t → s ≡ t
-rest-of b c s t e = cc
-
 datatype-of : (x y d e : List ℕ) → literal x d ≡ literal y e → d ≡ e
 datatype-of x y d e h = cc
 
@@ -205,28 +194,25 @@ same-suffix x y (g.Suffix.datatype i) (g.Suffix.tag f r) u v e = tag-no-type x y
 same-suffix x y (g.Suffix.datatype i) (g.Suffix.datatype j) u v e =
     ap (λ (z : List ℕ). 94 ∷ (94 ∷ z)) (same-iri i j (datatype-of x y _ _ e))
 
-cons-same : (b c : ℕ) (s t : List ℕ) → b ≡ c → s ≡ t → b ∷ s ≡ c ∷ t
-cons-same b c s t e f = cc
-
 same-text : {s t : List ℕ} (x y : List ℕ) (h : g.TextRest s) (k : g.TextRest t) → (HasEnding s → ⊥)
     → (HasEnding t → ⊥)
     → lexicalOf h ≡ lexicalOf k → textOf x h ≡ textOf y k → s ≡ t
 same-text x y (g.TextRest.byte {b = b} {s = s} p h) (g.TextRest.byte {b = c} {s = t} q k) u v e f =
-    cons-same b c s t (first-of _ _ _ _ e)
-    (same-text x y h k (writes-later b s u) (writes-later c t v) (rest-of _ _ _ _ e) f)
+    cons-same (head-same e)
+    (same-text x y h k (writes-later b s u) (writes-later c t v) (tail-same e) f)
 same-text x y (g.TextRest.byte {b =
-    b} p h) (g.TextRest.pair {b = c} q k) u v e f = byte-no-pair b c p q (first-of _ _ _ _ e)
-same-text x y (g.TextRest.byte {b = b} p h) (g.TextRest.close k) u v e f = no-cons _ _ e
+    b} p h) (g.TextRest.pair {b = c} q k) u v e f = byte-no-pair b c p q (head-same e)
+same-text x y (g.TextRest.byte {b = b} p h) (g.TextRest.close k) u v e f = no-nil (sym e)
 same-text x y (g.TextRest.pair {b =
-    b} p h) (g.TextRest.byte {b = c} q k) u v e f = byte-no-pair c b q p (sym (first-of _ _ _ _ e))
+    b} p h) (g.TextRest.byte {b = c} q k) u v e f = byte-no-pair c b q p (sym (head-same e))
 same-text x y (g.TextRest.pair {b = b} {s = s} p h) (g.TextRest.pair {b = c} {s = t} q k) u v e f =
     ap (λ (z : List ℕ). 92 ∷ z)
-    (cons-same b c s t (same-pair b c p q (first-of _ _ _ _ e))
+    (cons-same (same-pair b c p q (head-same e))
     (same-text x y h k (writes-later b s (writes-later 92 (b ∷ s) u)) (writes-later c t (writes-later 92 (c ∷ t) v))
-    (rest-of _ _ _ _ e) f))
-same-text x y (g.TextRest.pair p h) (g.TextRest.close k) u v e f = no-cons _ _ e
-same-text x y (g.TextRest.close h) (g.TextRest.byte q k) u v e f = no-cons _ _ (sym e)
-same-text x y (g.TextRest.close h) (g.TextRest.pair q k) u v e f = no-cons _ _ (sym e)
+    (tail-same e) f))
+same-text x y (g.TextRest.pair p h) (g.TextRest.close k) u v e f = no-nil (sym e)
+same-text x y (g.TextRest.close h) (g.TextRest.byte q k) u v e f = no-nil e
+same-text x y (g.TextRest.close h) (g.TextRest.pair q k) u v e f = no-nil e
 same-text x y (g.TextRest.close {s = s} h) (g.TextRest.close {s = t} k) u v e f =
     ap (λ (z : List ℕ). 34 ∷ z) (same-suffix x y h k (writes-later 34 s u) (writes-later 34 t v) f)
 

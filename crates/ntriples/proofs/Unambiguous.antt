@@ -10,27 +10,19 @@ use lib.ListN.{length, length-append}
 use native.Mathlib.Omega.{arith}
 use borrow.Author.Tests.{eqb-true}
 use Rattle.term.specs.Bytes.{between, among, All}
+use Rattle.term.proofs.Booleans.{decide, other}
+use Rattle.term.proofs.Lists.{head-same, tail-same, cons-same, no-nil}
 use Rattle.term.proofs.Names.{never}
 use Rattle.ntriples.specs.Standard as std
 use Rattle.ntriples.specs.Standard.{one, the, _▸_, _∣_, maybe, many}
 use Rattle.ntriples.specs.TermOf.{suffixFrom}
 use Rattle.ntriples.specs.Claims.{OneStandardDerivation}
 use Rattle.ntriples.proofs.Residual.{cases}
-use Rattle.ntriples.proofs.Standard.{split}
 
 -- ---- lists
 
 heads : {C : Type 0} (a b : ℕ) (s t : List ℕ) → (a ≡ b → ⊥) → a ∷ s ≡ b ∷ t → C
-heads a b s t n e = let z : a ≡ b = cc in absurd (n z)
-
-tails : (a : ℕ) (s t : List ℕ) → a ∷ s ≡ a ∷ t → s ≡ t
-tails a s t e = cc
-
-no-nil : {C : Type 0} (a : ℕ) (s : List ℕ) → [] ≡ a ∷ s → C
-no-nil a s e = let z : _≡_ {A = ℕ} 0 1 = cc in absurd (omega arith)
-
-pub cons-both : (x y : ℕ) (s t : List ℕ) → x ≡ y → s ≡ t → x ∷ s ≡ y ∷ t
-cons-both x y s t p q = cc
+heads a b s t n e = absurd (n (head-same e))
 
 -- two lists of one length that begin one list are the same
 cancel : (a b s t : List ℕ) → length a ≡ length b → a ++ s ≡ b ++ t → (a ≡ b) × (s ≡ t)
@@ -41,7 +33,7 @@ cancel (x ∷ a) (y ∷ b) s t h e =
     let e′ : a ++ s ≡ b ++ t = cc in
     let xy : x ≡ y = cc in
     let w = cancel a b s t (omega arith) e′ in
-    (cons-both x y a b xy (w .0), w .1)
+    (cons-same xy (w .0), w .1)
 
 rest-same : (a b s t : List ℕ) → a ≡ b → a ++ s ≡ b ++ t → s ≡ t
 rest-same a b s t h e = cancel a b s t (ap length h) e .1
@@ -64,23 +56,19 @@ Ends f [] = Unit
 Ends f (c ∷ s) = f c ≡ false
 
 meets : {C : Type 0} (f : ℕ → Bool) (c d : ℕ) (s t : List ℕ) → f c ≡ false → f d ≡ true → c ∷ s ≡ d ∷ t → C
-meets f c d s t n h e = let z : c ≡ d = cc in never (sym n ∙ (ap f z ∙ h))
+meets f c d s t n h e = never (sym n ∙ (ap f (head-same e) ∙ h))
 
 run : (f : ℕ → Bool) (a b s t : List ℕ) → All f a → All f b → Ends f s → Ends f t → a ++ s ≡ b ++ t → (a ≡ b) × (s ≡ t)
 run f [] [] s t p q x y e = (refl, e)
-run f [] (d ∷ b) [] t p q x y e = no-nil _ _ e
+run f [] (d ∷ b) [] t p q x y e = no-nil e
 run f [] (d ∷ b) (c ∷ s) t p q x y e = meets f c d _ _ x (q .0) e
-run f (c ∷ a) [] s [] p q x y e = no-nil _ _ (sym e)
+run f (c ∷ a) [] s [] p q x y e = no-nil (sym e)
 run f (c ∷ a) [] s (d ∷ t) p q x y e = meets f d c _ _ y (p .0) (sym e)
 run f (c ∷ a) (d ∷ b) s t p q x y e =
     let e′ : a ++ s ≡ b ++ t = cc in
     let cd : c ≡ d = cc in
     let w = run f a b s t (p .1) (q .1) x y e′ in
-    (cons-both c d a b cd (w .0), w .1)
-
--- a character of a class is none that the class lacks
-other : (f : ℕ → Bool) (k c : ℕ) → f k ≡ false → f c ≡ true → eqb c k ≡ false
-other f k c n h = split (eqb c k) (λ e. never (sym n ∙ (ap f (sym (eqb-true c k e)) ∙ h))) (λ e. e)
+    (cons-same cd (w .0), w .1)
 
 all-many : (f : ℕ → Bool) {s : List ℕ} → many (one f) s → All f s
 all-many f many.none = tt
@@ -151,7 +139,7 @@ iri-inside (many.more {s = s} {t = t} (_∣_.right u) r) =
 iri-one : {s t : List ℕ} (u v : List ℕ) → std.IRIREF s → std.IRIREF t → s ++ u ≡ t ++ v → s ≡ t
 iri-one u v (_▸_.pair the.char (_▸_.pair {s = a} m the.char)) (_▸_.pair the.char (_▸_.pair {s = b} n the.char)) e =
     let h : a ++ (62 ∷ u) ≡ b ++ (62 ∷ v) =
-    sym (append-assoc a (62 ∷ []) u) ∙ (tails 60 _ _ e ∙ append-assoc b (62 ∷ []) v) in
+    sym (append-assoc a (62 ∷ []) u) ∙ (tail-same e ∙ append-assoc b (62 ∷ []) v) in
     ap (λ (z : List ℕ). 60 ∷ (z ++ (62 ∷ []))) (run inside a b (62 ∷ u) (62 ∷ v) (iri-inside m) (iri-inside n) refl refl h .0)
 
 iri-ends : (f : ℕ → Bool) {s : List ℕ} (r : List ℕ) → f 60 ≡ false → std.IRIREF s → Ends f (s ++ r)
@@ -163,7 +151,7 @@ abbrev labelled : ℕ → Bool
 labelled c = cond (eqb c 46) true (std.PN-CHARS c)
 
 label-part : (c : ℕ) → std.PN-CHARS c ≡ true → labelled c ≡ true
-label-part c h = split (eqb c 46) (λ e. rw e) (λ e. rw (e, h))
+label-part c h = decide (eqb c 46) (λ e. rw e) (λ e. rw (e, h))
 
 under-part : (c : ℕ) → std.PN-CHARS-U c ≡ true → std.PN-CHARS c ≡ true
 unfolding std.PN-CHARS
@@ -172,7 +160,7 @@ under-part c h = rw h
 digit-part : (c : ℕ) → between 48 57 c ≡ true → std.PN-CHARS c ≡ true
 unfolding std.PN-CHARS
 digit-part c h =
-    split (std.PN-CHARS-U c) (λ p. rw p) (λ p. split (eqb c 45) (λ q. rw (p, q)) (λ q. rw (p, q, h)))
+    decide (std.PN-CHARS-U c) (λ p. rw p) (λ p. decide (eqb c 45) (λ q. rw (p, q)) (λ q. rw (p, q, h)))
 
 first-part : {s : List ℕ} → (one std.PN-CHARS-U ∣ one (between 48 57)) s → many (one std.PN-CHARS ∣ the 46) s
 first-part (_∣_.left (one.char {c = c} h)) = many.more (_∣_.left (one.char (under-part c h))) many.none
@@ -315,13 +303,13 @@ abbrev tagged : ℕ → Bool
 tagged c = cond (eqb c 64) true (cond (eqb c 45) true (std.letterOrDigit c))
 
 alnum-tagged : (c : ℕ) → std.letterOrDigit c ≡ true → tagged c ≡ true
-alnum-tagged c h = split (eqb c 64) (λ p. rw p) (λ p. split (eqb c 45) (λ q. rw (p, q)) (λ q. rw (p, q, h)))
+alnum-tagged c h = decide (eqb c 64) (λ p. rw p) (λ p. decide (eqb c 45) (λ q. rw (p, q)) (λ q. rw (p, q, h)))
 
 letter-tagged : (c : ℕ) → std.letter c ≡ true → tagged c ≡ true
 unfolding std.letter std.letterOrDigit
 letter-tagged c h =
-    alnum-tagged c (split (between 97 122 c) (λ p. rw p)
-    (λ p. split (between 65 90 c) (λ q. rw (p, q)) (λ q. never (rw (p, q) at h))))
+    alnum-tagged c (decide (between 97 122 c) (λ p. rw p)
+    (λ p. decide (between 65 90 c) (λ q. rw (p, q)) (λ q. never (rw (p, q) at h))))
 
 all-wider : (f g : ℕ → Bool) → ((c : ℕ) → f c ≡ true → g c ≡ true) → (s : List ℕ) → All f s → All g s
 all-wider f g h [] p = tt
@@ -377,7 +365,7 @@ typed-one u v (_▸_.pair {s = w} {t = a} h (_▸_.pair the.char (_▸_.pair the
     w′} {t = a′} h′ (_▸_.pair the.char (_▸_.pair the.char (_▸_.pair {s = x′} {t = i′} j′ m′)))) e =
     let p = run white w w′ _ _ (all-many white h) (all-many white h′) (mark-out .0) (mark-out .0)
     (sym (append-assoc w a u) ∙ (e ∙ append-assoc w′ a′ v)) in
-    let y = tails 94 _ _ (tails 94 _ _ (p .1)) in
+    let y = tail-same (tail-same (p .1)) in
     let q = run white x x′ (i ++ u) (i′ ++ v) (all-many white j) (all-many white j′) (iri-ends white u (mark-out .2) m)
     (iri-ends white v (mark-out .2) m′) (sym (append-assoc x i u) ∙ (y ∙ append-assoc x′ i′ v)) in
     let z = iri-one u v m m′ (q .1) in
@@ -422,7 +410,7 @@ literal-one {w = w} {v = v} p q (_▸_.pair {t = x} (_▸_.pair the.char (_▸_.
     let u = w ++ (46 ∷ p) in
     let z = v ++ (46 ∷ q) in
     let e′ : m ++ (34 ∷ (x ++ u)) ≡ n ++ (34 ∷ (y ++ z)) =
-    sym (three m x u) ∙ (tails 34 _ _ e ∙ three n y z) in
+    sym (three m x u) ∙ (tail-same e ∙ three n y z) in
     let r : x ++ u ≡ y ++ z = sym (string-rest (x ++ u) a) ∙ (ap (suffixFrom false) e′ ∙ string-rest (y ++ z) b) in
     let f = front-same m n (34 ∷ (x ++ u)) (34 ∷ (y ++ z)) (ap (λ (l : List ℕ). 34 ∷ l) r) e′ in
     let g = suffix-one p q c d h k r in
@@ -484,5 +472,5 @@ one-standard-derivation l d e =
     let o = object-one (d .isObject) (e .isObject) (d .white₃) (e .white₃) (d .trail) (e .trail) (c .1) in
     let f = run white (d .between₃) (e .between₃) _ _ (all-many white (d .white₃)) (all-many white (e .white₃)) dot-white dot-white
     (rest-same (d .object) (e .object) _ _ o (c .1)) in
-    let r = tails 46 _ _ (f .1) in
+    let r = tail-same (f .1) in
     rw (a .0, s, b .0, p, c .0, o, f .0, r)

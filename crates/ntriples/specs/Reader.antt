@@ -8,27 +8,8 @@ use lib.ListN.{length, drop}
 use Rattle.term.specs.Canonical.{canonical}
 use Rattle.term.specs.Scanner.{stepOf, wholeOf, isBad, firstKindOf}
 use Rattle.term.specs.declared.Scan.{Scan}
-use Rattle.term.specs.declared.Scan.the-variants.{
-  Start,
-  IriOpen,
-  Iri,
-  Closed,
-  Under,
-  Colon,
-  Label,
-  Dot,
-  Dots,
-  Text,
-  Escape,
-  Quote,
-  At,
-  Tag,
-  Hyphen,
-  Group,
-  Caret,
-  Carets,
-  Bad,
-}
+use Rattle.term.specs.declared.Scan.the-variants.{Start, IriOpen, Iri, Closed, Under, Colon, Label, Dot, Dots, Text}
+use Rattle.term.specs.declared.Scan.the-variants.{Escape, Quote, At, Tag, Hyphen, Group, Caret, Carets, Bad}
 use Rattle.ntriples.specs.declared.Span.{Span}
 use Rattle.ntriples.specs.declared.Line.{Line}
 use Rattle.ntriples.specs.declared.Line.the-variants.{End, Nothing, Triple, Refused}

@@ -108,25 +108,8 @@ fn is_dot(q: Scan) -> bool
     ensures { λ r. ⌜ r ≡ isDot q ⌝ }
 {
     match q {
-        Scan::Start => false,
-        Scan::IriOpen => false,
-        Scan::Iri => false,
-        Scan::Closed => false,
-        Scan::Under => false,
-        Scan::Colon => false,
-        Scan::Label => false,
         Scan::Dot => true,
-        Scan::Dots => false,
-        Scan::Text => false,
-        Scan::Escape => false,
-        Scan::Quote => false,
-        Scan::At => false,
-        Scan::Tag => false,
-        Scan::Hyphen => false,
-        Scan::Group => false,
-        Scan::Caret => false,
-        Scan::Carets => false,
-        Scan::Bad => false,
+        _ => false,
     }
 }
 
@@ -183,60 +166,46 @@ fn object_end(text: &[u8], a: usize, stop: usize) -> ObjectEnd
     ObjectEnd::Broken(i)
 }
 
-// An IRI or a blank node.
-fn opens_subject(b: u8) -> bool
-    ensures { λ r. ⌜ r ≡ opens 2 b ⌝ }
-{
-    match b {
-        b'<' | b'_' => true,
-        _ => false,
-    }
-}
-
-// An IRI.
-fn opens_predicate(b: u8) -> bool
-    ensures { λ r. ⌜ r ≡ opens 1 b ⌝ }
+// Whether a term that `more` terms follow may begin with `b`: with `<`, an IRI; with `_`, a blank node, which is no
+// predicate; with `"`, a literal, which is the object alone.
+fn opens_term(more: u32, b: u8) -> bool
+    ensures { λ r. ⌜ r ≡ opens more b ⌝ }
 {
     match b {
         b'<' => true,
+        b'_' => more != 1,
+        b'"' => more == 0,
         _ => false,
     }
 }
 
-// An IRI, a blank node or a literal.
-fn opens_object(b: u8) -> bool
-    ensures { λ r. ⌜ r ≡ opens 0 b ⌝ }
+// The subject or the predicate that begins at `a`; `more` terms follow it.
+fn earlier_term(text: &[u8], a: usize, stop: usize, more: u32) -> TermEnd
+    requires { ⌜ NotWhite (now text) a stop ⌝ }
+    requires { ⌜ 1 ≤ more ⌝ }
+    ensures { λ r. ⌜ TermEnds (now (text .entry)) stop more a r ⌝ }
 {
-    match b {
-        b'<' | b'_' | b'"' => true,
-        _ => false,
+    if a == stop {
+        return TermEnd::Broken(a);
     }
+    if !opens_term(more, text[a]) {
+        return TermEnd::Broken(a);
+    }
+    term_end(text, a, stop)
 }
 
 fn subject(text: &[u8], a: usize, stop: usize) -> TermEnd
     requires { ⌜ NotWhite (now text) a stop ⌝ }
     ensures { λ r. ⌜ TermEnds (now (text .entry)) stop 2 a r ⌝ }
 {
-    if a == stop {
-        return TermEnd::Broken(a);
-    }
-    if !opens_subject(text[a]) {
-        return TermEnd::Broken(a);
-    }
-    term_end(text, a, stop)
+    earlier_term(text, a, stop, 2)
 }
 
 fn predicate(text: &[u8], a: usize, stop: usize) -> TermEnd
     requires { ⌜ NotWhite (now text) a stop ⌝ }
     ensures { λ r. ⌜ TermEnds (now (text .entry)) stop 1 a r ⌝ }
 {
-    if a == stop {
-        return TermEnd::Broken(a);
-    }
-    if !opens_predicate(text[a]) {
-        return TermEnd::Broken(a);
-    }
-    term_end(text, a, stop)
+    earlier_term(text, a, stop, 1)
 }
 
 fn object(text: &[u8], a: usize, stop: usize) -> ObjectEnd
@@ -246,7 +215,7 @@ fn object(text: &[u8], a: usize, stop: usize) -> ObjectEnd
     if a == stop {
         return ObjectEnd::Broken(a);
     }
-    if !opens_object(text[a]) {
+    if !opens_term(0, text[a]) {
         return ObjectEnd::Broken(a);
     }
     object_end(text, a, stop)
