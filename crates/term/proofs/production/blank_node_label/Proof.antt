@@ -3,21 +3,21 @@ use Prim.Native.Nat.{ℕ, _-_, _+_, _≤_, _<_}
 use mathlib.Core.Path.{_≡_, refl, sym, _∙_}
 use mathlib.Core.List.{List}
 use mathlib.Core.Bool.{Bool}
-use lib.ListN.{length, drop, getD}
+use lib.ListN.{length, getD}
 use native.Mathlib.Omega.{arith}
 use borrow.Author.Tests.{not-true, not-false}
 use Rattle.term.specs.Bytes.{firstByte, labelByte, letter, alnum}
 use Rattle.term.specs.Spelling.{labelOrDot}
-use Rattle.term.specs.Scanner.{stepOf, isBad, haltOf}
+use Rattle.term.specs.Scanner.{stepOf, isBad}
 use Rattle.term.specs.declared.Scan.the-variants.{Under, Colon}
-use Rattle.term.proofs.Turn.{seen, unlike, inside, inside-byte, halt-stop}
-use Rattle.term.proofs.Turn.{halt-go, LabelAt, label-start, label-turn, label-end}
+use Rattle.term.proofs.Turn.{seen, unlike, inside, inside-byte, Comes, comes-here, comes-on, comes-stop}
+use Rattle.term.proofs.Turn.{LabelAt, label-start, label-turn, label-end}
 use borrow.Author.Needs.{needs}
 use Rattle.term.proofs.production.blank_node_label.Statement.{statement}
 use Rattle.term.proofs.production.blank_node_label.Tie as tie
 
 abbrev Inv-loop : tie.InvT-loop
-Inv-loop bytes at i₀ i = (2 ≤ i) × (haltOf Under at (drop at bytes) ≡ haltOf (LabelAt bytes i) i (drop i bytes))
+Inv-loop bytes at i₀ i = (2 ≤ i) × Comes bytes Under at (LabelAt bytes i) i
 
 abbrev μ-loop : tie.MeasureT-loop
 μ-loop bytes at i₀ i = length bytes - i
@@ -29,6 +29,14 @@ colon-within : (c : tie.Else1 Inv-loop μ-loop) → (let a = c .before .before .
 colon-within c =
     let a = c .before .before .before .args in
     inside-byte (a .bytes .now) (a .at) 58 (omega arith) (c .before .byte-at .ensures) (c .if1 .left)
+
+colon-taken : (c : tie.Else1 Inv-loop μ-loop)
+    → (let a = c .before .before .before .args in Comes (a .bytes .now) Under (a .at) Colon (a .at + 1))
+unfolding stepOf isBad
+colon-taken c =
+    let a = c .before .before .before .args in
+    let g : getD (a .bytes .now) (a .at) 0 ≡ 58 = sym (c .before .byte-at .ensures) ∙ c .if1 .left in
+    comes-on (comes-here (a .bytes .now) Under (a .at)) (rw g) refl
 
 -- the label's first byte
 first : (c : tie.After-is-label-first Inv-loop μ-loop) {t : Bool} → c .is-label-first .result ≡ t
@@ -56,9 +64,8 @@ byte-at-requires c κs = search needs
 returns : tie.Need-returns Inv-loop μ-loop
 unfolding stepOf
 returns c =
-    sym
-    (halt-stop (c .before .before .before .args .bytes .now) Under (c .before .before .before .args .at)
-    (rw (unlike 58 (c .before .byte-at .ensures) (c .if1 .taken))))
+    let a = c .before .before .before .args in
+    comes-stop (comes-here (a .bytes .now) Under (a .at)) (rw (unlike 58 (c .before .byte-at .ensures) (c .if1 .taken)))
 
 add-byte-at : tie.Need-add-byte-at Inv-loop μ-loop
 add-byte-at c = let h = colon-within c in omega arith
@@ -75,11 +82,8 @@ add-t10 c = let h = colon-within (c .before .before .before) in omega arith
 returns-2 : tie.Need-returns-2 Inv-loop μ-loop
 unfolding stepOf isBad
 returns-2 c =
-    let a = c .before .before .before .before .before .before .args in
-    let g : getD (a .bytes .now) (a .at) 0 ≡ 58 =
-    sym (c .before .before .before .before .byte-at .ensures) ∙ c .before .before .before .if1 .left in
     let e = first (c .before) (not-true (c .before .is-label-first .result) (c .if2 .taken)) in
-    sym (halt-go (a .bytes .now) Under Colon (a .at) (rw g) refl ∙ halt-stop (a .bytes .now) Colon (a .at + 1) (rw e))
+    comes-stop (colon-taken (c .before .before .before)) (rw e)
 
 add-i : tie.Need-add-i Inv-loop μ-loop
 unfolding firstByte alnum letter
@@ -92,9 +96,8 @@ add-i c =
 loop-holds : tie.Need-loop-holds Inv-loop μ-loop
 loop-holds c =
     let a = c .before .before .before .before .before .before .args in
-    let g = sym (c .before .before .before .before .byte-at .ensures) ∙ c .before .before .before .if1 .left in
     let e = first (c .before) (not-false (c .before .is-label-first .result) (c .if2 .left)) in
-    (omega arith, label-start (a .bytes .now) (a .at) g e)
+    (omega arith, label-start (a .bytes .now) (a .at) e (colon-taken (c .before .before .before)))
 
 byte-at-requires-3 : tie.Need-byte-at-requires-3 Inv-loop μ-loop
 byte-at-requires-3 c κs = search needs
@@ -112,7 +115,7 @@ loop-again : tie.Need-loop-again Inv-loop μ-loop
 loop-again c =
     let l = c .before .before .before in
     let v = l .loop .inv in
-    (omega arith, v .1 ∙ label-turn (bytes l) (l .loop .i) (v .0) (tested (c .before) (c .if3 .taken)))
+    (omega arith, label-turn (bytes l) _ (l .loop .i) (v .0) (tested (c .before) (c .if3 .taken)) (v .1))
 
 sub-byte-at : tie.Need-sub-byte-at Inv-loop μ-loop
 sub-byte-at c = search needs
@@ -136,7 +139,7 @@ returns-3 c =
     let e = tested (c .before .before .before .before) (c .before .before .before .if3 .left) in
     let p : c .label-place .result ≡ LabelAt (bytes l) i =
     rw (← c .before .before .byte-at4 .ensures, ← c .before .byte-at5 .ensures) (c .label-place .ensures) in
-    sym (l .loop .inv .1 ∙ label-end (bytes l) i e ∙ rw (← p))
+    rw (← p) at (label-end (bytes l) _ i e (l .loop .inv .1))
 
 pub blank-node-label-spec : {M : Type 1} → statement M
 blank-node-label-spec =

@@ -1,5 +1,5 @@
 -- An IRI: its bytes by one loop, whose invariant is "the definition from here". Assumes nothing.
-use Prim.Native.Nat.{ℕ, _-_, _+_, _≤_, _<_}
+use Prim.Native.Nat.{ℕ, _-_, _≤_, _<_}
 use mathlib.Core.Path.{_≡_, refl, sym, ap, _∙_}
 use mathlib.Core.List.{List}
 use mathlib.Core.Bool.{Bool, false}
@@ -10,14 +10,14 @@ use Rattle.term.specs.Bytes.{iriByte, among}
 use Rattle.term.specs.Scanner.{stepOf, isBad, haltOf}
 use Rattle.term.specs.declared.Scan.{Scan}
 use Rattle.term.specs.declared.Scan.the-variants.{IriOpen, Iri, Closed}
-use Rattle.term.proofs.Turn.{seen, unlike, inside, inside-byte, halt-stop}
-use Rattle.term.proofs.Turn.{halt-go, halt-closed, IriAt, iri-start, iri-turn}
+use Rattle.term.proofs.Turn.{seen, unlike, inside, inside-byte, Comes, comes-here, comes-on, comes-stop}
+use Rattle.term.proofs.Turn.{IriAt, iri-start, iri-turn}
 use borrow.Author.Needs.{needs}
 use Rattle.term.proofs.production.iri.Statement.{statement}
 use Rattle.term.proofs.production.iri.Tie as tie
 
 abbrev Inv-loop : tie.InvT-loop
-Inv-loop bytes at i₀ i = (at ≤ i) × (haltOf IriOpen at (drop at bytes) ≡ haltOf (IriAt at i) i (drop i bytes))
+Inv-loop bytes at i₀ i = (at ≤ i) × Comes bytes IriOpen at (IriAt at i) i
 
 abbrev μ-loop : tie.MeasureT-loop
 μ-loop bytes at i₀ i = length bytes - i
@@ -42,17 +42,17 @@ within c =
 
 -- a byte at least was taken
 after : (c : tie.Else2 Inv-loop μ-loop)
-    → (let l = c .before .before .before .before in
-    haltOf IriOpen (first l) (drop (first l) (bytes l)) ≡ haltOf Iri (l .loop .i) (drop (l .loop .i) (bytes l)))
+    → (let l = c .before .before .before .before in Comes (bytes l) IriOpen (first l) Iri (l .loop .i))
 after c =
     let l = c .before .before .before .before in
     let q : IriAt (first l) (l .loop .i) ≡ Iri = rw (ne-eqb (l .loop .i) (first l) (c .if2 .left)) in
-    l .loop .inv .1 ∙ ap (λ (x : Scan). haltOf x (l .loop .i) (drop (l .loop .i) (bytes l))) q
+    record { same = l .loop .inv .1 .same ∙ ap (λ (x : Scan). haltOf x (l .loop .i) (drop (l .loop .i) (bytes l))) q }
 
 -- ---- the needs
 
 loop-holds : tie.Need-loop-holds Inv-loop μ-loop
-loop-holds c = let a = c .before .args .at in (omega arith, rw (iri-start a))
+loop-holds c =
+    let a = c .before .args in (omega arith, rw (iri-start (a .at)) (comes-here (a .bytes .now) IriOpen (a .at)))
 
 byte-at-requires : tie.Need-byte-at-requires Inv-loop μ-loop
 byte-at-requires c κs = search needs
@@ -70,7 +70,7 @@ loop-again : tie.Need-loop-again Inv-loop μ-loop
 loop-again c =
     let l = c .before .before .before in
     let v = l .loop .inv in
-    (omega arith, v .1 ∙ iri-turn (bytes l) (first l) (l .loop .i) (v .0) (tested (c .before) (c .if1 .taken)))
+    (omega arith, iri-turn (bytes l) (first l) (l .loop .i) (v .0) (tested (c .before) (c .if1 .taken)) (v .1))
 
 returns : tie.Need-returns Inv-loop μ-loop
 unfolding stepOf
@@ -78,7 +78,7 @@ returns c =
     let l = c .before .before .before .before in
     let e : iriByte (getD (bytes l) (first l) 0) ≡ false =
     ap (λ (i : ℕ). iriByte (getD (bytes l) i 0)) (sym (c .if2 .taken)) ∙ tested (c .before .before) (c .before .if1 .left) in
-    sym (halt-stop (bytes l) IriOpen (first l) (rw e))
+    comes-stop (comes-here (bytes l) IriOpen (first l)) (rw e)
 
 byte-at-requires-2 : tie.Need-byte-at-requires-2 Inv-loop μ-loop
 byte-at-requires-2 c κs = search needs
@@ -93,20 +93,15 @@ returns-2 : tie.Need-returns-2 Inv-loop μ-loop
 unfolding stepOf isBad
 returns-2 c =
     let l = c .before .before .before .before .before .before in
-    let i = l .loop .i in
     let e = tested (c .before .before .before .before) (c .before .before .before .if1 .left) in
-    let g : getD (bytes l) i 0 ≡ 62 = sym (c .before .byte-at2 .ensures) ∙ c .if3 .taken in
-    sym
-    (after (c .before .before)
-    ∙ (halt-go (bytes l) Iri Closed i (rw (e, g)) refl ∙ halt-closed (bytes l) (i + 1)))
+    let g : getD (bytes l) (l .loop .i) 0 ≡ 62 = sym (c .before .byte-at2 .ensures) ∙ c .if3 .taken in
+    comes-stop (comes-on (after (c .before .before)) {r = Closed} (rw (e, g)) refl) refl
 
 returns-3 : tie.Need-returns-3 Inv-loop μ-loop
 unfolding stepOf
 returns-3 c =
-    let l = c .before .before .before .before .before .before in
     let e = tested (c .before .before .before .before) (c .before .before .before .if1 .left) in
-    let g = unlike 62 (c .before .byte-at2 .ensures) (c .if3 .left) in
-    sym (after (c .before .before) ∙ halt-stop (bytes l) Iri (l .loop .i) (rw (e, g)))
+    comes-stop (after (c .before .before)) (rw (e, unlike 62 (c .before .byte-at2 .ensures) (c .if3 .left)))
 
 pub iri-spec : {M : Type 1} → statement M
 iri-spec =

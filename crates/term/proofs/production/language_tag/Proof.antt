@@ -3,19 +3,20 @@ use Prim.Native.Nat.{ℕ, _-_, _<_}
 use mathlib.Core.Path.{_≡_, refl, sym, _∙_}
 use mathlib.Core.List.{List}
 use mathlib.Core.Bool.{Bool}
-use lib.ListN.{length, drop, getD}
+use lib.ListN.{length, getD}
 use native.Mathlib.Omega.{arith}
 use borrow.Author.Tests.{not-true, not-false}
 use Rattle.term.specs.Bytes.{letter}
-use Rattle.term.specs.Scanner.{stepOf, isBad, haltOf}
+use Rattle.term.specs.Scanner.{stepOf, isBad}
 use Rattle.term.specs.declared.Scan.the-variants.{At, Tag, Hyphen}
-use Rattle.term.proofs.Turn.{seen, unlike, inside, inside-byte, halt-stop, halt-go}
+use Rattle.term.proofs.Turn.{seen, unlike, inside, inside-byte}
+use Rattle.term.proofs.Turn.{Comes, comes-here, comes-on, comes-stop, comes-end}
 use borrow.Author.Needs.{needs}
 use Rattle.term.proofs.production.language_tag.Statement.{statement}
 use Rattle.term.proofs.production.language_tag.Tie as tie
 
 abbrev Inv-loop : tie.InvT-loop
-Inv-loop bytes at i₀ i = haltOf At at (drop at bytes) ≡ haltOf Tag i (drop i bytes)
+Inv-loop bytes at i₀ i = Comes bytes At at Tag i
 
 abbrev μ-loop : tie.MeasureT-loop
 μ-loop bytes at i₀ i = length bytes - i
@@ -53,7 +54,7 @@ unfolding stepOf
 returns c =
     let a = c .before .before .before .before .args in
     let e = begun (c .before) (not-true (c .before .is-letter .result) (c .if1 .taken)) in
-    sym (halt-stop (a .bytes .now) At (a .at) (rw e))
+    comes-stop (comes-here (a .bytes .now) At (a .at)) (rw e)
 
 add-i : tie.Need-add-i Inv-loop μ-loop
 unfolding letter
@@ -68,7 +69,7 @@ unfolding stepOf isBad
 loop-holds c =
     let a = c .before .before .before .before .args in
     let e = begun (c .before) (not-false (c .before .is-letter .result) (c .if1 .left)) in
-    halt-go (a .bytes .now) At Tag (a .at) (rw e) refl
+    comes-on (comes-here (a .bytes .now) At (a .at)) (rw e) refl
 
 byte-at-requires-2 : tie.Need-byte-at-requires-2 Inv-loop μ-loop
 byte-at-requires-2 c κs = search needs
@@ -85,9 +86,7 @@ loop-less c = let h = within c in omega arith
 loop-again : tie.Need-loop-again Inv-loop μ-loop
 unfolding stepOf isBad
 loop-again c =
-    let l = c .before .before .before in
-    let e = tested (c .before) (c .if2 .taken) in
-    l .loop .inv ∙ halt-go (bytes l) Tag Tag (l .loop .i) (rw e) refl
+    comes-on (c .before .before .before .loop .inv) (rw (tested (c .before) (c .if2 .taken))) refl
 
 byte-at-requires-3 : tie.Need-byte-at-requires-3 Inv-loop μ-loop
 byte-at-requires-3 c κs = search needs
@@ -107,15 +106,14 @@ returns-2 c =
     let l = c .before .before .before .before .before .before in
     let e = tested (c .before .before .before .before) (c .before .before .before .if2 .left) in
     let g : getD (bytes l) (l .loop .i) 0 ≡ 45 = sym (c .before .before .byte-at3 .ensures) ∙ c .before .if3 .taken in
-    c .subtags .ensures ∙ sym (l .loop .inv ∙ halt-go (bytes l) Tag Hyphen (l .loop .i) (rw (e, g)) refl)
+    comes-end (comes-on (l .loop .inv) {r = Hyphen} (rw (e, g)) refl) (c .subtags .ensures)
 
 returns-3 : tie.Need-returns-3 Inv-loop μ-loop
 unfolding stepOf
 returns-3 c =
-    let l = c .before .before .before .before .before in
     let e = tested (c .before .before .before) (c .before .before .if2 .left) in
     let g = unlike 45 (c .before .byte-at3 .ensures) (c .if3 .left) in
-    sym (l .loop .inv ∙ halt-stop (bytes l) Tag (l .loop .i) (rw (e, g)))
+    comes-stop (c .before .before .before .before .before .loop .inv) (rw (e, g))
 
 pub language-tag-spec : {M : Type 1} → statement M
 language-tag-spec =

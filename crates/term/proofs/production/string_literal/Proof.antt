@@ -3,19 +3,20 @@ use Prim.Native.Nat.{ℕ, _-_, _+_, _<_}
 use mathlib.Core.Path.{_≡_, refl, sym, _∙_}
 use mathlib.Core.List.{List}
 use mathlib.Core.Bool.{Bool}
-use lib.ListN.{length, drop, getD}
+use lib.ListN.{length, getD}
 use native.Mathlib.Omega.{arith}
 use borrow.Author.Tests.{not-true, not-false}
 use Rattle.term.specs.Bytes.{textByte, pairByte, among}
-use Rattle.term.specs.Scanner.{stepOf, isBad, haltOf}
+use Rattle.term.specs.Scanner.{stepOf, isBad}
 use Rattle.term.specs.declared.Scan.the-variants.{Text, Escape, Quote}
-use Rattle.term.proofs.Turn.{seen, unlike, inside, inside-byte, halt-stop, halt-go}
+use Rattle.term.proofs.Turn.{seen, unlike, inside, inside-byte}
+use Rattle.term.proofs.Turn.{Comes, comes-here, comes-on, comes-to, comes-stop, comes-end}
 use borrow.Author.Needs.{needs}
 use Rattle.term.proofs.production.string_literal.Statement.{statement}
 use Rattle.term.proofs.production.string_literal.Tie as tie
 
 abbrev Inv-loop : tie.InvT-loop
-Inv-loop bytes at i₀ i = haltOf Text at (drop at bytes) ≡ haltOf Text i (drop i bytes)
+Inv-loop bytes at i₀ i = Comes bytes Text at Text i
 
 abbrev μ-loop : tie.MeasureT-loop
 μ-loop bytes at i₀ i = length bytes - i
@@ -45,15 +46,13 @@ slash-within c =
     inside-byte (bytes l) (l .loop .i) 92 (omega arith) (c .before .before .before .before .byte-at .ensures) (c .if3 .left)
 
 slash-taken : (c : tie.Else3 Inv-loop μ-loop)
-    → (let l = at-slash c in
-    haltOf Text (l .before .before .args .at) (drop (l .before .before .args .at) (bytes l))
-    ≡ haltOf Escape (l .loop .i + 1) (drop (l .loop .i + 1) (bytes l)))
+    → (let l = at-slash c in Comes (bytes l) Text (l .before .before .args .at) Escape (l .loop .i + 1))
 unfolding stepOf isBad
 slash-taken c =
     let l = at-slash c in
     let e = tested (c .before .before .before) (c .before .before .if1 .left) in
     let g : getD (bytes l) (l .loop .i) 0 ≡ 92 = sym (c .before .before .before .before .byte-at .ensures) ∙ c .if3 .left in
-    l .loop .inv ∙ halt-go (bytes l) Text Escape (l .loop .i) (rw (e, g)) refl
+    comes-on (l .loop .inv) (rw (e, g)) refl
 
 -- and the byte after it
 abbrev at-pair : tie.After-is-pair-byte Inv-loop μ-loop → tie.Else3 Inv-loop μ-loop
@@ -72,7 +71,7 @@ pair-within c =
 -- ---- the needs
 
 loop-holds : tie.Need-loop-holds Inv-loop μ-loop
-loop-holds c = search needs
+loop-holds c = let a = c .before .args in comes-here (a .bytes .now) Text (a .at)
 
 byte-at-requires : tie.Need-byte-at-requires Inv-loop μ-loop
 byte-at-requires c κs = search needs
@@ -89,9 +88,7 @@ loop-less c = let h = within c in omega arith
 loop-again : tie.Need-loop-again Inv-loop μ-loop
 unfolding stepOf isBad
 loop-again c =
-    let l = c .before .before .before in
-    let e = tested (c .before) (c .if1 .taken) in
-    l .loop .inv ∙ halt-go (bytes l) Text Text (l .loop .i) (rw e) refl
+    comes-on (c .before .before .before .loop .inv) (rw (tested (c .before) (c .if1 .taken))) refl
 
 add-literal-suffix : tie.Need-add-literal-suffix Inv-loop μ-loop
 add-literal-suffix c =
@@ -110,16 +107,15 @@ returns c =
     let e = tested (c .before .before .before) (c .before .before .if1 .left) in
     let g : getD (bytes l) (l .loop .i) 0 ≡ 34 =
     sym (c .before .before .before .before .byte-at .ensures) ∙ c .before .if2 .taken in
-    c .literal-suffix .ensures ∙ sym (l .loop .inv ∙ halt-go (bytes l) Text Quote (l .loop .i) (rw (e, g)) refl)
+    comes-end (comes-on (l .loop .inv) {r = Quote} (rw (e, g)) refl) (c .literal-suffix .ensures)
 
 returns-2 : tie.Need-returns-2 Inv-loop μ-loop
 unfolding stepOf
 returns-2 c =
-    let l = c .before .before .before .before .before in
     let e = tested (c .before .before .before) (c .before .before .if1 .left) in
     let quote = unlike 34 (c .before .before .before .before .byte-at .ensures) (c .before .if2 .left) in
     let pair = unlike 92 (c .before .before .before .before .byte-at .ensures) (c .if3 .taken) in
-    sym (l .loop .inv ∙ halt-stop (bytes l) Text (l .loop .i) (rw (e, quote, pair)))
+    comes-stop (c .before .before .before .before .before .loop .inv) (rw (e, quote, pair))
 
 add-byte-at : tie.Need-add-byte-at Inv-loop μ-loop
 add-byte-at c = let h = slash-within c in omega arith
@@ -136,10 +132,8 @@ add-t13 c = let h = slash-within (at-pair (c .before)) in omega arith
 returns-3 : tie.Need-returns-3 Inv-loop μ-loop
 unfolding stepOf
 returns-3 c =
-    let d = at-pair (c .before) in
-    let l = at-slash d in
-    let f = paired (c .before) (not-true (c .before .is-pair-byte .result) (c .if4 .taken)) in
-    sym (slash-taken d ∙ halt-stop (bytes l) Escape (l .loop .i + 1) (rw f))
+    comes-stop (slash-taken (at-pair (c .before)))
+    (rw (paired (c .before) (not-true (c .before .is-pair-byte .result) (c .if4 .taken))))
 
 add-i-2 : tie.Need-add-i-2 Inv-loop μ-loop
 add-i-2 c = let h = pair-within c in omega arith
@@ -150,11 +144,8 @@ loop-less-2 c = let h = pair-within c in omega arith
 loop-again-2 : tie.Need-loop-again-2 Inv-loop μ-loop
 unfolding stepOf isBad
 loop-again-2 c =
-    let d = at-pair (c .before) in
-    let l = at-slash d in
-    let f = paired (c .before) (not-false (c .before .is-pair-byte .result) (c .if4 .left)) in
-    let two : l .loop .i + 1 + 1 ≡ l .loop .i + 2 = omega arith in
-    slash-taken d ∙ (halt-go (bytes l) Escape Text (l .loop .i + 1) (rw f) refl ∙ rw two)
+    comes-to (slash-taken (at-pair (c .before)))
+    (rw (paired (c .before) (not-false (c .before .is-pair-byte .result) (c .if4 .left)))) refl (omega arith)
 
 pub string-literal-spec : {M : Type 1} → statement M
 string-literal-spec =

@@ -3,19 +3,20 @@ use Prim.Native.Nat.{ℕ, _-_, _+_, _<_}
 use mathlib.Core.Path.{_≡_, refl, sym, _∙_}
 use mathlib.Core.List.{List}
 use mathlib.Core.Bool.{Bool, true}
-use lib.ListN.{length, drop, getD}
+use lib.ListN.{length, getD}
 use native.Mathlib.Omega.{arith}
 use borrow.Author.Tests.{not-true, not-false}
 use Rattle.term.specs.Bytes.{letter, alnum}
-use Rattle.term.specs.Scanner.{stepOf, isBad, haltOf}
+use Rattle.term.specs.Scanner.{stepOf, isBad}
 use Rattle.term.specs.declared.Scan.the-variants.{Hyphen, Group}
-use Rattle.term.proofs.Turn.{seen, unlike, inside, inside-byte, halt-stop, halt-go}
+use Rattle.term.proofs.Turn.{seen, unlike, inside, inside-byte}
+use Rattle.term.proofs.Turn.{Comes, comes-here, comes-on, comes-to, comes-stop}
 use borrow.Author.Needs.{needs}
 use Rattle.term.proofs.production.subtags.Statement.{statement}
 use Rattle.term.proofs.production.subtags.Tie as tie
 
 abbrev Inv-loop : tie.InvT-loop
-Inv-loop bytes at i₀ i = haltOf Hyphen at (drop at bytes) ≡ haltOf Group i (drop i bytes)
+Inv-loop bytes at i₀ i = Comes bytes Hyphen at Group i
 
 abbrev μ-loop : tie.MeasureT-loop
 μ-loop bytes at i₀ i = length bytes - i
@@ -52,14 +53,14 @@ hyphen-within c =
     inside-byte (bytes l) (l .loop .i) 45 (omega arith) (c .before .before .before .byte-at2 .ensures) (c .if3 .left)
 
 hyphen-taken : (c : tie.Else3 Inv-loop μ-loop)
-    → (let l = at-hyphen c in let a = l .before .before .before .before .before .args in
-    haltOf Hyphen (a .at) (drop (a .at) (bytes l)) ≡ haltOf Hyphen (l .loop .i + 1) (drop (l .loop .i + 1) (bytes l)))
+    → (let l = at-hyphen c in
+    Comes (bytes l) Hyphen (l .before .before .before .before .before .args .at) Hyphen (l .loop .i + 1))
 unfolding stepOf isBad
 hyphen-taken c =
     let l = at-hyphen c in
     let e = tested (c .before .before) (c .before .if2 .left) in
     let g : getD (bytes l) (l .loop .i) 0 ≡ 45 = sym (c .before .before .before .byte-at2 .ensures) ∙ c .if3 .left in
-    l .loop .inv ∙ halt-go (bytes l) Group Hyphen (l .loop .i) (rw (e, g)) refl
+    comes-on (l .loop .inv) (rw (e, g)) refl
 
 -- and the byte after it
 abbrev at-next : tie.After-is-alnum3 Inv-loop μ-loop → tie.Else3 Inv-loop μ-loop
@@ -87,7 +88,7 @@ unfolding stepOf
 returns c =
     let a = c .before .before .before .before .args in
     let e = begun (c .before) (not-true (c .before .is-alnum .result) (c .if1 .taken)) in
-    sym (halt-stop (a .bytes .now) Hyphen (a .at) (rw e))
+    comes-stop (comes-here (a .bytes .now) Hyphen (a .at)) (rw e)
 
 add-i : tie.Need-add-i Inv-loop μ-loop
 add-i c =
@@ -101,7 +102,7 @@ unfolding stepOf isBad
 loop-holds c =
     let a = c .before .before .before .before .args in
     let e = begun (c .before) (not-false (c .before .is-alnum .result) (c .if1 .left)) in
-    halt-go (a .bytes .now) Hyphen Group (a .at) (rw e) refl
+    comes-on (comes-here (a .bytes .now) Hyphen (a .at)) (rw e) refl
 
 byte-at-requires-2 : tie.Need-byte-at-requires-2 Inv-loop μ-loop
 byte-at-requires-2 c κs = search needs
@@ -118,17 +119,14 @@ loop-less c = let h = within c in omega arith
 loop-again : tie.Need-loop-again Inv-loop μ-loop
 unfolding stepOf isBad
 loop-again c =
-    let l = c .before .before .before in
-    let e = tested (c .before) (c .if2 .taken) in
-    l .loop .inv ∙ halt-go (bytes l) Group Group (l .loop .i) (rw e) refl
+    comes-on (c .before .before .before .loop .inv) (rw (tested (c .before) (c .if2 .taken))) refl
 
 returns-2 : tie.Need-returns-2 Inv-loop μ-loop
 unfolding stepOf
 returns-2 c =
-    let l = c .before .before .before .before in
     let e = tested (c .before .before) (c .before .if2 .left) in
     let g = unlike 45 (c .before .before .before .byte-at2 .ensures) (c .if3 .taken) in
-    sym (l .loop .inv ∙ halt-stop (bytes l) Group (l .loop .i) (rw (e, g)))
+    comes-stop (c .before .before .before .before .loop .inv) (rw (e, g))
 
 add-byte-at : tie.Need-add-byte-at Inv-loop μ-loop
 add-byte-at c = let h = hyphen-within c in omega arith
@@ -145,10 +143,8 @@ add-t16 c = let h = hyphen-within (at-next (c .before)) in omega arith
 returns-3 : tie.Need-returns-3 Inv-loop μ-loop
 unfolding stepOf
 returns-3 c =
-    let d = at-next (c .before) in
-    let l = at-hyphen d in
-    let f = grouped (c .before) (not-true (c .before .is-alnum3 .result) (c .if4 .taken)) in
-    sym (hyphen-taken d ∙ halt-stop (bytes l) Hyphen (l .loop .i + 1) (rw f))
+    comes-stop (hyphen-taken (at-next (c .before)))
+    (rw (grouped (c .before) (not-true (c .before .is-alnum3 .result) (c .if4 .taken))))
 
 add-i-3 : tie.Need-add-i-3 Inv-loop μ-loop
 add-i-3 c = let h = group-within c in omega arith
@@ -159,11 +155,8 @@ loop-less-2 c = let h = group-within c in omega arith
 loop-again-2 : tie.Need-loop-again-2 Inv-loop μ-loop
 unfolding stepOf isBad
 loop-again-2 c =
-    let d = at-next (c .before) in
-    let l = at-hyphen d in
-    let f = grouped (c .before) (not-false (c .before .is-alnum3 .result) (c .if4 .left)) in
-    let two : l .loop .i + 1 + 1 ≡ l .loop .i + 2 = omega arith in
-    hyphen-taken d ∙ (halt-go (bytes l) Hyphen Group (l .loop .i + 1) (rw f) refl ∙ rw two)
+    comes-to (hyphen-taken (at-next (c .before)))
+    (rw (grouped (c .before) (not-false (c .before .is-alnum3 .result) (c .if4 .left)))) refl (omega arith)
 
 pub subtags-spec : {M : Type 1} → statement M
 subtags-spec =
