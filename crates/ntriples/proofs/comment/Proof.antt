@@ -1,11 +1,10 @@
 -- The bytes of a comment, by one loop. Assumes nothing.
 use Prim.Native.Nat.{_-_}
-use mathlib.Core.Path.{refl, sym, _∙_}
-use native.Mathlib.Omega.{arith}
+use mathlib.Core.Path.{sym, _∙_}
 use borrow.Author.Needs.{needs}
 use borrow.Author.Tests.{not-true, not-false}
 use Rattle.ntriples.specs.Grammar.{commentByte}
-use Rattle.ntriples.proofs.Runs.{Running, running-on, running-out, running-end}
+use Rattle.ntriples.proofs.Runs.{Running, running, running-on, running-out, running-end}
 use Rattle.ntriples.proofs.comment.Statement.{statement}
 use Rattle.ntriples.proofs.comment.Tie as tie
 use Rattle.ntriples.proofs.comment.Reads as reads
@@ -19,24 +18,18 @@ abbrev μ-loop : tie.MeasureT-loop
 μ-loop text from stop i₀ i = stop - i
 
 loop-holds : tie.Need-loop-holds Inv-loop μ-loop
-loop-holds c = let h = c .before .pre .before in (omega arith, omega arith, refl)
+loop-holds c = running commentByte (c .before .pre)
 
 shared-slice-read-is-comment-byte : tie.Need-shared-slice-read-is-comment-byte Inv-loop μ-loop
-shared-slice-read-is-comment-byte c =
-    let h = c .before .before .before .before .pre .inText in
-    let t = c .before .loop-test .taken in
-    omega arith
+shared-slice-read-is-comment-byte c = search needs
 
 is-comment-byte-requires : tie.Need-is-comment-byte-requires Inv-loop μ-loop
 is-comment-byte-requires c κs = search needs
 
 returns : tie.Need-returns Inv-loop μ-loop
 returns c =
-    let l = c .before .before .before .before .loop in
-    let d = c .before .before .before .before .before .before in
-    let e = sym (c .before .is-comment-byte .ensures) ∙ not-true (c .before .is-comment-byte .result) (c .if1 .taken) in
-    running-out commentByte (d .args .text .now) (d .args .from) (d .args .stop) (l .i) (l .inv)
-    (c .before .before .before .loop-test .taken) (d .pre .inText) e
+    running-out (c .before .before .before .before .loop .inv) (c .before .before .before .loop-test .taken)
+    (sym (c .before .is-comment-byte .ensures) ∙ not-true (c .before .is-comment-byte .result) (c .if1 .taken))
 
 add-i : tie.Need-add-i Inv-loop μ-loop
 add-i c = search needs
@@ -46,17 +39,11 @@ loop-less c = search needs
 
 loop-again : tie.Need-loop-again Inv-loop μ-loop
 loop-again c =
-    let l = c .before .before .before .before .loop in
-    let d = c .before .before .before .before .before .before in
-    let e = sym (c .before .is-comment-byte .ensures) ∙ not-false (c .before .is-comment-byte .result) (c .if1 .left) in
-    running-on commentByte (d .args .text .now) (d .args .from) (d .args .stop) (l .i) (l .inv)
-    (c .before .before .before .loop-test .taken) (d .pre .inText) e
+    running-on (c .before .before .before .before .loop .inv) (c .before .before .before .loop-test .taken)
+    (sym (c .before .is-comment-byte .ensures) ∙ not-false (c .before .is-comment-byte .result) (c .if1 .left))
 
 returns-2 : tie.Need-returns-2 Inv-loop μ-loop
-returns-2 c =
-    let l = c .before .loop in
-    let a = c .before .before .before .args in
-    running-end commentByte (a .text .now) (a .from) (a .stop) (l .i) (l .inv) (c .loop-test .left)
+returns-2 c = running-end (c .before .loop .inv) (c .loop-test .left)
 
 pub comment-spec : {M : Type 1} → statement M
 comment-spec =

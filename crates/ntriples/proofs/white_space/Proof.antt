@@ -1,11 +1,10 @@
 -- Spaces and tabs, by one loop. Assumes nothing.
 use Prim.Native.Nat.{_-_}
-use mathlib.Core.Path.{refl, sym, _∙_}
-use native.Mathlib.Omega.{arith}
+use mathlib.Core.Path.{sym, _∙_}
 use borrow.Author.Needs.{needs}
 use borrow.Author.Tests.{not-true, not-false}
 use Rattle.ntriples.specs.Grammar.{white}
-use Rattle.ntriples.proofs.Runs.{Running, running-on, running-out, running-end}
+use Rattle.ntriples.proofs.Runs.{Running, running, running-on, running-out, running-end}
 use Rattle.ntriples.proofs.white_space.Statement.{statement}
 use Rattle.ntriples.proofs.white_space.Tie as tie
 use Rattle.ntriples.proofs.white_space.Reads as reads
@@ -19,24 +18,18 @@ abbrev μ-loop : tie.MeasureT-loop
 μ-loop text from stop i₀ i = stop - i
 
 loop-holds : tie.Need-loop-holds Inv-loop μ-loop
-loop-holds c = let h = c .before .pre .before in (omega arith, omega arith, refl)
+loop-holds c = running white (c .before .pre)
 
 shared-slice-read-is-white : tie.Need-shared-slice-read-is-white Inv-loop μ-loop
-shared-slice-read-is-white c =
-    let h = c .before .before .before .before .pre .inText in
-    let t = c .before .loop-test .taken in
-    omega arith
+shared-slice-read-is-white c = search needs
 
 is-white-requires : tie.Need-is-white-requires Inv-loop μ-loop
 is-white-requires c κs = search needs
 
 returns : tie.Need-returns Inv-loop μ-loop
 returns c =
-    let l = c .before .before .before .before .loop in
-    let d = c .before .before .before .before .before .before in
-    let e = sym (c .before .is-white .ensures) ∙ not-true (c .before .is-white .result) (c .if1 .taken) in
-    running-out white (d .args .text .now) (d .args .from) (d .args .stop) (l .i) (l .inv)
-    (c .before .before .before .loop-test .taken) (d .pre .inText) e
+    running-out (c .before .before .before .before .loop .inv) (c .before .before .before .loop-test .taken)
+    (sym (c .before .is-white .ensures) ∙ not-true (c .before .is-white .result) (c .if1 .taken))
 
 add-i : tie.Need-add-i Inv-loop μ-loop
 add-i c = search needs
@@ -46,17 +39,11 @@ loop-less c = search needs
 
 loop-again : tie.Need-loop-again Inv-loop μ-loop
 loop-again c =
-    let l = c .before .before .before .before .loop in
-    let d = c .before .before .before .before .before .before in
-    let e = sym (c .before .is-white .ensures) ∙ not-false (c .before .is-white .result) (c .if1 .left) in
-    running-on white (d .args .text .now) (d .args .from) (d .args .stop) (l .i) (l .inv)
-    (c .before .before .before .loop-test .taken) (d .pre .inText) e
+    running-on (c .before .before .before .before .loop .inv) (c .before .before .before .loop-test .taken)
+    (sym (c .before .is-white .ensures) ∙ not-false (c .before .is-white .result) (c .if1 .left))
 
 returns-2 : tie.Need-returns-2 Inv-loop μ-loop
-returns-2 c =
-    let l = c .before .loop in
-    let a = c .before .before .before .args in
-    running-end white (a .text .now) (a .from) (a .stop) (l .i) (l .inv) (c .loop-test .left)
+returns-2 c = running-end (c .before .loop .inv) (c .loop-test .left)
 
 pub white-space-spec : {M : Type 1} → statement M
 white-space-spec =
