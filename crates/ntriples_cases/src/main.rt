@@ -4,8 +4,10 @@
 //
 // The input and the expected output are those of `reference.py`, which follows paper 01 and knows nothing of this
 // library; the answers that docs/DECISIONS.md gives as examples are written out there by hand.
+use bytes::scan::find;
 use store::Refusal;
 use store::refusal_number;
+use term::class::byte_at;
 ghost use Prim.Native.Nat.{_≤_, _<_};
 ghost use mathlib.Core.Path.{_≡_};
 ghost use lib.ListN.{length};
@@ -68,14 +70,6 @@ fn print_answer(line: ntriples::Line) {
     }
 }
 
-// The byte at `i`, or LF past the end.
-fn byte_at(table: &[u8], i: usize) -> u8 {
-    if i < table.len() {
-        return table[i];
-    }
-    b'\n'
-}
-
 // The position after `i`, at most the table's end.
 fn past(table: &[u8], i: usize) -> usize
     requires { ⌜ i ≤ length (now table) ⌝ }
@@ -83,21 +77,6 @@ fn past(table: &[u8], i: usize) -> usize
 {
     if i < table.len() {
         return i + 1;
-    }
-    i
-}
-
-// The position of the first byte `b` from `from` on, or the table's end.
-fn find(table: &[u8], from: usize, b: u8) -> usize
-    requires { ⌜ from ≤ length (now table) ⌝ }
-    ensures { λ r. ⌜ (from ≤ r) × (r ≤ length (now (table .entry))) ⌝ }
-{
-    let mut i = from;
-    while i < table.len() {
-        if table[i] == b {
-            return i;
-        }
-        i += 1;
     }
     i
 }
@@ -268,7 +247,7 @@ fn case(n: usize, table: &[u8], from: usize, text: &mut [u8]) -> usize
     requires { ⌜ from < length (now table) ⌝ }
     ensures { λ r. ⌜ r ≤ length (now (table .entry)) ⌝ }
 {
-    let space = find(table, from, b' ');
+    let space = find(table, from, table.len(), b' ');
     let at = decimal(table, past(table, space));
     let blank = at.next;
     let laid = lay(table, past(table, blank), text);
