@@ -208,7 +208,8 @@ gap-forth : (i : ℕ) (ms parts : List Span) (n b : ℕ) (l : List ℕ) (r : Out
     → r ≡ Terms (ms ++ parts)
     → Residual (i + 1) (gapOf i ms n b) l r
 unfolding gapOf
-gap-forth i ms parts n b l r (Rest.space e t) g = rw (gap-space i ms n b e) record { parts = parts; rest = t; gives = g }
+gap-forth i ms parts n b l r (Rest.space e t) g =
+    rw (gap-space i ms n b e) record { parts = parts; rest = t; gives = g }
 gap-forth i ms parts n b l r (Rest.term {n =
     n′} {k = k} {ms = ps} t s e h p rest) g = term-forth i ms ps n′ k b l t s r e h p rest g
 gap-forth i ms parts n b l r (Rest.dot t) g = rw not-white-dot (t, rw append-nil at g)

@@ -1,5 +1,5 @@
--- The reading inside a term over the bytes that one scan of the term consumes, and the ways in which the term ends where that
--- scan halts. Assumes nothing.
+-- The reading inside a term over the bytes that one scan of the term consumes, and the ways in which the term ends
+-- where that scan halts. Assumes nothing.
 use Prim.Native.Nat.{ℕ, zero, suc, _+_, _-_, _≤_, _<_}
 use mathlib.Core.Path.{_≡_, refl, sym, _∙_, ap}
 use mathlib.Core.List.{List, [], _∷_, _++_}
@@ -21,9 +21,8 @@ use Rattle.ntriples.specs.declared.Span.{Span}
 use Rattle.ntriples.specs.declared.TermEnd.the-variants as term
 use Rattle.ntriples.specs.declared.ObjectEnd.the-variants as object
 use Rattle.ntriples.specs.Grammar.{span}
-use Rattle.ntriples.specs.Reader.{Outcome, Terms, Fails, State, Gap, Inside, After}
-use Rattle.ntriples.specs.Reader.{Broken, isDot, opens, dotted, afterOf, gapOf, goesOnOf}
-use Rattle.ntriples.specs.Reader.{leaveOf, advanceOf, endOf}
+use Rattle.ntriples.specs.Reader.{Outcome, Terms, Fails, State, Gap, Inside, After, Broken, isDot, opens, dotted}
+use Rattle.ntriples.specs.Reader.{afterOf, gapOf, goesOnOf, leaveOf, advanceOf, endOf}
 use Rattle.ntriples.specs.Productions.{TermAt, onward, cutOf, TermEnds, ObjectEnds}
 use Rattle.ntriples.proofs.Residual.{dotted-facts}
 use Rattle.ntriples.proofs.Forth.{opens-alive, on-go, on-leave, gap-enter, is-dot}
@@ -136,7 +135,8 @@ unfolding nearCut cutOf
 cut-far a stop e =
     let z = ltb-true (a + 255) stop e in (
       rw e,
-      decide (ltb (a + 256) stop) (λ f. rw f (omega arith)) (λ f. let y = ltb-false (a + 256) stop f in rw f (omega arith)),
+      decide (ltb (a + 256) stop) (λ f. rw f (omega arith))
+          (λ f. let y = ltb-false (a + 256) stop f in rw f (omega arith)),
     )
 
 pub cut-near : (a stop : ℕ) → stop ≤ a + 255 → cutOf a stop ≡ stop

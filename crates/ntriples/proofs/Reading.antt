@@ -1,5 +1,5 @@
--- A reading keeps to good places, every place can be completed to a line, and so: the reader reads exactly the lines of the
--- grammar, and refuses at the end of the longest prefix that some line continues. Assumes nothing.
+-- A reading keeps to good places, every place can be completed to a line, and so: the reader reads exactly the lines of
+-- the grammar, and refuses at the end of the longest prefix that some line continues. Assumes nothing.
 use Prim.Native.Nat.{ℕ, zero, suc, _+_, _-_, _≤_, _<_}
 use mathlib.Core.Path.{_≡_, refl, sym, _∙_, ap}
 use mathlib.Core.List.{List, [], _∷_, _++_, append-nil}
@@ -23,10 +23,9 @@ use Rattle.ntriples.specs.declared.Span.{Span}
 use Rattle.ntriples.specs.Grammar.{span, white, commentByte, Trail}
 use Rattle.ntriples.proofs.Rest.{Rest, Derives, ShortParts, ShortOutcome, Continued}
 use Rattle.ntriples.specs.Reader.{Outcome, Empty, Terms, Fails, kindAllowed, State, Begin, Gap, Inside, After}
-use Rattle.ntriples.specs.Reader.{CommentAfterDot, CommentLine, Broken, opens, dotted, afterOf, enterOf}
-use Rattle.ntriples.specs.Reader.{gapOf, goesOnOf, leaveOf, advanceOf, stateOf, endOf, lineOf}
-use Rattle.ntriples.proofs.Residual.{Residual, cases}
-use Rattle.ntriples.proofs.Residual.{advance-back}
+use Rattle.ntriples.specs.Reader.{CommentAfterDot, CommentLine, Broken, opens, dotted, afterOf, enterOf, gapOf}
+use Rattle.ntriples.specs.Reader.{goesOnOf, leaveOf, advanceOf, stateOf, endOf, lineOf}
+use Rattle.ntriples.proofs.Residual.{Residual, cases, advance-back}
 use Rattle.ntriples.proofs.Forth.{iriish, Sane, Fit, Good, allowed-iri, opens-one, opens-alive, no-empty}
 use Rattle.ntriples.proofs.Forth.{advance-forth}
 
@@ -65,7 +64,8 @@ gap-good m i ms (suc n) b h f k =
 after-good : (m i : ℕ) (ms : List Span) (b : ℕ) → Fit m ms → Good m (i + 1) (afterOf i ms b)
 unfolding afterOf
 after-good m i ms b f =
-    both (Good m (i + 1)) (white b) (After ms) _ (λ _. f) (λ _. both (Good m (i + 1)) (eqb b 35) (CommentAfterDot ms) (Broken i)
+    both (Good m (i + 1)) (white b) (After ms) _ (λ _. f)
+    (λ _. both (Good m (i + 1)) (eqb b 35) (CommentAfterDot ms) (Broken i)
     (λ _. f) (λ _. tt))
 
 inside-good : (m i : ℕ) (ms : List Span) (n : ℕ) (q : Scan) (a b : ℕ) → 1 ≤ m → Fit m ms → i ≤ a + m → Sane n q
@@ -101,7 +101,8 @@ good-step m i Begin b h g =
 good-step m i (Gap ms n) b h g = gap-good m i ms n b h (g .0) (g .1)
 good-step m i (Inside ms n q a) b h g = inside-good m i ms n q a b h (g .0) (g .1) (g .2)
 good-step m i (After ms) b h g = after-good m i ms b g
-good-step m i (CommentAfterDot ms) b h g = both (Good m (i + 1)) (commentByte b) (CommentAfterDot ms) (Broken i) (λ _. g) (λ _. tt)
+good-step m i (CommentAfterDot ms) b h g =
+    both (Good m (i + 1)) (commentByte b) (CommentAfterDot ms) (Broken i) (λ _. g) (λ _. tt)
 good-step m i CommentLine b h g = both (Good m (i + 1)) (commentByte b) CommentLine (Broken i) (λ _. tt) (λ _. tt)
 good-step m i (Broken k) b h g = tt
 
@@ -363,7 +364,8 @@ after-breaks : (i : ℕ) (ms : List Span) (b : ℕ) → BreaksAt i (afterOf i ms
 unfolding afterOf broken
 after-breaks i ms b =
     both (BreaksAt i) (white b) (After ms) _ (λ _. sound i (After ms) refl)
-    (λ _. both (BreaksAt i) (eqb b 35) (CommentAfterDot ms) (Broken i) (λ _. sound i (CommentAfterDot ms) refl) (λ _. here i))
+    (λ _. both (BreaksAt i) (eqb b 35) (CommentAfterDot ms) (Broken i)
+    (λ _. sound i (CommentAfterDot ms) refl) (λ _. here i))
 
 breaks-here : (m i : ℕ) (p : State) (b : ℕ) → broken p ≡ false → BreaksAt i (advanceOf m i p b)
 unfolding advanceOf leaveOf goesOnOf enterOf broken
@@ -385,8 +387,10 @@ breaks-here m i (Inside ms n q a) b h =
     (ms ++ (span a i ∷ []))) refl) (λ _. here i)))
 breaks-here m i (After ms) b h = after-breaks i ms b
 breaks-here m i (CommentAfterDot ms) b h =
-    both (BreaksAt i) (commentByte b) (CommentAfterDot ms) (Broken i) (λ _. sound i (CommentAfterDot ms) refl) (λ _. here i)
-breaks-here m i CommentLine b h = both (BreaksAt i) (commentByte b) CommentLine (Broken i) (λ _. sound i CommentLine refl) (λ _. here i)
+    both (BreaksAt i) (commentByte b) (CommentAfterDot ms) (Broken i)
+    (λ _. sound i (CommentAfterDot ms) refl) (λ _. here i)
+breaks-here m i CommentLine b h = both (BreaksAt i) (commentByte b) CommentLine (Broken i)
+    (λ _. sound i CommentLine refl) (λ _. here i)
 breaks-here m i (Broken k) b h = never (sym h)
 
 pub stays : (m i k : ℕ) (s : List ℕ) → stateOf m i (Broken k) s ≡ Broken k

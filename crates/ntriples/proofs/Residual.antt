@@ -1,5 +1,5 @@
--- What may follow at each place of a reading, in the grammar's words, and that one byte more leads from one to the next.
--- Assumes nothing.
+-- What may follow at each place of a reading, in the grammar's words, and that one byte more leads from one to the
+-- next. Assumes nothing.
 use Prim.Native.Nat.{ℕ, zero, suc, _+_, _-_}
 use mathlib.Core.Path.{_≡_, refl, _∙_, ap}
 use mathlib.Core.List.{List, [], _∷_, _++_, append-nil, append-assoc}
@@ -12,8 +12,7 @@ use borrow.Author.Tests.{eqb-true}
 use Rattle.term.specs.Bytes.{labelByte, All}
 use Rattle.term.specs.Scanner.{stepOf, runOf, wholeOf, isBad, firstKindOf}
 use Rattle.term.specs.declared.Scan.{Scan}
-use Rattle.term.specs.declared.Scan.the-variants.{Start, Label, Dot}
-use Rattle.term.specs.declared.Scan.the-variants.{Bad}
+use Rattle.term.specs.declared.Scan.the-variants.{Start, Label, Dot, Bad}
 use Rattle.term.proofs.Booleans.{decide}
 use Rattle.term.proofs.Places.{same, same-is, leads}
 use Rattle.term.proofs.Names.{Accepts, never, name-back}

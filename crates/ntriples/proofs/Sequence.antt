@@ -1,4 +1,5 @@
--- The sequence of a line's productions, one law for each way in which a function of them goes on or returns. Assumes nothing.
+-- The sequence of a line's productions, one law for each way in which a function of them goes on or returns. Assumes
+-- nothing.
 use Prim.Native.Nat.{ℕ, zero, suc, _+_, _-_, _≤_, _<_}
 use mathlib.Core.Path.{_≡_, refl, sym, _∙_, ap}
 use mathlib.Core.List.{List, [], _∷_, _++_}
@@ -18,11 +19,11 @@ use Rattle.ntriples.specs.declared.ObjectEnd.{ObjectEnd}
 use Rattle.ntriples.specs.declared.ObjectEnd.the-variants as object
 use Rattle.ntriples.specs.Grammar.{white, commentByte}
 use Rattle.ntriples.specs.Reader.{Outcome, Empty, Terms, Fails, State, Begin, Gap, After, CommentAfterDot}
-use Rattle.ntriples.specs.Reader.{CommentLine, Broken, opens, afterOf, enterOf, gapOf, advanceOf, endOf}
-use Rattle.ntriples.specs.Reader.{lineOf}
+use Rattle.ntriples.specs.Reader.{CommentLine, Broken, opens, afterOf, enterOf, gapOf, advanceOf, endOf, lineOf}
 use Rattle.ntriples.specs.Grammar.{Unbroken, FirstLine}
 use Rattle.ntriples.specs.Reader.{answerOf, readSpelled}
-use Rattle.ntriples.specs.Productions.{Inline, OnLine, TermAt, NotWhite, RunEnd, runEnd, onward, TermEnds, ObjectEnds, crDropped, EolAt}
+use Rattle.ntriples.specs.Productions.{Inline, OnLine, TermAt, NotWhite, RunEnd, runEnd, onward, TermEnds}
+use Rattle.ntriples.specs.Productions.{ObjectEnds, crDropped, EolAt}
 use Rattle.ntriples.proofs.Forth.{opens-any, gap-space}
 use Rattle.ntriples.proofs.Halts.{strictly, step-to, at-end, onward-broken}
 use Rattle.ntriples.proofs.Runs.{run-turn, run-out, run-end}
@@ -57,13 +58,15 @@ module _ {f : ℕ → Bool} {text : List ℕ} {stop i r : ℕ} (p : State) (s : 
   skipped : onward text stop i p ≡ onward text stop r p
   skipped =
       let h = l .before in
-      over-run (stop - i) f text stop i p s (omega arith) (l .inText) ∙ ap (λ (z : ℕ). onward text stop z p) (sym (e .end))
+      over-run (stop - i) f text stop i p s (omega arith) (l .inText)
+      ∙ ap (λ (z : ℕ). onward text stop z p) (sym (e .end))
 
   -- and then the line ends, a byte leads on, or the reading breaks at one
   run-ends : (o : Outcome) → stop ≤ r → endOf stop p ≡ o → onward text stop i p ≡ o
   run-ends o k z = skipped ∙ at-end text stop r p o k z
 
-  run-leads : (q : State) → r < stop → advanceOf 255 r p (getD text r 0) ≡ q → onward text stop i p ≡ onward text stop (r + 1) q
+  run-leads : (q : State) → r < stop → advanceOf 255 r p (getD text r 0) ≡ q
+      → onward text stop i p ≡ onward text stop (r + 1) q
   run-leads q k z = skipped ∙ step-to text stop r p q k (l .inText) z
 
   run-breaks : r < stop → advanceOf 255 r p (getD text r 0) ≡ Broken r → onward text stop i p ≡ Fails r
@@ -191,14 +194,16 @@ unfolding endOf
 term-none text stop a n h =
     (omega arith, λ ms. at-end text stop a (Gap ms (suc n)) (Fails a) (omega arith) (ap Fails (sym h)))
 
-pub term-closed : (text : List ℕ) (stop a n : ℕ) → NotWhite text a stop → (a ≡ stop → ⊥) → opens n (getD text a 0) ≡ false
+pub term-closed : (text : List ℕ) (stop a n : ℕ) → NotWhite text a stop → (a ≡ stop → ⊥)
+    → opens n (getD text a 0) ≡ false
     → TermEnds text stop n a (term.Broken a)
 unfolding advanceOf gapOf enterOf
 term-closed text stop a n d h o =
     let k = strictly a stop (d .before) h in
     (omega arith, λ ms. breaks text stop a (Gap ms (suc n)) k (d .inText) (rw (d .notWhite k, o)))
 
-pub term-opened : (text : List ℕ) (stop a n : ℕ) → NotWhite text a stop → (a ≡ stop → ⊥) → opens n (getD text a 0) ≡ true
+pub term-opened : (text : List ℕ) (stop a n : ℕ) → NotWhite text a stop → (a ≡ stop → ⊥)
+    → opens n (getD text a 0) ≡ true
     → TermAt text a stop
 term-opened text stop a n d h o =
     record { before = strictly a stop (d .before) h; inText = d .inText; opening = opens-any n (getD text a 0) o }
@@ -206,7 +211,8 @@ term-opened text stop a n d h o =
 pub object-none : (text : List ℕ) (stop a : ℕ) → a ≡ stop → ObjectEnds text stop a (object.Broken a)
 object-none text stop a h = term-none text stop a 0 h
 
-pub object-closed : (text : List ℕ) (stop a : ℕ) → NotWhite text a stop → (a ≡ stop → ⊥) → opens 0 (getD text a 0) ≡ false
+pub object-closed : (text : List ℕ) (stop a : ℕ) → NotWhite text a stop → (a ≡ stop → ⊥)
+    → opens 0 (getD text a 0) ≡ false
     → ObjectEnds text stop a (object.Broken a)
 object-closed text stop a d h o = term-closed text stop a 0 d h o
 
@@ -368,19 +374,22 @@ read-broken text i e h t n =
     (λ z. let y = eqb-true e i z in
     rw (dropped-none text i e z) (read-lf text i e h t k (rw (y, slice-empty i text))))
     (λ z. let y = strictly i e (t .after) (λ q. eqb-false e i z (sym q)) in
-    decide (eqb (getD text (e - 1) 0) 13) (λ w. rw (dropped-cr text i e z w) (read-crlf text i e h t k y (eqb-true (getD text (e - 1) 0) 13 w)))
+    decide (eqb (getD text (e - 1) 0) 13)
+    (λ w. rw (dropped-cr text i e z w) (read-crlf text i e h t k y (eqb-true (getD text (e - 1) 0) 13 w)))
     (λ w. rw (dropped-no text i e z w) (read-lf text i e h t k (cr-last text i e y (t .before) ∙ w))))
 
 pub dropped-facts : (text : List ℕ) (i e : ℕ) → i ≤ e → (i ≤ crDropped text i e) × (crDropped text i e ≤ e)
 dropped-facts text i e h =
     decide (eqb e i) (λ z. rw (dropped-none text i e z) (omega arith, omega arith))
     (λ z. let y = eqb-false e i z in
-    decide (eqb (getD text (e - 1) 0) 13) (λ w. rw (dropped-cr text i e z w) (omega arith, omega arith)) (λ w. rw (dropped-no text i e z w)
+    decide (eqb (getD text (e - 1) 0) 13) (λ w. rw (dropped-cr text i e z w) (omega arith, omega arith))
+    (λ w. rw (dropped-no text i e z w)
     (omega arith, omega arith)))
 
 -- where a line stops and where the next one begins, by its end
 abbrev pub Stops : List ℕ → ℕ → ℕ → ℕ → ℕ → Type 0
-Stops text i e s n = ((e ≡ length text) × (s ≡ e) × (n ≡ e)) ⊎ ((e ≡ length text → ⊥) × (s ≡ crDropped text i e) × (n ≡ e + 1))
+Stops text i e s n = ((e ≡ length text) × (s ≡ e) × (n ≡ e))
+    ⊎ ((e ≡ length text → ⊥) × (s ≡ crDropped text i e) × (n ≡ e + 1))
 
 pub stops-inline : (text : List ℕ) (i e s n : ℕ) → EolAt text i e → Stops text i e s n → Inline text i s
 stops-inline text i e s n t (inl w) = rw (w .1) record { before = t .after; inText = t .before }

@@ -46,7 +46,8 @@ except-is : (cs : List ℕ) (lo c : ℕ) → among cs c ≡ false → between lo
 except-is cs lo c e h = rw (e, h)
 
 iri-list :
-    All (among (60 ∷ 62 ∷ 34 ∷ 123 ∷ 125 ∷ 124 ∷ 94 ∷ 92 ∷ 96 ∷ [])) (60 ∷ 62 ∷ 34 ∷ 123 ∷ 125 ∷ 124 ∷ 94 ∷ 96 ∷ 92 ∷ [])
+    All (among (60 ∷ 62 ∷ 34 ∷ 123 ∷ 125 ∷ 124 ∷ 94 ∷ 92 ∷ 96 ∷ []))
+    (60 ∷ 62 ∷ 34 ∷ 123 ∷ 125 ∷ 124 ∷ 94 ∷ 96 ∷ 92 ∷ [])
 unfolding among
 iri-list = (refl, (refl, (refl, (refl, (refl, (refl, (refl, (refl, (refl, tt)))))))))
 
@@ -55,7 +56,8 @@ unfolding b.iriByte std.iriChar
 iri-byte c h =
     cases (λ x. x ≡ true) (among (60 ∷ 62 ∷ 34 ∷ 123 ∷ 125 ∷ 124 ∷ 94 ∷ 92 ∷ 96 ∷ []) c) false (between 33 126 c)
     (λ _ z. never z)
-    (λ e k. except-is _ 33 c (not-among _ _ _ c refl iri-list e) (wider 33 126 33 0x10FFFF c (omega arith) (omega arith) k)) h
+    (λ e k. except-is _ 33 c (not-among _ _ _ c refl iri-list e)
+    (wider 33 126 33 0x10FFFF c (omega arith) (omega arith) k)) h
 
 text-byte : (c : ℕ) → b.textByte c ≡ true → std.stringChar c ≡ true
 unfolding b.textByte std.stringChar among
@@ -95,7 +97,8 @@ alnum-byte : (c : ℕ) → b.alnum c ≡ true → std.letterOrDigit c ≡ true
 unfolding b.alnum b.letter std.letterOrDigit
 alnum-byte c h =
     decide (between 97 122 c) (λ p. rw p)
-    (λ p. decide (between 65 90 c) (λ q. rw (p, q)) (λ q. let k : between 48 57 c ≡ true = rw (q, p) at h in rw (p, q, k)))
+    (λ p. decide (between 65 90 c) (λ q. rw (p, q))
+    (λ q. let k : between 48 57 c ≡ true = rw (q, p) at h in rw (p, q, k)))
 
 base-byte : (c : ℕ) → b.letter c ≡ true → std.PN-CHARS-BASE c ≡ true
 unfolding b.letter std.PN-CHARS-BASE
@@ -103,7 +106,8 @@ base-byte c h =
     cases (λ x. x ≡ true) (between 65 90 c) true (between 97 122 c) (λ e _. rw e) (λ e k. rw (e, k)) h
 
 -- `_`, or a letter, or a digit
-first-cases : {C : Type 0} (c : ℕ) → (eqb c 95 ≡ true → C) → (std.PN-CHARS-BASE c ≡ true → C) → (between 48 57 c ≡ true → C)
+first-cases : {C : Type 0} (c : ℕ) → (eqb c 95 ≡ true → C) → (std.PN-CHARS-BASE c ≡ true → C)
+    → (between 48 57 c ≡ true → C)
     → b.firstByte c ≡ true → C
 unfolding b.firstByte b.alnum
 first-cases c f₁ f₂ f₃ h =
@@ -165,7 +169,8 @@ group-rest g.GroupRest.end = _▸_.pair many.none many.none
 group-rest (g.GroupRest.byte {b = c} e r) = front _ _ (one.char (alnum-byte c e)) (group-rest r)
 group-rest (g.GroupRest.group {b = c} e r) = _▸_.pair many.none (new-group (alnum-byte c e) (group-rest r))
 
-tag-rest : {s : List ℕ} → g.TagRest s → (many (one std.letter) ▸ many (the 45 ▸ one std.letterOrDigit ▸ many (one std.letterOrDigit))) s
+tag-rest : {s : List ℕ} → g.TagRest s → (many (one std.letter) ▸ many
+    (the 45 ▸ one std.letterOrDigit ▸ many (one std.letterOrDigit))) s
 tag-rest g.TagRest.end = _▸_.pair many.none many.none
 tag-rest (g.TagRest.byte {b = c} e r) = front _ _ (one.char (letter-byte c e)) (tag-rest r)
 tag-rest (g.TagRest.group {b = c} e r) = _▸_.pair many.none (new-group (alnum-byte c e) (group-rest r))
@@ -334,7 +339,8 @@ comment-after-dot : {s : List ℕ} → maybe std.COMMENT s → All commentByte s
 comment-after-dot maybe.none f = Trail.end
 comment-after-dot (maybe.some (_▸_.pair the.char r)) f = Trail.comment (f .1)
 
-spaced : {s : List ℕ} (t : List ℕ) → std.WS s → (All commentByte t → Trail t) → All commentByte (s ++ t) → Trail (s ++ t)
+spaced : {s : List ℕ} (t : List ℕ) → std.WS s → (All commentByte t → Trail t) → All commentByte (s ++ t)
+    → Trail (s ++ t)
 unfolding white
 spaced t many.none g f = g f
 spaced t (many.more (one.char h) r) g f = Trail.space h (spaced t r g (f .1))

@@ -17,7 +17,8 @@ use Rattle.term.proofs.Table.{spans, at-range, eqBool, same-bool}
 use Rattle.ntriples.specs.TermOf.{suffixFrom}
 use Rattle.ntriples.specs.Standard as std
 use Rattle.ntriples.specs.Standard.{one, the, _▸_, _∣_, maybe, many}
-use Rattle.ntriples.specs.Subset.{bare, unmarked, fourPairs, visible, Plain, IrisOfStandard, BlanksOfStandard, LiteralsOfStandard}
+use Rattle.ntriples.specs.Subset.{bare, unmarked, fourPairs, visible, Plain, IrisOfStandard, BlanksOfStandard}
+use Rattle.ntriples.specs.Subset.{LiteralsOfStandard}
 use Rattle.ntriples.proofs.Residual.{cases}
 use Rattle.ntriples.proofs.Terms.{plain, pair-cases}
 use Rattle.ntriples.proofs.Standard.{within, iri, blank, literal}
@@ -64,9 +65,11 @@ iri-filled : {s : List ℕ} → g.Iri s → s ≡ 60 ∷ 62 ∷ [] → ⊥
 iri-filled (g.Iri.open′ {b = c} {s = s} e r) h = no-close c s e h
 
 -- the characters of an IRI, with what follows them
-rest-back : {s : List ℕ} (t : List ℕ) → many (one std.iriChar ∣ std.UCHAR) s → All bare (s ++ t) → g.IriRest t → g.IriRest (s ++ t)
+rest-back : {s : List ℕ} (t : List ℕ) → many (one std.iriChar ∣ std.UCHAR) s → All bare (s ++ t) → g.IriRest t
+    → g.IriRest (s ++ t)
 rest-back t many.none f r = r
-rest-back t (many.more (_∣_.left (one.char {c = c} e)) m) f r = g.IriRest.byte (iri-char c e (f .0)) (rest-back t m (f .1) r)
+rest-back t (many.more (_∣_.left (one.char {c = c} e)) m) f r =
+    g.IriRest.byte (iri-char c e (f .0)) (rest-back t m (f .1) r)
 rest-back t (many.more (_∣_.right (_∣_.left (_▸_.pair the.char x))) m) f r = never (f .0)
 rest-back t (many.more (_∣_.right (_∣_.right (_▸_.pair the.char x))) m) f r = never (f .0)
 
@@ -146,7 +149,8 @@ label-char c h k =
     implied (λ i. cond (unmarked i) (std.PN-CHARS i) false) b.labelByte tt c (unmarked-bound c k)
     (both (unmarked c) (std.PN-CHARS c) k h)
 
-label-rest-back : {s : List ℕ} (t : List ℕ) → many (one std.PN-CHARS ∣ the 46) s → All unmarked (s ++ t) → (All unmarked t → g.LabelRest t)
+label-rest-back : {s : List ℕ} (t : List ℕ) → many (one std.PN-CHARS ∣ the 46) s → All unmarked (s ++ t)
+    → (All unmarked t → g.LabelRest t)
     → g.LabelRest (s ++ t)
 label-rest-back t many.none f r = r f
 label-rest-back t (many.more (_∣_.left (one.char {c = c} e)) m) f r =
@@ -388,7 +392,8 @@ pub no-U : {C : Type 0} (s : List ℕ) → fourPairs false (92 ∷ (85 ∷ s)) �
 unfolding fourPairs among
 no-U s h = never h
 
-text-back : {s : List ℕ} (t : List ℕ) → many (one std.stringChar ∣ std.ECHAR ∣ std.UCHAR) s → Fit ((s ++ (34 ∷ [])) ++ t)
+text-back : {s : List ℕ} (t : List ℕ) → many (one std.stringChar ∣ std.ECHAR ∣ std.UCHAR) s
+    → Fit ((s ++ (34 ∷ [])) ++ t)
     → (All visible t → (t ≡ 94 ∷ 94 ∷ 60 ∷ 62 ∷ [] → ⊥) → g.Suffix t) → g.TextRest ((s ++ (34 ∷ [])) ++ t)
 text-back t many.none f k =
     g.TextRest.close (k (rw (skip-close t) at (f .suffix)) (λ h. f .typed (skip-close t ∙ h)))

@@ -1,5 +1,5 @@
--- The term of a name by one pass over its bytes is the term of its derivation; the string ending does not change it, and two names
--- without it have two terms. Assumes nothing.
+-- The term of a name by one pass over its bytes is the term of its derivation; the string ending does not change it,
+-- and two names without it have two terms. Assumes nothing.
 use Prim.Native.Nat.{ℕ, _+_}
 use mathlib.Core.Path.{_≡_, refl, sym, _∙_, ap}
 use mathlib.Core.List.{List, [], _∷_, _++_, append-nil}
@@ -18,7 +18,8 @@ use Rattle.term.proofs.Names.{never, kinds, name-forth}
 use Rattle.term.proofs.Booleans.{decide, other}
 use Rattle.term.proofs.Lists.{head-same, tail-same, cons-same, no-nil}
 use Rattle.term.proofs.WellFormed.{name-positive}
-use Rattle.term.proofs.Shortened.{kept, rejoined, writes-joined, at-quote, isQuote, past-quote, quote-last, canonical-name}
+use Rattle.term.proofs.Shortened.{kept, rejoined, writes-joined, at-quote, isQuote, past-quote, quote-last}
+use Rattle.term.proofs.Shortened.{canonical-name}
 use Rattle.ntriples.specs.Standard.{RdfTerm, iri, blank, literal, tagged, unescaped}
 use Rattle.ntriples.specs.TermOf.{inner, lexicalFrom, suffixFrom, literalWith, termOf}
 use Rattle.ntriples.specs.Claims.{DistinctTerms}
@@ -131,7 +132,8 @@ blank-spelled (g.Blank.single e) = refl
 blank-spelled (g.Blank.longer e r) = refl
 
 -- the four pairs stand for four bytes that are no text by themselves
-pub pair-cases : {C : Type 0} (b : ℕ) → (b ≡ 34 → C) → (b ≡ 92 → C) → (b ≡ 110 → C) → (b ≡ 114 → C) → pairByte b ≡ true → C
+pub pair-cases : {C : Type 0} (b : ℕ) → (b ≡ 34 → C) → (b ≡ 92 → C) → (b ≡ 110 → C) → (b ≡ 114 → C)
+    → pairByte b ≡ true → C
 unfolding pairByte among
 pair-cases b f₁ f₂ f₃ f₄ h =
     let P : Bool → Type 0 = λ x. x ≡ true in
@@ -304,7 +306,8 @@ mutual
       (λ e w. let n = plain b e in let r = text-ends x y w in (rw (n .0, n .1, r .0), rw (n .0, n .1) (r .1)))
       (λ e k. cases (ToQuote x) (eqb b 34) Quote _ (λ f w. (rw f, rw (f, quote-last x w)))
       (λ f j. cases (ToQuote x) (eqb b 92) Escape Bad
-      (λ g w. let r = escape-ends x y w in (rw (f, g) (r .0), rw (f, g) (r .1))) (λ g w. past-quote x Bad refl w) j) k) h
+      (λ g w. let r = escape-ends x y w in (rw (f, g) (r .0), rw (f, g) (r .1))) (λ g w. past-quote x Bad refl w) j) k)
+      h
 
   escape-ends : (x y : List ℕ) → runOf Escape x ≡ Quote → Ends true x y
   escape-ends [] y h = never (ap isQuote h)

@@ -1,6 +1,6 @@
--- The standard's grammar gives a line one derivation at most (specs/Claims.antt). A run of one class of characters ends where the next
--- character is of another: so white space, labels and tags end, and what stands between `<` and `>`; a string ends at its first
--- quote that no `\` precedes. Assumes nothing.
+-- The standard's grammar gives a line one derivation at most (specs/Claims.antt). A run of one class of characters ends
+-- where the next character is of another: so white space, labels and tags end, and what stands between `<` and `>`; a
+-- string ends at its first quote that no `\` precedes. Assumes nothing.
 use Prim.Native.Nat.{ℕ}
 use mathlib.Core.Path.{_≡_, refl, sym, _∙_, ap}
 use mathlib.Core.List.{List, [], _∷_, _++_, append-assoc}
@@ -86,7 +86,8 @@ white-out f c p q h =
     (λ _ k. cases (λ x. x ≡ true) (eqb c 9) true false (λ e _. ap f (eqb-true c 9 e) ∙ q) (λ _ z. never z) k) h
 
 -- white space and then what does not go on with a class does not go on with it
-white-ends : (f : ℕ → Bool) {w : List ℕ} (r : List ℕ) → f 32 ≡ false → f 9 ≡ false → std.WS w → Ends f r → Ends f (w ++ r)
+white-ends : (f : ℕ → Bool) {w : List ℕ} (r : List ℕ) → f 32 ≡ false → f 9 ≡ false → std.WS w → Ends f r
+    → Ends f (w ++ r)
 white-ends f r p q many.none h = h
 white-ends f r p q (many.more (one.char {c = c} e) m) h = white-out f c p q e
 
@@ -108,7 +109,8 @@ hex4-all f h (_▸_.pair (one.char {c = a} x) (_▸_.pair (one.char {c = b} y) (
     (h a x, (h b y, (h c z, (h d w, tt))))
 
 hex8-all : (f : ℕ → Bool) → ((c : ℕ) → std.HEX c ≡ true → f c ≡ true) → {s : List ℕ} → Hex8 s → All f s
-hex8-all f h (_▸_.pair (one.char {c = a} x) (_▸_.pair (one.char {c = b} y) (_▸_.pair (one.char {c = c} z) (_▸_.pair (one.char {c =
+hex8-all f h (_▸_.pair (one.char {c = a} x)
+    (_▸_.pair (one.char {c = b} y) (_▸_.pair (one.char {c = c} z) (_▸_.pair (one.char {c =
     d} w) r)))) =
     (h a x, (h b y, (h c z, (h d w, hex4-all f h r))))
 
@@ -140,7 +142,8 @@ iri-one : {s t : List ℕ} (u v : List ℕ) → std.IRIREF s → std.IRIREF t �
 iri-one u v (_▸_.pair the.char (_▸_.pair {s = a} m the.char)) (_▸_.pair the.char (_▸_.pair {s = b} n the.char)) e =
     let h : a ++ (62 ∷ u) ≡ b ++ (62 ∷ v) =
     sym (append-assoc a (62 ∷ []) u) ∙ (tail-same e ∙ append-assoc b (62 ∷ []) v) in
-    ap (λ (z : List ℕ). 60 ∷ (z ++ (62 ∷ []))) (run inside a b (62 ∷ u) (62 ∷ v) (iri-inside m) (iri-inside n) refl refl h .0)
+    ap (λ (z : List ℕ). 60 ∷ (z ++ (62 ∷ [])))
+    (run inside a b (62 ∷ u) (62 ∷ v) (iri-inside m) (iri-inside n) refl refl h .0)
 
 iri-ends : (f : ℕ → Bool) {s : List ℕ} (r : List ℕ) → f 60 ≡ false → std.IRIREF s → Ends f (s ++ r)
 iri-ends f r h (_▸_.pair the.char x) = h
@@ -199,7 +202,8 @@ final-is (a ∷ (b ∷ s)) c = final-is (b ∷ s) c
 last-same : (s t : List ℕ) (c d : ℕ) → s ++ (c ∷ []) ≡ t ++ (d ∷ []) → c ≡ d
 last-same s t c d e = sym (final-is s c) ∙ (ap final e ∙ final-is t d)
 
-first-char : {s : List ℕ} → (one std.PN-CHARS-U ∣ one (between 48 57)) s → (c : ℕ) × (s ≡ c ∷ []) × (std.PN-CHARS c ≡ true)
+first-char : {s : List ℕ} → (one std.PN-CHARS-U ∣ one (between 48 57)) s
+    → (c : ℕ) × (s ≡ c ∷ []) × (std.PN-CHARS c ≡ true)
 first-char (_∣_.left (one.char {c = c} h)) = (c, refl, under-part c h)
 first-char (_∣_.right (one.char {c = c} h)) = (c, refl, digit-part c h)
 
@@ -213,12 +217,14 @@ label-ends x (_▸_.pair the.char (_▸_.pair the.char (_▸_.pair f maybe.none)
     let c = first-char f in
     no-dot (c .0) (c .2)
     (last-same (95 ∷ (58 ∷ [])) x (c .0) 46 (ap (λ (l : List ℕ). 95 ∷ (58 ∷ (l ++ []))) (sym (c .1)) ∙ e))
-label-ends x (_▸_.pair the.char (_▸_.pair the.char (_▸_.pair {s = a} f (maybe.some (_▸_.pair {s = b} m (one.char {c = c} h)))))) e =
+label-ends x (_▸_.pair the.char (_▸_.pair the.char
+    (_▸_.pair {s = a} f (maybe.some (_▸_.pair {s = b} m (one.char {c = c} h)))))) e =
     no-dot c h
     (last-same (95 ∷ (58 ∷ (a ++ b))) x c 46 (ap (λ (l : List ℕ). 95 ∷ (58 ∷ l)) (append-assoc a b (c ∷ [])) ∙ e))
 
 -- what may follow the line's dot does not go on with a label
-trail-ends : (f : ℕ → Bool) {r : List ℕ} → f 32 ≡ false → f 9 ≡ false → f 35 ≡ false → (std.WS ▸ maybe std.COMMENT) r → Ends f r
+trail-ends : (f : ℕ → Bool) {r : List ℕ} → f 32 ≡ false → f 9 ≡ false → f 35 ≡ false
+    → (std.WS ▸ maybe std.COMMENT) r → Ends f r
 trail-ends f p q k (_▸_.pair w maybe.none) = white-ends f [] p q w tt
 trail-ends f p q k (_▸_.pair {t = t} w (maybe.some (_▸_.pair the.char x))) = white-ends f t p q w k
 
@@ -226,13 +232,15 @@ white-labels : (labelled 32 ≡ false) × (labelled 9 ≡ false) × (labelled 35
 unfolding std.PN-CHARS std.PN-CHARS-U std.PN-CHARS-BASE
 white-labels = (refl, refl, refl, refl)
 
--- A label and the white space and the dot after it. Where the dot follows at once it is the last of the run of a label's characters.
+-- A label and the white space and the dot after it. Where the dot follows at once it is the last of the run of a
+-- label's characters.
 label-one : {s t w v p q : List ℕ} → std.BLANK-NODE-LABEL s → std.BLANK-NODE-LABEL t → std.WS w → std.WS v
     → (std.WS ▸ maybe std.COMMENT) p → (std.WS ▸ maybe std.COMMENT) q
     → s ++ (w ++ (46 ∷ p)) ≡ t ++ (v ++ (46 ∷ q)) → s ≡ t
 label-one {s} {t} {p = p} {q = q} x y many.none many.none h k e =
     let c = white-labels in
-    let z = run labelled (s ++ (46 ∷ [])) (t ++ (46 ∷ [])) p q (all-append labelled s (46 ∷ []) (label-all x) (refl, tt))
+    let z = run labelled (s ++ (46 ∷ [])) (t ++ (46 ∷ [])) p q
+    (all-append labelled s (46 ∷ []) (label-all x) (refl, tt))
     (all-append labelled t (46 ∷ []) (label-all y) (refl, tt)) (trail-ends labelled (c .0) (c .1) (c .2) h)
     (trail-ends labelled (c .0) (c .1) (c .2) k)
     (append-assoc s (46 ∷ []) p ∙ (e ∙ sym (append-assoc t (46 ∷ []) q))) in
@@ -240,16 +248,19 @@ label-one {s} {t} {p = p} {q = q} x y many.none many.none h k e =
 label-one {s} {t} {p = p} x y many.none (many.more (one.char {c = d} i) v) h k e =
     let c = white-labels in
     let z = run labelled (s ++ (46 ∷ [])) t p _ (all-append labelled s (46 ∷ []) (label-all x) (refl, tt)) (label-all y)
-    (trail-ends labelled (c .0) (c .1) (c .2) h) (white-out labelled d (c .0) (c .1) i) (append-assoc s (46 ∷ []) p ∙ e) in
+    (trail-ends labelled (c .0) (c .1) (c .2) h) (white-out labelled d (c .0) (c .1) i)
+    (append-assoc s (46 ∷ []) p ∙ e) in
     absurd (label-ends s y (sym (z .0)))
 label-one {s} {t} {q = q} x y (many.more (one.char {c = d} i) w) many.none h k e =
     let c = white-labels in
     let z = run labelled s (t ++ (46 ∷ [])) _ q (label-all x) (all-append labelled t (46 ∷ []) (label-all y) (refl, tt))
-    (white-out labelled d (c .0) (c .1) i) (trail-ends labelled (c .0) (c .1) (c .2) k) (e ∙ sym (append-assoc t (46 ∷ []) q)) in
+    (white-out labelled d (c .0) (c .1) i) (trail-ends labelled (c .0) (c .1) (c .2) k)
+    (e ∙ sym (append-assoc t (46 ∷ []) q)) in
     absurd (label-ends t x (z .0))
 label-one {s} {t} x y (many.more (one.char {c = d} i) w) (many.more (one.char {c = b} j) v) h k e =
     let c = white-labels in
-    run labelled s t _ _ (label-all x) (label-all y) (white-out labelled d (c .0) (c .1) i) (white-out labelled b (c .0) (c .1) j) e .0
+    run labelled s t _ _ (label-all x) (label-all y) (white-out labelled d (c .0) (c .1) i)
+    (white-out labelled b (c .0) (c .1) j) e .0
 
 -- ---- literals
 
@@ -260,7 +271,8 @@ hex-unquoted : (c : ℕ) → std.HEX c ≡ true → unquoted c ≡ true
 unfolding std.HEX
 hex-unquoted c h = rw (other std.HEX 34 c refl h, other std.HEX 92 c refl h)
 
-pub skip-char : (c : ℕ) (s : List ℕ) → eqb c 34 ≡ false → eqb c 92 ≡ false → suffixFrom false (c ∷ s) ≡ suffixFrom false s
+pub skip-char : (c : ℕ) (s : List ℕ) → eqb c 34 ≡ false → eqb c 92 ≡ false
+    → suffixFrom false (c ∷ s) ≡ suffixFrom false s
 unfolding suffixFrom
 skip-char c s p q = rw (p, q)
 
@@ -284,18 +296,24 @@ unfolding std.stringChar among
 string-out = (refl, refl)
 
 -- what follows the closing quote
-pub string-rest : {s : List ℕ} (z : List ℕ) → many (one std.stringChar ∣ std.ECHAR ∣ std.UCHAR) s → suffixFrom false (s ++ (34 ∷ z)) ≡ z
+pub string-rest : {s : List ℕ} (z : List ℕ) → many (one std.stringChar ∣ std.ECHAR ∣ std.UCHAR) s
+    → suffixFrom false (s ++ (34 ∷ z)) ≡ z
 string-rest z many.none = skip-close z
 string-rest z (many.more {t = t} (_∣_.left (one.char {c = c} h)) r) =
-    skip-char c (t ++ (34 ∷ z)) (other std.stringChar 34 c (string-out .0) h) (other std.stringChar 92 c (string-out .1) h)
+    skip-char c (t ++ (34 ∷ z)) (other std.stringChar 34 c (string-out .0) h)
+    (other std.stringChar 92 c (string-out .1) h)
     ∙ string-rest z r
 string-rest z (many.more {t = t} (_∣_.right (_∣_.left (_▸_.pair the.char (one.char {c = c} h)))) r) =
     skip-escape c (t ++ (34 ∷ z)) ∙ string-rest z r
-string-rest z (many.more {t = t} (_∣_.right (_∣_.right (_∣_.left (_▸_.pair the.char (_▸_.pair {t = x} the.char h))))) r) =
-    skip-escape 117 _ ∙ (ap (suffixFrom false) (append-assoc x t (34 ∷ z)) ∙ (skip-all x (t ++ (34 ∷ z)) (hex4-all unquoted hex-unquoted h)
+string-rest z (many.more {t = t} (_∣_.right (_∣_.right (_∣_.left (_▸_.pair the.char (_▸_.pair {t = x} the.char h)))))
+    r) =
+    skip-escape 117 _ ∙ (ap (suffixFrom false) (append-assoc x t (34 ∷ z))
+    ∙ (skip-all x (t ++ (34 ∷ z)) (hex4-all unquoted hex-unquoted h)
     ∙ string-rest z r))
-string-rest z (many.more {t = t} (_∣_.right (_∣_.right (_∣_.right (_▸_.pair the.char (_▸_.pair {t = x} the.char h))))) r) =
-    skip-escape 85 _ ∙ (ap (suffixFrom false) (append-assoc x t (34 ∷ z)) ∙ (skip-all x (t ++ (34 ∷ z)) (hex8-all unquoted hex-unquoted h)
+string-rest z (many.more {t = t} (_∣_.right (_∣_.right (_∣_.right (_▸_.pair the.char (_▸_.pair {t = x} the.char h)))))
+    r) =
+    skip-escape 85 _ ∙ (ap (suffixFrom false) (append-assoc x t (34 ∷ z))
+    ∙ (skip-all x (t ++ (34 ∷ z)) (hex8-all unquoted hex-unquoted h)
     ∙ string-rest z r))
 
 -- language tags
@@ -361,7 +379,8 @@ differ : {C : Type 0} (s t : List ℕ) (a b : ℕ) → not-white s ≡ a → not
 differ s t a b p q n e = absurd (n (sym p ∙ (ap not-white e ∙ q)))
 
 typed-one : {s t : List ℕ} (u v : List ℕ) → Typed s → Typed t → s ++ u ≡ t ++ v → s ≡ t
-typed-one u v (_▸_.pair {s = w} {t = a} h (_▸_.pair the.char (_▸_.pair the.char (_▸_.pair {s = x} {t = i} j m)))) (_▸_.pair {s =
+typed-one u v (_▸_.pair {s = w} {t = a} h (_▸_.pair the.char (_▸_.pair the.char (_▸_.pair {s = x} {t = i} j m))))
+    (_▸_.pair {s =
     w′} {t = a′} h′ (_▸_.pair the.char (_▸_.pair the.char (_▸_.pair {s = x′} {t = i′} j′ m′)))) e =
     let p = run white w w′ _ _ (all-many white h) (all-many white h′) (mark-out .0) (mark-out .0)
     (sym (append-assoc w a u) ∙ (e ∙ append-assoc w′ a′ v)) in
@@ -433,23 +452,29 @@ object-ends r (_∣_.right (_∣_.right (_▸_.pair (_▸_.pair the.char x) y)))
 subject-one : {s t : List ℕ} (u v : List ℕ) → std.Subject s → std.Subject t → Ends labelled u → Ends labelled v
     → s ++ u ≡ t ++ v → s ≡ t
 subject-one u v (_∣_.left x) (_∣_.left y) h k e = iri-one u v x y e
-subject-one u v (_∣_.left (_▸_.pair the.char x)) (_∣_.right (_▸_.pair the.char y)) h k e = heads 60 95 _ _ (λ z. omega arith) e
-subject-one u v (_∣_.right (_▸_.pair the.char x)) (_∣_.left (_▸_.pair the.char y)) h k e = heads 95 60 _ _ (λ z. omega arith) e
+subject-one u v (_∣_.left (_▸_.pair the.char x)) (_∣_.right (_▸_.pair the.char y)) h k e =
+    heads 60 95 _ _ (λ z. omega arith) e
+subject-one u v (_∣_.right (_▸_.pair the.char x)) (_∣_.left (_▸_.pair the.char y)) h k e =
+    heads 95 60 _ _ (λ z. omega arith) e
 subject-one u v (_∣_.right x) (_∣_.right y) h k e = run labelled _ _ u v (label-all x) (label-all y) h k e .0
 
 object-one : {s t w v p q : List ℕ} → std.Object s → std.Object t → std.WS w → std.WS v → (std.WS ▸ maybe std.COMMENT) p
     → (std.WS ▸ maybe std.COMMENT) q → s ++ (w ++ (46 ∷ p)) ≡ t ++ (v ++ (46 ∷ q)) → s ≡ t
 object-one (_∣_.left x) (_∣_.left y) w v h k e = iri-one _ _ x y e
-object-one (_∣_.left (_▸_.pair the.char x)) (_∣_.right (_∣_.left (_▸_.pair the.char y))) w v h k e = heads 60 95 _ _ (λ z. omega arith) e
+object-one (_∣_.left (_▸_.pair the.char x)) (_∣_.right (_∣_.left (_▸_.pair the.char y))) w v h k e =
+    heads 60 95 _ _ (λ z. omega arith) e
 object-one (_∣_.left (_▸_.pair the.char x)) (_∣_.right (_∣_.right (_▸_.pair (_▸_.pair the.char y) z))) w v h k e =
     heads 60 34 _ _ (λ z. omega arith) e
-object-one (_∣_.right (_∣_.left (_▸_.pair the.char x))) (_∣_.left (_▸_.pair the.char y)) w v h k e = heads 95 60 _ _ (λ z. omega arith) e
+object-one (_∣_.right (_∣_.left (_▸_.pair the.char x))) (_∣_.left (_▸_.pair the.char y)) w v h k e =
+    heads 95 60 _ _ (λ z. omega arith) e
 object-one (_∣_.right (_∣_.left x)) (_∣_.right (_∣_.left y)) w v h k e = label-one x y w v h k e
-object-one (_∣_.right (_∣_.left (_▸_.pair the.char x))) (_∣_.right (_∣_.right (_▸_.pair (_▸_.pair the.char y) z))) w v h k e =
+object-one (_∣_.right (_∣_.left (_▸_.pair the.char x)))
+    (_∣_.right (_∣_.right (_▸_.pair (_▸_.pair the.char y) z))) w v h k e =
     heads 95 34 _ _ (λ z. omega arith) e
 object-one (_∣_.right (_∣_.right (_▸_.pair (_▸_.pair the.char x) z))) (_∣_.left (_▸_.pair the.char y)) w v h k e =
     heads 34 60 _ _ (λ z. omega arith) e
-object-one (_∣_.right (_∣_.right (_▸_.pair (_▸_.pair the.char x) z))) (_∣_.right (_∣_.left (_▸_.pair the.char y))) w v h k e =
+object-one (_∣_.right (_∣_.right (_▸_.pair (_▸_.pair the.char x) z)))
+    (_∣_.right (_∣_.left (_▸_.pair the.char y))) w v h k e =
     heads 34 95 _ _ (λ z. omega arith) e
 object-one (_∣_.right (_∣_.right x)) (_∣_.right (_∣_.right y)) w v h k e = literal-one _ _ x y w v e
 
@@ -468,9 +493,11 @@ one-standard-derivation l d e =
     (rest-same (d .subject) (e .subject) _ _ s (a .1)) in
     let p = iri-one _ _ (d .isPredicate) (e .isPredicate) (b .1) in
     let c = run white (d .between₂) (e .between₂) _ _ (all-many white (d .white₂)) (all-many white (e .white₂))
-    (object-ends _ (d .isObject)) (object-ends _ (e .isObject)) (rest-same (d .predicate) (e .predicate) _ _ p (b .1)) in
+    (object-ends _ (d .isObject)) (object-ends _ (e .isObject))
+    (rest-same (d .predicate) (e .predicate) _ _ p (b .1)) in
     let o = object-one (d .isObject) (e .isObject) (d .white₃) (e .white₃) (d .trail) (e .trail) (c .1) in
-    let f = run white (d .between₃) (e .between₃) _ _ (all-many white (d .white₃)) (all-many white (e .white₃)) dot-white dot-white
+    let f = run white (d .between₃) (e .between₃) _ _ (all-many white (d .white₃)) (all-many white (e .white₃))
+    dot-white dot-white
     (rest-same (d .object) (e .object) _ _ o (c .1)) in
     let r = tail-same (f .1) in
     rw (a .0, s, b .0, p, c .0, o, f .0, r)

@@ -1,9 +1,9 @@
 // Reading N-Triples lines (paper 01, "Names", last paragraph, and "Read a line").
 //
-// A function for each production of the line's grammar has the production's name: white space, comment, subject, predicate,
-// object, triple. Each takes the text, the position where the production begins and the position `stop` where the line ends,
-// and gives the position where the production ends, or the position of the first byte that continues no line. A run of bytes
-// of one class is one loop, so reading is linear in the line's length.
+// A function for each production of the line's grammar has the production's name: white space, comment, subject,
+// predicate, object, triple. Each takes the text, the position where the production begins and the position `stop`
+// where the line ends, and gives the position where the production ends, or the position of the first byte that
+// continues no line. A run of bytes of one class is one loop, so reading is linear in the line's length.
 //
 // The only refusal is 10, with its offset in the line.
 ghost use Prim.Native.Nat.{_+_, _≤_};
@@ -12,8 +12,10 @@ ghost use mathlib.Core.List.{[], _∷_};
 ghost use lib.ListN.{length};
 ghost use Rattle.term.specs.Grammar.{nameLimit};
 ghost use Rattle.ntriples.specs.Grammar.{white, commentByte};
-ghost use Rattle.ntriples.specs.Reader.{isDot, opens, Begin, Gap, After, CommentLine, answerOf, readSpelled, readOf};
-ghost use Rattle.ntriples.specs.Productions.{Inline, OnLine, TermAt, NotWhite, Reached, RunEnd, onward, TermEnds, EarlierEnds};
+ghost use Rattle.ntriples.specs.Reader.{isDot, opens, Begin, Gap, After, CommentLine, answerOf, readSpelled};
+ghost use Rattle.ntriples.specs.Reader.{readOf};
+ghost use Rattle.ntriples.specs.Productions.{Inline, OnLine, TermAt, NotWhite, Reached, RunEnd, onward, TermEnds};
+ghost use Rattle.ntriples.specs.Productions.{EarlierEnds};
 ghost use Rattle.ntriples.specs.Productions.{ObjectEnds, cutOf, crDropped, Seen, BlockSeen, Passed, EolAt};
 use term::Scan;
 
@@ -24,8 +26,8 @@ pub struct Span {
 }
 
 // What reading a line answers. End: the position is at or past the text's end. Nothing: a blank line or a comment line.
-// Triple: the parts of the subject, the predicate and the object, without the string ending. Refused: refusal 10, with its
-// offset in the line.
+// Triple: the parts of the subject, the predicate and the object, without the string ending. Refused: refusal 10, with
+// its offset in the line.
 pub enum Line {
     End,
     Nothing,
@@ -113,8 +115,8 @@ fn is_dot(q: Scan) -> bool
     }
 }
 
-// How far the scan of a term that begins at `a` goes: to the line's end, and to byte 256 of the term, the first that is too
-// many. A scan that takes it shows that the term goes on there.
+// How far the scan of a term that begins at `a` goes: to the line's end, and to byte 256 of the term, the first that is
+// too many. A scan that takes it shows that the term goes on there.
 fn cut(a: usize, stop: usize) -> usize
     requires { ⌜ a ≤ stop ⌝ }
     ensures { λ r. ⌜ r ≡ cutOf a stop ⌝ }
@@ -426,9 +428,9 @@ fn read_spelled(text: &[u8], at: usize) -> LineRead
     }
 }
 
-// Reads the line at the position `at` of the text. The position may stand anywhere, also inside a line, which is then read
-// from there. The next position is past the line and its EOL, after a refusal too; at or past the text's end it is `at`. The
-// object's part is answered without the string ending.
+// Reads the line at the position `at` of the text. The position may stand anywhere, also inside a line, which is then
+// read from there. The next position is past the line and its EOL, after a refusal too; at or past the text's end it is
+// `at`. The object's part is answered without the string ending.
 pub fn read_line(text: &[u8], at: usize) -> LineRead
     ensures { λ r. ⌜ r ≡ readOf nameLimit (now (text .entry)) at ⌝ }
 {

@@ -1,6 +1,6 @@
-// Reads a table of cases from standard input, a line each: a name, a position, and a text in which `\n`, `\r`, `\\` and `\xNN`
-// stand for a byte and `\{N}` for N letters a. Reads the text's line at the position, and prints one line a case: its number,
-// its name, the answer and the position after.
+// Reads a table of cases from standard input, a line each: a name, a position, and a text in which `\n`, `\r`, `\\` and
+// `\xNN` stand for a byte and `\{N}` for N letters a. Reads the text's line at the position, and prints one line a
+// case: its number, its name, the answer and the position after.
 //
 // The input and the expected output are those of `reference.py`, which follows paper 01 and knows nothing of this
 // library; the answers that docs/DECISIONS.md gives as examples are written out there by hand.

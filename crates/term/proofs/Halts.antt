@@ -11,8 +11,8 @@ use native.Mathlib.Omega.{arith}
 use Rattle.term.specs.Bytes.{among, iriByte, textByte, pairByte, firstByte, labelByte, letter, alnum}
 use Rattle.term.specs.Grammar.{Name}
 use Rattle.term.specs.Scanner.{stepOf, runOf, wholeOf, isBad, haltOf, firstKindOf, longestOf}
-use Rattle.term.specs.Halting.{Begins, HaltIsFirstBreak, BeginningHasOneKind}
-use Rattle.term.specs.Halting.{LongestIsLongest, LongestEndsByHalt, WholeAtHalt, WholeBeforeDot}
+use Rattle.term.specs.Halting.{Begins, HaltIsFirstBreak, BeginningHasOneKind, LongestIsLongest, LongestEndsByHalt}
+use Rattle.term.specs.Halting.{WholeAtHalt, WholeBeforeDot}
 use Rattle.term.specs.declared.Scan.{Scan}
 use Rattle.term.specs.declared.Halt.{Halt}
 use Rattle.term.specs.declared.Scan.the-variants.{Start, IriOpen, Iri, Closed, Under, Colon, Label, Dot, Dots}

@@ -7,8 +7,8 @@ use mathlib.Core.Bool.{true}
 use native.Mathlib.Omega.{arith}
 use Rattle.term.specs.Bytes.{textByte, among}
 use Rattle.term.specs.Grammar as g
-use Rattle.term.specs.Spelling.{Piece, AllAllowed, spelling, SpelledLiteral}
-use Rattle.term.specs.Spelling.{LiteralIsSpelled, TextReadOneWay, LiteralReadOneWay}
+use Rattle.term.specs.Spelling.{Piece, AllAllowed, spelling, SpelledLiteral, LiteralIsSpelled, TextReadOneWay}
+use Rattle.term.specs.Spelling.{LiteralReadOneWay}
 use Rattle.term.proofs.Lists.{head-same, tail-same}
 use Rattle.term.proofs.Names.{never}
 

@@ -1,5 +1,5 @@
--- The scanner's places. A fact of every place is shown by computing it at each of them, and a fact of the place that a byte leads to by
--- computing it at those to which one may lead. Assumes nothing.
+-- The scanner's places. A fact of every place is shown by computing it at each of them, and a fact of the place that a
+-- byte leads to by computing it at those to which one may lead. Assumes nothing.
 use Prim.Native.Nat.{ℕ, zero, suc}
 use mathlib.Core.Path.{_≡_, refl, sym, ap, _∙_}
 use mathlib.Core.List.{List, [], _∷_}
@@ -23,7 +23,8 @@ use Rattle.term.proofs.Table.{keys, at-keys, eqBool, same-bool}
 -- the places in their order, `Bad` apart, which is the last
 abbrev places : List Scan
 places =
-    Start ∷ IriOpen ∷ Iri ∷ Closed ∷ Under ∷ Colon ∷ Label ∷ Dot ∷ Dots ∷ Text ∷ Escape ∷ Quote ∷ At ∷ Tag ∷ Hyphen ∷ Group
+    Start ∷ IriOpen ∷ Iri ∷ Closed ∷ Under ∷ Colon ∷ Label ∷ Dot ∷ Dots ∷ Text ∷ Escape ∷ Quote ∷ At ∷ Tag
+    ∷ Hyphen ∷ Group
     ∷ Caret ∷ Carets ∷ []
 
 -- a place's number, by which code tells it, and the place of a number
@@ -76,11 +77,13 @@ at-all f (q ∷ qs) (suc n) e = at-all f qs n (and-r (f q) (allOf f qs) e)
 pub every : (f : Scan → Bool) → everywhere f ≡ true → (q : Scan) → f q ≡ true
 every f e q = ap f (sym (place-of-tag q)) ∙ at-all f places (tag q) e
 
-pub every-if : (f g : Scan → Bool) → everywhere (λ q. cond (f q) (g q) true) ≡ true → (q : Scan) → f q ≡ true → g q ≡ true
+pub every-if : (f g : Scan → Bool) → everywhere (λ q. cond (f q) (g q) true) ≡ true → (q : Scan)
+    → f q ≡ true → g q ≡ true
 every-if f g e q h = rw h at (every (λ q. cond (f q) (g q) true) e q)
 
 -- f is x in an arm of a match on a place
-pub at-tags : (f : Scan → Bool) (x : Bool) (ks : List ℕ) (q : Scan) → T (keys eqBool same-bool (λ n. f (placeAt n)) x ks)
+pub at-tags : (f : Scan → Bool) (x : Bool) (ks : List ℕ) (q : Scan)
+    → T (keys eqBool same-bool (λ n. f (placeAt n)) x ks)
     → OneOf ks (tag q) → f q ≡ x
 at-tags f x ks q t o =
     ap f (sym (place-of-tag q)) ∙ at-keys eqBool same-bool (λ n. f (placeAt n)) x ks (tag q) t o

@@ -7,8 +7,8 @@ use lib.Dec.{eqb}
 use borrow.Author.Tests.{eqb-true}
 use Rattle.term.specs.Bytes.{iriByte, firstByte, labelByte, letter, alnum, All}
 use Rattle.term.specs.Grammar as g
-use Rattle.term.specs.Spelling.{labelOrDot, lastOf, SpelledIri, SpelledBlank, Group, AllGroups, groups, SpelledTag}
-use Rattle.term.specs.Spelling.{IriIsSpelled, BlankIsSpelled, TagIsSpelled}
+use Rattle.term.specs.Spelling.{labelOrDot, lastOf, SpelledIri, SpelledBlank, Group, AllGroups, groups}
+use Rattle.term.specs.Spelling.{SpelledTag, IriIsSpelled, BlankIsSpelled, TagIsSpelled}
 use Rattle.term.proofs.Booleans.{other}
 use Rattle.term.proofs.Names.{never}
 

@@ -30,8 +30,8 @@ pub fn term(bytes: &[u8], at: usize) -> Halt
     }
 }
 
-// An IRI after its `<`: one byte or more, then `>`. The class is tested at this one place, so that its match is compiled
-// into the loop.
+// An IRI after its `<`: one byte or more, then `>`. The class is tested at this one place, so that its match is
+// compiled into the loop.
 pub fn iri(bytes: &[u8], at: usize) -> Halt
     ensures { λ r. ⌜ r ≡ haltOf IriOpen at (drop at (now (bytes .entry))) ⌝ }
 {

@@ -6,8 +6,8 @@ use native.Mathlib.Omega.{arith}
 use Rattle.ntriples.specs.declared.Span.{Span}
 use Rattle.ntriples.specs.Reader.{answerOf}
 use Rattle.ntriples.specs.Productions.{OnLine}
-use Rattle.ntriples.proofs.Sequence.{line-of, line-next, run-reached}
-use Rattle.ntriples.proofs.Sequence.{after-end, after-odd, after-note, comment-after-dot-end, comment-after-dot-odd}
+use Rattle.ntriples.proofs.Sequence.{line-of, line-next, run-reached, after-end, after-odd, after-note}
+use Rattle.ntriples.proofs.Sequence.{comment-after-dot-end, comment-after-dot-odd}
 use borrow.Author.Needs.{needs}
 use Rattle.ntriples.proofs.after_dot.Statement.{statement}
 use Rattle.ntriples.proofs.after_dot.Tie as tie
@@ -25,7 +25,8 @@ reached : (c : tie.After-white-space)
 reached c = run-reached (c .before .before .pre) (c .white-space .ensures)
 
 -- the comment begins after its `#`
-noted : (c : tie.Else2) → (let d = c .before .before .before .before .before in OnLine (d .args .text .now) (d .args .at) (c .before .before .before .white-space .result + 1) (d .args .stop))
+noted : (c : tie.Else2) → (let d = c .before .before .before .before .before in OnLine (d .args .text .now)
+    (d .args .at) (c .before .before .before .white-space .result + 1) (d .args .stop))
 noted c = line-next (reached (c .before .before .before)) (c .before .before .if1 .left)
 
 white-space-requires : tie.Need-white-space-requires
@@ -35,7 +36,8 @@ returns : tie.Need-returns
 unfolding answerOf
 returns c =
     let d = c .before .before .before in
-    sym (ap (answerOf (d .args .at)) (after-end (line-of (d .pre)) (c .before .white-space .ensures) (parts d) (c .if1 .taken)))
+    sym (ap (answerOf (d .args .at)) (after-end (line-of (d .pre)) (c .before .white-space .ensures) (parts d)
+    (c .if1 .taken)))
 
 shared-slice-read-if2 : tie.Need-shared-slice-read-if2
 shared-slice-read-if2 c = let w = reached (c .before .before) in omega arith
@@ -47,7 +49,8 @@ returns-2 : tie.Need-returns-2
 unfolding answerOf
 returns-2 c =
     let d = c .before .before .before .before .before in
-    sym (ap (answerOf (d .args .at)) (after-odd (line-of (d .pre)) (c .before .before .before .white-space .ensures) (parts d) (c .before .before .if1 .left)
+    sym (ap (answerOf (d .args .at)) (after-odd (line-of (d .pre)) (c .before .before .before .white-space .ensures)
+    (parts d) (c .before .before .if1 .left)
     (c .if2 .taken)))
 
 add-comment : tie.Need-add-comment
@@ -64,16 +67,20 @@ unfolding answerOf
 returns-3 c =
     let d = c .before .before .before .before .before .before .before in
     sym (ap (answerOf (d .args .at))
-    (after-note (line-of (d .pre)) (c .before .before .before .before .before .white-space .ensures) (parts d) (c .before .before .before .before .if1 .left) (c .before .before .if2 .left)
-    ∙ comment-after-dot-odd (line-of (noted (c .before .before))) (c .before .comment .ensures) (parts d) (c .if3 .taken)))
+    (after-note (line-of (d .pre)) (c .before .before .before .before .before .white-space .ensures) (parts d)
+    (c .before .before .before .before .if1 .left) (c .before .before .if2 .left)
+    ∙ comment-after-dot-odd (line-of (noted (c .before .before))) (c .before .comment .ensures) (parts d)
+    (c .if3 .taken)))
 
 returns-4 : tie.Need-returns-4
 unfolding answerOf
 returns-4 c =
     let d = c .before .before .before .before .before .before .before in
     sym (ap (answerOf (d .args .at))
-    (after-note (line-of (d .pre)) (c .before .before .before .before .before .white-space .ensures) (parts d) (c .before .before .before .before .if1 .left) (c .before .before .if2 .left)
-    ∙ comment-after-dot-end (line-of (noted (c .before .before))) (c .before .comment .ensures) (parts d) (c .if3 .left)))
+    (after-note (line-of (d .pre)) (c .before .before .before .before .before .white-space .ensures) (parts d)
+    (c .before .before .before .before .if1 .left) (c .before .before .if2 .left)
+    ∙ comment-after-dot-end (line-of (noted (c .before .before))) (c .before .comment .ensures) (parts d)
+    (c .if3 .left)))
 
 pub after-dot-spec : {M : Type 1} → statement M
 after-dot-spec =

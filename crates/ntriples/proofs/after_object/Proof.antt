@@ -32,7 +32,8 @@ returns : tie.Need-returns
 unfolding answerOf
 returns c =
     let d = c .before .before .before in
-    sym (ap (answerOf (d .args .at)) (dot-none (line-of (d .pre)) (c .before .white-space .ensures) (parts d) (c .if1 .taken)))
+    sym (ap (answerOf (d .args .at)) (dot-none (line-of (d .pre)) (c .before .white-space .ensures) (parts d)
+    (c .if1 .taken)))
 
 shared-slice-read-if2 : tie.Need-shared-slice-read-if2
 shared-slice-read-if2 c = let w = reached (c .before .before) in omega arith
@@ -44,7 +45,8 @@ returns-2 : tie.Need-returns-2
 unfolding answerOf
 returns-2 c =
     let d = c .before .before .before .before .before in
-    sym (ap (answerOf (d .args .at)) (dot-odd (line-of (d .pre)) (c .before .before .before .white-space .ensures) (parts d) (c .before .before .if1 .left)
+    sym (ap (answerOf (d .args .at)) (dot-odd (line-of (d .pre)) (c .before .before .before .white-space .ensures)
+    (parts d) (c .before .before .if1 .left)
     (c .if2 .taken)))
 
 add-after-dot : tie.Need-add-after-dot
@@ -57,7 +59,8 @@ returns-3 : tie.Need-returns-3
 returns-3 c =
     let d = c .before .before .before .before .before .before in
     c .after-dot .ensures
-    ∙ sym (ap (answerOf (d .args .at)) (dot-read (line-of (d .pre)) (c .before .before .before .before .white-space .ensures) (parts d) (c .before .before .before .if1 .left)
+    ∙ sym (ap (answerOf (d .args .at)) (dot-read (line-of (d .pre))
+    (c .before .before .before .before .white-space .ensures) (parts d) (c .before .before .before .if1 .left)
     (c .before .if2 .left)))
 
 pub after-object-spec : {M : Type 1} → statement M

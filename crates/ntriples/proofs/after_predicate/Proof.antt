@@ -1,4 +1,5 @@
--- The line after its predicate: where the object ends, with the line's dot or without, and where it breaks. Assumes nothing.
+-- The line after its predicate: where the object ends, with the line's dot or without, and where it breaks. Assumes
+-- nothing.
 use mathlib.Core.Path.{sym, _∙_, ap}
 use mathlib.Core.List.{List, [], _∷_}
 use native.Mathlib.Omega.{arith}
@@ -28,7 +29,8 @@ reached c = run-reached (c .before .before .pre) (c .white-space .ensures)
 
 -- how the object ends
 abbrev Ends : tie.After-object → ObjectEnd → Type 0
-Ends c r = let d = c .before .before .before in ObjectEnds (d .args .text .now) (d .args .stop) (c .before .white-space .result) r
+Ends c r = let d = c .before .before .before in ObjectEnds (d .args .text .now) (d .args .stop)
+    (c .before .white-space .result) r
 
 whole : (c : tie.After-e) → Ends (c .before .before) (Whole (c .e .given .0 .0))
 whole c = object-told _ _ _ _ (Whole (c .e .given .0 .0)) (c .e .given .1) (c .before .before .object .ensures)
@@ -80,21 +82,24 @@ returns c =
     let d = c .before .before .before .before .before .before .before in
     c .after-object .ensures
     ∙ sym (ap (answerOf (d .args .at))
-    (gap-skipped (line-of (d .pre)) (c .before .before .before .before .before .white-space .ensures) (parts d) 1 ∙ whole (c .before .before) .2 (parts d)))
+    (gap-skipped (line-of (d .pre)) (c .before .before .before .before .before .white-space .ensures) (parts d) 1
+    ∙ whole (c .before .before) .2 (parts d)))
 
 returns-2 : tie.Need-returns-2
 returns-2 c =
     let d = c .before .before .before .before .before .before .before in
     c .after-dot .ensures
     ∙ sym (ap (answerOf (d .args .at))
-    (gap-skipped (line-of (d .pre)) (c .before .before .before .before .before .white-space .ensures) (parts d) 1 ∙ dotted (c .before .before) .2 (parts d)))
+    (gap-skipped (line-of (d .pre)) (c .before .before .before .before .before .white-space .ensures) (parts d) 1
+    ∙ dotted (c .before .before) .2 (parts d)))
 
 returns-3 : tie.Need-returns-3
 unfolding answerOf
 returns-3 c =
     let d = c .before .before .before .before .before .before in
     sym (ap (answerOf (d .args .at))
-    (gap-skipped (line-of (d .pre)) (c .before .before .before .before .white-space .ensures) (parts d) 1 ∙ broken (c .before) .1 (parts d)))
+    (gap-skipped (line-of (d .pre)) (c .before .before .before .before .white-space .ensures) (parts d) 1
+    ∙ broken (c .before) .1 (parts d)))
 
 pub after-predicate-spec : {M : Type 1} → statement M
 after-predicate-spec =

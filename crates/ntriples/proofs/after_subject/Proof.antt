@@ -23,7 +23,8 @@ reached c = run-reached (c .before .before .pre) (c .white-space .ensures)
 
 -- how the predicate ends
 abbrev Ends : tie.After-predicate → TermEnd → Type 0
-Ends c r = let d = c .before .before .before in TermEnds (d .args .text .now) (d .args .stop) 1 (c .before .white-space .result) r
+Ends c r = let d = c .before .before .before in TermEnds (d .args .text .now) (d .args .stop) 1
+    (c .before .white-space .result) r
 
 whole : (c : tie.After-e) → Ends (c .before .before) (Whole (c .e .given .0 .0))
 whole c = term-told _ _ 1 _ _ (Whole (c .e .given .0 .0)) (c .e .given .1) (c .before .before .predicate .ensures)
@@ -58,14 +59,16 @@ returns c =
     let d = c .before .before .before .before .before .before .before in
     let ms = d .args .s ∷ [] in
     c .after-predicate .ensures
-    ∙ sym (ap (answerOf (d .args .at)) (gap-skipped (line-of (d .pre)) (c .before .before .before .before .before .white-space .ensures) ms 2 ∙ whole (c .before .before) .2 ms))
+    ∙ sym (ap (answerOf (d .args .at)) (gap-skipped (line-of (d .pre))
+    (c .before .before .before .before .before .white-space .ensures) ms 2 ∙ whole (c .before .before) .2 ms))
 
 returns-2 : tie.Need-returns-2
 unfolding answerOf
 returns-2 c =
     let d = c .before .before .before .before .before .before in
     let ms = d .args .s ∷ [] in
-    sym (ap (answerOf (d .args .at)) (gap-skipped (line-of (d .pre)) (c .before .before .before .before .white-space .ensures) ms 2 ∙ broken (c .before) .1 ms))
+    sym (ap (answerOf (d .args .at)) (gap-skipped (line-of (d .pre))
+    (c .before .before .before .before .white-space .ensures) ms 2 ∙ broken (c .before) .1 ms))
 
 pub after-subject-spec : {M : Type 1} → statement M
 after-subject-spec =

@@ -19,7 +19,8 @@ returns : tie.Need-returns
 unfolding answerOf
 returns c =
     let d = c .before .before .before in
-    sym (ap (answerOf (d .args .at)) (comment-line-odd (line-of (d .pre)) (c .before .comment .ensures) (c .if1 .taken)))
+    sym (ap (answerOf (d .args .at)) (comment-line-odd (line-of (d .pre)) (c .before .comment .ensures)
+    (c .if1 .taken)))
 
 returns-2 : tie.Need-returns-2
 unfolding answerOf

@@ -15,7 +15,8 @@ sub-if2 c = let h = c .before .pre .before in let n = c .if1 .left in omega arit
 
 shared-slice-read-if2 : tie.Need-shared-slice-read-if2
 shared-slice-read-if2 c =
-    let h = c .before .before .pre .inText in let k = c .before .before .pre .before in let n = c .before .if1 .left in omega arith
+    let h = c .before .before .pre .inText in let k = c .before .before .pre .before in let n =
+    c .before .if1 .left in omega arith
 
 sub-result : tie.Need-sub-result
 sub-result c =

@@ -1,8 +1,8 @@
 -- Where an object ends, by the scan's halt, and whether the line's dot follows. Assumes nothing.
 use mathlib.Core.Path.{sym, _∙_}
 use native.Mathlib.Omega.{arith}
-use Rattle.ntriples.proofs.Halts.{TermScanned, term-scanned}
-use Rattle.ntriples.proofs.Halts.{object-over-dot, object-over, object-whole, object-dot, object-broken}
+use Rattle.ntriples.proofs.Halts.{TermScanned, term-scanned, object-over-dot, object-over, object-whole}
+use Rattle.ntriples.proofs.Halts.{object-dot, object-broken}
 use borrow.Author.Needs.{needs}
 use Rattle.ntriples.proofs.object_end.Statement.{statement}
 use Rattle.ntriples.proofs.object_end.Tie as tie
@@ -18,7 +18,8 @@ scanned : (c : tie.After-scan-term)
     → (let a = c .before .before .before .args in TermScanned (a .text .now) (a .stop) (a .a) (c .scan-term .result))
 scanned c =
     let d = c .before .before .before in
-    term-scanned (d .args .text .now) (d .args .stop) (d .args .a) (c .before .cut .result) (c .scan-term .result) (d .pre)
+    term-scanned (d .args .text .now) (d .args .stop) (d .args .a) (c .before .cut .result)
+    (c .scan-term .result) (d .pre)
     (c .before .cut .ensures) (c .scan-term .ensures)
 
 cut-requires : tie.Need-cut-requires
@@ -40,7 +41,8 @@ returns : tie.Need-returns
 returns c =
     let p = c .before .before .before .before .before .before .pre in
     let x = c .before .before .if1 .taken in
-    object-over-dot (scanned (c .before .before .before)) (p .inText) (p .opening) (omega arith) (sym (c .before .is-dot .ensures) ∙ c .if2 .taken)
+    object-over-dot (scanned (c .before .before .before)) (p .inText) (p .opening) (omega arith)
+    (sym (c .before .is-dot .ensures) ∙ c .if2 .taken)
 
 add-t11 : tie.Need-add-t11
 add-t11 c = search needs
@@ -49,7 +51,8 @@ returns-2 : tie.Need-returns-2
 returns-2 c =
     let p = c .before .before .before .before .before .before .pre in
     let x = c .before .before .if1 .taken in
-    object-over (scanned (c .before .before .before)) (p .inText) (p .opening) (omega arith) (sym (c .before .is-dot .ensures) ∙ c .if2 .left)
+    object-over (scanned (c .before .before .before)) (p .inText) (p .opening) (omega arith)
+    (sym (c .before .is-dot .ensures) ∙ c .if2 .left)
 
 whole-requires : tie.Need-whole-requires
 whole-requires c κs = search needs
@@ -58,7 +61,8 @@ returns-3 : tie.Need-returns-3
 returns-3 c =
     let p = c .before .before .before .before .before .before .pre in
     let x = c .before .before .if1 .left in
-    object-whole (scanned (c .before .before .before)) (p .inText) (p .opening) (omega arith) (sym (c .before .whole .ensures) ∙ c .if3 .taken)
+    object-whole (scanned (c .before .before .before)) (p .inText) (p .opening) (omega arith)
+    (sym (c .before .whole .ensures) ∙ c .if3 .taken)
 
 is-dot-requires-2 : tie.Need-is-dot-requires-2
 is-dot-requires-2 c κs = search needs
@@ -70,13 +74,15 @@ returns-4 : tie.Need-returns-4
 returns-4 c =
     let p = c .before .before .before .before .before .before .before .before .pre in
     let x = c .before .before .before .before .if1 .left in
-    object-dot (scanned (c .before .before .before .before .before)) (p .inText) (p .opening) (omega arith) (sym (c .before .is-dot2 .ensures) ∙ c .if4 .taken)
+    object-dot (scanned (c .before .before .before .before .before)) (p .inText) (p .opening) (omega arith)
+    (sym (c .before .is-dot2 .ensures) ∙ c .if4 .taken)
 
 returns-5 : tie.Need-returns-5
 returns-5 c =
     let p = c .before .before .before .before .before .before .before .before .pre in
     let x = c .before .before .before .before .if1 .left in
-    object-broken (scanned (c .before .before .before .before .before)) (p .inText) (p .opening) (omega arith) (sym (c .before .before .before .whole .ensures) ∙ c .before .before .if3 .left)
+    object-broken (scanned (c .before .before .before .before .before)) (p .inText) (p .opening) (omega arith)
+    (sym (c .before .before .before .whole .ensures) ∙ c .before .before .if3 .left)
     (sym (c .before .is-dot2 .ensures) ∙ c .if4 .left)
 
 pub object-end-spec : {M : Type 1} → statement M

@@ -16,7 +16,8 @@ scanned : (c : tie.After-scan-term)
     → (let a = c .before .before .before .args in TermScanned (a .text .now) (a .stop) (a .a) (c .scan-term .result))
 scanned c =
     let d = c .before .before .before in
-    term-scanned (d .args .text .now) (d .args .stop) (d .args .a) (c .before .cut .result) (c .scan-term .result) (d .pre)
+    term-scanned (d .args .text .now) (d .args .stop) (d .args .a) (c .before .cut .result)
+    (c .scan-term .result) (d .pre)
     (c .before .cut .ensures) (c .scan-term .ensures)
 
 cut-requires : tie.Need-cut-requires
@@ -42,12 +43,16 @@ whole-requires c κs = search needs
 returns-2 : tie.Need-returns-2
 returns-2 c =
     let x = c .before .before .if1 .left in
-    λ n h o. term-whole (scanned (c .before .before .before)) n (c .before .before .before .before .before .before .pre .inText) o (omega arith) (sym (c .before .whole .ensures) ∙ c .if2 .taken)
+    λ n h o. term-whole (scanned (c .before .before .before)) n
+    (c .before .before .before .before .before .before .pre .inText) o (omega arith)
+    (sym (c .before .whole .ensures) ∙ c .if2 .taken)
 
 returns-3 : tie.Need-returns-3
 returns-3 c =
     let x = c .before .before .if1 .left in
-    λ n h o. term-broken (scanned (c .before .before .before)) n (c .before .before .before .before .before .before .pre .inText) h o (omega arith) (sym (c .before .whole .ensures) ∙ c .if2 .left)
+    λ n h o. term-broken (scanned (c .before .before .before)) n
+    (c .before .before .before .before .before .before .pre .inText) h o (omega arith)
+    (sym (c .before .whole .ensures) ∙ c .if2 .left)
 
 pub term-end-spec : {M : Type 1} → statement M
 term-end-spec =

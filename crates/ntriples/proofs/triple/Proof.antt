@@ -26,7 +26,8 @@ broken : (c : tie.After-k) → Ends (c .before .before) (Broken (c .k .given .0 
 broken c = term-told _ _ 2 _ _ (Broken (c .k .given .0 .0)) (c .k .given .1) (c .before .before .subject .ensures)
 
 subject-requires : tie.Need-subject-requires
-subject-requires c κs = let p = c .before .pre in record { before = p .before; inText = p .inText; notWhite = p .notWhite }
+subject-requires c κs = let p = c .before .pre in record
+    { before = p .before; inText = p .inText; notWhite = p .notWhite }
 
 enum-known-e : tie.Need-enum-known-e
 enum-known-e c = search needs
@@ -43,10 +44,12 @@ enum-known-k : tie.Need-enum-known-k
 enum-known-k c = search needs
 
 sub-t10 : tie.Need-sub-t10
-sub-t10 c = let x = broken (c .before) .0 in let g = c .before .before .before .before .before .pre .begun in omega arith
+sub-t10 c = let x = broken (c .before) .0 in let g =
+    c .before .before .before .before .before .pre .begun in omega arith
 
 returns : tie.Need-returns
-returns c = c .after-subject .ensures ∙ sym (ap (answerOf (c .before .before .before .before .before .before .args .at)) (whole (c .before .before) .2 []))
+returns c = c .after-subject .ensures ∙ sym
+    (ap (answerOf (c .before .before .before .before .before .before .args .at)) (whole (c .before .before) .2 []))
 
 returns-2 : tie.Need-returns-2
 unfolding answerOf

@@ -40,18 +40,25 @@ returns-2 : tie.Need-returns-2
 returns-2 c =
     let d = c .before .before .before .before .before .before in
     c .comment-line .ensures
-    ∙ sym (ap (answerOf (d .args .at)) (begin-note (d .pre) (c .before .before .before .before .white-space .ensures) (c .before .before .before .if1 .left) (c .before .if2 .taken)))
+    ∙ sym (ap (answerOf (d .args .at)) (begin-note (d .pre) (c .before .before .before .before .white-space .ensures)
+    (c .before .before .before .if1 .left) (c .before .if2 .taken)))
 
 triple-requires : tie.Need-triple-requires
 triple-requires c κs =
     let w = c .before .before .before .white-space .ensures in
-    record { begun = w .after; before = w .before; inText = c .before .before .before .before .before .pre .inText; notWhite = w .out }
+    record {
+      begun = w .after;
+      before = w .before;
+      inText = c .before .before .before .before .before .pre .inText;
+      notWhite = w .out;
+    }
 
 returns-3 : tie.Need-returns-3
 returns-3 c =
     let d = c .before .before .before .before .before .before in
     c .triple .ensures
-    ∙ sym (ap (answerOf (d .args .at)) (begin-term (d .pre) (c .before .before .before .before .white-space .ensures) (c .before .before .before .if1 .left) (c .before .if2 .left)))
+    ∙ sym (ap (answerOf (d .args .at)) (begin-term (d .pre) (c .before .before .before .before .white-space .ensures)
+    (c .before .before .before .if1 .left) (c .before .if2 .left)))
 
 pub whole-line-spec : {M : Type 1} → statement M
 whole-line-spec =

@@ -10,7 +10,8 @@ use Rattle.ntriples_cases.proofs.fill.Reads as fill-reads
 use Rattle.ntriples_cases.proofs.piece.Reads as piece-reads
 
 abbrev Inv-loop : tie.InvT-loop
-Inv-loop table from text₀ i₀ n₀ text i n = (from ≤ i) × (i ≤ length table) × (n ≤ length text) × (length text ≡ length text₀)
+Inv-loop table from text₀ i₀ n₀ text i n = (from ≤ i) × (i ≤ length table) × (n ≤ length text)
+    × (length text ≡ length text₀)
 
 abbrev μ-loop : tie.MeasureT-loop
 μ-loop table from text₀ i₀ n₀ text i n = length table - i

@@ -45,7 +45,8 @@ by-first : (c : tie.After-byte-at)
     ≡ firstKindOf (c .byte-at .result ∷ [])
 by-first c =
     let s = c .before .before .before .before .before .before .before .before .args .name .now in
-    let w = sym (c .before .before .whole .ensures) ∙ not-false (c .before .before .whole .result) (c .before .if3 .left) in
+    let w = sym (c .before .before .whole .ensures)
+    ∙ not-false (c .before .before .whole .result) (c .before .if3 .left) in
     kind-whole nameLimit s (omega arith) (c .before .before .before .before .before .term .ensures)
     (c .before .before .before .if2 .left) w
     ∙ first-byte s (c .byte-at .ensures)

@@ -10,8 +10,8 @@ use Rattle.term.specs.Bytes.{firstByte, labelByte, letter, alnum}
 use Rattle.term.specs.Spelling.{labelOrDot}
 use Rattle.term.specs.Scanner.{stepOf, isBad}
 use Rattle.term.specs.declared.Scan.the-variants.{Under, Colon}
-use Rattle.term.proofs.Turn.{seen, unlike, inside, inside-byte, Comes, comes-here, comes-on, comes-stop}
-use Rattle.term.proofs.Turn.{LabelAt, label-start, label-turn, label-end}
+use Rattle.term.proofs.Turn.{seen, unlike, inside, inside-byte, Comes, comes-here, comes-on, comes-stop, LabelAt}
+use Rattle.term.proofs.Turn.{label-start, label-turn, label-end}
 use borrow.Author.Needs.{needs}
 use Rattle.term.proofs.production.blank_node_label.Statement.{statement}
 use Rattle.term.proofs.production.blank_node_label.Tie as tie
@@ -25,7 +25,8 @@ abbrev μ-loop : tie.MeasureT-loop
 -- ---- what holds at a place, once for every need after it
 
 -- at the colon
-colon-within : (c : tie.Else1 Inv-loop μ-loop) → (let a = c .before .before .before .args in a .at < length (a .bytes .now))
+colon-within : (c : tie.Else1 Inv-loop μ-loop)
+    → (let a = c .before .before .before .args in a .at < length (a .bytes .now))
 colon-within c =
     let a = c .before .before .before .args in
     inside-byte (a .bytes .now) (a .at) 58 (omega arith) (c .before .byte-at .ensures) (c .if1 .left)
@@ -54,7 +55,8 @@ tested c e = seen labelOrDot (c .before .byte-at3 .ensures) (c .is-label-byte .e
 within : (c : tie.Then3 Inv-loop μ-loop) → (let l = c .before .before .before in l .loop .i < length (bytes l))
 unfolding labelOrDot labelByte firstByte alnum letter
 within c =
-    let l = c .before .before .before in inside (bytes l) (l .loop .i) labelOrDot refl (tested (c .before) (c .if3 .taken))
+    let l = c .before .before .before in inside (bytes l) (l .loop .i) labelOrDot refl
+    (tested (c .before) (c .if3 .taken))
 
 -- ---- the needs
 

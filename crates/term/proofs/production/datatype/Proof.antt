@@ -17,7 +17,8 @@ within c =
     let a = c .before .before .before .args in
     inside-byte (a .bytes .now) (a .at) 94 (omega arith) (c .before .byte-at .ensures) (c .if1 .left)
 
-taken : (c : tie.Else1) → (let a = c .before .before .before .args in Comes (a .bytes .now) Caret (a .at) Carets (a .at + 1))
+taken : (c : tie.Else1) → (let a = c .before .before .before .args in Comes (a .bytes .now) Caret (a .at)
+    Carets (a .at + 1))
 unfolding stepOf isBad
 taken c =
     let a = c .before .before .before .args in
@@ -61,7 +62,8 @@ returns-3 : tie.Need-returns-3
 unfolding stepOf isBad
 returns-3 c =
     let a = c .before .before .before .before .before .before .args in
-    let g : getD (a .bytes .now) (a .at + 1) 0 ≡ 60 = sym (c .before .before .byte-at2 .ensures) ∙ c .before .if2 .left in
+    let g : getD (a .bytes .now) (a .at + 1) 0 ≡ 60 = sym (c .before .before .byte-at2 .ensures)
+    ∙ c .before .if2 .left in
     comes-end (comes-to (taken (c .before .before .before)) {k = a .at + 2} (rw g) refl (omega arith)) (c .iri .ensures)
 
 pub datatype-spec : {M : Type 1} → statement M

@@ -10,8 +10,8 @@ use Rattle.term.specs.Bytes.{iriByte, among}
 use Rattle.term.specs.Scanner.{stepOf, isBad, haltOf}
 use Rattle.term.specs.declared.Scan.{Scan}
 use Rattle.term.specs.declared.Scan.the-variants.{IriOpen, Iri, Closed}
-use Rattle.term.proofs.Turn.{seen, unlike, inside, inside-byte, Comes, comes-here, comes-on, comes-stop}
-use Rattle.term.proofs.Turn.{IriAt, iri-start, iri-turn}
+use Rattle.term.proofs.Turn.{seen, unlike, inside, inside-byte, Comes, comes-here, comes-on, comes-stop, IriAt}
+use Rattle.term.proofs.Turn.{iri-start, iri-turn}
 use borrow.Author.Needs.{needs}
 use Rattle.term.proofs.production.iri.Statement.{statement}
 use Rattle.term.proofs.production.iri.Tie as tie
@@ -77,7 +77,8 @@ unfolding stepOf
 returns c =
     let l = c .before .before .before .before in
     let e : iriByte (getD (bytes l) (first l) 0) ≡ false =
-    ap (λ (i : ℕ). iriByte (getD (bytes l) i 0)) (sym (c .if2 .taken)) ∙ tested (c .before .before) (c .before .if1 .left) in
+    ap (λ (i : ℕ). iriByte (getD (bytes l) i 0)) (sym (c .if2 .taken))
+    ∙ tested (c .before .before) (c .before .if1 .left) in
     comes-stop (comes-here (bytes l) IriOpen (first l)) (rw e)
 
 byte-at-requires-2 : tie.Need-byte-at-requires-2 Inv-loop μ-loop

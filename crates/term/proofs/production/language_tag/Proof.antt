@@ -9,8 +9,8 @@ use borrow.Author.Tests.{not-true, not-false}
 use Rattle.term.specs.Bytes.{letter}
 use Rattle.term.specs.Scanner.{stepOf, isBad}
 use Rattle.term.specs.declared.Scan.the-variants.{At, Tag, Hyphen}
-use Rattle.term.proofs.Turn.{seen, unlike, inside, inside-byte}
-use Rattle.term.proofs.Turn.{Comes, comes-here, comes-on, comes-stop, comes-end}
+use Rattle.term.proofs.Turn.{seen, unlike, inside, inside-byte, Comes, comes-here, comes-on, comes-stop}
+use Rattle.term.proofs.Turn.{comes-end}
 use borrow.Author.Needs.{needs}
 use Rattle.term.proofs.production.language_tag.Statement.{statement}
 use Rattle.term.proofs.production.language_tag.Tie as tie

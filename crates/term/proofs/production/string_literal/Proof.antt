@@ -9,8 +9,8 @@ use borrow.Author.Tests.{not-true, not-false}
 use Rattle.term.specs.Bytes.{textByte, pairByte, among}
 use Rattle.term.specs.Scanner.{stepOf, isBad}
 use Rattle.term.specs.declared.Scan.the-variants.{Text, Escape, Quote}
-use Rattle.term.proofs.Turn.{seen, unlike, inside, inside-byte}
-use Rattle.term.proofs.Turn.{Comes, comes-here, comes-on, comes-to, comes-stop, comes-end}
+use Rattle.term.proofs.Turn.{seen, unlike, inside, inside-byte, Comes, comes-here, comes-on, comes-to}
+use Rattle.term.proofs.Turn.{comes-stop, comes-end}
 use borrow.Author.Needs.{needs}
 use Rattle.term.proofs.production.string_literal.Statement.{statement}
 use Rattle.term.proofs.production.string_literal.Tie as tie
@@ -34,7 +34,8 @@ tested c e = seen textByte (c .before .byte-at .ensures) (c .is-text-byte .ensur
 within : (c : tie.Then1 Inv-loop μ-loop) → (let l = c .before .before .before in l .loop .i < length (bytes l))
 unfolding textByte among
 within c =
-    let l = c .before .before .before in inside (bytes l) (l .loop .i) textByte refl (tested (c .before) (c .if1 .taken))
+    let l = c .before .before .before in inside (bytes l) (l .loop .i) textByte refl
+    (tested (c .before) (c .if1 .taken))
 
 -- at a `\`
 abbrev at-slash : tie.Else3 Inv-loop μ-loop → tie.At-loop Inv-loop μ-loop
@@ -43,7 +44,8 @@ at-slash c = c .before .before .before .before .before
 slash-within : (c : tie.Else3 Inv-loop μ-loop) → (let l = at-slash c in l .loop .i < length (bytes l))
 slash-within c =
     let l = at-slash c in
-    inside-byte (bytes l) (l .loop .i) 92 (omega arith) (c .before .before .before .before .byte-at .ensures) (c .if3 .left)
+    inside-byte (bytes l) (l .loop .i) 92 (omega arith)
+    (c .before .before .before .before .byte-at .ensures) (c .if3 .left)
 
 slash-taken : (c : tie.Else3 Inv-loop μ-loop)
     → (let l = at-slash c in Comes (bytes l) Text (l .before .before .args .at) Escape (l .loop .i + 1))
@@ -51,7 +53,8 @@ unfolding stepOf isBad
 slash-taken c =
     let l = at-slash c in
     let e = tested (c .before .before .before) (c .before .before .if1 .left) in
-    let g : getD (bytes l) (l .loop .i) 0 ≡ 92 = sym (c .before .before .before .before .byte-at .ensures) ∙ c .if3 .left in
+    let g : getD (bytes l) (l .loop .i) 0 ≡ 92 = sym (c .before .before .before .before .byte-at .ensures)
+    ∙ c .if3 .left in
     comes-on (l .loop .inv) (rw (e, g)) refl
 
 -- and the byte after it
@@ -62,11 +65,13 @@ paired : (c : tie.After-is-pair-byte Inv-loop μ-loop) {t : Bool} → c .is-pair
     → (let l = at-slash (at-pair c) in pairByte (getD (bytes l) (l .loop .i + 1) 0) ≡ t)
 paired c e = seen pairByte (c .before .byte-at2 .ensures) (c .is-pair-byte .ensures) e
 
-pair-within : (c : tie.Else4 Inv-loop μ-loop) → (let l = at-slash (at-pair (c .before)) in l .loop .i + 1 < length (bytes l))
+pair-within : (c : tie.Else4 Inv-loop μ-loop)
+    → (let l = at-slash (at-pair (c .before)) in l .loop .i + 1 < length (bytes l))
 unfolding pairByte among
 pair-within c =
     let l = at-slash (at-pair (c .before)) in
-    inside (bytes l) (l .loop .i + 1) pairByte refl (paired (c .before) (not-false (c .before .is-pair-byte .result) (c .if4 .left)))
+    inside (bytes l) (l .loop .i + 1) pairByte refl
+    (paired (c .before) (not-false (c .before .is-pair-byte .result) (c .if4 .left)))
 
 -- ---- the needs
 

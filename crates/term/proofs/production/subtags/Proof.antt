@@ -9,8 +9,8 @@ use borrow.Author.Tests.{not-true, not-false}
 use Rattle.term.specs.Bytes.{letter, alnum}
 use Rattle.term.specs.Scanner.{stepOf, isBad}
 use Rattle.term.specs.declared.Scan.the-variants.{Hyphen, Group}
-use Rattle.term.proofs.Turn.{seen, unlike, inside, inside-byte}
-use Rattle.term.proofs.Turn.{Comes, comes-here, comes-on, comes-to, comes-stop}
+use Rattle.term.proofs.Turn.{seen, unlike, inside, inside-byte, Comes, comes-here, comes-on, comes-to}
+use Rattle.term.proofs.Turn.{comes-stop}
 use borrow.Author.Needs.{needs}
 use Rattle.term.proofs.production.subtags.Statement.{statement}
 use Rattle.term.proofs.production.subtags.Tie as tie
@@ -70,10 +70,12 @@ grouped : (c : tie.After-is-alnum3 Inv-loop μ-loop) {t : Bool} → c .is-alnum3
     → (let l = at-hyphen (at-next c) in alnum (getD (bytes l) (l .loop .i + 1) 0) ≡ t)
 grouped c e = seen alnum (c .before .byte-at3 .ensures) (c .is-alnum3 .ensures) e
 
-group-within : (c : tie.Else4 Inv-loop μ-loop) → (let l = at-hyphen (at-next (c .before)) in l .loop .i + 1 < length (bytes l))
+group-within : (c : tie.Else4 Inv-loop μ-loop)
+    → (let l = at-hyphen (at-next (c .before)) in l .loop .i + 1 < length (bytes l))
 group-within c =
     let l = at-hyphen (at-next (c .before)) in
-    alnum-within (bytes l) (l .loop .i + 1) (grouped (c .before) (not-false (c .before .is-alnum3 .result) (c .if4 .left)))
+    alnum-within (bytes l) (l .loop .i + 1)
+    (grouped (c .before) (not-false (c .before .is-alnum3 .result) (c .if4 .left)))
 
 -- ---- the needs
 
