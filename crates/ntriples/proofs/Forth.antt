@@ -24,7 +24,7 @@ use Rattle.ntriples.proofs.Rest.{Rest, Derives, ShortParts, ShortOutcom
 use Rattle.ntriples.specs.Reader.{Outcome, Empty, Terms, kindAllowed, State, Begin, Gap, Inside, After}
 use Rattle.ntriples.specs.Reader.{CommentAfterDot, CommentLine, Broken, isDot, opens, dotted, afterOf, enterOf}
 use Rattle.ntriples.specs.Reader.{gapOf, goesOnOf, leaveOf, advanceOf}
-use Rattle.ntriples.proofs.Residual.{Following, Dotting, Residual, cases, shift, plus-zero, back-one}
+use Rattle.ntriples.proofs.Residual.{Following, Dotting, Residual, cases, white-byte, shift, plus-zero, back-one}
 use Rattle.ntriples.proofs.Residual.{dotted-facts}
 
 -- what holds of a place that a reading reaches: the parts so far are short, and a predicate is scanned as an IRI
@@ -49,12 +49,7 @@ Good m i (CommentAfterDot ms) = Fit m ms
 Good m i CommentLine = Unit
 Good m i (Broken k) = Unit
 
--- facts on bytes
-white-byte : {C : Type 0} (b : ℕ) → (b ≡ 32 → C) → (b ≡ 9 → C) → white b ≡ true → C
-unfolding white among
-white-byte b f g h =
-    cases (λ x. x ≡ true) (eqb b 32) true _ (λ e _. f (eqb-true b 32 e))
-    (λ _ k. cases (λ x. x ≡ true) (eqb b 9) true false (λ e _. g (eqb-true b 9 e)) (λ _ z. never z) k) h
+-- ---- facts on bytes
 
 -- the kinds that a place permits
 pub allowed-iri : (n : ℕ) → kindAllowed n 1 ≡ true

@@ -22,7 +22,7 @@ use Rattle.term.proofs.Halts.{completion, completes}
 use Rattle.ntriples.specs.declared.Span.{Span}
 use Rattle.ntriples.specs.Grammar.{span, white, commentByte, Trail}
 use Rattle.ntriples.proofs.Rest.{Rest, Derives, ShortParts, ShortOutcome, Continued}
-use Rattle.ntriples.specs.Reader.{Outcome, Empty, Terms, Fails, kindAllowed, State, Begin, Gap, Inside, After}
+use Rattle.ntriples.specs.Reader.{Outcome, Empty, Terms, Fails, State, Begin, Gap, Inside, After}
 use Rattle.ntriples.specs.Reader.{CommentAfterDot, CommentLine, Broken, opens, dotted, afterOf, enterOf, gapOf}
 use Rattle.ntriples.specs.Reader.{goesOnOf, leaveOf, advanceOf, stateOf, endOf, lineOf}
 use Rattle.ntriples.proofs.Residual.{Residual, cases, advance-back}

@@ -9,7 +9,7 @@ use lib.Dec.{ltb, eqb}
 use lib.ListN.{length}
 use native.Mathlib.Omega.{arith}
 use borrow.Author.Tests.{eqb-true}
-use Rattle.term.specs.Bytes.{labelByte, All}
+use Rattle.term.specs.Bytes.{among, labelByte, All}
 use Rattle.term.specs.Scanner.{stepOf, runOf, wholeOf, isBad, firstKindOf}
 use Rattle.term.specs.declared.Scan.{Scan}
 use Rattle.term.specs.declared.Scan.the-variants.{Start, Label, Dot, Bad}
@@ -57,6 +57,13 @@ pub cases : {A C : Type 0} (P : A → Type 0) (c : Bool) (x y : A) → (c ≡ tr
     → P (cond c x y) → C
 cases P true x y f g h = f refl h
 cases P false x y f g h = g refl h
+
+-- a space or a tab
+pub white-byte : {C : Type 0} (b : ℕ) → (b ≡ 32 → C) → (b ≡ 9 → C) → white b ≡ true → C
+unfolding white among
+white-byte b f g h =
+    cases (λ x. x ≡ true) (eqb b 32) true _ (λ e _. f (eqb-true b 32 e))
+    (λ _ k. cases (λ x. x ≡ true) (eqb b 9) true false (λ e _. g (eqb-true b 9 e)) (λ _ z. never z) k) h
 
 -- a dot is met after a label's byte only
 dot-byte : (b : ℕ) → isDot (stepOf Label b) ≡ true → b ≡ 46

@@ -15,9 +15,9 @@ use Rattle.term.proofs.Names.{never, name-kind}
 use Rattle.term.proofs.Turn.{unlike}
 use Rattle.ntriples.specs.Grammar.{white, commentByte, Trail, Subject, Predicate, Object, Triple}
 use Rattle.ntriples.specs.Standard as std
-use Rattle.ntriples.specs.Standard.{one, the, _▸_, _∣_, maybe, many, except}
+use Rattle.ntriples.specs.Standard.{one, the, _▸_, _∣_, maybe, many, except, TripleOf}
 use Rattle.ntriples.specs.Claims.{InSubset, SubsetOfStandard}
-use Rattle.ntriples.proofs.Residual.{cases}
+use Rattle.ntriples.proofs.Residual.{cases, white-byte}
 
 -- ---- classes of bytes
 
@@ -247,10 +247,8 @@ object-name (Object.blank h) = (2, g.Name.blank h)
 object-name (Object.literal h) = (3, g.Name.literal h)
 
 white-comment : (c : ℕ) → white c ≡ true → commentByte c ≡ true
-unfolding white among commentByte
-white-comment c h =
-    cases (λ x. x ≡ true) (eqb c 32) true (among (9 ∷ []) c) (λ e _. rw (eqb-true c 32 e))
-    (λ _ k. cases (λ x. x ≡ true) (eqb c 9) true false (λ e _. rw e) (λ _ z. never z) k) h
+unfolding commentByte
+white-comment c h = white-byte c (λ e. rw e) (λ e. rw e) h
 
 hash-comment : commentByte 35 ≡ true
 unfolding commentByte
@@ -261,8 +259,11 @@ trail-bytes Trail.end = tt
 trail-bytes (Trail.space {b = c} h r) = (white-comment c h, trail-bytes r)
 trail-bytes (Trail.comment h) = (hash-comment, h)
 
-forth : {l : List ℕ} → Triple l → std.Triple l
-forth d =
+-- a derivation with the same strings, by other productions
+unfoldable retold : {S P O W E S′ P′ O′ W′ E′ : List ℕ → Type 0} {l : List ℕ} (d : TripleOf S P O W E l)
+    → (S (d .subject) → S′ (d .subject)) → (P (d .predicate) → P′ (d .predicate)) → (O (d .object) → O′ (d .object))
+    → ((s : List ℕ) → W s → W′ s) → (E (d .after) → E′ (d .after)) → TripleOf S′ P′ O′ W′ E′ l
+retold d s p o w e =
     record {
       before = d .before;
       subject = d .subject;
@@ -273,15 +274,18 @@ forth d =
       between₃ = d .between₃;
       after = d .after;
       spells = d .spells;
-      white₀ = white-space (d .before) (d .white₀);
-      isSubject = subject (d .isSubject);
-      white₁ = white-space (d .between₁) (d .white₁);
-      isPredicate = predicate (d .isPredicate);
-      white₂ = white-space (d .between₂) (d .white₂);
-      isObject = object (d .isObject);
-      white₃ = white-space (d .between₃) (d .white₃);
-      trail = trail (d .trail);
+      white₀ = w (d .before) (d .white₀);
+      isSubject = s (d .isSubject);
+      white₁ = w (d .between₁) (d .white₁);
+      isPredicate = p (d .isPredicate);
+      white₂ = w (d .between₂) (d .white₂);
+      isObject = o (d .isObject);
+      white₃ = w (d .between₃) (d .white₃);
+      trail = e (d .trail);
     }
+
+forth : {l : List ℕ} → Triple l → std.Triple l
+forth d = retold d (λ x. subject x) (λ x. predicate x) (λ x. object x) white-space (λ x. trail x)
 
 -- ---- a derivation of the standard within the subset is one of the paper
 
@@ -351,28 +355,11 @@ trail-back (_▸_.pair {t = t} w c) f = spaced t w (λ h. comment-after-dot c h)
 back : {l : List ℕ} (e : std.Triple l) → InSubset e → Triple l
 unfolding commentByte
 back e h =
-    record {
-      before = e .before;
-      subject = e .subject;
-      between₁ = e .between₁;
-      predicate = e .predicate;
-      between₂ = e .between₂;
-      object = e .object;
-      between₃ = e .between₃;
-      after = e .after;
-      spells = e .spells;
-      white₀ = white-back (e .white₀);
-      isSubject = subject-back (e .isSubject) (h .subject .1);
-      white₁ = white-back (e .white₁);
-      isPredicate = Predicate.iri (iri-back (e .isPredicate) (h .predicate .1));
-      white₂ = white-back (e .white₂);
-      isObject = object-back (e .isObject) (h .object .1);
-      white₃ = white-back (e .white₃);
-      trail = trail-back (e .trail) (h .after);
-    }
+    retold e (λ x. subject-back x (h .subject .1)) (λ x. Predicate.iri (iri-back x (h .predicate .1)))
+    (λ x. object-back x (h .object .1)) (λ s x. white-back x) (λ x. trail-back x (h .after))
 
 pub subset-of-standard : SubsetOfStandard
-unfolding forth back commentByte
+unfolding retold forth back commentByte
 subset-of-standard l = (
   λ d. (
     forth d,

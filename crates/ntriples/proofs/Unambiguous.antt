@@ -8,7 +8,6 @@ use mathlib.Core.Bool.{Bool, true, false, cond}
 use lib.Dec.{eqb}
 use lib.ListN.{length, length-append}
 use native.Mathlib.Omega.{arith}
-use borrow.Author.Tests.{eqb-true}
 use Rattle.term.specs.Bytes.{between, among, All}
 use Rattle.term.proofs.Booleans.{decide, other}
 use Rattle.term.proofs.Lists.{head-same, tail-same, cons-same, no-nil}
@@ -17,7 +16,8 @@ use Rattle.ntriples.specs.Standard as std
 use Rattle.ntriples.specs.Standard.{one, the, _▸_, _∣_, maybe, many}
 use Rattle.ntriples.specs.TermOf.{suffixFrom}
 use Rattle.ntriples.specs.Claims.{OneStandardDerivation}
-use Rattle.ntriples.proofs.Residual.{cases}
+use Rattle.ntriples.specs.Grammar as line
+use Rattle.ntriples.proofs.Residual.{white-byte}
 
 -- ---- lists
 
@@ -80,10 +80,8 @@ abbrev white : ℕ → Bool
 white = among (32 ∷ 9 ∷ [])
 
 white-out : (f : ℕ → Bool) (c : ℕ) → f 32 ≡ false → f 9 ≡ false → white c ≡ true → f c ≡ false
-unfolding among
-white-out f c p q h =
-    cases (λ x. x ≡ true) (eqb c 32) true (among (9 ∷ []) c) (λ e _. ap f (eqb-true c 32 e) ∙ p)
-    (λ _ k. cases (λ x. x ≡ true) (eqb c 9) true false (λ e _. ap f (eqb-true c 9 e) ∙ q) (λ _ z. never z) k) h
+unfolding line.white
+white-out f c p q h = white-byte c (λ e. ap f e ∙ p) (λ e. ap f e ∙ q) h
 
 -- white space and then what does not go on with a class does not go on with it
 white-ends : (f : ℕ → Bool) {w : List ℕ} (r : List ℕ) → f 32 ≡ false → f 9 ≡ false → std.WS w → Ends f r

@@ -105,13 +105,15 @@ record TagParts (f : ℕ → Bool) (s : List ℕ) : Type 0 where
   fine : AllGroups more
   spells : s ≡ later ++ groups more
 
-group-parts : {s : List ℕ} → g.GroupRest s → TagParts alnum s
-group-parts g.GroupRest.end = record { later = []; more = []; same = tt; fine = tt; spells = refl }
-group-parts (g.GroupRest.byte {b = b} e r) =
-    let p = group-parts r in
+no-parts : (f : ℕ → Bool) → TagParts f []
+no-parts f = record { later = []; more = []; same = tt; fine = tt; spells = refl }
+
+byte-parts : {f : ℕ → Bool} {b : ℕ} {s : List ℕ} → f b ≡ true → TagParts f s → TagParts f (b ∷ s)
+byte-parts {b = b} e p =
     record { later = b ∷ p .later; more = p .more; same = (e, p .same); fine = p .fine; spells = rw (← p .spells) }
-group-parts (g.GroupRest.group {b = b} e r) =
-    let p = group-parts r in
+
+parts-after : (f : ℕ → Bool) {b : ℕ} {s : List ℕ} → alnum b ≡ true → TagParts alnum s → TagParts f (45 ∷ (b ∷ s))
+parts-after f {b} e p =
     record {
       later = [];
       more = record { first = b; later = p .later } ∷ p .more;
@@ -120,20 +122,15 @@ group-parts (g.GroupRest.group {b = b} e r) =
       spells = rw (← p .spells);
     }
 
+group-parts : {s : List ℕ} → g.GroupRest s → TagParts alnum s
+group-parts g.GroupRest.end = no-parts alnum
+group-parts (g.GroupRest.byte e r) = byte-parts e (group-parts r)
+group-parts (g.GroupRest.group e r) = parts-after alnum e (group-parts r)
+
 tag-parts : {s : List ℕ} → g.TagRest s → TagParts letter s
-tag-parts g.TagRest.end = record { later = []; more = []; same = tt; fine = tt; spells = refl }
-tag-parts (g.TagRest.byte {b = b} e r) =
-    let p = tag-parts r in
-    record { later = b ∷ p .later; more = p .more; same = (e, p .same); fine = p .fine; spells = rw (← p .spells) }
-tag-parts (g.TagRest.group {b = b} e r) =
-    let p = group-parts r in
-    record {
-      later = [];
-      more = record { first = b; later = p .later } ∷ p .more;
-      same = tt;
-      fine = ((e, p .same), p .fine);
-      spells = rw (← p .spells);
-    }
+tag-parts g.TagRest.end = no-parts letter
+tag-parts (g.TagRest.byte e r) = byte-parts e (tag-parts r)
+tag-parts (g.TagRest.group e r) = parts-after letter e (group-parts r)
 
 tag-spelled : (l : List ℕ) → g.Suffix (64 ∷ l) → SpelledTag l
 tag-spelled (b ∷ s) (g.Suffix.tag e r) =

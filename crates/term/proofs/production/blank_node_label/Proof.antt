@@ -1,6 +1,6 @@
 -- A blank node: the place at the halt is read off the last two bytes of the run. Assumes nothing.
 use Prim.Native.Nat.{ℕ, _-_, _+_, _≤_, _<_}
-use mathlib.Core.Path.{_≡_, refl, sym, _∙_}
+use mathlib.Core.Path.{_≡_, refl}
 use mathlib.Core.List.{List}
 use mathlib.Core.Bool.{Bool}
 use lib.ListN.{length, getD}
@@ -10,7 +10,7 @@ use Rattle.term.specs.Bytes.{firstByte, labelByte, letter, alnum}
 use Rattle.term.specs.Spelling.{labelOrDot}
 use Rattle.term.specs.Scanner.{stepOf, isBad}
 use Rattle.term.specs.declared.Scan.the-variants.{Under, Colon}
-use Rattle.term.proofs.Turn.{seen, unlike, inside, inside-byte, Comes, comes-here, comes-on, comes-stop, LabelAt}
+use Rattle.term.proofs.Turn.{seen, unlike, inside, inside-byte, Comes, comes-here, comes-by, comes-stop, LabelAt}
 use Rattle.term.proofs.Turn.{label-start, label-turn, label-end}
 use borrow.Author.Needs.{needs}
 use Rattle.term.proofs.production.blank_node_label.Statement.{statement}
@@ -36,8 +36,7 @@ colon-taken : (c : tie.Else1 Inv-loop μ-loop)
 unfolding stepOf isBad
 colon-taken c =
     let a = c .before .before .before .args in
-    let g : getD (a .bytes .now) (a .at) 0 ≡ 58 = sym (c .before .byte-at .ensures) ∙ c .if1 .left in
-    comes-on (comes-here (a .bytes .now) Under (a .at)) (rw g) refl
+    comes-by (a .bytes .now) Under (a .at) (c .before .byte-at .ensures) (c .if1 .left) refl refl
 
 -- the label's first byte
 first : (c : tie.After-is-label-first Inv-loop μ-loop) {t : Bool} → c .is-label-first .result ≡ t

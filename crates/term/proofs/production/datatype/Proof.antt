@@ -5,7 +5,7 @@ use lib.ListN.{length, getD}
 use native.Mathlib.Omega.{arith}
 use Rattle.term.specs.Scanner.{stepOf, isBad}
 use Rattle.term.specs.declared.Scan.the-variants.{Caret, Carets}
-use Rattle.term.proofs.Turn.{unlike, inside-byte, Comes, comes-here, comes-on, comes-to, comes-stop, comes-end}
+use Rattle.term.proofs.Turn.{unlike, inside-byte, Comes, comes-here, comes-by, comes-to, comes-stop, comes-end}
 use borrow.Author.Needs.{needs}
 use Rattle.term.proofs.production.datatype.Statement.{statement}
 use Rattle.term.proofs.production.datatype.Tie as tie
@@ -22,8 +22,7 @@ taken : (c : tie.Else1) → (let a = c .before .before .before .args in Comes (a
 unfolding stepOf isBad
 taken c =
     let a = c .before .before .before .args in
-    let g : getD (a .bytes .now) (a .at) 0 ≡ 94 = sym (c .before .byte-at .ensures) ∙ c .if1 .left in
-    comes-on (comes-here (a .bytes .now) Caret (a .at)) (rw g) refl
+    comes-by (a .bytes .now) Caret (a .at) (c .before .byte-at .ensures) (c .if1 .left) refl refl
 
 -- ---- the needs
 

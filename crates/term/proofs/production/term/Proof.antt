@@ -1,13 +1,13 @@
 -- A term: the first byte leads to the production. Assumes nothing.
 use Prim.Native.Nat.{ℕ, _+_, _≤_, _<_}
-use mathlib.Core.Path.{_≡_, refl, sym, ap, _∙_}
+use mathlib.Core.Path.{_≡_, refl}
 use mathlib.Core.Bool.{false}
 use lib.ListN.{length}
 use native.Mathlib.Omega.{arith}
 use Rattle.term.specs.Scanner.{stepOf, isBad}
 use Rattle.term.specs.declared.Scan.{Scan}
 use Rattle.term.specs.declared.Scan.the-variants.{Start}
-use Rattle.term.proofs.Turn.{unlike, inside-byte, Comes, comes-here, comes-on, comes-stop, comes-end}
+use Rattle.term.proofs.Turn.{unlike, inside-byte, Comes, comes-here, comes-by, comes-stop, comes-end}
 use borrow.Author.Needs.{needs}
 use Rattle.term.proofs.production.term.Statement.{statement}
 use Rattle.term.proofs.production.term.Tie as tie
@@ -20,9 +20,7 @@ within c k h e = let a = c .before .before .args in inside-byte (a .bytes .now) 
 
 led : (c : tie.After-byte-at) {k : ℕ} {r : Scan} → c .byte-at .result ≡ k → stepOf Start k ≡ r → isBad r ≡ false
     → (let a = c .before .before .args in Comes (a .bytes .now) Start (a .at) r (a .at + 1))
-led c e t n =
-    let a = c .before .before .args in
-    comes-on (comes-here (a .bytes .now) Start (a .at)) (ap (stepOf Start) (sym (c .byte-at .ensures) ∙ e) ∙ t) n
+led c = let a = c .before .before .args in comes-by (a .bytes .now) Start (a .at) (c .byte-at .ensures)
 
 -- ---- the needs
 
