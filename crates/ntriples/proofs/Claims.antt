@@ -527,18 +527,6 @@ pub read-cut : (m : ℕ) (text : List ℕ) (i : ℕ) (r : LineRead) (s p o : Spa
 unfolding readOf shortLine
 read-cut m text i r s p o n e f g = rw (← e, f, g)
 
-pub end-short : (text : List ℕ) → shortLine text answer.End ≡ answer.End
-unfolding shortLine
-end-short text = refl
-
-pub nothing-short : (text : List ℕ) → shortLine text answer.Nothing ≡ answer.Nothing
-unfolding shortLine
-nothing-short text = refl
-
-pub refused-short : (text : List ℕ) (k : ℕ) → shortLine text (answer.Refused k) ≡ answer.Refused k
-unfolding shortLine
-refused-short text k = refl
-
 pub reads-a-line : ReadsALine
 unfolding readOf readSpelled shortLine valuesOf
 reads-a-line m text i h =

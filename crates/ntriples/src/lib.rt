@@ -80,6 +80,7 @@ fn white_space(text: &[u8], from: usize, stop: usize) -> usize
     requires { ⌜ Inline (now text) from stop ⌝ }
     ensures { λ r. ⌜ RunEnd white (now (text .entry)) from stop r ⌝ }
 {
+    // From `from` up to `i` there are spaces and tabs.
     let mut i = from;
     while i < stop {
         if !is_white(text[i]) {
@@ -95,6 +96,7 @@ fn comment(text: &[u8], from: usize, stop: usize) -> usize
     requires { ⌜ Inline (now text) from stop ⌝ }
     ensures { λ r. ⌜ RunEnd commentByte (now (text .entry)) from stop r ⌝ }
 {
+    // From `from` up to `i` there are bytes of a comment.
     let mut i = from;
     while i < stop {
         if !is_comment_byte(text[i]) {
@@ -350,6 +352,7 @@ fn block_seen(text: &[u8], from: usize) -> bool
     requires { ⌜ from + 16 ≤ length (now text) ⌝ }
     ensures { λ r. ⌜ BlockSeen (now (text .entry)) from (from + 16) r ⌝ }
 {
+    // `found` is false only if the first `j` bytes have no LF.
     let mut found = false;
     let mut j = 0;
     while j < 16 {
@@ -364,6 +367,7 @@ fn skip_blocks(text: &[u8], at: usize) -> usize
     requires { ⌜ at ≤ length (now text) ⌝ }
     ensures { λ r. ⌜ Passed (now (text .entry)) at r ⌝ }
 {
+    // No LF stands from `at` up to `i`.
     let mut i = at;
     while text.len() - i >= 16 {
         if block_seen(text, i) {
@@ -379,6 +383,7 @@ fn end_of_line(text: &[u8], at: usize) -> usize
     requires { ⌜ at ≤ length (now text) ⌝ }
     ensures { λ r. ⌜ EolAt (now (text .entry)) at r ⌝ }
 {
+    // No LF stands from `at` up to `i`.
     let mut i = skip_blocks(text, at);
     while i < text.len() {
         if text[i] == b'\n' {
