@@ -97,6 +97,7 @@ fn decimal(table: &[u8], from: usize) -> Number
     requires { ⌜ from ≤ length (now table) ⌝ }
     ensures { λ r. ⌜ (r .value ≤ 9999) × (from ≤ r .next) × (r .next ≤ length (now (table .entry))) ⌝ }
 {
+    // `v` is the number that the digits from `from` up to `i` spell.
     let mut i = from;
     let mut v: usize = 0;
     while i < table.len() {
@@ -197,6 +198,7 @@ fn fill(text: &mut [u8], from: usize, count: usize, b: u8) -> usize
     requires { ⌜ from ≤ length (now text) ⌝ }
     ensures { λ r. ⌜ (r ≤ length (now (text .exit))) × (length (now (text .exit)) ≡ length (now (text .entry))) ⌝ }
 {
+    // `b` stands from `from` up to `i`, and is still to be laid out `left` times.
     let mut i = from;
     let mut left = count;
     while left > 0 {
@@ -216,6 +218,7 @@ fn lay(table: &[u8], from: usize, text: &mut [u8]) -> Laid
     ensures { λ r. ⌜ (from ≤ r .next) × (r .next ≤ length (now (table .entry))) × (r .len ≤ length (now (text .exit))) ⌝ }
     ensures { λ r. ⌜ length (now (text .exit)) ≡ length (now (text .entry)) ⌝ }
 {
+    // The first `n` bytes of the text are what stands in the table from `from` up to `i`.
     let mut i = from;
     let mut n = 0;
     while i < table.len() {
@@ -262,6 +265,7 @@ fn main() {
     let mut table = [0; ROOM];
     let mut text = [0; LINE_ROOM];
     let got = io::read_full(0, &mut table);
+    // The cases before `i` are run, and `n` is the next one's number.
     let mut i = 0;
     let mut n = 1;
     while i < got {

@@ -20,6 +20,7 @@ fn main() {
 
 // Every line of the text.
 fn run(text: &[u8]) {
+    // The lines before `at` are run, and `number` is the next one's.
     let mut number: u64 = 1;
     let mut at = 0;
     while at < text.len() {
@@ -66,6 +67,7 @@ fn answer(name: &[u8]) {
 fn decode(spelling: &[u8], out: &mut [u8]) -> usize
     ensures { λ r. ⌜ Counts r (now (out .exit)) ⌝ }
 {
+    // The first `n` bytes of `out` are what the first `i` of the spelling stand for.
     let mut i = 0;
     let mut n = 0;
     while i < spelling.len() {

@@ -68,6 +68,7 @@ fn report_line(name: &[u8], n: usize, text: &[u8], at: usize) -> usize {
 fn report_lines(name: &[u8], text: &[u8]) {
     let mut at = report_line(name, 1, text, 0);
     let mut n = 1;
+    // The `n` lines before `at` are reported.
     while at < text.len() {
         n += 1;
         let next = report_line(name, n, text, at);
@@ -115,6 +116,7 @@ fn report_file(i: usize) {
 
 fn main() {
     let count = os::arg_count();
+    // The files of the arguments before `i` are reported.
     let mut i = 1;
     while i < count {
         report_file(i);

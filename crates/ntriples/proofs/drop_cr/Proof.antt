@@ -1,3 +1,4 @@
+-- The three ways in which a line ends before its LF. Assumes nothing.
 use native.Mathlib.Omega.{arith}
 use borrow.Author.Tests.{eq-eqb, ne-eqb}
 use Rattle.ntriples.specs.Productions.{crDropped}

@@ -1,3 +1,4 @@
+-- Each piece moves the position on, and the text stays as long. Assumes nothing.
 use Prim.Native.Nat.{_-_, _≤_}
 use lib.ListN.{length}
 use mathlib.Core.Path.{_≡_}

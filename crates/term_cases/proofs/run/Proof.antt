@@ -1,3 +1,4 @@
+-- Each line ends after it begins, and there are no more lines than bytes. Assumes nothing.
 use Prim.Native.Nat.{_-_, _+_, _≤_}
 use lib.ListN.{length}
 use borrow.Author.Needs.{needs}
