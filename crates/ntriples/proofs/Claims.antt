@@ -18,47 +18,23 @@ use Rattle.ntriples.specs.declared.Span.{Span}
 use Rattle.ntriples.specs.declared.Line.{Line}
 use Rattle.ntriples.specs.declared.LineRead.{LineRead}
 use Rattle.ntriples.specs.declared.Line.the-variants as answer
-use Rattle.ntriples.specs.Grammar.{
-  span,
-  white,
-  Trail,
-  Subject,
-  Predicate,
-  Object,
-  Triple,
-  subjectSpan,
-  predicateSpan,
-  objectSpan,
-  ShortTerms,
-  Within,
-  Viable,
-  Longest,
-}
-use Rattle.ntriples.specs.Reader.{Outcome, Empty, Terms, Fails, lineOf}
-use Rattle.ntriples.specs.Reader.{answerOf, readSpelled, shortPart, shortLine, readOf}
+use Rattle.ntriples.specs.Grammar.{span, Trail, Subject, Predicate, Object, Triple, subjectSpan, predicateSpan}
+use Rattle.ntriples.specs.Grammar.{objectSpan, ShortTerms, Within, Viable, Longest}
+use Rattle.ntriples.specs.Reader.{Outcome, Empty, Terms, Fails, lineOf, answerOf, readSpelled, shortPart}
+use Rattle.ntriples.specs.Reader.{shortLine, readOf}
 use Rattle.ntriples.specs.Grammar.{FirstLine, bytesOf, Values, values, noPart, valuesOf}
 use Rattle.ntriples.specs.TermOf.{termOf}
 use Rattle.ntriples.specs.Standard as standard
-use Rattle.ntriples.specs.Claims.{
-  objectPart,
-  Derived,
-  Underivable,
-  Enterable,
-  Meant,
-  answerAt,
-  LineAnswered,
-  Reading,
-  ReadsALine,
-  OneFirstLine,
-  OneDerivation,
-}
+use Rattle.ntriples.specs.Claims.{objectPart, Derived, Underivable, Enterable, Meant, LineAnswered, ReadsALine}
+use Rattle.ntriples.specs.Claims.{OneFirstLine, OneDerivation}
 use Rattle.ntriples.proofs.Rest.{Derives, ShortParts}
 use Rattle.ntriples.proofs.Reading.{continued, answered, reads, unique, Stopped, stopped}
 use Rattle.ntriples.proofs.Derivation.{partsOf, rest-of, derivation, within-back, within-forth, viable-is}
 use Rattle.ntriples.proofs.Lines.{line-found, line-exists, line-first}
 use Rattle.ntriples.proofs.Terms.{canonical-term}
 use Rattle.ntriples.proofs.Standard.{subject-name, predicate-name, object-name, subset-of-standard}
-use Rattle.ntriples.proofs.Unambiguous.{cons-both, one-standard-derivation}
+use Rattle.ntriples.proofs.Unambiguous.{one-standard-derivation}
+use Rattle.term.proofs.Lists.{cons-same}
 use Rattle.ntriples.proofs.StandardTerms.{subject-term, predicate-term, term-of-standard}
 
 -- a line with a derivation is read so
@@ -166,8 +142,7 @@ further (x ∷ f) b (y ∷ f′) b′ e h =
       later = w .later;
       more = w .more;
       back = w .back;
-      front = cons-both y x f′ _ (sym xy)
-          (w .front);
+      front = cons-same (sym xy) (w .front);
     }
 
 not-longer : (m : ℕ) (l : List ℕ) (k k′ : ℕ) → Longest m l k → Longest m l k′ → k < k′ → ⊥
@@ -191,7 +166,8 @@ back-off i k = omega arith
 cut : (i : ℕ) (text w t s : List ℕ) → drop i text ≡ w ++ (t ++ s)
     → (bytesOf text (span (i + length w) (i + length w + length t)) ≡ t) × (drop (i + length w + length t) text ≡ s)
 cut i text w t s e =
-    let x : drop (i + length w) text ≡ t ++ s = sym (drop-drop (length w) i text) ∙ rw e (drop-append-seam w (t ++ s)) in
+    let x : drop (i + length w) text ≡ t ++ s = sym (drop-drop (length w) i text)
+    ∙ rw e (drop-append-seam w (t ++ s)) in
     let y = back-off (i + length w) (length t) in
     (rw (y, x) (take-append-seam t s), sym (drop-drop (length t) (i + length w) text) ∙ rw x (drop-append-seam t s))
 
@@ -288,17 +264,20 @@ derived-reads m i text l t s p o h z d =
     ∙ (triple-answer i text _ _ _
     ∙ triple-parts _ _ _ s p o (d .subjectAt) (d .predicateAt) (short-object text i (d .derivation) t z ∙ d .objectAt))
 
-nothing-by : (m i : ℕ) (text l : List ℕ) (r : Outcome) → Read m i l r → shortLine text (answerOf i r) ≡ answer.Nothing → Trail l
+nothing-by : (m i : ℕ) (text l : List ℕ) (r : Outcome) → Read m i l r
+    → shortLine text (answerOf i r) ≡ answer.Nothing → Trail l
 unfolding answerOf shortLine
 nothing-by m i text l r (Read.nothing t) e = t
 nothing-by m i text l r (Read.triple d w) e = triple-nothing _ _ _ e
 nothing-by m i text l r (Read.refused k u x) e = refused-nothing (i + k - i) e
 
-nothing-reads : (m i : ℕ) (text l : List ℕ) → 1 ≤ m → Trail l → shortLine text (answerOf i (lineOf m i l)) ≡ answer.Nothing
+nothing-reads : (m i : ℕ) (text l : List ℕ) → 1 ≤ m → Trail l
+    → shortLine text (answerOf i (lineOf m i l)) ≡ answer.Nothing
 unfolding answerOf shortLine
 nothing-reads m i text l h t = rw (trail-reads m i h t)
 
-refused-by : (m i : ℕ) (text l : List ℕ) (k : ℕ) (r : Outcome) → Read m i l r → shortLine text (answerOf i r) ≡ answer.Refused k
+refused-by : (m i : ℕ) (text l : List ℕ) (k : ℕ) (r : Outcome) → Read m i l r
+    → shortLine text (answerOf i r) ≡ answer.Refused k
     → Underivable m l × Longest m l k
 unfolding answerOf shortLine
 refused-by m i text l k r (Read.nothing t) e = nothing-refused k e
@@ -314,7 +293,8 @@ refused-reads m i text l k r (Read.nothing t) u = absurd (u .0 .notNothing t)
 refused-reads m i text l k r (Read.triple d w) u = absurd (u .0 .noTriple d w)
 refused-reads m i text l k r (Read.refused j v x) u = ap answer.Refused (back-off i j ∙ longest-one m l j k x (u .1))
 
-ten-by : (m i : ℕ) (text l : List ℕ) (r : Outcome) → Read m i l r → valuesOf (shortLine text (answerOf i r)) .refusal ≡ 10 → Underivable m l
+ten-by : (m i : ℕ) (text l : List ℕ) (r : Outcome) → Read m i l r
+    → valuesOf (shortLine text (answerOf i r)) .refusal ≡ 10 → Underivable m l
 unfolding answerOf shortLine valuesOf
 ten-by m i text l r (Read.nothing t) e = absurd (omega arith)
 ten-by m i text l r (Read.triple d w) e = absurd (omega arith)
@@ -363,7 +343,8 @@ enterable m text i l r s p o e h =
     record {
       subjectKind = rw (← h .subjectAt, b .subject) (subject-kind m (d .isSubject) (h .within .0));
       predicateKind = rw (← h .predicateAt, b .predicate) (predicate-kind m (d .isPredicate) (h .within .1));
-      objectKind = rw (← h .objectAt, object-bytes text i d r e, short .kind) (object-kind m (d .isObject) (h .within .2));
+      objectKind = rw (← h .objectAt, object-bytes text i d r e, short .kind)
+          (object-kind m (d .isObject) (h .within .2));
       objectShort = rw (← h .objectAt, object-bytes text i d r e) (short .once);
     }
 
@@ -396,7 +377,8 @@ meant m text i l r s p o e h =
       objectMeans = λ f.
           let q = same-terms d f .2 in
           ap (λ (w : Span). termOf (bytesOf text w)) (sym (h .objectAt)) ∙ (ap termOf (object-bytes text i d r e)
-          ∙ (canonical-term (z .1) ∙ (ap termOf q ∙ term-of-standard (z .0) _ (subst (g.Name (z .0)) q (z .1)) (f .isObject))));
+          ∙ (canonical-term (z .1) ∙ (ap termOf q
+          ∙ term-of-standard (z .0) _ (subst (g.Name (z .0)) q (z .1)) (f .isObject))));
     }
 
 -- An answer by its values: two that differ in the status or the refusal are two.
@@ -406,12 +388,14 @@ statuses n e = absurd (n (ap (λ (z : Values). z .status) e))
 refusals : {C : Type 0} {u v : Values} → (u .refusal ≡ v .refusal → ⊥) → u ≡ v → C
 refusals n e = absurd (n (ap (λ (z : Values). z .refusal) e))
 
-triple-values : (a b c s p o : Span) → values 0 2 0 a b c ≡ values 0 2 0 s p o → answer.Triple a b c ≡ answer.Triple s p o
+triple-values : (a b c s p o : Span) → values 0 2 0 a b c ≡ values 0 2 0 s p o
+    → answer.Triple a b c ≡ answer.Triple s p o
 triple-values a b c s p o e =
     triple-parts a b c s p o (ap (λ (v : Values). v .subject) e) (ap (λ (v : Values). v .predicate) e)
     (ap (λ (v : Values). v .object) e)
 
-values-triple : (a b c s p o : Span) → answer.Triple a b c ≡ answer.Triple s p o → values 0 2 0 a b c ≡ values 0 2 0 s p o
+values-triple : (a b c s p o : Span) → answer.Triple a b c ≡ answer.Triple s p o
+    → values 0 2 0 a b c ≡ values 0 2 0 s p o
 values-triple a b c s p o e = let x : a ≡ s = cc in let y : b ≡ p = cc in let z : c ≡ o = cc in rw (x, y, z)
 
 is-triple : (r : Line) (s p o : Span) → (valuesOf r ≡ values 0 2 0 s p o) ↔ (r ≡ answer.Triple s p o)
@@ -487,7 +471,8 @@ line-answered m text i l n h k f =
     }
 
 -- the object's part of a line as spelled lies in the text
-inside-by : (m i : ℕ) (text l t : List ℕ) (s p o : Span) (r : Outcome) → i ≤ length text → drop i text ≡ l ++ t → Read m i l r
+inside-by : (m i : ℕ) (text l t : List ℕ) (s p o : Span) (r : Outcome) → i ≤ length text
+    → drop i text ≡ l ++ t → Read m i l r
     → answerOf i r ≡ answer.Triple s p o → (o .start ≤ o .end) × (o .end ≤ length text)
 unfolding answerOf
 inside-by m i text l t s p o r h z (Read.nothing x) e = nothing-triple s p o e
@@ -516,11 +501,13 @@ object-inside m text i {r} {s} {p} {o} h q f =
     past-end : length text ≤ i → readSpelled m text i .line ≡ answer.End
     past-end k = unfold readSpelled in rw (le-leb (length text) i k)
 
--- For the code: a line without an object is answered as spelled, and the object's part ends where what is left of it does.
+-- For the code: a line without an object is answered as spelled, and the object's part ends where what is left of it
+-- does.
 pub part-spelled : (text : List ℕ) (o : Span) → o .start ≤ o .end → o .start + length (bytesOf text o) ≤ o .end
 part-spelled text o h = let b = length-take (o .end - o .start) (drop (o .start) text) in omega arith
 
-pub part-short : (text : List ℕ) (o : Span) → o .start ≤ o .end → o .start + length (canonical (bytesOf text o)) ≤ o .end
+pub part-short : (text : List ℕ) (o : Span) → o .start ≤ o .end
+    → o .start + length (canonical (bytesOf text o)) ≤ o .end
 part-short text o h = let a = canonical-short (bytesOf text o) in let b = part-spelled text o h in omega arith
 
 abbrev lineRead : Line → ℕ → LineRead
@@ -535,21 +522,10 @@ read-plain m text i r a e f g =
 
 pub read-cut : (m : ℕ) (text : List ℕ) (i : ℕ) (r : LineRead) (s p o : Span) (n : List ℕ) → r ≡ readSpelled m text i
     → r .line ≡ answer.Triple s p o → n ≡ canonical (bytesOf text o)
-    → _≡_ {A = LineRead} (record { line = answer.Triple s p (span (o .start) (o .start + length n)); next = r .next }) (readOf m text i)
+    → _≡_ {A = LineRead} (record { line = answer.Triple s p (span (o .start) (o .start + length n)); next = r .next })
+    (readOf m text i)
 unfolding readOf shortLine
 read-cut m text i r s p o n e f g = rw (← e, f, g)
-
-pub end-short : (text : List ℕ) → shortLine text answer.End ≡ answer.End
-unfolding shortLine
-end-short text = refl
-
-pub nothing-short : (text : List ℕ) → shortLine text answer.Nothing ≡ answer.Nothing
-unfolding shortLine
-nothing-short text = refl
-
-pub refused-short : (text : List ℕ) (k : ℕ) → shortLine text (answer.Refused k) ≡ answer.Refused k
-unfolding shortLine
-refused-short text k = refl
 
 pub reads-a-line : ReadsALine
 unfolding readOf readSpelled shortLine valuesOf

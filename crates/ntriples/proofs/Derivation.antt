@@ -1,5 +1,5 @@
--- The grammar of specs/Grammar.antt and that of proofs/Rest.antt derive the same lines with the same parts, and so with terms
--- equally long. Assumes nothing.
+-- The grammar of specs/Grammar.antt and that of proofs/Rest.antt derive the same lines with the same parts, and so with
+-- terms equally long. Assumes nothing.
 use Prim.Native.Nat.{ℕ, suc, _+_, _-_}
 use mathlib.Core.Path.{_≡_, refl, _∙_, ap}
 use mathlib.Core.List.{List, [], _∷_, _++_}
@@ -12,22 +12,8 @@ use Rattle.term.specs.Grammar.{Name}
 use Rattle.term.specs.Grammar as names
 use Rattle.term.proofs.Names.{never}
 use Rattle.ntriples.specs.declared.Span.{Span}
-use Rattle.ntriples.specs.Grammar.{
-  span,
-  white,
-  Trail,
-  Subject,
-  Predicate,
-  Object,
-  Triple,
-  subjectSpan,
-  predicateSpan,
-  objectSpan,
-  Short,
-  ShortTerms,
-  Within,
-  Viable,
-}
+use Rattle.ntriples.specs.Grammar.{span, white, Trail, Subject, Predicate, Object, Triple, subjectSpan}
+use Rattle.ntriples.specs.Grammar.{predicateSpan, objectSpan, ShortTerms, Within, Viable}
 use Rattle.ntriples.specs.Reader.{Outcome, Empty, Terms, kindAllowed}
 use Rattle.ntriples.proofs.Rest.{Rest, Derives, ShortParts, ShortOutcome, Continued}
 use Rattle.ntriples.proofs.Residual.{shift, plus-zero}
@@ -90,8 +76,10 @@ put {s = s} t p r = Rest.term t s refl (p .name) (p .fits) r
 pub rest-of : {l : List ℕ} (i : ℕ) (d : Triple l) → Rest 3 i l (partsOf i d)
 rest-of i d =
     let r₃ = pad (d .between₃) 0 (objectSpan i d .end) (46 ∷ d .after) [] (d .white₃) (Rest.dot (d .trail)) in
-    let r₂ = pad (d .between₂) 1 (predicateSpan i d .end) _ _ (d .white₂) (put (d .object) (object-forth (d .isObject)) r₃) in
-    let r₁ = pad (d .between₁) 2 (subjectSpan i d .end) _ _ (d .white₁) (put (d .predicate) (predicate-forth (d .isPredicate)) r₂) in
+    let r₂ = pad (d .between₂) 1 (predicateSpan i d .end) _ _ (d .white₂)
+    (put (d .object) (object-forth (d .isObject)) r₃) in
+    let r₁ = pad (d .between₁) 2 (subjectSpan i d .end) _ _ (d .white₁)
+    (put (d .predicate) (predicate-forth (d .isPredicate)) r₂) in
     along (d .spells) (pad (d .before) 3 i _ _ (d .white₀) (put (d .subject) (subject-forth (d .isSubject)) r₁))
 
 -- the rest of a line up to the end of its next term

@@ -1,5 +1,5 @@
--- Examples of decisions 72 to 82, 123 and 124 by computing, at the paper's limit, and two spellings that RDF 1.1 takes for one literal
--- (21). Assumes nothing.
+-- Examples of decisions 72 to 82, 123 and 124 by computing, at the paper's limit, and two spellings that RDF 1.1 takes
+-- for one literal (21). Assumes nothing.
 use Prim.Native.Nat.{ℕ}
 use mathlib.Core.Path.{_≡_, refl}
 use mathlib.Core.List.{List, [], _∷_, _++_, map}
@@ -11,22 +11,9 @@ use Rattle.ntriples.specs.declared.Line.{Line}
 use Rattle.ntriples.specs.declared.Line.the-variants.{End, Nothing, Triple, Refused}
 use Rattle.ntriples.specs.declared.LineRead.{LineRead}
 use Rattle.ntriples.specs.Grammar.{span, white, commentByte}
-use Rattle.ntriples.specs.Reader.{
-  kindAllowed,
-  isDot,
-  opens,
-  dotted,
-  afterOf,
-  enterOf,
-  gapOf,
-  goesOnOf,
-  leaveOf,
-  advanceOf,
-  stateOf,
-  endOf,
-  lineOf,
-}
-use Rattle.ntriples.specs.Reader.{untilLf, hasLf, dropCr, firstLineOf, takenOf, answerOf, readSpelled, shortLine, readOf}
+use Rattle.ntriples.specs.Reader.{kindAllowed, isDot, opens, dotted, afterOf, enterOf, gapOf, goesOnOf, leaveOf}
+use Rattle.ntriples.specs.Reader.{advanceOf, stateOf, endOf, lineOf, untilLf, hasLf, dropCr, firstLineOf, takenOf}
+use Rattle.ntriples.specs.Reader.{answerOf, readSpelled, shortLine, readOf}
 use Rattle.ntriples.specs.TermOf.{inner, lexicalFrom, suffixFrom, literalWith, termOf}
 
 -- a text, a position, and what reading there answers
@@ -66,7 +53,8 @@ rows =
     -- "" with it
     ∷ row (literalObject ++ (34 ∷ (stringEnding ++ (46 ∷ [])))) 0 (Triple (span 0 3) (span 3 6) (span 6 8)) 52
     -- 255 bytes with it (123)
-    ∷ row (literalObject ++ (replicate 210 97 ++ (34 ∷ (stringEnding ++ (46 ∷ []))))) 0 (Triple (span 0 3) (span 3 6) (span 6 218)) 262
+    ∷ row (literalObject ++ (replicate 210 97 ++ (34 ∷ (stringEnding ++ (46 ∷ []))))) 0
+    (Triple (span 0 3) (span 3 6) (span 6 218)) 262
     -- 256 bytes with it (123)
     ∷ row (literalObject ++ (replicate 211 97 ++ (34 ∷ (stringEnding ++ (46 ∷ []))))) 0 (Refused 261) 263
     -- the same bytes inside the quotes

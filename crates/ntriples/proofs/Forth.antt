@@ -3,99 +3,33 @@
 use Prim.Native.Nat.{ℕ, zero, suc, _+_, _-_, _≤_, _<_, min}
 use mathlib.Core.Path.{_≡_, refl, sym, _∙_}
 use mathlib.Core.List.{List, [], _∷_, _++_, append-nil, append-assoc}
-use mathlib.Core.Bool.{Bool, true, false, cond}
+use mathlib.Core.Bool.{Bool, true, false, cond, not, _&&_, _||_}
 use mathlib.Core.Logic.{_⊎_, ⊎-elim, inl, inr}
 use lib.Dec.{ltb, eqb}
 use lib.ListN.{length}
 use native.Mathlib.Omega.{arith}
-use borrow.Author.Tests.{eqb-true, lt-ltb}
+use borrow.Author.Tests.{eqb-true, ne-eqb, lt-ltb}
 use Rattle.term.specs.Bytes.{among, iriByte, textByte, pairByte, firstByte, labelByte, letter, alnum, All}
 use Rattle.term.specs.Scanner.{stepOf, runOf, wholeOf, isBad, firstKindOf}
 use Rattle.term.specs.Grammar.{Name}
 use Rattle.term.specs.Grammar as names
 use Rattle.term.specs.declared.Scan.{Scan}
-use Rattle.term.specs.declared.Scan.the-variants.{
-  Start,
-  IriOpen,
-  Iri,
-  Closed,
-  Under,
-  Colon,
-  Label,
-  Dot,
-  Dots,
-  Text,
-  Escape,
-  Quote,
-  At,
-  Tag,
-  Hyphen,
-  Group,
-  Caret,
-  Carets,
-  Bad,
-}
+use Rattle.term.specs.declared.Scan.the-variants.{Start, IriOpen, Iri, Closed, Label, Dot}
+use Rattle.term.proofs.Booleans.{decide, and-of}
+use Rattle.term.proofs.Places.{same, same-is, bad-only, every-if, leads}
 use Rattle.term.proofs.Names.{Accepts, never, bad, name-forth, name-kind}
 use Rattle.ntriples.specs.declared.Span.{Span}
 use Rattle.ntriples.specs.Grammar.{span, white, commentByte, Trail}
 use Rattle.ntriples.proofs.Rest.{Rest, Derives, ShortParts, ShortOutcome}
-use Rattle.ntriples.specs.Reader.{
-  Outcome,
-  Empty,
-  Terms,
-  Fails,
-  kindAllowed,
-  State,
-  Begin,
-  Gap,
-  Inside,
-  After,
-  CommentAfterDot,
-  CommentLine,
-  Broken,
-  isDot,
-  opens,
-  dotted,
-  afterOf,
-  enterOf,
-  gapOf,
-  goesOnOf,
-  leaveOf,
-  advanceOf,
-}
-use Rattle.ntriples.proofs.Residual.{
-  Following,
-  Going,
-  Dotting,
-  Residual,
-  cases,
-  shift,
-  plus-zero,
-  back-one,
-  dotted-facts,
-}
+use Rattle.ntriples.specs.Reader.{Outcome, Empty, Terms, kindAllowed, State, Begin, Gap, Inside, After}
+use Rattle.ntriples.specs.Reader.{CommentAfterDot, CommentLine, Broken, isDot, opens, dotted, afterOf, enterOf}
+use Rattle.ntriples.specs.Reader.{gapOf, goesOnOf, leaveOf, advanceOf}
+use Rattle.ntriples.proofs.Residual.{Following, Dotting, Residual, cases, white-byte, shift, plus-zero, back-one}
+use Rattle.ntriples.proofs.Residual.{dotted-facts}
 
 -- what holds of a place that a reading reaches: the parts so far are short, and a predicate is scanned as an IRI
 unfoldable pub iriish : Scan → Bool
-iriish Start = false
-iriish IriOpen = true
-iriish Iri = true
-iriish Closed = true
-iriish Under = false
-iriish Colon = false
-iriish Label = false
-iriish Dot = false
-iriish Dots = false
-iriish Text = false
-iriish Escape = false
-iriish Quote = false
-iriish At = false
-iriish Tag = false
-iriish Hyphen = false
-iriish Group = false
-iriish Caret = false
-iriish Carets = false
-iriish Bad = false
+iriish q = same q IriOpen || same q Iri || same q Closed
 
 pub record Sane (n : ℕ) (q : Scan) : Type 0 where
   pub alive : isBad q ≡ false
@@ -115,12 +49,26 @@ Good m i (CommentAfterDot ms) = Fit m ms
 Good m i CommentLine = Unit
 Good m i (Broken k) = Unit
 
--- facts on bytes
-white-byte : {C : Type 0} (b : ℕ) → (b ≡ 32 → C) → (b ≡ 9 → C) → white b ≡ true → C
-unfolding white among
-white-byte b f g h =
-    cases (λ x. x ≡ true) (eqb b 32) true _ (λ e _. f (eqb-true b 32 e))
-    (λ _ k. cases (λ x. x ≡ true) (eqb b 9) true false (λ e _. g (eqb-true b 9 e)) (λ _ z. never z) k) h
+-- ---- facts on bytes
+
+-- the kinds that a place permits
+pub allowed-iri : (n : ℕ) → kindAllowed n 1 ≡ true
+unfolding kindAllowed
+allowed-iri zero = refl
+allowed-iri (suc zero) = refl
+allowed-iri (suc (suc n)) = refl
+
+pub allowed-blank : (n : ℕ) → kindAllowed n 2 ≡ not (eqb n 1)
+unfolding kindAllowed
+allowed-blank zero = refl
+allowed-blank (suc zero) = refl
+allowed-blank (suc (suc n)) = rw (ne-eqb (suc (suc n)) 1 (λ e. omega arith))
+
+pub allowed-literal : (n : ℕ) → kindAllowed n 3 ≡ eqb n 0
+unfolding kindAllowed
+allowed-literal zero = refl
+allowed-literal (suc zero) = refl
+allowed-literal (suc (suc n)) = rw (ne-eqb (suc (suc n)) 0 (λ e. omega arith))
 
 pub opening : {C : Type 0} (n b : ℕ) → (b ≡ 60 → C) → (b ≡ 95 → kindAllowed n 2 ≡ true → C)
     → (b ≡ 34 → kindAllowed n 3 ≡ true → C) → opens n b ≡ true → C
@@ -158,50 +106,20 @@ not-white-dot = refl
 
 -- a whole name does not go on with a space, a tab or `<`, nor with a dot if it is no label
 whole-ends : (q : Scan) → wholeOf q ≡ true
-    → (isBad (stepOf q 32) ≡ true) × (isBad (stepOf q 9) ≡ true) × (isBad (stepOf q 60) ≡ true) × ((isBad
-    (stepOf q 46) ≡ true) ⊎ (q ≡ Label))
+    → (isBad (stepOf q 32) ≡ true) × (isBad (stepOf q 9) ≡ true) × (isBad (stepOf q 60) ≡ true)
+    × ((isBad (stepOf q 46) ≡ true) ⊎ (q ≡ Label))
 unfolding stepOf isBad wholeOf iriByte textByte pairByte firstByte labelByte letter alnum among
-whole-ends Start h = never h
-whole-ends IriOpen h = never h
-whole-ends Iri h = never h
-whole-ends Closed h = (refl, refl, refl, inl refl)
-whole-ends Under h = never h
-whole-ends Colon h = never h
-whole-ends Label h = (refl, refl, refl, inr refl)
-whole-ends Dot h = never h
-whole-ends Dots h = never h
-whole-ends Text h = never h
-whole-ends Escape h = never h
-whole-ends Quote h = (refl, refl, refl, inl refl)
-whole-ends At h = never h
-whole-ends Tag h = (refl, refl, refl, inl refl)
-whole-ends Hyphen h = never h
-whole-ends Group h = (refl, refl, refl, inl refl)
-whole-ends Caret h = never h
-whole-ends Carets h = never h
-whole-ends Bad h = never h
+whole-ends q h = (
+  every-if wholeOf (λ r. isBad (stepOf r 32)) refl q h,
+  every-if wholeOf (λ r. isBad (stepOf r 9)) refl q h,
+  every-if wholeOf (λ r. isBad (stepOf r 60)) refl q h,
+  decide (same q Label) (λ e. inr (same-is q Label e))
+      (λ e. inl (every-if (λ r. wholeOf r && not (same r Label)) (λ r. isBad (stepOf r 46)) refl q (rw (h, e)))),
+)
 
 whole-iri : (q : Scan) (b : ℕ) → wholeOf q ≡ true → iriish q ≡ true → isBad (stepOf q b) ≡ true
-unfolding stepOf isBad wholeOf iriish
-whole-iri Start b h e = never h
-whole-iri IriOpen b h e = never h
-whole-iri Iri b h e = never h
-whole-iri Closed b h e = refl
-whole-iri Under b h e = never h
-whole-iri Colon b h e = never h
-whole-iri Label b h e = never e
-whole-iri Dot b h e = never h
-whole-iri Dots b h e = never h
-whole-iri Text b h e = never h
-whole-iri Escape b h e = never h
-whole-iri Quote b h e = never e
-whole-iri At b h e = never h
-whole-iri Tag b h e = never e
-whole-iri Hyphen b h e = never h
-whole-iri Group b h e = never e
-whole-iri Caret b h e = never h
-whole-iri Carets b h e = never h
-whole-iri Bad b h e = never h
+unfolding isBad wholeOf iriish
+whole-iri q b h e = leads (λ r. wholeOf r && iriish r) isBad refl q b (and-of (wholeOf q) (iriish q) h e)
 
 -- a lone dot of an object does not go on with what may follow the line's dot
 dot-ends : (isBad (stepOf Dot 32) ≡ true) × (isBad (stepOf Dot 9) ≡ true) × (isBad (stepOf Dot 35) ≡ true)
@@ -210,47 +128,10 @@ dot-ends = (refl, refl, refl)
 
 pub is-dot : (q : Scan) → isDot q ≡ true → q ≡ Dot
 unfolding isDot
-is-dot Start h = never h
-is-dot IriOpen h = never h
-is-dot Iri h = never h
-is-dot Closed h = never h
-is-dot Under h = never h
-is-dot Colon h = never h
-is-dot Label h = never h
-is-dot Dot h = refl
-is-dot Dots h = never h
-is-dot Text h = never h
-is-dot Escape h = never h
-is-dot Quote h = never h
-is-dot At h = never h
-is-dot Tag h = never h
-is-dot Hyphen h = never h
-is-dot Group h = never h
-is-dot Caret h = never h
-is-dot Carets h = never h
-is-dot Bad h = never h
+is-dot q h = same-is q Dot (every-if isDot (λ r. same r Dot) refl q h)
 
 accepts-alive : (q : Scan) (s : List ℕ) → Accepts q s → isBad q ≡ false
-unfolding isBad
-accepts-alive Start s h = refl
-accepts-alive IriOpen s h = refl
-accepts-alive Iri s h = refl
-accepts-alive Closed s h = refl
-accepts-alive Under s h = refl
-accepts-alive Colon s h = refl
-accepts-alive Label s h = refl
-accepts-alive Dot s h = refl
-accepts-alive Dots s h = refl
-accepts-alive Text s h = refl
-accepts-alive Escape s h = refl
-accepts-alive Quote s h = refl
-accepts-alive At s h = refl
-accepts-alive Tag s h = refl
-accepts-alive Hyphen s h = refl
-accepts-alive Group s h = refl
-accepts-alive Caret s h = refl
-accepts-alive Carets s h = refl
-accepts-alive Bad s h = bad s h
+accepts-alive q s h = decide (isBad q) (λ e. bad s (rw (bad-only q e) at h)) (λ e. e)
 
 after-forth : (i : ℕ) (ms : List Span) (b : ℕ) (l : List ℕ) (r : Outcome) → Trail (b ∷ l) → r ≡ Terms ms
     → Residual (i + 1) (afterOf i ms b) l r
@@ -322,7 +203,8 @@ gap-forth : (i : ℕ) (ms parts : List Span) (n b : ℕ) (l : List ℕ) (r : Out
     → r ≡ Terms (ms ++ parts)
     → Residual (i + 1) (gapOf i ms n b) l r
 unfolding gapOf
-gap-forth i ms parts n b l r (Rest.space e t) g = rw (gap-space i ms n b e) record { parts = parts; rest = t; gives = g }
+gap-forth i ms parts n b l r (Rest.space e t) g =
+    rw (gap-space i ms n b e) record { parts = parts; rest = t; gives = g }
 gap-forth i ms parts n b l r (Rest.term {n =
     n′} {k = k} {ms = ps} t s e h p rest) g = term-forth i ms ps n′ k b l t s r e h p rest g
 gap-forth i ms parts n b l r (Rest.dot t) g = rw not-white-dot (t, rw append-nil at g)

@@ -1,10 +1,10 @@
--- The reading inside a term over the bytes that one scan of the term consumes, and the ways in which the term ends where that
--- scan halts. Assumes nothing.
+-- The reading inside a term over the bytes that one scan of the term consumes, and the ways in which the term ends
+-- where that scan halts. Assumes nothing.
 use Prim.Native.Nat.{ℕ, zero, suc, _+_, _-_, _≤_, _<_}
 use mathlib.Core.Path.{_≡_, refl, sym, _∙_, ap}
 use mathlib.Core.List.{List, [], _∷_, _++_}
-use mathlib.Core.Bool.{Bool, true, false, cond}
-use mathlib.Core.Logic.{_⊎_, ⊎-elim, inl, inr}
+use mathlib.Core.Bool.{true, false, cond}
+use mathlib.Core.Logic.{_⊎_, ⊎-elim}
 use lib.Dec.{ltb, eqb}
 use lib.ListN.{length, getD}
 use lib.Seq.{slice}
@@ -12,67 +12,22 @@ use native.Mathlib.Omega.{arith}
 use borrow.Author.Tests.{ltb-true, ltb-false, eqb-true, eqb-false, eq-eqb, lt-ltb, le-ltb}
 use Rattle.term.specs.Scanner.{stepOf, wholeOf, isBad, haltOf}
 use Rattle.term.specs.declared.Scan.{Scan}
-use Rattle.term.specs.declared.Scan.the-variants.{
-  Start,
-  IriOpen,
-  Iri,
-  Closed,
-  Under,
-  Colon,
-  Label,
-  Dot,
-  Dots,
-  Text,
-  Escape,
-  Quote,
-  At,
-  Tag,
-  Hyphen,
-  Group,
-  Caret,
-  Carets,
-  Bad,
-}
+use Rattle.term.specs.declared.Scan.the-variants.{Start}
 use Rattle.term.specs.declared.Halt.{Halt}
+use Rattle.term.proofs.Booleans.{decide}
 use Rattle.term.proofs.Names.{never}
+use Rattle.term.proofs.Turn.{below-or}
 use Rattle.ntriples.specs.declared.Span.{Span}
 use Rattle.ntriples.specs.declared.TermEnd.the-variants as term
 use Rattle.ntriples.specs.declared.ObjectEnd.the-variants as object
 use Rattle.ntriples.specs.Grammar.{span}
-use Rattle.ntriples.specs.Reader.{
-  Outcome,
-  Empty,
-  Terms,
-  Fails,
-  State,
-  Begin,
-  Gap,
-  Inside,
-  After,
-  CommentAfterDot,
-  CommentLine,
-  Broken,
-  isDot,
-  opens,
-  dotted,
-  afterOf,
-  enterOf,
-  gapOf,
-  goesOnOf,
-  leaveOf,
-  advanceOf,
-  stateOf,
-  endOf,
-}
+use Rattle.ntriples.specs.Reader.{Outcome, Terms, Fails, State, Gap, Inside, After, Broken, isDot, opens, dotted}
+use Rattle.ntriples.specs.Reader.{afterOf, gapOf, goesOnOf, leaveOf, advanceOf, endOf}
 use Rattle.ntriples.specs.Productions.{TermAt, onward, cutOf, TermEnds, ObjectEnds}
 use Rattle.ntriples.proofs.Residual.{dotted-facts}
 use Rattle.ntriples.proofs.Forth.{opens-alive, on-go, on-leave, gap-enter, is-dot}
 use Rattle.ntriples.proofs.Reading.{stays}
 use Rattle.ntriples.proofs.Runs.{slice-next, slice-none, onward-next, onward-end}
-
-pub decide : (x : Bool) → (x ≡ true) ⊎ (x ≡ false)
-decide true = inl refl
-decide false = inr refl
 
 pub strictly : (r stop : ℕ) → r ≤ stop → (r ≡ stop → ⊥) → r < stop
 strictly r stop h n = omega arith
@@ -133,12 +88,11 @@ halted zero text stop cut a i q e c t l =
 halted (suc k) text stop cut a i q e c t l =
     let lt : i < cut = omega arith in
     let le : cut ≤ length text = omega arith in
-    ⊎-elim
+    decide (isBad (stepOf q (getD text i 0)))
     (λ z. rw (halt-bad text i cut q lt le z)
     record { low = omega arith; high = omega arith; stuck = λ _. z; same = λ ms n. refl })
     (λ z. let w = halted k text stop cut a (i + 1) (stepOf q (getD text i 0)) (omega arith) c t l in
     rw (halt-next text i cut q lt le z) (halted-next text stop cut a i q _ lt c t l z w))
-    (decide (isBad (stepOf q (getD text i 0))))
 
 -- the same from a term's first byte on
 pub record TermHalted (text : List ℕ) (stop a : ℕ) (h : Halt) : Type 0 where
@@ -164,12 +118,11 @@ cut-facts : (a stop : ℕ) → (nearCut a stop ≤ stop) × (nearCut a stop ≤ 
     × ((i : ℕ) → i < stop → i < a + 255 → i < nearCut a stop)
 unfolding nearCut
 cut-facts a stop =
-    ⊎-elim
+    decide (ltb (a + 255) stop)
     (λ e. let z = ltb-true (a + 255) stop e in
     rw e (omega arith, omega arith, λ h. omega arith, λ i h k. omega arith))
     (λ e. let z = ltb-false (a + 255) stop e in
     rw e (omega arith, omega arith, λ h. omega arith, λ i h k. omega arith))
-    (decide (ltb (a + 255) stop))
 
 -- the two: the same at a line's end within 255 bytes, else one byte apart
 cut-end : (a stop : ℕ) → ltb (a + 255) stop ≡ false → (nearCut a stop ≡ stop) × (cutOf a stop ≡ stop)
@@ -182,8 +135,8 @@ unfolding nearCut cutOf
 cut-far a stop e =
     let z = ltb-true (a + 255) stop e in (
       rw e,
-      ⊎-elim (λ f. rw f (omega arith)) (λ f. let y = ltb-false (a + 256) stop f in rw f (omega arith)) (decide (ltb
-          (a + 256) stop)),
+      decide (ltb (a + 256) stop) (λ f. rw f (omega arith))
+          (λ f. let y = ltb-false (a + 256) stop f in rw f (omega arith)),
     )
 
 pub cut-near : (a stop : ℕ) → stop ≤ a + 255 → cutOf a stop ≡ stop
@@ -239,14 +192,14 @@ step-to text stop i p r h k e = onward-next text stop i p h k ∙ ap (onward tex
 whole-dotless : (n : ℕ) (q : Scan) → wholeOf q ≡ true → dotted n q ≡ false
 unfolding wholeOf
 whole-dotless n q w =
-    ⊎-elim (λ e. never (rw (is-dot q (dotted-facts n q e .1)) at w)) (λ e. e) (decide (dotted n q))
+    decide (dotted n q) (λ e. never (rw (is-dot q (dotted-facts n q e .1)) at w)) (λ e. e)
 
 later-dotless : (n : ℕ) (q : Scan) → 1 ≤ n → dotted n q ≡ false
 later-dotless n q h =
-    ⊎-elim (λ e. let z = dotted-facts n q e .0 in absurd (omega arith)) (λ e. e) (decide (dotted n q))
+    decide (dotted n q) (λ e. let z = dotted-facts n q e .0 in absurd (omega arith)) (λ e. e)
 
 dotless : (n : ℕ) (q : Scan) → isDot q ≡ false → dotted n q ≡ false
-dotless n q h = ⊎-elim (λ e. never (sym h ∙ dotted-facts n q e .1)) (λ e. e) (decide (dotted n q))
+dotless n q h = decide (dotted n q) (λ e. never (sym h ∙ dotted-facts n q e .1)) (λ e. e)
 
 lone-dot : (q : Scan) → isDot q ≡ true → dotted 0 q ≡ true
 unfolding dotted
@@ -257,7 +210,7 @@ pub at-end : (text : List ℕ) (stop i : ℕ) (p : State) (r : Outcome) → stop
 at-end text stop i p r h e = onward-end text stop i p h ∙ e
 
 by-end : {C : Type 0} (i stop : ℕ) → (i < stop → C) → (stop ≤ i → C) → C
-by-end i stop f g = ⊎-elim (λ e. f (ltb-true i stop e)) (λ e. g (ltb-false i stop e)) (decide (ltb i stop))
+by-end i stop f g = ⊎-elim f g (below-or i stop)
 
 end-whole : (text : List ℕ) (stop a i : ℕ) (ms : List Span) (n : ℕ) (q : Scan) → i ≤ stop → stop ≤ length text
     → wholeOf q ≡ true
@@ -330,7 +283,7 @@ more-bad : (text : List ℕ) (c i : ℕ) (q : Scan) → isBad (stepOf q (getD te
     → more text c record { state = q; at = i } ≡ record { state = q; at = i }
 unfolding more
 more-bad text c i q z =
-    ⊎-elim (λ e. let y = eqb-true i c e in rw (e, ← y, z)) (λ e. rw e) (decide (eqb i c))
+    decide (eqb i c) (λ e. let y = eqb-true i c e in rw (e, ← y, z)) (λ e. rw e)
 
 more-here : (text : List ℕ) (c : ℕ) (q : Scan) → isBad (stepOf q (getD text c 0)) ≡ false
     → more text c record { state = q; at = c } ≡ record { state = stepOf q (getD text c 0); at = c + 1 }
@@ -345,25 +298,23 @@ halt-more zero text c i q e t =
     let le : c + 1 ≤ length text = omega arith in
     let none : c ≤ i = omega arith in
     let end : c + 1 ≤ i + 1 = omega arith in
-    ⊎-elim
+    decide (isBad (stepOf q (getD text i 0)))
     (λ z. halt-bad text i (c + 1) q lt le z ∙ (sym (more-bad text c i q z) ∙ ap (more text c) (sym
     (halt-none text i c q none))))
     (λ z. halt-next text i (c + 1) q lt le z
     ∙ (halt-none text (i + 1) (c + 1) (stepOf q (getD text i 0)) end
     ∙ (rw y (sym (more-here text c q (rw y at z))) ∙ ap (more text c) (sym (halt-none text i c q none)))))
-    (decide (isBad (stepOf q (getD text i 0))))
 halt-more (suc k) text c i q e t =
     let lt : i < c + 1 = omega arith in
     let le : c + 1 ≤ length text = omega arith in
     let lt′ : i < c = omega arith in
     let le′ : c ≤ length text = omega arith in
-    ⊎-elim
+    decide (isBad (stepOf q (getD text i 0)))
     (λ z. halt-bad text i (c + 1) q lt le z ∙ (sym (more-bad text c i q z) ∙ ap (more text c) (sym
     (halt-bad text i c q lt′ le′ z))))
     (λ z. halt-next text i (c + 1) q lt le z
     ∙ (halt-more k text c (i + 1) (stepOf q (getD text i 0)) (omega arith) t ∙ ap (more text c) (sym
     (halt-next text i c q lt′ le′ z))))
-    (decide (isBad (stepOf q (getD text i 0))))
 
 more-away : (text : List ℕ) (c : ℕ) (h : Halt) → eqb (h .at) c ≡ false → more text c h ≡ h
 unfolding more
@@ -426,22 +377,20 @@ scanned-more : (text : List ℕ) (stop a : ℕ) (h : Halt) → a + 255 < stop �
     → TermScanned text stop a (more text (a + 255) h)
 scanned-more text stop a h k t =
     let n = t .near in
-    ⊎-elim
+    decide (eqb (h .at) (a + 255))
     (λ e. let y = eqb-true (h .at) (a + 255) e in
-    ⊎-elim
+    decide (isBad (stepOf (h .state) (getD text (a + 255) 0)))
     (λ z. rw (more-stuck text (a + 255) h e z) (scanned-near text stop a h t (λ _. rw y z)))
-    (λ z. rw (more-goes text (a + 255) h e z) (scanned-far text stop a h k y t z))
-    (decide (isBad (stepOf (h .state) (getD text (a + 255) 0)))))
+    (λ z. rw (more-goes text (a + 255) h e z) (scanned-far text stop a h k y t z)))
     (λ e. let y = eqb-false (h .at) (a + 255) e in
     let l : h .at < a + 255 = strictly (h .at) (a + 255) n y in
     rw (more-away text (a + 255) h e) (scanned-near text stop a h t (λ u. t .stuck u l)))
-    (decide (eqb (h .at) (a + 255)))
 
 scanned : (text : List ℕ) (stop a : ℕ) → TermAt text a stop
     → TermScanned text stop a (haltOf Start a (slice a (cutOf a stop) text))
 scanned text stop a t =
     let w = term-halted text stop a 0 (t .before) (t .inText) (t .opening) in
-    ⊎-elim
+    decide (ltb (a + 255) stop)
     (λ e. let y = ltb-true (a + 255) stop e in
     let k = t .inText in
     let f = cut-far a stop e in
@@ -449,7 +398,6 @@ scanned text stop a t =
     (λ e. let y = ltb-false (a + 255) stop e in
     let f = cut-end a stop e in
     rw (f .1) (scanned-end text stop a _ y (rw (f .0) at w)))
-    (decide (ltb (a + 255) stop))
   where
     scanned-end : (text : List ℕ) (stop a : ℕ) (h : Halt) → stop ≤ a + 255 → TermHalted text stop a h
         → TermScanned text stop a h
@@ -460,79 +408,72 @@ pub term-scanned : (text : List ℕ) (stop a cut : ℕ) (h : Halt) → TermAt te
     → h ≡ haltOf Start a (slice a cut text) → TermScanned text stop a h
 term-scanned text stop a cut h t e f = rw (f, e) (scanned text stop a t)
 
-pub term-over : (text : List ℕ) (stop a n : ℕ) (h : Halt) → TermScanned text stop a h → stop ≤ length text → 1 ≤ n
-    → opens n (getD text a 0) ≡ true → a + 255 < h .at → TermEnds text stop n a (term.Broken (a + 255))
-term-over text stop a n h t k j o l =
-    let g = t .far l in (
-      omega arith,
-      λ ms. g .halted .same ms n o ∙ end-over text stop a (a + 255) ms n (g .place) k (g .over)
-          (later-dotless n _ j),
-    )
+module _ {text : List ℕ} {stop a : ℕ} {h : Halt} (t : TermScanned text stop a h) where
+  pub term-over : (n : ℕ) → stop ≤ length text → 1 ≤ n → opens n (getD text a 0) ≡ true → a + 255 < h .at
+      → TermEnds text stop n a (term.Broken (a + 255))
+  term-over n k j o l =
+      let g = t .far l in (
+        omega arith,
+        λ ms. g .halted .same ms n o
+            ∙ end-over text stop a (a + 255) ms n (g .place) k (g .over) (later-dotless n _ j),
+      )
 
-pub term-whole : (text : List ℕ) (stop a n : ℕ) (h : Halt) → TermScanned text stop a h → stop ≤ length text
-    → opens n (getD text a 0) ≡ true → h .at ≤ a + 255 → wholeOf (h .state) ≡ true
-    → TermEnds text stop n a (term.Whole (h .at))
-term-whole text stop a n h t k o l w =
-    let x = t .low in (
-      omega arith,
-      t .high,
-      λ ms. t .near l .same ms n o ∙ end-whole text stop a (h .at) ms n (h .state) (t .high) k w (t .ends l),
-    )
+  pub term-whole : (n : ℕ) → stop ≤ length text → opens n (getD text a 0) ≡ true → h .at ≤ a + 255
+      → wholeOf (h .state) ≡ true → TermEnds text stop n a (term.Whole (h .at))
+  term-whole n k o l w =
+      let x = t .low in (
+        omega arith,
+        t .high,
+        λ ms. t .near l .same ms n o ∙ end-whole text stop a (h .at) ms n (h .state) (t .high) k w (t .ends l),
+      )
 
-pub term-broken : (text : List ℕ) (stop a n : ℕ) (h : Halt) → TermScanned text stop a h → stop ≤ length text → 1 ≤ n
-    → opens n (getD text a 0) ≡ true → h .at ≤ a + 255 → wholeOf (h .state) ≡ false
-    → TermEnds text stop n a (term.Broken (h .at))
-term-broken text stop a n h t k j o l w =
-    let x = t .low in (
-      omega arith,
-      λ ms. t .near l .same ms n o
-          ∙ end-fails text stop a (h .at) ms n (h .state) (t .high) k w (later-dotless n (h .state) j) (t .ends l),
-    )
+  -- where no dot can be the line's
+  fails : (n : ℕ) → stop ≤ length text → opens n (getD text a 0) ≡ true → h .at ≤ a + 255 → wholeOf (h .state) ≡ false
+      → dotted n (h .state) ≡ false → TermEnds text stop n a (term.Broken (h .at))
+  fails n k o l w d =
+      let x = t .low in (
+        omega arith,
+        λ ms. t .near l .same ms n o ∙ end-fails text stop a (h .at) ms n (h .state) (t .high) k w d (t .ends l),
+      )
 
-pub object-over-dot : (text : List ℕ) (stop a : ℕ) (h : Halt) → TermScanned text stop a h → stop ≤ length text
-    → opens 0 (getD text a 0) ≡ true → a + 255 < h .at → isDot (h .state) ≡ true
-    → ObjectEnds text stop a (object.Dotted (a + 255))
-object-over-dot text stop a h t k o l d =
-    let g = t .far l in
-    let x = g .over .before in (
-      omega arith,
-      omega arith,
-      λ ms. g .halted .same ms 0 o ∙ over-dot text stop a (a + 255) ms (g .place) k (g .over) (rw (g .next) d),
-    )
+  pub term-broken : (n : ℕ) → stop ≤ length text → 1 ≤ n → opens n (getD text a 0) ≡ true → h .at ≤ a + 255
+      → wholeOf (h .state) ≡ false → TermEnds text stop n a (term.Broken (h .at))
+  term-broken n k j o l w = fails n k o l w (later-dotless n (h .state) j)
 
-pub object-over : (text : List ℕ) (stop a : ℕ) (h : Halt) → TermScanned text stop a h → stop ≤ length text
-    → opens 0 (getD text a 0) ≡ true → a + 255 < h .at → isDot (h .state) ≡ false
-    → ObjectEnds text stop a (object.Broken (a + 255))
-object-over text stop a h t k o l d =
-    let g = t .far l in (
-      omega arith,
-      λ ms. g .halted .same ms 0 o ∙ end-over text stop a (a + 255) ms 0 (g .place) k (g .over) (dotless 0 _ (rw
-          (g .next) d)),
-    )
+  pub object-over-dot : stop ≤ length text → opens 0 (getD text a 0) ≡ true → a + 255 < h .at → isDot (h .state) ≡ true
+      → ObjectEnds text stop a (object.Dotted (a + 255))
+  object-over-dot k o l d =
+      let g = t .far l in
+      let x = g .over .before in (
+        omega arith,
+        omega arith,
+        λ ms. g .halted .same ms 0 o ∙ over-dot text stop a (a + 255) ms (g .place) k (g .over) (rw (g .next) d),
+      )
 
-pub object-whole : (text : List ℕ) (stop a : ℕ) (h : Halt) → TermScanned text stop a h → stop ≤ length text
-    → opens 0 (getD text a 0) ≡ true → h .at ≤ a + 255 → wholeOf (h .state) ≡ true
-    → ObjectEnds text stop a (object.Whole (h .at))
-object-whole text stop a h t k o l w = term-whole text stop a 0 h t k o l w
+  pub object-over : stop ≤ length text → opens 0 (getD text a 0) ≡ true → a + 255 < h .at → isDot (h .state) ≡ false
+      → ObjectEnds text stop a (object.Broken (a + 255))
+  object-over k o l d =
+      let g = t .far l in (
+        omega arith,
+        λ ms. g .halted .same ms 0 o
+            ∙ end-over text stop a (a + 255) ms 0 (g .place) k (g .over) (dotless 0 _ (rw (g .next) d)),
+      )
 
-pub object-dot : (text : List ℕ) (stop a : ℕ) (h : Halt) → TermScanned text stop a h → stop ≤ length text
-    → opens 0 (getD text a 0) ≡ true → h .at ≤ a + 255 → isDot (h .state) ≡ true
-    → ObjectEnds text stop a (object.Dotted (h .at - 1))
-object-dot text stop a h t k o l d =
-    let x = t .low in
-    let u = t .high in
-    let e : h .at - 1 + 1 ≡ h .at = omega arith in (
-      omega arith,
-      omega arith,
-      λ ms. t .near l .same ms 0 o ∙ rw e (end-dot text stop a (h .at) ms (h .state) (t .high) k d (t .ends l)),
-    )
+  pub object-whole : stop ≤ length text → opens 0 (getD text a 0) ≡ true → h .at ≤ a + 255 → wholeOf (h .state) ≡ true
+      → ObjectEnds text stop a (object.Whole (h .at))
+  object-whole k o l w = term-whole 0 k o l w
 
-pub object-broken : (text : List ℕ) (stop a : ℕ) (h : Halt) → TermScanned text stop a h → stop ≤ length text
-    → opens 0 (getD text a 0) ≡ true → h .at ≤ a + 255 → wholeOf (h .state) ≡ false → isDot (h .state) ≡ false
-    → ObjectEnds text stop a (object.Broken (h .at))
-object-broken text stop a h t k o l w d =
-    let x = t .low in (
-      omega arith,
-      λ ms. t .near l .same ms 0 o ∙ end-fails text stop a (h .at) ms 0 (h .state) (t .high) k w (dotless 0
-          (h .state) d) (t .ends l),
-    )
+  pub object-dot : stop ≤ length text → opens 0 (getD text a 0) ≡ true → h .at ≤ a + 255 → isDot (h .state) ≡ true
+      → ObjectEnds text stop a (object.Dotted (h .at - 1))
+  object-dot k o l d =
+      let x = t .low in
+      let u = t .high in
+      let e : h .at - 1 + 1 ≡ h .at = omega arith in (
+        omega arith,
+        omega arith,
+        λ ms. t .near l .same ms 0 o ∙ rw e (end-dot text stop a (h .at) ms (h .state) (t .high) k d (t .ends l)),
+      )
+
+  pub object-broken : stop ≤ length text → opens 0 (getD text a 0) ≡ true → h .at ≤ a + 255 → wholeOf (h .state) ≡ false
+      → isDot (h .state) ≡ false → ObjectEnds text stop a (object.Broken (h .at))
+  object-broken k o l w d = fails 0 k o l w (dotless 0 (h .state) d)

@@ -8,6 +8,7 @@ use lib.Dec.{eqb}
 use lib.ListN.{length-append}
 use native.Mathlib.Omega.{arith}
 use borrow.Author.Tests.{eqb-true}
+use Rattle.term.proofs.Booleans.{decide}
 use Rattle.term.proofs.Names.{never}
 use Rattle.ntriples.specs.Grammar.{Unbroken, FirstLine}
 use Rattle.ntriples.specs.Reader.{untilLf, hasLf, dropCr, firstLineOf, takenOf}
@@ -50,12 +51,8 @@ last-cr (b ∷ []) u h = ([], rw (eqb-true b 13 h), Unbroken.none)
 last-cr (b ∷ (c ∷ s)) (Unbroken.byte e u) h =
     let w = last-cr (c ∷ s) u h in (b ∷ w .0, ap (λ (z : List ℕ). b ∷ z) (w .1), Unbroken.byte e (w .2))
 
-decide : (x : Bool) → (x ≡ true) ⊎ (x ≡ false)
-decide true = inl refl
-decide false = inr refl
-
 cr-less : (l : List ℕ) → Unbroken l → ((k : List ℕ) → l ≡ k ++ (13 ∷ []) → ⊥) → endsInCr l ≡ false
-cr-less l u n = ⊎-elim (λ h. let w = last-cr l u h in absurd (n (w .0) (w .1))) (λ h. h) (decide (endsInCr l))
+cr-less l u n = decide (endsInCr l) (λ h. let w = last-cr l u h in absurd (n (w .0) (w .1))) (λ h. h)
 
 drop-cr : (l : List ℕ) → dropCr (l ++ (13 ∷ [])) ≡ l
 unfolding dropCr
@@ -89,10 +86,9 @@ line-found s l n (FirstLine.last u) = let h = until-end l u in (rw (h .1, h .0),
 split : (s : List ℕ) → ((l : List ℕ) × (r : List ℕ) × (s ≡ l ++ (10 ∷ r)) × Unbroken l) ⊎ Unbroken s
 split [] = inr Unbroken.none
 split (b ∷ s) =
-    ⊎-elim (λ e. inl ([], s, rw (eqb-true b 10 e), Unbroken.none))
+    decide (eqb b 10) (λ e. inl ([], s, rw (eqb-true b 10 e), Unbroken.none))
     (λ e. ⊎-elim (λ w. inl (b ∷ w .0, w .1, ap (λ (z : List ℕ). b ∷ z) (w .2), Unbroken.byte e (w .3))) (λ u. inr
     (Unbroken.byte e u)) (split s))
-    (decide (eqb b 10))
 
 cr-lf : (s l k r : List ℕ) → s ≡ l ++ (10 ∷ r) → l ≡ k ++ (13 ∷ []) → s ≡ k ++ (13 ∷ (10 ∷ r))
 cr-lf s l k r e f = e ∙ rw f (snoc-cons k r)
@@ -100,14 +96,14 @@ cr-lf s l k r e f = e ∙ rw f (snoc-cons k r)
 pub line-exists : (s : List ℕ) → (l : List ℕ) × (n : ℕ) × FirstLine s l n
 line-exists s =
     ⊎-elim
-    (λ w. ⊎-elim
+    (λ w. decide (endsInCr (w .0))
     (λ h. let k = last-cr (w .0) (w .3) h in (
       k .0,
       _,
       FirstLine.crlf (k .0) (w .1) (cr-lf s (w .0) (k .0) (w .1)
           (w .2) (k .1)) (k .2),
     ))
-    (λ h. (w .0, _, FirstLine.lf (w .0) (w .1) (w .2) (w .3) (no-cr (w .0) h))) (decide (endsInCr (w .0))))
+    (λ h. (w .0, _, FirstLine.lf (w .0) (w .1) (w .2) (w .3) (no-cr (w .0) h))))
     (λ u. (s, _, FirstLine.last u)) (split s)
 
 -- a text begins with its first line

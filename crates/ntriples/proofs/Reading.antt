@@ -1,95 +1,33 @@
--- A reading keeps to good places, every place can be completed to a line, and so: the reader reads exactly the lines of the
--- grammar, and refuses at the end of the longest prefix that some line continues. Assumes nothing.
+-- A reading keeps to good places, every place can be completed to a line, and so: the reader reads exactly the lines of
+-- the grammar, and refuses at the end of the longest prefix that some line continues. Assumes nothing.
 use Prim.Native.Nat.{ℕ, zero, suc, _+_, _-_, _≤_, _<_}
 use mathlib.Core.Path.{_≡_, refl, sym, _∙_, ap}
 use mathlib.Core.List.{List, [], _∷_, _++_, append-nil}
-use mathlib.Core.Bool.{Bool, true, false, cond}
+use mathlib.Core.Bool.{Bool, true, false, cond, _||_}
 use mathlib.Core.Logic.{_⊎_, ⊎-elim, inl, inr, _↔_}
 use lib.Dec.{ltb, eqb}
 use lib.ListN.{length}
 use native.Mathlib.Omega.{arith}
 use borrow.Author.Tests.{ltb-true}
-use Rattle.term.specs.Bytes.{among, iriByte, textByte, pairByte, firstByte, labelByte, letter, alnum}
-use Rattle.term.specs.Scanner.{stepOf, runOf, wholeOf, isBad}
+use Rattle.term.specs.Bytes.{among, iriByte}
+use Rattle.term.specs.Scanner.{stepOf, wholeOf, isBad}
 use Rattle.term.specs.Grammar.{Name}
 use Rattle.term.specs.Grammar as names
 use Rattle.term.specs.declared.Scan.{Scan}
-use Rattle.term.specs.declared.Scan.the-variants.{
-  Start,
-  IriOpen,
-  Iri,
-  Closed,
-  Under,
-  Colon,
-  Label,
-  Dot,
-  Dots,
-  Text,
-  Escape,
-  Quote,
-  At,
-  Tag,
-  Hyphen,
-  Group,
-  Caret,
-  Carets,
-  Bad,
-}
-use Rattle.term.proofs.Names.{Accepts, never}
+use Rattle.term.specs.declared.Scan.the-variants.{Start}
+use Rattle.term.proofs.Booleans.{decide}
+use Rattle.term.proofs.Names.{never}
+use Rattle.term.proofs.Places.{leads}
+use Rattle.term.proofs.Halts.{completion, completes}
 use Rattle.ntriples.specs.declared.Span.{Span}
 use Rattle.ntriples.specs.Grammar.{span, white, commentByte, Trail}
 use Rattle.ntriples.proofs.Rest.{Rest, Derives, ShortParts, ShortOutcome, Continued}
-use Rattle.ntriples.specs.Reader.{
-  Outcome,
-  Empty,
-  Terms,
-  Fails,
-  kindAllowed,
-  State,
-  Begin,
-  Gap,
-  Inside,
-  After,
-  CommentAfterDot,
-  CommentLine,
-  Broken,
-  isDot,
-  opens,
-  dotted,
-  afterOf,
-  enterOf,
-  gapOf,
-  goesOnOf,
-  leaveOf,
-  advanceOf,
-  stateOf,
-  endOf,
-  lineOf,
-}
-use Rattle.ntriples.proofs.Residual.{
-  Following,
-  Going,
-  Dotting,
-  Residual,
-  cases,
-  shift,
-  plus-zero,
-  back-one,
-  dotted-facts,
-  advance-back,
-}
-use Rattle.ntriples.proofs.Forth.{
-  iriish,
-  Sane,
-  Fit,
-  Good,
-  opening,
-  opens-one,
-  opens-alive,
-  no-empty,
-  advance-forth,
-  kind-some,
-}
+use Rattle.ntriples.specs.Reader.{Outcome, Empty, Terms, Fails, State, Begin, Gap, Inside, After}
+use Rattle.ntriples.specs.Reader.{CommentAfterDot, CommentLine, Broken, opens, dotted, afterOf, enterOf, gapOf}
+use Rattle.ntriples.specs.Reader.{goesOnOf, leaveOf, advanceOf, stateOf, endOf, lineOf}
+use Rattle.ntriples.proofs.Residual.{Residual, cases, advance-back}
+use Rattle.ntriples.proofs.Forth.{iriish, Sane, Fit, Good, allowed-iri, opens-one, opens-alive, no-empty}
+use Rattle.ntriples.proofs.Forth.{advance-forth}
 
 -- a fact of a place by a test
 both : {A : Type 0} (P : A → Type 0) (c : Bool) (x y : A) → (c ≡ true → P x) → (c ≡ false → P y) → P (cond c x y)
@@ -97,29 +35,8 @@ both P true x y f g = f refl
 both P false x y f g = g refl
 
 iri-step : (q : Scan) (b : ℕ) → iriish q ≡ true → isBad (stepOf q b) ≡ false → iriish (stepOf q b) ≡ true
-unfolding stepOf isBad iriish
-iri-step Start b e h = never e
-iri-step IriOpen b e h =
-    cases (λ x. isBad x ≡ false) (iriByte b) Iri Bad (λ z _. rw z) (λ _ z. never (sym z)) h
-iri-step Iri b e h =
-    cases (λ x. isBad x ≡ false) (iriByte b) Iri _ (λ z _. rw z)
-    (λ z k. cases (λ x. isBad x ≡ false) (eqb b 62) Closed Bad (λ v _. rw (z, v)) (λ _ v. never (sym v)) k) h
-iri-step Closed b e h = never (sym h)
-iri-step Under b e h = never e
-iri-step Colon b e h = never e
-iri-step Label b e h = never e
-iri-step Dot b e h = never e
-iri-step Dots b e h = never e
-iri-step Text b e h = never e
-iri-step Escape b e h = never e
-iri-step Quote b e h = never e
-iri-step At b e h = never e
-iri-step Tag b e h = never e
-iri-step Hyphen b e h = never e
-iri-step Group b e h = never e
-iri-step Caret b e h = never e
-iri-step Carets b e h = never e
-iri-step Bad b e h = never e
+unfolding isBad iriish
+iri-step q b e h = rw h at (leads iriish (λ r. isBad r || iriish r) refl q b e)
 
 fit-snoc : (m : ℕ) (ms : List Span) (p : Span) → Fit m ms → p .end ≤ p .start + m → Fit m (ms ++ (p ∷ []))
 fit-snoc m [] p f h = (h, tt)
@@ -147,7 +64,8 @@ gap-good m i ms (suc n) b h f k =
 after-good : (m i : ℕ) (ms : List Span) (b : ℕ) → Fit m ms → Good m (i + 1) (afterOf i ms b)
 unfolding afterOf
 after-good m i ms b f =
-    both (Good m (i + 1)) (white b) (After ms) _ (λ _. f) (λ _. both (Good m (i + 1)) (eqb b 35) (CommentAfterDot ms) (Broken i)
+    both (Good m (i + 1)) (white b) (After ms) _ (λ _. f)
+    (λ _. both (Good m (i + 1)) (eqb b 35) (CommentAfterDot ms) (Broken i)
     (λ _. f) (λ _. tt))
 
 inside-good : (m i : ℕ) (ms : List Span) (n : ℕ) (q : Scan) (a b : ℕ) → 1 ≤ m → Fit m ms → i ≤ a + m → Sane n q
@@ -183,63 +101,16 @@ good-step m i Begin b h g =
 good-step m i (Gap ms n) b h g = gap-good m i ms n b h (g .0) (g .1)
 good-step m i (Inside ms n q a) b h g = inside-good m i ms n q a b h (g .0) (g .1) (g .2)
 good-step m i (After ms) b h g = after-good m i ms b g
-good-step m i (CommentAfterDot ms) b h g = both (Good m (i + 1)) (commentByte b) (CommentAfterDot ms) (Broken i) (λ _. g) (λ _. tt)
+good-step m i (CommentAfterDot ms) b h g =
+    both (Good m (i + 1)) (commentByte b) (CommentAfterDot ms) (Broken i) (λ _. g) (λ _. tt)
 good-step m i CommentLine b h g = both (Good m (i + 1)) (commentByte b) CommentLine (Broken i) (λ _. tt) (λ _. tt)
 good-step m i (Broken k) b h g = tt
 
 -- Each place that is not broken is completed to a line.
-completion : Scan → List ℕ
-completion Start = 60 ∷ (97 ∷ (62 ∷ []))
-completion IriOpen = 97 ∷ (62 ∷ [])
-completion Iri = 62 ∷ []
-completion Closed = []
-completion Under = 58 ∷ (97 ∷ [])
-completion Colon = 97 ∷ []
-completion Label = []
-completion Dot = 97 ∷ []
-completion Dots = 97 ∷ []
-completion Text = 34 ∷ []
-completion Escape = 34 ∷ (34 ∷ [])
-completion Quote = []
-completion At = 97 ∷ []
-completion Tag = []
-completion Hyphen = 97 ∷ []
-completion Group = []
-completion Caret = 94 ∷ (60 ∷ (97 ∷ (62 ∷ [])))
-completion Carets = 60 ∷ (97 ∷ (62 ∷ []))
-completion Bad = []
-
-completes : (q : Scan) → isBad q ≡ false → Accepts q (completion q)
-unfolding completion stepOf runOf wholeOf isBad iriByte textByte pairByte firstByte labelByte letter alnum among
-completes Start h = refl
-completes IriOpen h = refl
-completes Iri h = refl
-completes Closed h = refl
-completes Under h = refl
-completes Colon h = refl
-completes Label h = refl
-completes Dot h = refl
-completes Dots h = refl
-completes Text h = refl
-completes Escape h = refl
-completes Quote h = refl
-completes At h = refl
-completes Tag h = refl
-completes Hyphen h = refl
-completes Group h = refl
-completes Caret h = refl
-completes Carets h = refl
-completes Bad h = never (sym h)
 
 an-iri : Name 1 (60 ∷ (97 ∷ (62 ∷ [])))
 unfolding iriByte among
 an-iri = names.Name.iri (names.Iri.open′ refl names.IriRest.close)
-
-allowed-iri : (n : ℕ) → kindAllowed n 1 ≡ true
-unfolding kindAllowed
-allowed-iri zero = refl
-allowed-iri (suc zero) = refl
-allowed-iri (suc (suc n)) = refl
 
 complete-rest : (n i : ℕ) → (l : List ℕ) × (ms : List Span) × Rest n i l ms
 complete-rest zero i = (46 ∷ [], [], Rest.dot Trail.end)
@@ -493,7 +364,8 @@ after-breaks : (i : ℕ) (ms : List Span) (b : ℕ) → BreaksAt i (afterOf i ms
 unfolding afterOf broken
 after-breaks i ms b =
     both (BreaksAt i) (white b) (After ms) _ (λ _. sound i (After ms) refl)
-    (λ _. both (BreaksAt i) (eqb b 35) (CommentAfterDot ms) (Broken i) (λ _. sound i (CommentAfterDot ms) refl) (λ _. here i))
+    (λ _. both (BreaksAt i) (eqb b 35) (CommentAfterDot ms) (Broken i)
+    (λ _. sound i (CommentAfterDot ms) refl) (λ _. here i))
 
 breaks-here : (m i : ℕ) (p : State) (b : ℕ) → broken p ≡ false → BreaksAt i (advanceOf m i p b)
 unfolding advanceOf leaveOf goesOnOf enterOf broken
@@ -515,8 +387,10 @@ breaks-here m i (Inside ms n q a) b h =
     (ms ++ (span a i ∷ []))) refl) (λ _. here i)))
 breaks-here m i (After ms) b h = after-breaks i ms b
 breaks-here m i (CommentAfterDot ms) b h =
-    both (BreaksAt i) (commentByte b) (CommentAfterDot ms) (Broken i) (λ _. sound i (CommentAfterDot ms) refl) (λ _. here i)
-breaks-here m i CommentLine b h = both (BreaksAt i) (commentByte b) CommentLine (Broken i) (λ _. sound i CommentLine refl) (λ _. here i)
+    both (BreaksAt i) (commentByte b) (CommentAfterDot ms) (Broken i)
+    (λ _. sound i (CommentAfterDot ms) refl) (λ _. here i)
+breaks-here m i CommentLine b h = both (BreaksAt i) (commentByte b) CommentLine (Broken i)
+    (λ _. sound i CommentLine refl) (λ _. here i)
 breaks-here m i (Broken k) b h = never (sym h)
 
 pub stays : (m i k : ℕ) (s : List ℕ) → stateOf m i (Broken k) s ≡ Broken k
@@ -544,15 +418,11 @@ record Break (m i : ℕ) (p : State) (s : List ℕ) (k : ℕ) : Type 0 where
   whole : broken (stateOf m i p front) ≡ false
   breaks : broken (stateOf m i p (front ++ (byte ∷ []))) ≡ true
 
-decide : (x : Bool) → (x ≡ true) ⊎ (x ≡ false)
-decide true = inl refl
-decide false = inr refl
-
 find : (m i : ℕ) (p : State) (s : List ℕ) (k : ℕ) → broken p ≡ false → stateOf m i p s ≡ Broken k → Break m i p s k
 unfolding stateOf broken
 find m i p [] k h e = never (sym h ∙ rw e)
 find m i p (b ∷ s) k h e =
-    ⊎-elim
+    decide (broken (advanceOf m i p b))
     (λ z.
     let w = is-broken (advanceOf m i p b) z in
     let j = breaks-here m i p b h (w .0) (w .1) in
@@ -570,7 +440,6 @@ find m i p (b ∷ s) k h e =
       whole = f .whole;
       breaks = f .breaks;
     })
-    (decide (broken (advanceOf m i p b)))
 
 end-refused : (i : ℕ) (p : State) (k : ℕ) → broken p ≡ false → endOf i p ≡ Fails k → i ≡ k
 unfolding endOf broken
@@ -603,7 +472,7 @@ pub record Stopped (m i : ℕ) (l : List ℕ) (k : ℕ) : Type 0 where
 pub stopped : (m i : ℕ) (l : List ℕ) (k : ℕ) → lineOf m i l ≡ Fails k → Stopped m i l k
 unfolding lineOf broken
 stopped m i l k e =
-    ⊎-elim
+    decide (broken (stateOf m i Begin l))
     (λ z. let f = find m i Begin l k refl (broken-end (i + length l) (stateOf m i Begin l) k z e) in
     record {
       front = f .front;
@@ -621,4 +490,3 @@ stopped m i l k e =
       whole = z;
       breaks = λ b s q. let x : _≡_ {A = ℕ} 0 1 = cc in absurd (omega arith);
     })
-    (decide (broken (stateOf m i Begin l)))

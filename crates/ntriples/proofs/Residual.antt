@@ -1,66 +1,27 @@
--- What may follow at each place of a reading, in the grammar's words, and that one byte more leads from one to the next.
--- Assumes nothing.
+-- What may follow at each place of a reading, in the grammar's words, and that one byte more leads from one to the
+-- next. Assumes nothing.
 use Prim.Native.Nat.{ℕ, zero, suc, _+_, _-_}
-use mathlib.Core.Path.{_≡_, refl, sym, _∙_, ap}
+use mathlib.Core.Path.{_≡_, refl, _∙_, ap}
 use mathlib.Core.List.{List, [], _∷_, _++_, append-nil, append-assoc}
-use mathlib.Core.Bool.{Bool, true, false, cond}
+use mathlib.Core.Bool.{Bool, true, false, cond, not}
 use mathlib.Core.Logic.{_⊎_, ⊎-elim, inl, inr}
 use lib.Dec.{ltb, eqb}
 use lib.ListN.{length}
 use native.Mathlib.Omega.{arith}
 use borrow.Author.Tests.{eqb-true}
-use Rattle.term.specs.Bytes.{iriByte, textByte, pairByte, firstByte, labelByte, letter, alnum, All}
+use Rattle.term.specs.Bytes.{among, labelByte, All}
 use Rattle.term.specs.Scanner.{stepOf, runOf, wholeOf, isBad, firstKindOf}
 use Rattle.term.specs.declared.Scan.{Scan}
-use Rattle.term.specs.declared.Scan.the-variants.{
-  Start,
-  IriOpen,
-  Iri,
-  Closed,
-  Under,
-  Colon,
-  Label,
-  Dot,
-  Dots,
-  Text,
-  Escape,
-  Quote,
-  At,
-  Tag,
-  Hyphen,
-  Group,
-  Caret,
-  Carets,
-  Bad,
-}
+use Rattle.term.specs.declared.Scan.the-variants.{Start, Label, Dot, Bad}
+use Rattle.term.proofs.Booleans.{decide}
+use Rattle.term.proofs.Places.{same, same-is, leads}
 use Rattle.term.proofs.Names.{Accepts, never, name-back}
 use Rattle.ntriples.specs.declared.Span.{Span}
 use Rattle.ntriples.specs.Grammar.{span, white, commentByte, Trail}
 use Rattle.ntriples.proofs.Rest.{Rest, Derives}
-use Rattle.ntriples.specs.Reader.{
-  Outcome,
-  Empty,
-  Terms,
-  Fails,
-  kindAllowed,
-  State,
-  Begin,
-  Gap,
-  Inside,
-  After,
-  CommentAfterDot,
-  CommentLine,
-  Broken,
-  isDot,
-  opens,
-  dotted,
-  afterOf,
-  enterOf,
-  gapOf,
-  goesOnOf,
-  leaveOf,
-  advanceOf,
-}
+use Rattle.ntriples.specs.Reader.{Outcome, Empty, Terms, kindAllowed, State, Begin, Gap, Inside, After}
+use Rattle.ntriples.specs.Reader.{CommentAfterDot, CommentLine, Broken, isDot, opens, dotted, afterOf, enterOf}
+use Rattle.ntriples.specs.Reader.{gapOf, goesOnOf, leaveOf, advanceOf}
 
 -- between terms: n terms are still to come, after the parts ms
 pub record Following (i : ℕ) (ms : List Span) (n : ℕ) (l : List ℕ) (r : Outcome) : Type 0 where
@@ -97,55 +58,25 @@ pub cases : {A C : Type 0} (P : A → Type 0) (c : Bool) (x y : A) → (c ≡ tr
 cases P true x y f g h = f refl h
 cases P false x y f g h = g refl h
 
--- a dot is met after a label's byte only
-dotless : (c : Bool) (x y : Scan) → isDot x ≡ false → isDot y ≡ false → isDot (cond c x y) ≡ false
-dotless true x y p q = p
-dotless false x y p q = q
+-- a space or a tab
+pub white-byte : {C : Type 0} (b : ℕ) → (b ≡ 32 → C) → (b ≡ 9 → C) → white b ≡ true → C
+unfolding white among
+white-byte b f g h =
+    cases (λ x. x ≡ true) (eqb b 32) true _ (λ e _. f (eqb-true b 32 e))
+    (λ _ k. cases (λ x. x ≡ true) (eqb b 9) true false (λ e _. g (eqb-true b 9 e)) (λ _ z. never z) k) h
 
-no-dot : {C : Type 0} (q : Scan) → isDot q ≡ false → isDot q ≡ true → C
-no-dot q e h = never (sym e ∙ h)
+-- a dot is met after a label's byte only
+dot-byte : (b : ℕ) → isDot (stepOf Label b) ≡ true → b ≡ 46
+unfolding stepOf isDot
+dot-byte b h =
+    cases (λ q. isDot q ≡ true) (labelByte b) Label _ (λ _ w. never w)
+    (λ _ k. cases (λ q. isDot q ≡ true) (eqb b 46) Dot Bad (λ e w. eqb-true b 46 e) (λ _ w. never w) k) h
 
 pub to-dot : (q : Scan) (b : ℕ) → isDot (stepOf q b) ≡ true → (q ≡ Label) × (b ≡ 46)
-unfolding stepOf isDot
-to-dot Start b h =
-    no-dot (cond (eqb b 60) IriOpen (cond (eqb b 95) Under (cond (eqb b 34) Text Bad))) (dotless (eqb b 60) IriOpen
-    (cond (eqb b 95) Under (cond (eqb b 34) Text Bad)) refl (dotless (eqb b 95) Under (cond
-    (eqb b 34) Text Bad) refl (dotless (eqb b 34) Text Bad refl refl))) h
-to-dot IriOpen b h = no-dot (cond (iriByte b) Iri Bad) (dotless (iriByte b) Iri Bad refl refl) h
-to-dot Iri b h =
-    no-dot (cond (iriByte b) Iri (cond (eqb b 62) Closed Bad)) (dotless (iriByte b) Iri (cond
-    (eqb b 62) Closed Bad) refl (dotless (eqb b 62) Closed Bad refl refl)) h
-to-dot Closed b h = no-dot Bad refl h
-to-dot Under b h = no-dot (cond (eqb b 58) Colon Bad) (dotless (eqb b 58) Colon Bad refl refl) h
-to-dot Colon b h = no-dot (cond (firstByte b) Label Bad) (dotless (firstByte b) Label Bad refl refl) h
-to-dot Label b h =
-    cases (λ q. isDot q ≡ true) (labelByte b) Label _ (λ _ w. never w)
-    (λ _ k. cases (λ q. isDot q ≡ true) (eqb b 46) Dot Bad (λ e w. (refl, eqb-true b 46 e)) (λ _ w. never w) k) h
-to-dot Dot b h =
-    no-dot (cond (labelByte b) Label (cond (eqb b 46) Dots Bad)) (dotless (labelByte b) Label (cond
-    (eqb b 46) Dots Bad) refl (dotless (eqb b 46) Dots Bad refl refl)) h
-to-dot Dots b h =
-    no-dot (cond (labelByte b) Label (cond (eqb b 46) Dots Bad)) (dotless (labelByte b) Label (cond
-    (eqb b 46) Dots Bad) refl (dotless (eqb b 46) Dots Bad refl refl)) h
-to-dot Text b h =
-    no-dot (cond (textByte b) Text (cond (eqb b 34) Quote (cond (eqb b 92) Escape Bad))) (dotless (textByte b) Text
-    (cond (eqb b 34) Quote (cond (eqb b 92) Escape Bad)) refl (dotless (eqb b 34) Quote (cond
-    (eqb b 92) Escape Bad) refl (dotless (eqb b 92) Escape Bad refl refl))) h
-to-dot Escape b h = no-dot (cond (pairByte b) Text Bad) (dotless (pairByte b) Text Bad refl refl) h
-to-dot Quote b h =
-    no-dot (cond (eqb b 64) At (cond (eqb b 94) Caret Bad)) (dotless (eqb b 64) At (cond (eqb b 94) Caret Bad) refl
-    (dotless (eqb b 94) Caret Bad refl refl)) h
-to-dot At b h = no-dot (cond (letter b) Tag Bad) (dotless (letter b) Tag Bad refl refl) h
-to-dot Tag b h =
-    no-dot (cond (letter b) Tag (cond (eqb b 45) Hyphen Bad)) (dotless (letter b) Tag (cond
-    (eqb b 45) Hyphen Bad) refl (dotless (eqb b 45) Hyphen Bad refl refl)) h
-to-dot Hyphen b h = no-dot (cond (alnum b) Group Bad) (dotless (alnum b) Group Bad refl refl) h
-to-dot Group b h =
-    no-dot (cond (alnum b) Group (cond (eqb b 45) Hyphen Bad)) (dotless (alnum b) Group (cond
-    (eqb b 45) Hyphen Bad) refl (dotless (eqb b 45) Hyphen Bad refl refl)) h
-to-dot Caret b h = no-dot (cond (eqb b 94) Carets Bad) (dotless (eqb b 94) Carets Bad refl refl) h
-to-dot Carets b h = no-dot (cond (eqb b 60) IriOpen Bad) (dotless (eqb b 60) IriOpen Bad refl refl) h
-to-dot Bad b h = no-dot Bad refl h
+unfolding isDot
+to-dot q b h =
+    decide (same q Label) (λ e. let l = same-is q Label e in (l, dot-byte b (rw l at h)))
+    (λ e. never (rw h at (leads (λ r. not (same r Label)) (λ r. not (isDot r)) refl q b (rw e))))
 
 after-back : (i : ℕ) (ms : List Span) (b : ℕ) (l : List ℕ) (r : Outcome) → Residual (i + 1) (afterOf i ms b) l r
     → Trail (b ∷ l) × (r ≡ Terms ms)

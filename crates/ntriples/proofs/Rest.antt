@@ -1,5 +1,6 @@
--- The grammar of a line seen from inside: what remains of a line at a place between its terms, with the number of terms still
--- to come. It is proved the same grammar as that of specs/Grammar.antt in proofs/Derivation.antt. Assumes nothing.
+-- The grammar of a line seen from inside: what remains of a line at a place between its terms, with the number of terms
+-- still to come. It is proved the same grammar as that of specs/Grammar.antt in proofs/Derivation.antt. Assumes
+-- nothing.
 use Prim.Native.Nat.{ℕ, suc, _+_}
 use mathlib.Core.Path.{_≡_}
 use mathlib.Core.List.{List, [], _∷_, _++_}

@@ -1,51 +1,40 @@
--- The sequence of a line's productions, one law for each way in which a function of them goes on or returns. Assumes nothing.
+-- The sequence of a line's productions, one law for each way in which a function of them goes on or returns. Assumes
+-- nothing.
 use Prim.Native.Nat.{ℕ, zero, suc, _+_, _-_, _≤_, _<_}
 use mathlib.Core.Path.{_≡_, refl, sym, _∙_, ap}
 use mathlib.Core.List.{List, [], _∷_, _++_}
 use mathlib.Core.Bool.{Bool, true, false}
-use mathlib.Core.Logic.{_⊎_, ⊎-elim, inl, inr}
+use mathlib.Core.Logic.{_⊎_, inl, inr}
 use lib.Dec.{eqb}
 use lib.ListN.{length, getD, take, drop, take-append-drop}
 use lib.Seq.{slice, slice-empty, length-slice, length-take-le, take-all, take-suc, take-take, drop-cons, drop-append-le}
 use native.Mathlib.Omega.{arith}
 use native.Mathlib.Numerals.{add-one}
 use borrow.Author.Tests.{eqb-true, eqb-false, eq-eqb, ne-eqb}
+use Rattle.term.proofs.Booleans.{decide}
 use Rattle.ntriples.specs.declared.Span.{Span}
 use Rattle.ntriples.specs.declared.TermEnd.{TermEnd}
 use Rattle.ntriples.specs.declared.TermEnd.the-variants as term
 use Rattle.ntriples.specs.declared.ObjectEnd.{ObjectEnd}
 use Rattle.ntriples.specs.declared.ObjectEnd.the-variants as object
 use Rattle.ntriples.specs.Grammar.{white, commentByte}
-use Rattle.ntriples.specs.Reader.{
-  Outcome,
-  Empty,
-  Terms,
-  Fails,
-  State,
-  Begin,
-  Gap,
-  Inside,
-  After,
-  CommentAfterDot,
-  CommentLine,
-  Broken,
-  opens,
-  afterOf,
-  enterOf,
-  gapOf,
-  advanceOf,
-  stateOf,
-  endOf,
-  lineOf,
-}
+use Rattle.ntriples.specs.Reader.{Outcome, Empty, Terms, Fails, State, Begin, Gap, After, CommentAfterDot}
+use Rattle.ntriples.specs.Reader.{CommentLine, Broken, opens, afterOf, enterOf, gapOf, advanceOf, endOf, lineOf}
 use Rattle.ntriples.specs.Grammar.{Unbroken, FirstLine}
 use Rattle.ntriples.specs.Reader.{answerOf, readSpelled}
-use Rattle.ntriples.specs.Productions.{Inline, NotWhite, RunEnd, runEnd, onward, TermEnds, ObjectEnds, crDropped, EolAt}
-use Rattle.ntriples.proofs.Forth.{gap-space}
-use Rattle.ntriples.proofs.Halts.{decide, strictly, step-to, at-end, onward-broken}
+use Rattle.ntriples.specs.Productions.{Inline, OnLine, TermAt, NotWhite, RunEnd, runEnd, onward, TermEnds}
+use Rattle.ntriples.specs.Productions.{ObjectEnds, crDropped, EolAt}
+use Rattle.ntriples.proofs.Forth.{opens-any, gap-space}
+use Rattle.ntriples.proofs.Halts.{strictly, step-to, at-end, onward-broken}
 use Rattle.ntriples.proofs.Runs.{run-turn, run-out, run-end}
 use Rattle.ntriples.proofs.Lines.{endsInCr, ends-snoc, no-cr}
 use Rattle.ntriples.proofs.Claims.{read-at}
+
+-- a byte at which the reading breaks
+breaks : (text : List ℕ) (stop i : ℕ) (p : State) → i < stop → stop ≤ length text
+    → advanceOf 255 i p (getD text i 0) ≡ Broken i
+    → onward text stop i p ≡ Fails i
+breaks text stop i p h t e = step-to text stop i p (Broken i) h t e ∙ onward-broken text stop (i + 1) i
 
 -- A run of bytes that do not leave a place is read over.
 abbrev Stays : (ℕ → Bool) → State → Type 0
@@ -58,18 +47,30 @@ over-run zero f text stop i p s e t =
     let h : stop ≤ i = omega arith in rw (run-end f text i stop h)
 over-run (suc k) f text stop i p s e t =
     let h : i < stop = omega arith in
-    ⊎-elim
+    decide (f (getD text i 0))
     (λ z. step-to text stop i p p h t (s i (getD text i 0) z)
     ∙ (over-run k f text stop (i + 1) p s (omega arith) t ∙ ap (λ (r : ℕ). onward text stop r p) (sym
     (run-turn f text i stop h t z))))
     (λ z. rw (run-out f text i stop h t z))
-    (decide (f (getD text i 0)))
 
-skipped : (f : ℕ → Bool) (text : List ℕ) (stop i r : ℕ) (p : State) → Stays f p → i ≤ stop → stop ≤ length text
-    → RunEnd f text i stop r
-    → onward text stop i p ≡ onward text stop r p
-skipped f text stop i r p s h t e =
-    over-run (stop - i) f text stop i p s (omega arith) t ∙ ap (λ (z : ℕ). onward text stop z p) (sym (e .end))
+module _ {f : ℕ → Bool} {text : List ℕ} {stop i r : ℕ} (p : State) (s : Stays f p) (l : Inline text i stop)
+    (e : RunEnd f text i stop r) where
+  skipped : onward text stop i p ≡ onward text stop r p
+  skipped =
+      let h = l .before in
+      over-run (stop - i) f text stop i p s (omega arith) (l .inText)
+      ∙ ap (λ (z : ℕ). onward text stop z p) (sym (e .end))
+
+  -- and then the line ends, a byte leads on, or the reading breaks at one
+  run-ends : (o : Outcome) → stop ≤ r → endOf stop p ≡ o → onward text stop i p ≡ o
+  run-ends o k z = skipped ∙ at-end text stop r p o k z
+
+  run-leads : (q : State) → r < stop → advanceOf 255 r p (getD text r 0) ≡ q
+      → onward text stop i p ≡ onward text stop (r + 1) q
+  run-leads q k z = skipped ∙ step-to text stop r p q k (l .inText) z
+
+  run-breaks : r < stop → advanceOf 255 r p (getD text r 0) ≡ Broken r → onward text stop i p ≡ Fails r
+  run-breaks k z = skipped ∙ breaks text stop r p k (l .inText) z
 
 begin-stays : Stays white Begin
 unfolding advanceOf
@@ -91,103 +92,101 @@ comment-line-stays : Stays commentByte CommentLine
 unfolding advanceOf
 comment-line-stays i b e = rw e
 
--- a byte at which the reading breaks
-breaks : (text : List ℕ) (stop i : ℕ) (p : State) → i < stop → stop ≤ length text
-    → advanceOf 255 i p (getD text i 0) ≡ Broken i
-    → onward text stop i p ≡ Fails i
-breaks text stop i p h t e = step-to text stop i p (Broken i) h t e ∙ onward-broken text stop (i + 1) i
-
 -- A comment, on its own and after the dot.
-pub comment-line-end : (text : List ℕ) (stop i r : ℕ) → i ≤ stop → stop ≤ length text → RunEnd commentByte text i stop r
-    → stop ≤ r
-    → onward text stop i CommentLine ≡ Empty
-unfolding endOf
-comment-line-end text stop i r h t e k =
-    skipped commentByte text stop i r CommentLine comment-line-stays h t e ∙ at-end text stop r CommentLine Empty k refl
+module _ {text : List ℕ} {stop i r : ℕ} (l : Inline text i stop) (e : RunEnd commentByte text i stop r) where
+  pub comment-line-end : stop ≤ r → onward text stop i CommentLine ≡ Empty
+  unfolding endOf
+  comment-line-end k = run-ends CommentLine comment-line-stays l e Empty k refl
 
-pub comment-line-odd : (text : List ℕ) (stop i r : ℕ) → i ≤ stop → stop ≤ length text → RunEnd commentByte text i stop r
-    → r < stop
-    → onward text stop i CommentLine ≡ Fails r
-unfolding advanceOf
-comment-line-odd text stop i r h t e k =
-    skipped commentByte text stop i r CommentLine comment-line-stays h t e ∙ breaks text stop r CommentLine k t (rw (e .out k))
+  pub comment-line-odd : r < stop → onward text stop i CommentLine ≡ Fails r
+  unfolding advanceOf
+  comment-line-odd k = run-breaks CommentLine comment-line-stays l e k (rw (e .out k))
 
-pub comment-after-dot-end : (text : List ℕ) (stop i r : ℕ) (ms : List Span) → i ≤ stop → stop ≤ length text
-    → RunEnd commentByte text i stop r
-    → stop ≤ r → onward text stop i (CommentAfterDot ms) ≡ Terms ms
-unfolding endOf
-comment-after-dot-end text stop i r ms h t e k =
-    skipped commentByte text stop i r (CommentAfterDot ms) (comment-after-dot-stays ms) h t e
-    ∙ at-end text stop r (CommentAfterDot ms) (Terms ms) k refl
+  pub comment-after-dot-end : (ms : List Span) → stop ≤ r → onward text stop i (CommentAfterDot ms) ≡ Terms ms
+  unfolding endOf
+  comment-after-dot-end ms k = run-ends (CommentAfterDot ms) (comment-after-dot-stays ms) l e (Terms ms) k refl
 
-pub comment-after-dot-odd : (text : List ℕ) (stop i r : ℕ) (ms : List Span) → i ≤ stop → stop ≤ length text
-    → RunEnd commentByte text i stop r
-    → r < stop → onward text stop i (CommentAfterDot ms) ≡ Fails r
-unfolding advanceOf
-comment-after-dot-odd text stop i r ms h t e k =
-    skipped commentByte text stop i r (CommentAfterDot ms) (comment-after-dot-stays ms) h t e
-    ∙ breaks text stop r (CommentAfterDot ms) k t (rw
-    (e .out k))
+  pub comment-after-dot-odd : (ms : List Span) → r < stop → onward text stop i (CommentAfterDot ms) ≡ Fails r
+  unfolding advanceOf
+  comment-after-dot-odd ms k = run-breaks (CommentAfterDot ms) (comment-after-dot-stays ms) l e k (rw (e .out k))
 
--- After the dot.
-pub after-end : (text : List ℕ) (stop i r : ℕ) (ms : List Span) → i ≤ stop → stop ≤ length text
-    → RunEnd white text i stop r → r ≡ stop
-    → onward text stop i (After ms) ≡ Terms ms
-unfolding endOf
-after-end text stop i r ms h t e k =
-    skipped white text stop i r (After ms) (after-stays ms) h t e ∙ at-end text stop r (After ms) (Terms ms)
-    (omega arith) refl
+-- White space, after the dot, between terms and at the line's beginning.
+module _ {text : List ℕ} {stop i r : ℕ} (l : Inline text i stop) (e : RunEnd white text i stop r) where
+  pub after-end : (ms : List Span) → r ≡ stop → onward text stop i (After ms) ≡ Terms ms
+  unfolding endOf
+  after-end ms k = run-ends (After ms) (after-stays ms) l e (Terms ms) (omega arith) refl
 
-pub after-odd : (text : List ℕ) (stop i r : ℕ) (ms : List Span) → i ≤ stop → stop ≤ length text
-    → RunEnd white text i stop r
-    → (r ≡ stop → ⊥) → (getD text r 0 ≡ 35 → ⊥) → onward text stop i (After ms) ≡ Fails r
-unfolding advanceOf afterOf
-after-odd text stop i r ms h t e n b =
-    let k = strictly r stop (e .before) n in
-    skipped white text stop i r (After ms) (after-stays ms) h t e
-    ∙ breaks text stop r (After ms) k t (rw (e .out k, ne-eqb (getD text r 0) 35 b))
+  pub after-odd : (ms : List Span) → (r ≡ stop → ⊥) → (getD text r 0 ≡ 35 → ⊥) → onward text stop i (After ms) ≡ Fails r
+  unfolding advanceOf afterOf
+  after-odd ms n b =
+      let k = strictly r stop (e .before) n in
+      run-breaks (After ms) (after-stays ms) l e k (rw (e .out k, ne-eqb (getD text r 0) 35 b))
 
-pub after-note : (text : List ℕ) (stop i r : ℕ) (ms : List Span) → i ≤ stop → stop ≤ length text
-    → RunEnd white text i stop r
-    → (r ≡ stop → ⊥) → getD text r 0 ≡ 35 → onward text stop i (After ms) ≡ onward text stop (r + 1) (CommentAfterDot ms)
-unfolding advanceOf afterOf
-after-note text stop i r ms h t e n b =
-    let k = strictly r stop (e .before) n in
-    skipped white text stop i r (After ms) (after-stays ms) h t e
-    ∙ step-to text stop r (After ms) (CommentAfterDot ms) k t (rw (e .out k, eq-eqb (getD text r 0) 35 b))
+  pub after-note : (ms : List Span) → (r ≡ stop → ⊥) → getD text r 0 ≡ 35
+      → onward text stop i (After ms) ≡ onward text stop (r + 1) (CommentAfterDot ms)
+  unfolding advanceOf afterOf
+  after-note ms n b =
+      let k = strictly r stop (e .before) n in
+      run-leads (After ms) (after-stays ms) l e (CommentAfterDot ms) k (rw (e .out k, eq-eqb (getD text r 0) 35 b))
 
--- Between terms.
-pub gap-skipped : (text : List ℕ) (stop i r : ℕ) (ms : List Span) (n : ℕ) → i ≤ stop → stop ≤ length text
-    → RunEnd white text i stop r
-    → onward text stop i (Gap ms n) ≡ onward text stop r (Gap ms n)
-gap-skipped text stop i r ms n h t e = skipped white text stop i r (Gap ms n) (gap-stays ms n) h t e
+  pub gap-skipped : (ms : List Span) (n : ℕ) → onward text stop i (Gap ms n) ≡ onward text stop r (Gap ms n)
+  gap-skipped ms n = skipped (Gap ms n) (gap-stays ms n) l e
 
-pub run-not-white : (text : List ℕ) (stop i r : ℕ) → stop ≤ length text → RunEnd white text i stop r → NotWhite text r stop
-run-not-white text stop i r t e = record { before = e .before; inText = t; notWhite = e .out }
+  pub run-not-white : NotWhite text r stop
+  run-not-white = record { before = e .before; inText = l .inText; notWhite = e .out }
 
-pub dot-none : (text : List ℕ) (stop i r : ℕ) (ms : List Span) → i ≤ stop → stop ≤ length text
-    → RunEnd white text i stop r → r ≡ stop
-    → onward text stop i (Gap ms 0) ≡ Fails r
-unfolding endOf
-dot-none text stop i r ms h t e k =
-    gap-skipped text stop i r ms 0 h t e ∙ at-end text stop r (Gap ms 0) (Fails r) (omega arith) (ap Fails (sym k))
+  pub dot-none : (ms : List Span) → r ≡ stop → onward text stop i (Gap ms 0) ≡ Fails r
+  unfolding endOf
+  dot-none ms k = run-ends (Gap ms 0) (gap-stays ms 0) l e (Fails r) (omega arith) (ap Fails (sym k))
 
-pub dot-odd : (text : List ℕ) (stop i r : ℕ) (ms : List Span) → i ≤ stop → stop ≤ length text
-    → RunEnd white text i stop r
-    → (r ≡ stop → ⊥) → (getD text r 0 ≡ 46 → ⊥) → onward text stop i (Gap ms 0) ≡ Fails r
-unfolding advanceOf gapOf
-dot-odd text stop i r ms h t e n b =
-    let k = strictly r stop (e .before) n in
-    gap-skipped text stop i r ms 0 h t e ∙ breaks text stop r (Gap ms 0) k t (rw (e .out k, ne-eqb (getD text r 0) 46 b))
+  pub dot-odd : (ms : List Span) → (r ≡ stop → ⊥) → (getD text r 0 ≡ 46 → ⊥) → onward text stop i (Gap ms 0) ≡ Fails r
+  unfolding advanceOf gapOf
+  dot-odd ms n b =
+      let k = strictly r stop (e .before) n in
+      run-breaks (Gap ms 0) (gap-stays ms 0) l e k (rw (e .out k, ne-eqb (getD text r 0) 46 b))
 
-pub dot-read : (text : List ℕ) (stop i r : ℕ) (ms : List Span) → i ≤ stop → stop ≤ length text
-    → RunEnd white text i stop r
-    → (r ≡ stop → ⊥) → getD text r 0 ≡ 46 → onward text stop i (Gap ms 0) ≡ onward text stop (r + 1) (After ms)
-unfolding advanceOf gapOf
-dot-read text stop i r ms h t e n b =
-    let k = strictly r stop (e .before) n in
-    gap-skipped text stop i r ms 0 h t e
-    ∙ step-to text stop r (Gap ms 0) (After ms) k t (rw (e .out k, eq-eqb (getD text r 0) 46 b))
+  pub dot-read : (ms : List Span) → (r ≡ stop → ⊥) → getD text r 0 ≡ 46
+      → onward text stop i (Gap ms 0) ≡ onward text stop (r + 1) (After ms)
+  unfolding advanceOf gapOf
+  dot-read ms n b =
+      let k = strictly r stop (e .before) n in
+      run-leads (Gap ms 0) (gap-stays ms 0) l e (After ms) k (rw (e .out k, eq-eqb (getD text r 0) 46 b))
+
+  pub begin-end : r ≡ stop → onward text stop i Begin ≡ Empty
+  unfolding endOf
+  begin-end k = run-ends Begin begin-stays l e Empty (omega arith) refl
+
+  pub begin-note : (r ≡ stop → ⊥) → getD text r 0 ≡ 35 → onward text stop i Begin ≡ onward text stop (r + 1) CommentLine
+  unfolding advanceOf
+  begin-note n b =
+      let k = strictly r stop (e .before) n in
+      run-leads Begin begin-stays l e CommentLine k (rw (e .out k, eq-eqb (getD text r 0) 35 b))
+
+  pub begin-term : (r ≡ stop → ⊥) → (getD text r 0 ≡ 35 → ⊥) → onward text stop i Begin ≡ onward text stop r (Gap [] 3)
+  unfolding advanceOf gapOf
+  begin-term n b =
+      let k = strictly r stop (e .before) n in
+      let q = enterOf r [] 2 (getD text r 0) in
+      run-leads Begin begin-stays l e q k (rw (e .out k, ne-eqb (getD text r 0) 35 b))
+      ∙ sym (step-to text stop r (Gap [] 3) q k (l .inText) (rw (e .out k)))
+
+-- where a run ends, and after one byte more
+pub line-of : {text : List ℕ} {at i stop : ℕ} → OnLine text at i stop → Inline text i stop
+line-of p = record { before = p .before; inText = p .inText }
+
+pub line-begun : {text : List ℕ} {i stop : ℕ} → Inline text i stop → OnLine text i i stop
+line-begun l = record { begun = omega arith; before = l .before; inText = l .inText }
+
+pub run-reached : {f : ℕ → Bool} {text : List ℕ} {at i stop r : ℕ} → OnLine text at i stop → RunEnd f text i stop r
+    → OnLine text at r stop
+run-reached p e =
+    let b = p .begun in let a = e .after in record { begun = omega arith; before = e .before; inText = p .inText }
+
+pub line-next : {text : List ℕ} {at i stop : ℕ} → OnLine text at i stop → (i ≡ stop → ⊥) → OnLine text at (i + 1) stop
+line-next {i = i} {stop = stop} p n =
+    let b = p .begun in
+    let k = strictly i stop (p .before) n in
+    record { begun = omega arith; before = omega arith; inText = p .inText }
 
 -- a place where a term is due, and none begins
 pub term-none : (text : List ℕ) (stop a n : ℕ) → a ≡ stop → TermEnds text stop n a (term.Broken a)
@@ -195,17 +194,25 @@ unfolding endOf
 term-none text stop a n h =
     (omega arith, λ ms. at-end text stop a (Gap ms (suc n)) (Fails a) (omega arith) (ap Fails (sym h)))
 
-pub term-closed : (text : List ℕ) (stop a n : ℕ) → NotWhite text a stop → (a ≡ stop → ⊥) → opens n (getD text a 0) ≡ false
+pub term-closed : (text : List ℕ) (stop a n : ℕ) → NotWhite text a stop → (a ≡ stop → ⊥)
+    → opens n (getD text a 0) ≡ false
     → TermEnds text stop n a (term.Broken a)
 unfolding advanceOf gapOf enterOf
 term-closed text stop a n d h o =
     let k = strictly a stop (d .before) h in
     (omega arith, λ ms. breaks text stop a (Gap ms (suc n)) k (d .inText) (rw (d .notWhite k, o)))
 
+pub term-opened : (text : List ℕ) (stop a n : ℕ) → NotWhite text a stop → (a ≡ stop → ⊥)
+    → opens n (getD text a 0) ≡ true
+    → TermAt text a stop
+term-opened text stop a n d h o =
+    record { before = strictly a stop (d .before) h; inText = d .inText; opening = opens-any n (getD text a 0) o }
+
 pub object-none : (text : List ℕ) (stop a : ℕ) → a ≡ stop → ObjectEnds text stop a (object.Broken a)
 object-none text stop a h = term-none text stop a 0 h
 
-pub object-closed : (text : List ℕ) (stop a : ℕ) → NotWhite text a stop → (a ≡ stop → ⊥) → opens 0 (getD text a 0) ≡ false
+pub object-closed : (text : List ℕ) (stop a : ℕ) → NotWhite text a stop → (a ≡ stop → ⊥)
+    → opens 0 (getD text a 0) ≡ false
     → ObjectEnds text stop a (object.Broken a)
 object-closed text stop a d h o = term-closed text stop a 0 d h o
 
@@ -217,33 +224,6 @@ term-told text stop n a r r′ e h = rw e at h
 pub object-told : (text : List ℕ) (stop a : ℕ) (r r′ : ObjectEnd) → r ≡ r′ → ObjectEnds text stop a r
     → ObjectEnds text stop a r′
 object-told text stop a r r′ e h = rw e at h
-
--- The line's beginning.
-pub begin-end : (text : List ℕ) (stop i r : ℕ) → i ≤ stop → stop ≤ length text → RunEnd white text i stop r → r ≡ stop
-    → onward text stop i Begin ≡ Empty
-unfolding endOf
-begin-end text stop i r h t e k =
-    skipped white text stop i r Begin begin-stays h t e ∙ at-end text stop r Begin Empty (omega arith) refl
-
-pub begin-note : (text : List ℕ) (stop i r : ℕ) → i ≤ stop → stop ≤ length text → RunEnd white text i stop r
-    → (r ≡ stop → ⊥)
-    → getD text r 0 ≡ 35 → onward text stop i Begin ≡ onward text stop (r + 1) CommentLine
-unfolding advanceOf
-begin-note text stop i r h t e n b =
-    let k = strictly r stop (e .before) n in
-    skipped white text stop i r Begin begin-stays h t e
-    ∙ step-to text stop r Begin CommentLine k t (rw (e .out k, eq-eqb (getD text r 0) 35 b))
-
-pub begin-term : (text : List ℕ) (stop i r : ℕ) → i ≤ stop → stop ≤ length text → RunEnd white text i stop r
-    → (r ≡ stop → ⊥)
-    → (getD text r 0 ≡ 35 → ⊥) → onward text stop i Begin ≡ onward text stop r (Gap [] 3)
-unfolding advanceOf gapOf
-begin-term text stop i r h t e n b =
-    let k = strictly r stop (e .before) n in
-    let q = enterOf r [] 2 (getD text r 0) in
-    skipped white text stop i r Begin begin-stays h t e
-    ∙ (step-to text stop r Begin q k t (rw (e .out k, ne-eqb (getD text r 0) 35 b))
-    ∙ sym (step-to text stop r (Gap [] 3) q k t (rw (e .out k))))
 
 -- The text: where its first line ends.
 whole-line : (text : List ℕ) (i stop : ℕ) → i ≤ stop → stop ≤ length text
@@ -390,27 +370,26 @@ pub read-broken : (text : List ℕ) (i e : ℕ) → i < length text → EolAt te
     → readSpelled 255 text i ≡ record { line = answerOf i (onward text (crDropped text i e) i Begin); next = e + 1 }
 read-broken text i e h t n =
     let k = strictly e (length text) (t .before) n in
-    ⊎-elim
+    decide (eqb e i)
     (λ z. let y = eqb-true e i z in
     rw (dropped-none text i e z) (read-lf text i e h t k (rw (y, slice-empty i text))))
     (λ z. let y = strictly i e (t .after) (λ q. eqb-false e i z (sym q)) in
-    ⊎-elim (λ w. rw (dropped-cr text i e z w) (read-crlf text i e h t k y (eqb-true (getD text (e - 1) 0) 13 w)))
-    (λ w. rw (dropped-no text i e z w) (read-lf text i e h t k (cr-last text i e y (t .before) ∙ w)))
-    (decide (eqb (getD text (e - 1) 0) 13)))
-    (decide (eqb e i))
+    decide (eqb (getD text (e - 1) 0) 13)
+    (λ w. rw (dropped-cr text i e z w) (read-crlf text i e h t k y (eqb-true (getD text (e - 1) 0) 13 w)))
+    (λ w. rw (dropped-no text i e z w) (read-lf text i e h t k (cr-last text i e y (t .before) ∙ w))))
 
 pub dropped-facts : (text : List ℕ) (i e : ℕ) → i ≤ e → (i ≤ crDropped text i e) × (crDropped text i e ≤ e)
 dropped-facts text i e h =
-    ⊎-elim (λ z. rw (dropped-none text i e z) (omega arith, omega arith))
+    decide (eqb e i) (λ z. rw (dropped-none text i e z) (omega arith, omega arith))
     (λ z. let y = eqb-false e i z in
-    ⊎-elim (λ w. rw (dropped-cr text i e z w) (omega arith, omega arith)) (λ w. rw (dropped-no text i e z w)
-    (omega arith, omega arith))
-    (decide (eqb (getD text (e - 1) 0) 13)))
-    (decide (eqb e i))
+    decide (eqb (getD text (e - 1) 0) 13) (λ w. rw (dropped-cr text i e z w) (omega arith, omega arith))
+    (λ w. rw (dropped-no text i e z w)
+    (omega arith, omega arith)))
 
 -- where a line stops and where the next one begins, by its end
 abbrev pub Stops : List ℕ → ℕ → ℕ → ℕ → ℕ → Type 0
-Stops text i e s n = ((e ≡ length text) × (s ≡ e) × (n ≡ e)) ⊎ ((e ≡ length text → ⊥) × (s ≡ crDropped text i e) × (n ≡ e + 1))
+Stops text i e s n = ((e ≡ length text) × (s ≡ e) × (n ≡ e))
+    ⊎ ((e ≡ length text → ⊥) × (s ≡ crDropped text i e) × (n ≡ e + 1))
 
 pub stops-inline : (text : List ℕ) (i e s n : ℕ) → EolAt text i e → Stops text i e s n → Inline text i s
 stops-inline text i e s n t (inl w) = rw (w .1) record { before = t .after; inText = t .before }

@@ -10,13 +10,14 @@ use Rattle.term.specs.Bytes as b
 use Rattle.term.specs.Bytes.{between, among, All}
 use Rattle.term.specs.Scanner.{firstKindOf}
 use Rattle.term.specs.Grammar as g
+use Rattle.term.proofs.Booleans.{decide}
 use Rattle.term.proofs.Names.{never, name-kind}
 use Rattle.term.proofs.Turn.{unlike}
 use Rattle.ntriples.specs.Grammar.{white, commentByte, Trail, Subject, Predicate, Object, Triple}
 use Rattle.ntriples.specs.Standard as std
-use Rattle.ntriples.specs.Standard.{one, the, _▸_, _∣_, maybe, many, except}
+use Rattle.ntriples.specs.Standard.{one, the, _▸_, _∣_, maybe, many, except, TripleOf}
 use Rattle.ntriples.specs.Claims.{InSubset, SubsetOfStandard}
-use Rattle.ntriples.proofs.Residual.{cases}
+use Rattle.ntriples.proofs.Residual.{cases, white-byte}
 
 -- ---- classes of bytes
 
@@ -41,15 +42,12 @@ not-among : (t : Bool) (ys xs : List ℕ) (c : ℕ) → among ys c ≡ t → All
 not-among true ys xs c e f h = never (sym h ∙ among-in ys xs c f e)
 not-among false ys xs c e f h = refl
 
-pub split : {C : Type 0} (t : Bool) → (t ≡ true → C) → (t ≡ false → C) → C
-split true f g = f refl
-split false f g = g refl
-
 except-is : (cs : List ℕ) (lo c : ℕ) → among cs c ≡ false → between lo 0x10FFFF c ≡ true → except cs lo c ≡ true
 except-is cs lo c e h = rw (e, h)
 
 iri-list :
-    All (among (60 ∷ 62 ∷ 34 ∷ 123 ∷ 125 ∷ 124 ∷ 94 ∷ 92 ∷ 96 ∷ [])) (60 ∷ 62 ∷ 34 ∷ 123 ∷ 125 ∷ 124 ∷ 94 ∷ 96 ∷ 92 ∷ [])
+    All (among (60 ∷ 62 ∷ 34 ∷ 123 ∷ 125 ∷ 124 ∷ 94 ∷ 92 ∷ 96 ∷ []))
+    (60 ∷ 62 ∷ 34 ∷ 123 ∷ 125 ∷ 124 ∷ 94 ∷ 96 ∷ 92 ∷ [])
 unfolding among
 iri-list = (refl, (refl, (refl, (refl, (refl, (refl, (refl, (refl, (refl, tt)))))))))
 
@@ -58,7 +56,8 @@ unfolding b.iriByte std.iriChar
 iri-byte c h =
     cases (λ x. x ≡ true) (among (60 ∷ 62 ∷ 34 ∷ 123 ∷ 125 ∷ 124 ∷ 94 ∷ 92 ∷ 96 ∷ []) c) false (between 33 126 c)
     (λ _ z. never z)
-    (λ e k. except-is _ 33 c (not-among _ _ _ c refl iri-list e) (wider 33 126 33 0x10FFFF c (omega arith) (omega arith) k)) h
+    (λ e k. except-is _ 33 c (not-among _ _ _ c refl iri-list e)
+    (wider 33 126 33 0x10FFFF c (omega arith) (omega arith) k)) h
 
 text-byte : (c : ℕ) → b.textByte c ≡ true → std.stringChar c ≡ true
 unfolding b.textByte std.stringChar among
@@ -91,14 +90,15 @@ comment-byte c h =
 letter-byte : (c : ℕ) → b.letter c ≡ true → std.letter c ≡ true
 unfolding b.letter std.letter
 letter-byte c h =
-    split (between 97 122 c) (λ p. rw p)
+    decide (between 97 122 c) (λ p. rw p)
     (λ p. cases (λ x. x ≡ true) (between 65 90 c) true (between 97 122 c) (λ e _. rw (p, e)) (λ _ k. rw k) h)
 
 alnum-byte : (c : ℕ) → b.alnum c ≡ true → std.letterOrDigit c ≡ true
 unfolding b.alnum b.letter std.letterOrDigit
 alnum-byte c h =
-    split (between 97 122 c) (λ p. rw p)
-    (λ p. split (between 65 90 c) (λ q. rw (p, q)) (λ q. let k : between 48 57 c ≡ true = rw (q, p) at h in rw (p, q, k)))
+    decide (between 97 122 c) (λ p. rw p)
+    (λ p. decide (between 65 90 c) (λ q. rw (p, q))
+    (λ q. let k : between 48 57 c ≡ true = rw (q, p) at h in rw (p, q, k)))
 
 base-byte : (c : ℕ) → b.letter c ≡ true → std.PN-CHARS-BASE c ≡ true
 unfolding b.letter std.PN-CHARS-BASE
@@ -106,7 +106,8 @@ base-byte c h =
     cases (λ x. x ≡ true) (between 65 90 c) true (between 97 122 c) (λ e _. rw e) (λ e k. rw (e, k)) h
 
 -- `_`, or a letter, or a digit
-first-cases : {C : Type 0} (c : ℕ) → (eqb c 95 ≡ true → C) → (std.PN-CHARS-BASE c ≡ true → C) → (between 48 57 c ≡ true → C)
+first-cases : {C : Type 0} (c : ℕ) → (eqb c 95 ≡ true → C) → (std.PN-CHARS-BASE c ≡ true → C)
+    → (between 48 57 c ≡ true → C)
     → b.firstByte c ≡ true → C
 unfolding b.firstByte b.alnum
 first-cases c f₁ f₂ f₃ h =
@@ -129,7 +130,7 @@ first-byte c h =
 label-byte : (c : ℕ) → b.labelByte c ≡ true → std.PN-CHARS c ≡ true
 unfolding b.labelByte std.PN-CHARS
 label-byte c h =
-    split (std.PN-CHARS-U c) (λ p. rw p)
+    decide (std.PN-CHARS-U c) (λ p. rw p)
     (λ p. cases (λ x. x ≡ true) (eqb c 45) true (b.firstByte c) (λ e _. rw (p, e))
     (λ q k. first-cases c (λ e. rw (under-byte c e)) (λ e. rw (base-under c e)) (λ e. rw (p, q, e)) k) h)
 
@@ -168,7 +169,8 @@ group-rest g.GroupRest.end = _▸_.pair many.none many.none
 group-rest (g.GroupRest.byte {b = c} e r) = front _ _ (one.char (alnum-byte c e)) (group-rest r)
 group-rest (g.GroupRest.group {b = c} e r) = _▸_.pair many.none (new-group (alnum-byte c e) (group-rest r))
 
-tag-rest : {s : List ℕ} → g.TagRest s → (many (one std.letter) ▸ many (the 45 ▸ one std.letterOrDigit ▸ many (one std.letterOrDigit))) s
+tag-rest : {s : List ℕ} → g.TagRest s → (many (one std.letter) ▸ many
+    (the 45 ▸ one std.letterOrDigit ▸ many (one std.letterOrDigit))) s
 tag-rest g.TagRest.end = _▸_.pair many.none many.none
 tag-rest (g.TagRest.byte {b = c} e r) = front _ _ (one.char (letter-byte c e)) (tag-rest r)
 tag-rest (g.TagRest.group {b = c} e r) = _▸_.pair many.none (new-group (alnum-byte c e) (group-rest r))
@@ -245,10 +247,8 @@ object-name (Object.blank h) = (2, g.Name.blank h)
 object-name (Object.literal h) = (3, g.Name.literal h)
 
 white-comment : (c : ℕ) → white c ≡ true → commentByte c ≡ true
-unfolding white among commentByte
-white-comment c h =
-    cases (λ x. x ≡ true) (eqb c 32) true (among (9 ∷ []) c) (λ e _. rw (eqb-true c 32 e))
-    (λ _ k. cases (λ x. x ≡ true) (eqb c 9) true false (λ e _. rw e) (λ _ z. never z) k) h
+unfolding commentByte
+white-comment c h = white-byte c (λ e. rw e) (λ e. rw e) h
 
 hash-comment : commentByte 35 ≡ true
 unfolding commentByte
@@ -259,8 +259,11 @@ trail-bytes Trail.end = tt
 trail-bytes (Trail.space {b = c} h r) = (white-comment c h, trail-bytes r)
 trail-bytes (Trail.comment h) = (hash-comment, h)
 
-forth : {l : List ℕ} → Triple l → std.Triple l
-forth d =
+-- a derivation with the same strings, by other productions
+unfoldable retold : {S P O W E S′ P′ O′ W′ E′ : List ℕ → Type 0} {l : List ℕ} (d : TripleOf S P O W E l)
+    → (S (d .subject) → S′ (d .subject)) → (P (d .predicate) → P′ (d .predicate)) → (O (d .object) → O′ (d .object))
+    → ((s : List ℕ) → W s → W′ s) → (E (d .after) → E′ (d .after)) → TripleOf S′ P′ O′ W′ E′ l
+retold d s p o w e =
     record {
       before = d .before;
       subject = d .subject;
@@ -271,15 +274,18 @@ forth d =
       between₃ = d .between₃;
       after = d .after;
       spells = d .spells;
-      white₀ = white-space (d .before) (d .white₀);
-      isSubject = subject (d .isSubject);
-      white₁ = white-space (d .between₁) (d .white₁);
-      isPredicate = predicate (d .isPredicate);
-      white₂ = white-space (d .between₂) (d .white₂);
-      isObject = object (d .isObject);
-      white₃ = white-space (d .between₃) (d .white₃);
-      trail = trail (d .trail);
+      white₀ = w (d .before) (d .white₀);
+      isSubject = s (d .isSubject);
+      white₁ = w (d .between₁) (d .white₁);
+      isPredicate = p (d .isPredicate);
+      white₂ = w (d .between₂) (d .white₂);
+      isObject = o (d .isObject);
+      white₃ = w (d .between₃) (d .white₃);
+      trail = e (d .trail);
     }
+
+forth : {l : List ℕ} → Triple l → std.Triple l
+forth d = retold d (λ x. subject x) (λ x. predicate x) (λ x. object x) white-space (λ x. trail x)
 
 -- ---- a derivation of the standard within the subset is one of the paper
 
@@ -337,7 +343,8 @@ comment-after-dot : {s : List ℕ} → maybe std.COMMENT s → All commentByte s
 comment-after-dot maybe.none f = Trail.end
 comment-after-dot (maybe.some (_▸_.pair the.char r)) f = Trail.comment (f .1)
 
-spaced : {s : List ℕ} (t : List ℕ) → std.WS s → (All commentByte t → Trail t) → All commentByte (s ++ t) → Trail (s ++ t)
+spaced : {s : List ℕ} (t : List ℕ) → std.WS s → (All commentByte t → Trail t) → All commentByte (s ++ t)
+    → Trail (s ++ t)
 unfolding white
 spaced t many.none g f = g f
 spaced t (many.more (one.char h) r) g f = Trail.space h (spaced t r g (f .1))
@@ -348,28 +355,11 @@ trail-back (_▸_.pair {t = t} w c) f = spaced t w (λ h. comment-after-dot c h)
 back : {l : List ℕ} (e : std.Triple l) → InSubset e → Triple l
 unfolding commentByte
 back e h =
-    record {
-      before = e .before;
-      subject = e .subject;
-      between₁ = e .between₁;
-      predicate = e .predicate;
-      between₂ = e .between₂;
-      object = e .object;
-      between₃ = e .between₃;
-      after = e .after;
-      spells = e .spells;
-      white₀ = white-back (e .white₀);
-      isSubject = subject-back (e .isSubject) (h .subject .1);
-      white₁ = white-back (e .white₁);
-      isPredicate = Predicate.iri (iri-back (e .isPredicate) (h .predicate .1));
-      white₂ = white-back (e .white₂);
-      isObject = object-back (e .isObject) (h .object .1);
-      white₃ = white-back (e .white₃);
-      trail = trail-back (e .trail) (h .after);
-    }
+    retold e (λ x. subject-back x (h .subject .1)) (λ x. Predicate.iri (iri-back x (h .predicate .1)))
+    (λ x. object-back x (h .object .1)) (λ s x. white-back x) (λ x. trail-back x (h .after))
 
 pub subset-of-standard : SubsetOfStandard
-unfolding forth back commentByte
+unfolding retold forth back commentByte
 subset-of-standard l = (
   λ d. (
     forth d,

@@ -10,15 +10,18 @@ use borrow.Author.Tests.{eqb-true, leb-true}
 use Rattle.term.specs.Bytes as b
 use Rattle.term.specs.Bytes.{between, among, All}
 use Rattle.term.specs.Grammar as g
+use Rattle.term.proofs.Booleans.{decide}
+use Rattle.term.proofs.Lists.{no-nil}
 use Rattle.term.proofs.Names.{never}
 use Rattle.term.proofs.Table.{spans, at-range, eqBool, same-bool}
 use Rattle.ntriples.specs.TermOf.{suffixFrom}
 use Rattle.ntriples.specs.Standard as std
 use Rattle.ntriples.specs.Standard.{one, the, _▸_, _∣_, maybe, many}
-use Rattle.ntriples.specs.Subset.{bare, unmarked, fourPairs, visible, Plain, IrisOfStandard, BlanksOfStandard, LiteralsOfStandard}
+use Rattle.ntriples.specs.Subset.{bare, unmarked, fourPairs, visible, Plain, IrisOfStandard, BlanksOfStandard}
+use Rattle.ntriples.specs.Subset.{LiteralsOfStandard}
 use Rattle.ntriples.proofs.Residual.{cases}
 use Rattle.ntriples.proofs.Terms.{plain, pair-cases}
-use Rattle.ntriples.proofs.Standard.{within, split, iri, blank, literal}
+use Rattle.ntriples.proofs.Standard.{within, iri, blank, literal}
 use Rattle.ntriples.proofs.Unambiguous.{skip-char, skip-escape, skip-close}
 
 -- a class in another, by computing both up to 126
@@ -62,9 +65,11 @@ iri-filled : {s : List ℕ} → g.Iri s → s ≡ 60 ∷ 62 ∷ [] → ⊥
 iri-filled (g.Iri.open′ {b = c} {s = s} e r) h = no-close c s e h
 
 -- the characters of an IRI, with what follows them
-rest-back : {s : List ℕ} (t : List ℕ) → many (one std.iriChar ∣ std.UCHAR) s → All bare (s ++ t) → g.IriRest t → g.IriRest (s ++ t)
+rest-back : {s : List ℕ} (t : List ℕ) → many (one std.iriChar ∣ std.UCHAR) s → All bare (s ++ t) → g.IriRest t
+    → g.IriRest (s ++ t)
 rest-back t many.none f r = r
-rest-back t (many.more (_∣_.left (one.char {c = c} e)) m) f r = g.IriRest.byte (iri-char c e (f .0)) (rest-back t m (f .1) r)
+rest-back t (many.more (_∣_.left (one.char {c = c} e)) m) f r =
+    g.IriRest.byte (iri-char c e (f .0)) (rest-back t m (f .1) r)
 rest-back t (many.more (_∣_.right (_∣_.left (_▸_.pair the.char x))) m) f r = never (f .0)
 rest-back t (many.more (_∣_.right (_∣_.right (_▸_.pair the.char x))) m) f r = never (f .0)
 
@@ -144,7 +149,8 @@ label-char c h k =
     implied (λ i. cond (unmarked i) (std.PN-CHARS i) false) b.labelByte tt c (unmarked-bound c k)
     (both (unmarked c) (std.PN-CHARS c) k h)
 
-label-rest-back : {s : List ℕ} (t : List ℕ) → many (one std.PN-CHARS ∣ the 46) s → All unmarked (s ++ t) → (All unmarked t → g.LabelRest t)
+label-rest-back : {s : List ℕ} (t : List ℕ) → many (one std.PN-CHARS ∣ the 46) s → All unmarked (s ++ t)
+    → (All unmarked t → g.LabelRest t)
     → g.LabelRest (s ++ t)
 label-rest-back t many.none f r = r f
 label-rest-back t (many.more (_∣_.left (one.char {c = c} e)) m) f r =
@@ -174,15 +180,15 @@ blanks-of-standard s = (λ h. (blank h, blank-unmarked h), λ x. blank-narrow (x
 letter-char : (c : ℕ) → std.letter c ≡ true → b.letter c ≡ true
 unfolding std.letter b.letter
 letter-char c h =
-    split (between 65 90 c) (λ p. rw p)
-    (λ p. split (between 97 122 c) (λ q. rw (p, q)) (λ q. never (rw (q, p) at h)))
+    decide (between 65 90 c) (λ p. rw p)
+    (λ p. decide (between 97 122 c) (λ q. rw (p, q)) (λ q. never (rw (q, p) at h)))
 
 alnum-char : (c : ℕ) → std.letterOrDigit c ≡ true → b.alnum c ≡ true
 unfolding std.letterOrDigit b.alnum b.letter
 alnum-char c h =
-    split (between 65 90 c) (λ p. rw p)
-    (λ p. split (between 97 122 c) (λ q. rw (p, q))
-    (λ q. split (between 48 57 c) (λ r. rw (p, q, r)) (λ r. never (rw (q, p, r) at h))))
+    decide (between 65 90 c) (λ p. rw p)
+    (λ p. decide (between 97 122 c) (λ q. rw (p, q))
+    (λ q. decide (between 48 57 c) (λ r. rw (p, q, r)) (λ r. never (rw (q, p, r) at h))))
 
 alnums-back : {s : List ℕ} (t : List ℕ) → many (one std.letterOrDigit) s → g.GroupRest t → g.GroupRest (s ++ t)
 alnums-back t many.none r = r
@@ -276,11 +282,8 @@ suffix-visible (g.Suffix.datatype i) = (refl, (refl, type-visible i))
 no-tag : {C : Type 0} (s t : List ℕ) → 64 ∷ s ≡ 94 ∷ t → C
 no-tag s t e = let z : _≡_ {A = ℕ} 64 94 = cc in absurd (omega arith)
 
-no-none : {C : Type 0} (c : ℕ) (t : List ℕ) → [] ≡ c ∷ t → C
-no-none c t e = let z : _≡_ {A = ℕ} 0 1 = cc in absurd (omega arith)
-
 suffix-typed : {s : List ℕ} → g.Suffix s → s ≡ 94 ∷ 94 ∷ 60 ∷ 62 ∷ [] → ⊥
-suffix-typed g.Suffix.none h = no-none _ _ h
+suffix-typed g.Suffix.none h = no-nil h
 suffix-typed (g.Suffix.tag e r) h = no-tag _ _ h
 suffix-typed (g.Suffix.datatype i) h = iri-filled i (cc)
 
@@ -389,7 +392,8 @@ pub no-U : {C : Type 0} (s : List ℕ) → fourPairs false (92 ∷ (85 ∷ s)) �
 unfolding fourPairs among
 no-U s h = never h
 
-text-back : {s : List ℕ} (t : List ℕ) → many (one std.stringChar ∣ std.ECHAR ∣ std.UCHAR) s → Fit ((s ++ (34 ∷ [])) ++ t)
+text-back : {s : List ℕ} (t : List ℕ) → many (one std.stringChar ∣ std.ECHAR ∣ std.UCHAR) s
+    → Fit ((s ++ (34 ∷ [])) ++ t)
     → (All visible t → (t ≡ 94 ∷ 94 ∷ 60 ∷ 62 ∷ [] → ⊥) → g.Suffix t) → g.TextRest ((s ++ (34 ∷ [])) ++ t)
 text-back t many.none f k =
     g.TextRest.close (k (rw (skip-close t) at (f .suffix)) (λ h. f .typed (skip-close t ∙ h)))

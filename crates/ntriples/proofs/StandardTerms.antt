@@ -1,4 +1,5 @@
--- The term of a name of the paper by one pass over its bytes is the one that the standard gives it (specs/Claims.antt). Assumes nothing.
+-- The term of a name of the paper by one pass over its bytes is the one that the standard gives it (specs/Claims.antt).
+-- Assumes nothing.
 use Prim.Native.Nat.{ℕ}
 use mathlib.Core.Path.{_≡_, refl, sym, _∙_, ap}
 use mathlib.Core.List.{List, [], _∷_, _++_, append-assoc}
@@ -8,17 +9,16 @@ use Rattle.term.specs.Bytes.{All}
 use Rattle.term.specs.Grammar as g
 use Rattle.term.proofs.Names.{never}
 use Rattle.ntriples.specs.Standard as std
-use Rattle.ntriples.specs.Standard.{one, the, _▸_, _∣_, maybe, many}
-use Rattle.ntriples.specs.Standard.{iri, blank, literal, unescaped, iriChars, iriOf, stringChars, suffixed}
-use Rattle.ntriples.specs.Standard.{literalOf, subjectTerm}
+use Rattle.ntriples.specs.Standard.{one, the, _▸_, _∣_, maybe, many, iri, blank, literal, unescaped, iriChars}
+use Rattle.ntriples.specs.Standard.{iriOf, stringChars, suffixed, literalOf, subjectTerm}
 use Rattle.ntriples.specs.TermOf.{inner, lexicalFrom, suffixFrom, literalWith, termOf}
 use Rattle.ntriples.specs.Subset.{bare, visible}
 use Rattle.ntriples.specs.Claims.{TermOfStandard}
 use Rattle.ntriples.proofs.Terms.{plain}
 use Rattle.ntriples.proofs.Standard.{iri-back, literal-back}
 use Rattle.ntriples.proofs.Unambiguous.{string-rest}
-use Rattle.ntriples.proofs.StandardNames.{Fit, fit, iri-bares, visibles, no-white, string-char, after-byte, after-pair}
-use Rattle.ntriples.proofs.StandardNames.{pair-only, no-u, no-U, literal-plain}
+use Rattle.ntriples.proofs.StandardNames.{Fit, fit, iri-bares, visibles, no-white, string-char, after-byte}
+use Rattle.ntriples.proofs.StandardNames.{after-pair, pair-only, no-u, no-U, literal-plain}
 
 all-front : (f : ℕ → Bool) (s t : List ℕ) → All f (s ++ t) → All f s
 all-front f [] t h = tt
@@ -64,17 +64,21 @@ form t (many.more (_∣_.left (one.char {c = c} e)) r) f =
     rw (n .0, n .1) (ap (λ (z : List ℕ). c ∷ z) (form t r (after-byte c _ x f)))
 form t (many.more (_∣_.right (_∣_.left (_▸_.pair the.char (one.char {c = c} e)))) r) f =
     let x = pair-only c _ (f .escapes) in ap (λ (z : List ℕ). unescaped c ∷ z) (form t r (after-pair c _ x f))
-form t (many.more (_∣_.right (_∣_.right (_∣_.left (_▸_.pair the.char (_▸_.pair the.char x))))) r) f = no-u _ (f .escapes)
-form t (many.more (_∣_.right (_∣_.right (_∣_.right (_▸_.pair the.char (_▸_.pair the.char x))))) r) f = no-U _ (f .escapes)
+form t (many.more (_∣_.right (_∣_.right (_∣_.left (_▸_.pair the.char (_▸_.pair the.char x))))) r) f =
+    no-u _ (f .escapes)
+form t (many.more (_∣_.right (_∣_.right (_∣_.right (_▸_.pair the.char (_▸_.pair the.char x))))) r) f =
+    no-U _ (f .escapes)
 
-typed-term : {s : List ℕ} (x : List ℕ) (i : std.IRIREF s) → All bare s → literalWith x (94 ∷ (94 ∷ s)) ≡ literal x (iriOf i)
+typed-term : {s : List ℕ} (x : List ℕ) (i : std.IRIREF s) → All bare s
+    → literalWith x (94 ∷ (94 ∷ s)) ≡ literal x (iriOf i)
 unfolding literalWith
 typed-term x (_▸_.pair the.char r) f = ap (literal x) (iri-plain (_▸_.pair the.char r) f)
 
 suffix-term : {s : List ℕ} (x : List ℕ) (r : std.Suffix s) → All visible s → literalWith x s ≡ suffixed x r
 unfolding literalWith
 suffix-term x maybe.none f = refl
-suffix-term x (maybe.some (_∣_.left (_▸_.pair many.none (_▸_.pair the.char (_▸_.pair the.char (_▸_.pair {t = t} many.none i)))))) f =
+suffix-term x (maybe.some (_∣_.left (_▸_.pair many.none
+    (_▸_.pair the.char (_▸_.pair the.char (_▸_.pair {t = t} many.none i)))))) f =
     typed-term x i (visibles t (f .1 .1))
 suffix-term x (maybe.some (_∣_.left (_▸_.pair many.none (_▸_.pair the.char (_▸_.pair the.char
     (_▸_.pair (many.more (one.char {c = c} e) r) i)))))) f = no-white c e (f .1 .1 .0)

@@ -1,5 +1,5 @@
--- The term of a name by one pass over its bytes is the term of its derivation; the string ending does not change it, and two names
--- without it have two terms. Assumes nothing.
+-- The term of a name by one pass over its bytes is the term of its derivation; the string ending does not change it,
+-- and two names without it have two terms. Assumes nothing.
 use Prim.Native.Nat.{ℕ, _+_}
 use mathlib.Core.Path.{_≡_, refl, sym, _∙_, ap}
 use mathlib.Core.List.{List, [], _∷_, _++_, append-nil}
@@ -15,9 +15,11 @@ use Rattle.term.specs.Canonical.{xsdString, stringEnding, writesString, canonic
 use Rattle.term.specs.declared.Scan.{Scan}
 use Rattle.term.specs.declared.Scan.the-variants.{Start, IriOpen, Under, Text, Escape, Quote, Bad}
 use Rattle.term.proofs.Names.{never, kinds, name-forth}
-use Rattle.term.proofs.Booleans.{decide}
+use Rattle.term.proofs.Booleans.{decide, other}
+use Rattle.term.proofs.Lists.{head-same, tail-same, cons-same, no-nil}
 use Rattle.term.proofs.WellFormed.{name-positive}
-use Rattle.term.proofs.Shortened.{kept, rejoined, writes-joined, at-quote, isQuote, past-quote, quote-last, canonical-name}
+use Rattle.term.proofs.Shortened.{kept, rejoined, writes-joined, at-quote, isQuote, past-quote, quote-last}
+use Rattle.term.proofs.Shortened.{canonical-name}
 use Rattle.ntriples.specs.Standard.{RdfTerm, iri, blank, literal, tagged, unescaped}
 use Rattle.ntriples.specs.TermOf.{inner, lexicalFrom, suffixFrom, literalWith, termOf}
 use Rattle.ntriples.specs.Claims.{DistinctTerms}
@@ -73,10 +75,7 @@ inner-is g.IriRest.close = refl
 -- a byte of a text is neither the quote nor `\`
 pub plain : (b : ℕ) → textByte b ≡ true → (eqb b 34 ≡ false) × (eqb b 92 ≡ false)
 unfolding textByte among
-plain b h =
-    cases (λ x. x ≡ true) (among (34 ∷ (92 ∷ [])) b) false _ (λ _ z. never z)
-    (λ e _. cases (λ x. x ≡ false) (eqb b 34) true (among (92 ∷ []) b) (λ _ z. never (sym z))
-    (λ p k. cases (λ x. x ≡ false) (eqb b 92) true false (λ _ z. never (sym z)) (λ q _. (p, q)) k) e) h
+plain b h = (other textByte 34 b refl h, other textByte 92 b refl h)
 
 lexical-is : {s : List ℕ} (r : g.TextRest s) → lexicalFrom false s ≡ lexicalOf r
 unfolding lexicalFrom
@@ -133,7 +132,8 @@ blank-spelled (g.Blank.single e) = refl
 blank-spelled (g.Blank.longer e r) = refl
 
 -- the four pairs stand for four bytes that are no text by themselves
-pub pair-cases : {C : Type 0} (b : ℕ) → (b ≡ 34 → C) → (b ≡ 92 → C) → (b ≡ 110 → C) → (b ≡ 114 → C) → pairByte b ≡ true → C
+pub pair-cases : {C : Type 0} (b : ℕ) → (b ≡ 34 → C) → (b ≡ 92 → C) → (b ≡ 110 → C) → (b ≡ 114 → C)
+    → pairByte b ≡ true → C
 unfolding pairByte among
 pair-cases b f₁ f₂ f₃ f₄ h =
     let P : Bool → Type 0 = λ x. x ≡ true in
@@ -158,15 +158,6 @@ pair-odd c h = pair-cases c (λ e. rw e) (λ e. rw e) (λ e. rw e) (λ e. rw e) 
 
 byte-no-pair : {C : Type 0} (b c : ℕ) → textByte b ≡ true → pairByte c ≡ true → b ≡ unescaped c → C
 byte-no-pair b c h k e = never (sym (pair-odd c k) ∙ rw (← e) h)
-
-no-cons : {C : Type 0} (b : ℕ) (s : List ℕ) → b ∷ s ≡ [] → C
-no-cons b s e = let z : _≡_ {A = ℕ} 0 1 = cc in absurd (omega arith)
-
-first-of : (b c : ℕ) (s t : List ℕ) → b ∷ s ≡ c ∷ t → b ≡ c
-first-of b c s t e = cc
-
-rest-of : (b c : ℕ) (s t : List ℕ) → b ∷ s ≡ c ∷ t → s ≡ t
-rest-of b c s t e = cc
 
 datatype-of : (x y d e : List ℕ) → literal x d ≡ literal y e → d ≡ e
 datatype-of x y d e h = cc
@@ -205,28 +196,25 @@ same-suffix x y (g.Suffix.datatype i) (g.Suffix.tag f r) u v e = tag-no-type x y
 same-suffix x y (g.Suffix.datatype i) (g.Suffix.datatype j) u v e =
     ap (λ (z : List ℕ). 94 ∷ (94 ∷ z)) (same-iri i j (datatype-of x y _ _ e))
 
-cons-same : (b c : ℕ) (s t : List ℕ) → b ≡ c → s ≡ t → b ∷ s ≡ c ∷ t
-cons-same b c s t e f = cc
-
 same-text : {s t : List ℕ} (x y : List ℕ) (h : g.TextRest s) (k : g.TextRest t) → (HasEnding s → ⊥)
     → (HasEnding t → ⊥)
     → lexicalOf h ≡ lexicalOf k → textOf x h ≡ textOf y k → s ≡ t
 same-text x y (g.TextRest.byte {b = b} {s = s} p h) (g.TextRest.byte {b = c} {s = t} q k) u v e f =
-    cons-same b c s t (first-of _ _ _ _ e)
-    (same-text x y h k (writes-later b s u) (writes-later c t v) (rest-of _ _ _ _ e) f)
+    cons-same (head-same e)
+    (same-text x y h k (writes-later b s u) (writes-later c t v) (tail-same e) f)
 same-text x y (g.TextRest.byte {b =
-    b} p h) (g.TextRest.pair {b = c} q k) u v e f = byte-no-pair b c p q (first-of _ _ _ _ e)
-same-text x y (g.TextRest.byte {b = b} p h) (g.TextRest.close k) u v e f = no-cons _ _ e
+    b} p h) (g.TextRest.pair {b = c} q k) u v e f = byte-no-pair b c p q (head-same e)
+same-text x y (g.TextRest.byte {b = b} p h) (g.TextRest.close k) u v e f = no-nil (sym e)
 same-text x y (g.TextRest.pair {b =
-    b} p h) (g.TextRest.byte {b = c} q k) u v e f = byte-no-pair c b q p (sym (first-of _ _ _ _ e))
+    b} p h) (g.TextRest.byte {b = c} q k) u v e f = byte-no-pair c b q p (sym (head-same e))
 same-text x y (g.TextRest.pair {b = b} {s = s} p h) (g.TextRest.pair {b = c} {s = t} q k) u v e f =
     ap (λ (z : List ℕ). 92 ∷ z)
-    (cons-same b c s t (same-pair b c p q (first-of _ _ _ _ e))
+    (cons-same (same-pair b c p q (head-same e))
     (same-text x y h k (writes-later b s (writes-later 92 (b ∷ s) u)) (writes-later c t (writes-later 92 (c ∷ t) v))
-    (rest-of _ _ _ _ e) f))
-same-text x y (g.TextRest.pair p h) (g.TextRest.close k) u v e f = no-cons _ _ e
-same-text x y (g.TextRest.close h) (g.TextRest.byte q k) u v e f = no-cons _ _ (sym e)
-same-text x y (g.TextRest.close h) (g.TextRest.pair q k) u v e f = no-cons _ _ (sym e)
+    (tail-same e) f))
+same-text x y (g.TextRest.pair p h) (g.TextRest.close k) u v e f = no-nil (sym e)
+same-text x y (g.TextRest.close h) (g.TextRest.byte q k) u v e f = no-nil e
+same-text x y (g.TextRest.close h) (g.TextRest.pair q k) u v e f = no-nil e
 same-text x y (g.TextRest.close {s = s} h) (g.TextRest.close {s = t} k) u v e f =
     ap (λ (z : List ℕ). 34 ∷ z) (same-suffix x y h k (writes-later 34 s u) (writes-later 34 t v) f)
 
@@ -318,7 +306,8 @@ mutual
       (λ e w. let n = plain b e in let r = text-ends x y w in (rw (n .0, n .1, r .0), rw (n .0, n .1) (r .1)))
       (λ e k. cases (ToQuote x) (eqb b 34) Quote _ (λ f w. (rw f, rw (f, quote-last x w)))
       (λ f j. cases (ToQuote x) (eqb b 92) Escape Bad
-      (λ g w. let r = escape-ends x y w in (rw (f, g) (r .0), rw (f, g) (r .1))) (λ g w. past-quote x Bad refl w) j) k) h
+      (λ g w. let r = escape-ends x y w in (rw (f, g) (r .0), rw (f, g) (r .1))) (λ g w. past-quote x Bad refl w) j) k)
+      h
 
   escape-ends : (x y : List ℕ) → runOf Escape x ≡ Quote → Ends true x y
   escape-ends [] y h = never (ap isQuote h)

@@ -1,6 +1,6 @@
--- The standard's grammar gives a line one derivation at most (specs/Claims.antt). A run of one class of characters ends where the next
--- character is of another: so white space, labels and tags end, and what stands between `<` and `>`; a string ends at its first
--- quote that no `\` precedes. Assumes nothing.
+-- The standard's grammar gives a line one derivation at most (specs/Claims.antt). A run of one class of characters ends
+-- where the next character is of another: so white space, labels and tags end, and what stands between `<` and `>`; a
+-- string ends at its first quote that no `\` precedes. Assumes nothing.
 use Prim.Native.Nat.{ℕ}
 use mathlib.Core.Path.{_≡_, refl, sym, _∙_, ap}
 use mathlib.Core.List.{List, [], _∷_, _++_, append-assoc}
@@ -8,29 +8,21 @@ use mathlib.Core.Bool.{Bool, true, false, cond}
 use lib.Dec.{eqb}
 use lib.ListN.{length, length-append}
 use native.Mathlib.Omega.{arith}
-use borrow.Author.Tests.{eqb-true}
 use Rattle.term.specs.Bytes.{between, among, All}
+use Rattle.term.proofs.Booleans.{decide, other}
+use Rattle.term.proofs.Lists.{head-same, tail-same, cons-same, no-nil}
 use Rattle.term.proofs.Names.{never}
 use Rattle.ntriples.specs.Standard as std
 use Rattle.ntriples.specs.Standard.{one, the, _▸_, _∣_, maybe, many}
 use Rattle.ntriples.specs.TermOf.{suffixFrom}
 use Rattle.ntriples.specs.Claims.{OneStandardDerivation}
-use Rattle.ntriples.proofs.Residual.{cases}
-use Rattle.ntriples.proofs.Standard.{split}
+use Rattle.ntriples.specs.Grammar as line
+use Rattle.ntriples.proofs.Residual.{white-byte}
 
 -- ---- lists
 
 heads : {C : Type 0} (a b : ℕ) (s t : List ℕ) → (a ≡ b → ⊥) → a ∷ s ≡ b ∷ t → C
-heads a b s t n e = let z : a ≡ b = cc in absurd (n z)
-
-tails : (a : ℕ) (s t : List ℕ) → a ∷ s ≡ a ∷ t → s ≡ t
-tails a s t e = cc
-
-no-nil : {C : Type 0} (a : ℕ) (s : List ℕ) → [] ≡ a ∷ s → C
-no-nil a s e = let z : _≡_ {A = ℕ} 0 1 = cc in absurd (omega arith)
-
-pub cons-both : (x y : ℕ) (s t : List ℕ) → x ≡ y → s ≡ t → x ∷ s ≡ y ∷ t
-cons-both x y s t p q = cc
+heads a b s t n e = absurd (n (head-same e))
 
 -- two lists of one length that begin one list are the same
 cancel : (a b s t : List ℕ) → length a ≡ length b → a ++ s ≡ b ++ t → (a ≡ b) × (s ≡ t)
@@ -41,7 +33,7 @@ cancel (x ∷ a) (y ∷ b) s t h e =
     let e′ : a ++ s ≡ b ++ t = cc in
     let xy : x ≡ y = cc in
     let w = cancel a b s t (omega arith) e′ in
-    (cons-both x y a b xy (w .0), w .1)
+    (cons-same xy (w .0), w .1)
 
 rest-same : (a b s t : List ℕ) → a ≡ b → a ++ s ≡ b ++ t → s ≡ t
 rest-same a b s t h e = cancel a b s t (ap length h) e .1
@@ -64,23 +56,19 @@ Ends f [] = Unit
 Ends f (c ∷ s) = f c ≡ false
 
 meets : {C : Type 0} (f : ℕ → Bool) (c d : ℕ) (s t : List ℕ) → f c ≡ false → f d ≡ true → c ∷ s ≡ d ∷ t → C
-meets f c d s t n h e = let z : c ≡ d = cc in never (sym n ∙ (ap f z ∙ h))
+meets f c d s t n h e = never (sym n ∙ (ap f (head-same e) ∙ h))
 
 run : (f : ℕ → Bool) (a b s t : List ℕ) → All f a → All f b → Ends f s → Ends f t → a ++ s ≡ b ++ t → (a ≡ b) × (s ≡ t)
 run f [] [] s t p q x y e = (refl, e)
-run f [] (d ∷ b) [] t p q x y e = no-nil _ _ e
+run f [] (d ∷ b) [] t p q x y e = no-nil e
 run f [] (d ∷ b) (c ∷ s) t p q x y e = meets f c d _ _ x (q .0) e
-run f (c ∷ a) [] s [] p q x y e = no-nil _ _ (sym e)
+run f (c ∷ a) [] s [] p q x y e = no-nil (sym e)
 run f (c ∷ a) [] s (d ∷ t) p q x y e = meets f d c _ _ y (p .0) (sym e)
 run f (c ∷ a) (d ∷ b) s t p q x y e =
     let e′ : a ++ s ≡ b ++ t = cc in
     let cd : c ≡ d = cc in
     let w = run f a b s t (p .1) (q .1) x y e′ in
-    (cons-both c d a b cd (w .0), w .1)
-
--- a character of a class is none that the class lacks
-other : (f : ℕ → Bool) (k c : ℕ) → f k ≡ false → f c ≡ true → eqb c k ≡ false
-other f k c n h = split (eqb c k) (λ e. never (sym n ∙ (ap f (sym (eqb-true c k e)) ∙ h))) (λ e. e)
+    (cons-same cd (w .0), w .1)
 
 all-many : (f : ℕ → Bool) {s : List ℕ} → many (one f) s → All f s
 all-many f many.none = tt
@@ -92,13 +80,12 @@ abbrev white : ℕ → Bool
 white = among (32 ∷ 9 ∷ [])
 
 white-out : (f : ℕ → Bool) (c : ℕ) → f 32 ≡ false → f 9 ≡ false → white c ≡ true → f c ≡ false
-unfolding among
-white-out f c p q h =
-    cases (λ x. x ≡ true) (eqb c 32) true (among (9 ∷ []) c) (λ e _. ap f (eqb-true c 32 e) ∙ p)
-    (λ _ k. cases (λ x. x ≡ true) (eqb c 9) true false (λ e _. ap f (eqb-true c 9 e) ∙ q) (λ _ z. never z) k) h
+unfolding line.white
+white-out f c p q h = white-byte c (λ e. ap f e ∙ p) (λ e. ap f e ∙ q) h
 
 -- white space and then what does not go on with a class does not go on with it
-white-ends : (f : ℕ → Bool) {w : List ℕ} (r : List ℕ) → f 32 ≡ false → f 9 ≡ false → std.WS w → Ends f r → Ends f (w ++ r)
+white-ends : (f : ℕ → Bool) {w : List ℕ} (r : List ℕ) → f 32 ≡ false → f 9 ≡ false → std.WS w → Ends f r
+    → Ends f (w ++ r)
 white-ends f r p q many.none h = h
 white-ends f r p q (many.more (one.char {c = c} e) m) h = white-out f c p q e
 
@@ -120,7 +107,8 @@ hex4-all f h (_▸_.pair (one.char {c = a} x) (_▸_.pair (one.char {c = b} y) (
     (h a x, (h b y, (h c z, (h d w, tt))))
 
 hex8-all : (f : ℕ → Bool) → ((c : ℕ) → std.HEX c ≡ true → f c ≡ true) → {s : List ℕ} → Hex8 s → All f s
-hex8-all f h (_▸_.pair (one.char {c = a} x) (_▸_.pair (one.char {c = b} y) (_▸_.pair (one.char {c = c} z) (_▸_.pair (one.char {c =
+hex8-all f h (_▸_.pair (one.char {c = a} x)
+    (_▸_.pair (one.char {c = b} y) (_▸_.pair (one.char {c = c} z) (_▸_.pair (one.char {c =
     d} w) r)))) =
     (h a x, (h b y, (h c z, (h d w, hex4-all f h r))))
 
@@ -151,8 +139,9 @@ iri-inside (many.more {s = s} {t = t} (_∣_.right u) r) =
 iri-one : {s t : List ℕ} (u v : List ℕ) → std.IRIREF s → std.IRIREF t → s ++ u ≡ t ++ v → s ≡ t
 iri-one u v (_▸_.pair the.char (_▸_.pair {s = a} m the.char)) (_▸_.pair the.char (_▸_.pair {s = b} n the.char)) e =
     let h : a ++ (62 ∷ u) ≡ b ++ (62 ∷ v) =
-    sym (append-assoc a (62 ∷ []) u) ∙ (tails 60 _ _ e ∙ append-assoc b (62 ∷ []) v) in
-    ap (λ (z : List ℕ). 60 ∷ (z ++ (62 ∷ []))) (run inside a b (62 ∷ u) (62 ∷ v) (iri-inside m) (iri-inside n) refl refl h .0)
+    sym (append-assoc a (62 ∷ []) u) ∙ (tail-same e ∙ append-assoc b (62 ∷ []) v) in
+    ap (λ (z : List ℕ). 60 ∷ (z ++ (62 ∷ [])))
+    (run inside a b (62 ∷ u) (62 ∷ v) (iri-inside m) (iri-inside n) refl refl h .0)
 
 iri-ends : (f : ℕ → Bool) {s : List ℕ} (r : List ℕ) → f 60 ≡ false → std.IRIREF s → Ends f (s ++ r)
 iri-ends f r h (_▸_.pair the.char x) = h
@@ -163,7 +152,7 @@ abbrev labelled : ℕ → Bool
 labelled c = cond (eqb c 46) true (std.PN-CHARS c)
 
 label-part : (c : ℕ) → std.PN-CHARS c ≡ true → labelled c ≡ true
-label-part c h = split (eqb c 46) (λ e. rw e) (λ e. rw (e, h))
+label-part c h = decide (eqb c 46) (λ e. rw e) (λ e. rw (e, h))
 
 under-part : (c : ℕ) → std.PN-CHARS-U c ≡ true → std.PN-CHARS c ≡ true
 unfolding std.PN-CHARS
@@ -172,7 +161,7 @@ under-part c h = rw h
 digit-part : (c : ℕ) → between 48 57 c ≡ true → std.PN-CHARS c ≡ true
 unfolding std.PN-CHARS
 digit-part c h =
-    split (std.PN-CHARS-U c) (λ p. rw p) (λ p. split (eqb c 45) (λ q. rw (p, q)) (λ q. rw (p, q, h)))
+    decide (std.PN-CHARS-U c) (λ p. rw p) (λ p. decide (eqb c 45) (λ q. rw (p, q)) (λ q. rw (p, q, h)))
 
 first-part : {s : List ℕ} → (one std.PN-CHARS-U ∣ one (between 48 57)) s → many (one std.PN-CHARS ∣ the 46) s
 first-part (_∣_.left (one.char {c = c} h)) = many.more (_∣_.left (one.char (under-part c h))) many.none
@@ -211,7 +200,8 @@ final-is (a ∷ (b ∷ s)) c = final-is (b ∷ s) c
 last-same : (s t : List ℕ) (c d : ℕ) → s ++ (c ∷ []) ≡ t ++ (d ∷ []) → c ≡ d
 last-same s t c d e = sym (final-is s c) ∙ (ap final e ∙ final-is t d)
 
-first-char : {s : List ℕ} → (one std.PN-CHARS-U ∣ one (between 48 57)) s → (c : ℕ) × (s ≡ c ∷ []) × (std.PN-CHARS c ≡ true)
+first-char : {s : List ℕ} → (one std.PN-CHARS-U ∣ one (between 48 57)) s
+    → (c : ℕ) × (s ≡ c ∷ []) × (std.PN-CHARS c ≡ true)
 first-char (_∣_.left (one.char {c = c} h)) = (c, refl, under-part c h)
 first-char (_∣_.right (one.char {c = c} h)) = (c, refl, digit-part c h)
 
@@ -225,12 +215,14 @@ label-ends x (_▸_.pair the.char (_▸_.pair the.char (_▸_.pair f maybe.none)
     let c = first-char f in
     no-dot (c .0) (c .2)
     (last-same (95 ∷ (58 ∷ [])) x (c .0) 46 (ap (λ (l : List ℕ). 95 ∷ (58 ∷ (l ++ []))) (sym (c .1)) ∙ e))
-label-ends x (_▸_.pair the.char (_▸_.pair the.char (_▸_.pair {s = a} f (maybe.some (_▸_.pair {s = b} m (one.char {c = c} h)))))) e =
+label-ends x (_▸_.pair the.char (_▸_.pair the.char
+    (_▸_.pair {s = a} f (maybe.some (_▸_.pair {s = b} m (one.char {c = c} h)))))) e =
     no-dot c h
     (last-same (95 ∷ (58 ∷ (a ++ b))) x c 46 (ap (λ (l : List ℕ). 95 ∷ (58 ∷ l)) (append-assoc a b (c ∷ [])) ∙ e))
 
 -- what may follow the line's dot does not go on with a label
-trail-ends : (f : ℕ → Bool) {r : List ℕ} → f 32 ≡ false → f 9 ≡ false → f 35 ≡ false → (std.WS ▸ maybe std.COMMENT) r → Ends f r
+trail-ends : (f : ℕ → Bool) {r : List ℕ} → f 32 ≡ false → f 9 ≡ false → f 35 ≡ false
+    → (std.WS ▸ maybe std.COMMENT) r → Ends f r
 trail-ends f p q k (_▸_.pair w maybe.none) = white-ends f [] p q w tt
 trail-ends f p q k (_▸_.pair {t = t} w (maybe.some (_▸_.pair the.char x))) = white-ends f t p q w k
 
@@ -238,13 +230,15 @@ white-labels : (labelled 32 ≡ false) × (labelled 9 ≡ false) × (labelled 35
 unfolding std.PN-CHARS std.PN-CHARS-U std.PN-CHARS-BASE
 white-labels = (refl, refl, refl, refl)
 
--- A label and the white space and the dot after it. Where the dot follows at once it is the last of the run of a label's characters.
+-- A label and the white space and the dot after it. Where the dot follows at once it is the last of the run of a
+-- label's characters.
 label-one : {s t w v p q : List ℕ} → std.BLANK-NODE-LABEL s → std.BLANK-NODE-LABEL t → std.WS w → std.WS v
     → (std.WS ▸ maybe std.COMMENT) p → (std.WS ▸ maybe std.COMMENT) q
     → s ++ (w ++ (46 ∷ p)) ≡ t ++ (v ++ (46 ∷ q)) → s ≡ t
 label-one {s} {t} {p = p} {q = q} x y many.none many.none h k e =
     let c = white-labels in
-    let z = run labelled (s ++ (46 ∷ [])) (t ++ (46 ∷ [])) p q (all-append labelled s (46 ∷ []) (label-all x) (refl, tt))
+    let z = run labelled (s ++ (46 ∷ [])) (t ++ (46 ∷ [])) p q
+    (all-append labelled s (46 ∷ []) (label-all x) (refl, tt))
     (all-append labelled t (46 ∷ []) (label-all y) (refl, tt)) (trail-ends labelled (c .0) (c .1) (c .2) h)
     (trail-ends labelled (c .0) (c .1) (c .2) k)
     (append-assoc s (46 ∷ []) p ∙ (e ∙ sym (append-assoc t (46 ∷ []) q))) in
@@ -252,16 +246,19 @@ label-one {s} {t} {p = p} {q = q} x y many.none many.none h k e =
 label-one {s} {t} {p = p} x y many.none (many.more (one.char {c = d} i) v) h k e =
     let c = white-labels in
     let z = run labelled (s ++ (46 ∷ [])) t p _ (all-append labelled s (46 ∷ []) (label-all x) (refl, tt)) (label-all y)
-    (trail-ends labelled (c .0) (c .1) (c .2) h) (white-out labelled d (c .0) (c .1) i) (append-assoc s (46 ∷ []) p ∙ e) in
+    (trail-ends labelled (c .0) (c .1) (c .2) h) (white-out labelled d (c .0) (c .1) i)
+    (append-assoc s (46 ∷ []) p ∙ e) in
     absurd (label-ends s y (sym (z .0)))
 label-one {s} {t} {q = q} x y (many.more (one.char {c = d} i) w) many.none h k e =
     let c = white-labels in
     let z = run labelled s (t ++ (46 ∷ [])) _ q (label-all x) (all-append labelled t (46 ∷ []) (label-all y) (refl, tt))
-    (white-out labelled d (c .0) (c .1) i) (trail-ends labelled (c .0) (c .1) (c .2) k) (e ∙ sym (append-assoc t (46 ∷ []) q)) in
+    (white-out labelled d (c .0) (c .1) i) (trail-ends labelled (c .0) (c .1) (c .2) k)
+    (e ∙ sym (append-assoc t (46 ∷ []) q)) in
     absurd (label-ends t x (z .0))
 label-one {s} {t} x y (many.more (one.char {c = d} i) w) (many.more (one.char {c = b} j) v) h k e =
     let c = white-labels in
-    run labelled s t _ _ (label-all x) (label-all y) (white-out labelled d (c .0) (c .1) i) (white-out labelled b (c .0) (c .1) j) e .0
+    run labelled s t _ _ (label-all x) (label-all y) (white-out labelled d (c .0) (c .1) i)
+    (white-out labelled b (c .0) (c .1) j) e .0
 
 -- ---- literals
 
@@ -272,7 +269,8 @@ hex-unquoted : (c : ℕ) → std.HEX c ≡ true → unquoted c ≡ true
 unfolding std.HEX
 hex-unquoted c h = rw (other std.HEX 34 c refl h, other std.HEX 92 c refl h)
 
-pub skip-char : (c : ℕ) (s : List ℕ) → eqb c 34 ≡ false → eqb c 92 ≡ false → suffixFrom false (c ∷ s) ≡ suffixFrom false s
+pub skip-char : (c : ℕ) (s : List ℕ) → eqb c 34 ≡ false → eqb c 92 ≡ false
+    → suffixFrom false (c ∷ s) ≡ suffixFrom false s
 unfolding suffixFrom
 skip-char c s p q = rw (p, q)
 
@@ -296,18 +294,24 @@ unfolding std.stringChar among
 string-out = (refl, refl)
 
 -- what follows the closing quote
-pub string-rest : {s : List ℕ} (z : List ℕ) → many (one std.stringChar ∣ std.ECHAR ∣ std.UCHAR) s → suffixFrom false (s ++ (34 ∷ z)) ≡ z
+pub string-rest : {s : List ℕ} (z : List ℕ) → many (one std.stringChar ∣ std.ECHAR ∣ std.UCHAR) s
+    → suffixFrom false (s ++ (34 ∷ z)) ≡ z
 string-rest z many.none = skip-close z
 string-rest z (many.more {t = t} (_∣_.left (one.char {c = c} h)) r) =
-    skip-char c (t ++ (34 ∷ z)) (other std.stringChar 34 c (string-out .0) h) (other std.stringChar 92 c (string-out .1) h)
+    skip-char c (t ++ (34 ∷ z)) (other std.stringChar 34 c (string-out .0) h)
+    (other std.stringChar 92 c (string-out .1) h)
     ∙ string-rest z r
 string-rest z (many.more {t = t} (_∣_.right (_∣_.left (_▸_.pair the.char (one.char {c = c} h)))) r) =
     skip-escape c (t ++ (34 ∷ z)) ∙ string-rest z r
-string-rest z (many.more {t = t} (_∣_.right (_∣_.right (_∣_.left (_▸_.pair the.char (_▸_.pair {t = x} the.char h))))) r) =
-    skip-escape 117 _ ∙ (ap (suffixFrom false) (append-assoc x t (34 ∷ z)) ∙ (skip-all x (t ++ (34 ∷ z)) (hex4-all unquoted hex-unquoted h)
+string-rest z (many.more {t = t} (_∣_.right (_∣_.right (_∣_.left (_▸_.pair the.char (_▸_.pair {t = x} the.char h)))))
+    r) =
+    skip-escape 117 _ ∙ (ap (suffixFrom false) (append-assoc x t (34 ∷ z))
+    ∙ (skip-all x (t ++ (34 ∷ z)) (hex4-all unquoted hex-unquoted h)
     ∙ string-rest z r))
-string-rest z (many.more {t = t} (_∣_.right (_∣_.right (_∣_.right (_▸_.pair the.char (_▸_.pair {t = x} the.char h))))) r) =
-    skip-escape 85 _ ∙ (ap (suffixFrom false) (append-assoc x t (34 ∷ z)) ∙ (skip-all x (t ++ (34 ∷ z)) (hex8-all unquoted hex-unquoted h)
+string-rest z (many.more {t = t} (_∣_.right (_∣_.right (_∣_.right (_▸_.pair the.char (_▸_.pair {t = x} the.char h)))))
+    r) =
+    skip-escape 85 _ ∙ (ap (suffixFrom false) (append-assoc x t (34 ∷ z))
+    ∙ (skip-all x (t ++ (34 ∷ z)) (hex8-all unquoted hex-unquoted h)
     ∙ string-rest z r))
 
 -- language tags
@@ -315,13 +319,13 @@ abbrev tagged : ℕ → Bool
 tagged c = cond (eqb c 64) true (cond (eqb c 45) true (std.letterOrDigit c))
 
 alnum-tagged : (c : ℕ) → std.letterOrDigit c ≡ true → tagged c ≡ true
-alnum-tagged c h = split (eqb c 64) (λ p. rw p) (λ p. split (eqb c 45) (λ q. rw (p, q)) (λ q. rw (p, q, h)))
+alnum-tagged c h = decide (eqb c 64) (λ p. rw p) (λ p. decide (eqb c 45) (λ q. rw (p, q)) (λ q. rw (p, q, h)))
 
 letter-tagged : (c : ℕ) → std.letter c ≡ true → tagged c ≡ true
 unfolding std.letter std.letterOrDigit
 letter-tagged c h =
-    alnum-tagged c (split (between 97 122 c) (λ p. rw p)
-    (λ p. split (between 65 90 c) (λ q. rw (p, q)) (λ q. never (rw (p, q) at h))))
+    alnum-tagged c (decide (between 97 122 c) (λ p. rw p)
+    (λ p. decide (between 65 90 c) (λ q. rw (p, q)) (λ q. never (rw (p, q) at h))))
 
 all-wider : (f g : ℕ → Bool) → ((c : ℕ) → f c ≡ true → g c ≡ true) → (s : List ℕ) → All f s → All g s
 all-wider f g h [] p = tt
@@ -373,11 +377,12 @@ differ : {C : Type 0} (s t : List ℕ) (a b : ℕ) → not-white s ≡ a → not
 differ s t a b p q n e = absurd (n (sym p ∙ (ap not-white e ∙ q)))
 
 typed-one : {s t : List ℕ} (u v : List ℕ) → Typed s → Typed t → s ++ u ≡ t ++ v → s ≡ t
-typed-one u v (_▸_.pair {s = w} {t = a} h (_▸_.pair the.char (_▸_.pair the.char (_▸_.pair {s = x} {t = i} j m)))) (_▸_.pair {s =
+typed-one u v (_▸_.pair {s = w} {t = a} h (_▸_.pair the.char (_▸_.pair the.char (_▸_.pair {s = x} {t = i} j m))))
+    (_▸_.pair {s =
     w′} {t = a′} h′ (_▸_.pair the.char (_▸_.pair the.char (_▸_.pair {s = x′} {t = i′} j′ m′)))) e =
     let p = run white w w′ _ _ (all-many white h) (all-many white h′) (mark-out .0) (mark-out .0)
     (sym (append-assoc w a u) ∙ (e ∙ append-assoc w′ a′ v)) in
-    let y = tails 94 _ _ (tails 94 _ _ (p .1)) in
+    let y = tail-same (tail-same (p .1)) in
     let q = run white x x′ (i ++ u) (i′ ++ v) (all-many white j) (all-many white j′) (iri-ends white u (mark-out .2) m)
     (iri-ends white v (mark-out .2) m′) (sym (append-assoc x i u) ∙ (y ∙ append-assoc x′ i′ v)) in
     let z = iri-one u v m m′ (q .1) in
@@ -422,7 +427,7 @@ literal-one {w = w} {v = v} p q (_▸_.pair {t = x} (_▸_.pair the.char (_▸_.
     let u = w ++ (46 ∷ p) in
     let z = v ++ (46 ∷ q) in
     let e′ : m ++ (34 ∷ (x ++ u)) ≡ n ++ (34 ∷ (y ++ z)) =
-    sym (three m x u) ∙ (tails 34 _ _ e ∙ three n y z) in
+    sym (three m x u) ∙ (tail-same e ∙ three n y z) in
     let r : x ++ u ≡ y ++ z = sym (string-rest (x ++ u) a) ∙ (ap (suffixFrom false) e′ ∙ string-rest (y ++ z) b) in
     let f = front-same m n (34 ∷ (x ++ u)) (34 ∷ (y ++ z)) (ap (λ (l : List ℕ). 34 ∷ l) r) e′ in
     let g = suffix-one p q c d h k r in
@@ -445,23 +450,29 @@ object-ends r (_∣_.right (_∣_.right (_▸_.pair (_▸_.pair the.char x) y)))
 subject-one : {s t : List ℕ} (u v : List ℕ) → std.Subject s → std.Subject t → Ends labelled u → Ends labelled v
     → s ++ u ≡ t ++ v → s ≡ t
 subject-one u v (_∣_.left x) (_∣_.left y) h k e = iri-one u v x y e
-subject-one u v (_∣_.left (_▸_.pair the.char x)) (_∣_.right (_▸_.pair the.char y)) h k e = heads 60 95 _ _ (λ z. omega arith) e
-subject-one u v (_∣_.right (_▸_.pair the.char x)) (_∣_.left (_▸_.pair the.char y)) h k e = heads 95 60 _ _ (λ z. omega arith) e
+subject-one u v (_∣_.left (_▸_.pair the.char x)) (_∣_.right (_▸_.pair the.char y)) h k e =
+    heads 60 95 _ _ (λ z. omega arith) e
+subject-one u v (_∣_.right (_▸_.pair the.char x)) (_∣_.left (_▸_.pair the.char y)) h k e =
+    heads 95 60 _ _ (λ z. omega arith) e
 subject-one u v (_∣_.right x) (_∣_.right y) h k e = run labelled _ _ u v (label-all x) (label-all y) h k e .0
 
 object-one : {s t w v p q : List ℕ} → std.Object s → std.Object t → std.WS w → std.WS v → (std.WS ▸ maybe std.COMMENT) p
     → (std.WS ▸ maybe std.COMMENT) q → s ++ (w ++ (46 ∷ p)) ≡ t ++ (v ++ (46 ∷ q)) → s ≡ t
 object-one (_∣_.left x) (_∣_.left y) w v h k e = iri-one _ _ x y e
-object-one (_∣_.left (_▸_.pair the.char x)) (_∣_.right (_∣_.left (_▸_.pair the.char y))) w v h k e = heads 60 95 _ _ (λ z. omega arith) e
+object-one (_∣_.left (_▸_.pair the.char x)) (_∣_.right (_∣_.left (_▸_.pair the.char y))) w v h k e =
+    heads 60 95 _ _ (λ z. omega arith) e
 object-one (_∣_.left (_▸_.pair the.char x)) (_∣_.right (_∣_.right (_▸_.pair (_▸_.pair the.char y) z))) w v h k e =
     heads 60 34 _ _ (λ z. omega arith) e
-object-one (_∣_.right (_∣_.left (_▸_.pair the.char x))) (_∣_.left (_▸_.pair the.char y)) w v h k e = heads 95 60 _ _ (λ z. omega arith) e
+object-one (_∣_.right (_∣_.left (_▸_.pair the.char x))) (_∣_.left (_▸_.pair the.char y)) w v h k e =
+    heads 95 60 _ _ (λ z. omega arith) e
 object-one (_∣_.right (_∣_.left x)) (_∣_.right (_∣_.left y)) w v h k e = label-one x y w v h k e
-object-one (_∣_.right (_∣_.left (_▸_.pair the.char x))) (_∣_.right (_∣_.right (_▸_.pair (_▸_.pair the.char y) z))) w v h k e =
+object-one (_∣_.right (_∣_.left (_▸_.pair the.char x)))
+    (_∣_.right (_∣_.right (_▸_.pair (_▸_.pair the.char y) z))) w v h k e =
     heads 95 34 _ _ (λ z. omega arith) e
 object-one (_∣_.right (_∣_.right (_▸_.pair (_▸_.pair the.char x) z))) (_∣_.left (_▸_.pair the.char y)) w v h k e =
     heads 34 60 _ _ (λ z. omega arith) e
-object-one (_∣_.right (_∣_.right (_▸_.pair (_▸_.pair the.char x) z))) (_∣_.right (_∣_.left (_▸_.pair the.char y))) w v h k e =
+object-one (_∣_.right (_∣_.right (_▸_.pair (_▸_.pair the.char x) z)))
+    (_∣_.right (_∣_.left (_▸_.pair the.char y))) w v h k e =
     heads 34 95 _ _ (λ z. omega arith) e
 object-one (_∣_.right (_∣_.right x)) (_∣_.right (_∣_.right y)) w v h k e = literal-one _ _ x y w v e
 
@@ -480,9 +491,11 @@ one-standard-derivation l d e =
     (rest-same (d .subject) (e .subject) _ _ s (a .1)) in
     let p = iri-one _ _ (d .isPredicate) (e .isPredicate) (b .1) in
     let c = run white (d .between₂) (e .between₂) _ _ (all-many white (d .white₂)) (all-many white (e .white₂))
-    (object-ends _ (d .isObject)) (object-ends _ (e .isObject)) (rest-same (d .predicate) (e .predicate) _ _ p (b .1)) in
+    (object-ends _ (d .isObject)) (object-ends _ (e .isObject))
+    (rest-same (d .predicate) (e .predicate) _ _ p (b .1)) in
     let o = object-one (d .isObject) (e .isObject) (d .white₃) (e .white₃) (d .trail) (e .trail) (c .1) in
-    let f = run white (d .between₃) (e .between₃) _ _ (all-many white (d .white₃)) (all-many white (e .white₃)) dot-white dot-white
+    let f = run white (d .between₃) (e .between₃) _ _ (all-many white (d .white₃)) (all-many white (e .white₃))
+    dot-white dot-white
     (rest-same (d .object) (e .object) _ _ o (c .1)) in
-    let r = tails 46 _ _ (f .1) in
+    let r = tail-same (f .1) in
     rw (a .0, s, b .0, p, c .0, o, f .0, r)

@@ -1,5 +1,6 @@
--- What is proved of reading a line (paper 01, "Names", last paragraph, and "Read a line"; paper 02, note 7), for every limit m of a
--- term's bytes from 1 up; the paper's is 255. Each claim is a type, and `proofs/` has a value of each. Assumes nothing.
+-- What is proved of reading a line (paper 01, "Names", last paragraph, and "Read a line"; paper 02, note 7), for every
+-- limit m of a term's bytes from 1 up; the paper's is 255. Each claim is a type, and `proofs/` has a value of each.
+-- Assumes nothing.
 use Rattle.term.specs.Prelude.{ℕ, _+_, _≤_, _<_, _≡_, List, true, cond, _⊎_, _↔_, eqb, length, drop}
 use Rattle.term.specs.Bytes.{between, All}
 use Rattle.term.specs.Grammar.{Name}
@@ -17,7 +18,8 @@ use Rattle.ntriples.specs.Reader.{readOf}
 abbrev pub objectPart : {l : List ℕ} → ℕ → Triple l → Span
 objectPart i d = let a = objectSpan i d .start in span a (a + length (canonical (d .object)))
 
--- The line l at position i has a derivation with the parts s, p, o, the object's without the string ending, and terms of at most m bytes.
+-- The line l at position i has a derivation with the parts s, p, o, the object's without the string ending, and terms
+-- of at most m bytes.
 pub record Derived (m i : ℕ) (l : List ℕ) (s p o : Span) : Type 0 where
   pub derivation : Triple l
   pub within : Within m derivation
@@ -30,15 +32,16 @@ pub record Underivable (m : ℕ) (l : List ℕ) : Type 0 where
   pub notNothing : Trail l → ⊥
   pub noTriple : (d : Triple l) → Within m d → ⊥
 
--- The parts of a triple are well-formed names of the kinds that their places allow, so that entering them is not refused 2; the object's is
--- without the string ending.
+-- The parts of a triple are well-formed names of the kinds that their places allow, so that entering them is not
+-- refused 2; the object's is without the string ending.
 pub record Enterable (m : ℕ) (text : List ℕ) (s p o : Span) : Type 0 where
   pub subjectKind : (kindOf m (bytesOf text s) ≡ 1) ⊎ (kindOf m (bytesOf text s) ≡ 2)
   pub predicateKind : kindOf m (bytesOf text p) ≡ 1
   pub objectKind : (kindOf m (bytesOf text o) ≡ 1) ⊎ ((kindOf m (bytesOf text o) ≡ 2) ⊎ (kindOf m (bytesOf text o) ≡ 3))
   pub objectShort : canonical (bytesOf text o) ≡ bytesOf text o
 
--- The line has a derivation in the standard's grammar, and by every one the terms of the parts are those that the standard gives.
+-- The line has a derivation in the standard's grammar, and by every one the terms of the parts are those that the
+-- standard gives.
 pub record Meant (l : List ℕ) (text : List ℕ) (s p o : Span) : Type 0 where
   pub derivation : standard.Triple l
   pub subjectMeans : (e : standard.Triple l) → termOf (bytesOf text s) ≡ subjectTerm (e .isSubject)
@@ -81,23 +84,24 @@ OneFirstLine =
 
 -- ---- the standard's grammar and the paper's
 
--- A derivation of the standard lies in the paper's subset: its terms are names of the paper, and all that follows the dot is tabs and
--- bytes 32..126. The names' kinds are not asked for: the places give them.
+-- A derivation of the standard lies in the paper's subset: its terms are names of the paper, and all that follows the
+-- dot is tabs and bytes 32..126. The names' kinds are not asked for: the places give them.
 pub record InSubset {l : List ℕ} (e : standard.Triple l) : Type 0 where
   pub subject : (k : ℕ) × Name k (e .subject)
   pub predicate : (k : ℕ) × Name k (e .predicate)
   pub object : (k : ℕ) × Name k (e .object)
   pub after : All (λ c. cond (eqb c 9) true (between 32 126 c)) (e .after)
 
--- A line's derivations in the paper's grammar are, string for string, its derivations in the standard's that lie in the subset.
+-- A line's derivations in the paper's grammar are, string for string, its derivations in the standard's that lie in the
+-- subset.
 abbrev pub SubsetOfStandard : Type 0
 SubsetOfStandard =
     (l : List ℕ)
     → ((d : Triple l) → (e : standard.Triple l) × InSubset e × (stringsOf d ≡ stringsOf e))
     × ((e : standard.Triple l) → InSubset e → (d : Triple l) × (stringsOf d ≡ stringsOf e))
 
--- A line has one derivation at most in the standard's grammar, and so in the paper's, whatever the length of its terms: two have the
--- same strings throughout. A line with one does not give nothing.
+-- A line has one derivation at most in the standard's grammar, and so in the paper's, whatever the length of its terms:
+-- two have the same strings throughout. A line with one does not give nothing.
 abbrev pub OneStandardDerivation : Type 0
 OneStandardDerivation = (l : List ℕ) (d e : standard.Triple l) → stringsOf d ≡ stringsOf e
 
@@ -108,7 +112,7 @@ OneDerivation = (l : List ℕ) (d : Triple l) → ((e : Triple l) → stringsOf 
 abbrev pub TermOfStandard : Type 0
 TermOfStandard = (k : ℕ) (s : List ℕ) → Name k s → (x : standard.Object s) → termOf s ≡ objectTerm x
 
--- RDF 1.1 gives two names one term exactly if they are the same without the string ending. (RDF 1.1 also lets a store take language tags
--- without their case; here a tag is as it is written.)
+-- RDF 1.1 gives two names one term exactly if they are the same without the string ending. (RDF 1.1 also lets a store
+-- take language tags without their case; here a tag is as it is written.)
 abbrev pub DistinctTerms : Type 0
 DistinctTerms = (k j : ℕ) (a b : List ℕ) → Name k a → Name j b → (termOf a ≡ termOf b) ↔ (canonical a ≡ canonical b)

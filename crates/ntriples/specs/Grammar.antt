@@ -1,7 +1,8 @@
--- The grammar of a line (paper 01, "Names", last paragraph): the productions of RDF 1.1 N-Triples, by their names there (triple,
--- subject, predicate, object), with white space and comments as the paper has them, over the terms that it permits; lines of a text; and
--- the paper's number and values for each answer ("Read a line"). Assumes nothing.
-use Rattle.term.specs.Prelude.{ℕ, _+_, _-_, _≤_, min, _≡_, List, [], _∷_, _++_, Bool, true, false, cond, _⊎_, eqb, length, take, drop}
+-- The grammar of a line (paper 01, "Names", last paragraph): the productions of RDF 1.1 N-Triples, by their names there
+-- (triple, subject, predicate, object), with white space and comments as the paper has them, over the terms that it
+-- permits; lines of a text; and the paper's number and values for each answer ("Read a line"). Assumes nothing.
+use Rattle.term.specs.Prelude.{ℕ, _+_, _-_, _≤_, min, _≡_, List, [], _∷_, _++_, Bool, true, false, cond, _⊎_, eqb}
+use Rattle.term.specs.Prelude.{length, take, drop}
 use Rattle.term.specs.Bytes.{between, among, All}
 use Rattle.term.specs.Grammar.{Iri, Blank, Literal}
 use Rattle.ntriples.specs.declared.Span.{Span}
@@ -64,13 +65,14 @@ Short m c p = min (p .end) c ≤ p .start + m
 abbrev pub ShortTerms : {l : List ℕ} → ℕ → ℕ → Triple l → Type 0
 ShortTerms m c d = Short m c (subjectSpan 0 d) × Short m c (predicateSpan 0 d) × Short m c (objectSpan 0 d)
 
--- Some line begins with p, and no term of it has more than m bytes inside p. The line itself may have longer terms: so byte
--- m + 1 of a term is the first that continues no line.
+-- Some line begins with p, and no term of it has more than m bytes inside p. The line itself may have longer terms: so
+-- byte m + 1 of a term is the first that continues no line.
 pub record Viable (m : ℕ) (p : List ℕ) : Type 0 where
   pub rest : List ℕ
   pub line : Trail (p ++ rest) ⊎ ((d : Triple (p ++ rest)) × ShortTerms m (length p) d)
 
--- k is the length of the longest viable prefix of l: the first k bytes are one, and they are all of l or one byte more is none
+-- k is the length of the longest viable prefix of l: the first k bytes are one, and they are all of l or one byte more
+-- is none
 pub record Longest (m : ℕ) (l : List ℕ) (k : ℕ) : Type 0 where
   pub front : List ℕ
   pub back : List ℕ
@@ -84,8 +86,8 @@ pub data Unbroken : List ℕ → Type 0 where
   none : Unbroken []
   byte : {b : ℕ} {s : List ℕ} → eqb b 10 ≡ false → Unbroken s → Unbroken (b ∷ s)
 
--- l is the line that s begins with, and n the number of its bytes with its EOL: a LF with one CR before it dropped, or the end of the
--- text, where a CR stays
+-- l is the line that s begins with, and n the number of its bytes with its EOL: a LF with one CR before it dropped, or
+-- the end of the text, where a CR stays
 pub data FirstLine : List ℕ → List ℕ → ℕ → Type 0 where
   lf : {s : List ℕ} (l r : List ℕ) → s ≡ l ++ (10 ∷ r) → Unbroken l → ((k : List ℕ) → l ≡ k ++ (13 ∷ []) → ⊥)
       → FirstLine s l (length l + 1)
@@ -96,8 +98,8 @@ pub data FirstLine : List ℕ → List ℕ → ℕ → Type 0 where
 abbrev pub bytesOf : List ℕ → Span → List ℕ
 bytesOf text p = take (p .end - p .start) (drop (p .start) text)
 
--- The paper's number and values for each answer: the refusal, or 0; what was read, 1 nothing, 2 a triple, 0 at the end and beside a
--- refusal; the refusal's offset in the line; the three parts, 0 to 0 where there is none.
+-- The paper's number and values for each answer: the refusal, or 0; what was read, 1 nothing, 2 a triple, 0 at the end
+-- and beside a refusal; the refusal's offset in the line; the three parts, 0 to 0 where there is none.
 pub record Values : Type 0 where
   pub refusal : ℕ
   pub status : ℕ

@@ -1,6 +1,6 @@
--- What the functions of the productions promise one another: where a run of one class of bytes ends, and that reading on from
--- a production's end gives what reading on from its beginning gives. The line is the text from a position up to `stop`.
--- Assumes nothing.
+-- What the functions of the productions promise one another: where a run of one class of bytes ends, and that reading
+-- on from a production's end gives what reading on from its beginning gives. The line is the text from a position up to
+-- `stop`. Assumes nothing.
 use Prim.Native.Nat.{ℕ, suc, _+_, _-_, _≤_, _<_}
 use mathlib.Core.Path.{_≡_}
 use mathlib.Core.List.{List, [], _∷_, _++_}
@@ -64,8 +64,8 @@ pub record RunEnd (f : ℕ → Bool) (text : List ℕ) (i stop r : ℕ) : Type 0
 unfoldable pub onward : List ℕ → ℕ → ℕ → State → Outcome
 onward text stop i p = endOf stop (stateOf nameLimit i p (slice i stop text))
 
--- The subject or the predicate that begins at a, after which n more terms follow, ends before e: the reading is between terms
--- there. Or no line goes on at k.
+-- The subject or the predicate that begins at a, after which n more terms follow, ends before e: the reading is between
+-- terms there. Or no line goes on at k.
 abbrev pub TermEnds : List ℕ → ℕ → ℕ → ℕ → TermEnd → Type 0
 TermEnds text stop n a (term.Whole e) =
     (a ≤ e) × (e ≤ stop)

@@ -1,5 +1,5 @@
--- Reading a line by one pass over its bytes (paper 01, "Read a line"; paper 02, note 7): the executable definition that the code's
--- contracts cite. The limit of a term's bytes is a parameter throughout. Assumes nothing.
+-- Reading a line by one pass over its bytes (paper 01, "Read a line"; paper 02, note 7): the executable definition that
+-- the code's contracts cite. The limit of a term's bytes is a parameter throughout. Assumes nothing.
 use Prim.Native.Nat.{ℕ, zero, suc, _+_, _-_}
 use mathlib.Core.List.{List, [], _∷_, _++_}
 use mathlib.Core.Bool.{Bool, true, false, cond}
@@ -8,27 +8,8 @@ use lib.ListN.{length, drop}
 use Rattle.term.specs.Canonical.{canonical}
 use Rattle.term.specs.Scanner.{stepOf, wholeOf, isBad, firstKindOf}
 use Rattle.term.specs.declared.Scan.{Scan}
-use Rattle.term.specs.declared.Scan.the-variants.{
-  Start,
-  IriOpen,
-  Iri,
-  Closed,
-  Under,
-  Colon,
-  Label,
-  Dot,
-  Dots,
-  Text,
-  Escape,
-  Quote,
-  At,
-  Tag,
-  Hyphen,
-  Group,
-  Caret,
-  Carets,
-  Bad,
-}
+use Rattle.term.specs.declared.Scan.the-variants.{Start, IriOpen, Iri, Closed, Under, Colon, Label, Dot, Dots, Text}
+use Rattle.term.specs.declared.Scan.the-variants.{Escape, Quote, At, Tag, Hyphen, Group, Caret, Carets, Bad}
 use Rattle.ntriples.specs.declared.Span.{Span}
 use Rattle.ntriples.specs.declared.Line.{Line}
 use Rattle.ntriples.specs.declared.Line.the-variants.{End, Nothing, Triple, Refused}
@@ -192,7 +173,8 @@ shortLine text Nothing = Nothing
 shortLine text (Triple s p o) = Triple s p (shortPart text o)
 shortLine text (Refused k) = Refused k
 
--- reading a line: the object's part without the string ending; the position after the line and a refusal's offset by the line as spelled
+-- reading a line: the object's part without the string ending; the position after the line and a refusal's offset by
+-- the line as spelled
 unfoldable pub readOf : ℕ → List ℕ → ℕ → LineRead
 readOf limit text at =
     record { line = shortLine text (readSpelled limit text at .line); next = readSpelled limit text at .next }

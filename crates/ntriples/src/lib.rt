@@ -1,9 +1,9 @@
 // Reading N-Triples lines (paper 01, "Names", last paragraph, and "Read a line").
 //
-// A function for each production of the line's grammar has the production's name: white space, comment, subject, predicate,
-// object, triple. Each takes the text, the position where the production begins and the position `stop` where the line ends,
-// and gives the position where the production ends, or the position of the first byte that continues no line. A run of bytes
-// of one class is one loop, so reading is linear in the line's length.
+// A function for each production of the line's grammar has the production's name: white space, comment, subject,
+// predicate, object, triple. Each takes the text, the position where the production begins and the position `stop`
+// where the line ends, and gives the position where the production ends, or the position of the first byte that
+// continues no line. A run of bytes of one class is one loop, so reading is linear in the line's length.
 //
 // The only refusal is 10, with its offset in the line.
 ghost use Prim.Native.Nat.{_+_, _≤_};
@@ -12,8 +12,10 @@ ghost use mathlib.Core.List.{[], _∷_};
 ghost use lib.ListN.{length};
 ghost use Rattle.term.specs.Grammar.{nameLimit};
 ghost use Rattle.ntriples.specs.Grammar.{white, commentByte};
-ghost use Rattle.ntriples.specs.Reader.{isDot, opens, Begin, Gap, After, CommentLine, answerOf, readSpelled, readOf};
-ghost use Rattle.ntriples.specs.Productions.{Inline, OnLine, TermAt, NotWhite, Reached, RunEnd, onward, TermEnds, EarlierEnds};
+ghost use Rattle.ntriples.specs.Reader.{isDot, opens, Begin, Gap, After, CommentLine, answerOf, readSpelled};
+ghost use Rattle.ntriples.specs.Reader.{readOf};
+ghost use Rattle.ntriples.specs.Productions.{Inline, OnLine, TermAt, NotWhite, Reached, RunEnd, onward, TermEnds};
+ghost use Rattle.ntriples.specs.Productions.{EarlierEnds};
 ghost use Rattle.ntriples.specs.Productions.{ObjectEnds, cutOf, crDropped, Seen, BlockSeen, Passed, EolAt};
 use term::Scan;
 
@@ -24,8 +26,8 @@ pub struct Span {
 }
 
 // What reading a line answers. End: the position is at or past the text's end. Nothing: a blank line or a comment line.
-// Triple: the parts of the subject, the predicate and the object, without the string ending. Refused: refusal 10, with its
-// offset in the line.
+// Triple: the parts of the subject, the predicate and the object, without the string ending. Refused: refusal 10, with
+// its offset in the line.
 pub enum Line {
     End,
     Nothing,
@@ -78,6 +80,7 @@ fn white_space(text: &[u8], from: usize, stop: usize) -> usize
     requires { ⌜ Inline (now text) from stop ⌝ }
     ensures { λ r. ⌜ RunEnd white (now (text .entry)) from stop r ⌝ }
 {
+    // From `from` up to `i` there are spaces and tabs.
     let mut i = from;
     while i < stop {
         if !is_white(text[i]) {
@@ -93,6 +96,7 @@ fn comment(text: &[u8], from: usize, stop: usize) -> usize
     requires { ⌜ Inline (now text) from stop ⌝ }
     ensures { λ r. ⌜ RunEnd commentByte (now (text .entry)) from stop r ⌝ }
 {
+    // From `from` up to `i` there are bytes of a comment.
     let mut i = from;
     while i < stop {
         if !is_comment_byte(text[i]) {
@@ -108,30 +112,13 @@ fn is_dot(q: Scan) -> bool
     ensures { λ r. ⌜ r ≡ isDot q ⌝ }
 {
     match q {
-        Scan::Start => false,
-        Scan::IriOpen => false,
-        Scan::Iri => false,
-        Scan::Closed => false,
-        Scan::Under => false,
-        Scan::Colon => false,
-        Scan::Label => false,
         Scan::Dot => true,
-        Scan::Dots => false,
-        Scan::Text => false,
-        Scan::Escape => false,
-        Scan::Quote => false,
-        Scan::At => false,
-        Scan::Tag => false,
-        Scan::Hyphen => false,
-        Scan::Group => false,
-        Scan::Caret => false,
-        Scan::Carets => false,
-        Scan::Bad => false,
+        _ => false,
     }
 }
 
-// How far the scan of a term that begins at `a` goes: to the line's end, and to byte 256 of the term, the first that is too
-// many. A scan that takes it shows that the term goes on there.
+// How far the scan of a term that begins at `a` goes: to the line's end, and to byte 256 of the term, the first that is
+// too many. A scan that takes it shows that the term goes on there.
 fn cut(a: usize, stop: usize) -> usize
     requires { ⌜ a ≤ stop ⌝ }
     ensures { λ r. ⌜ r ≡ cutOf a stop ⌝ }
@@ -183,60 +170,46 @@ fn object_end(text: &[u8], a: usize, stop: usize) -> ObjectEnd
     ObjectEnd::Broken(i)
 }
 
-// An IRI or a blank node.
-fn opens_subject(b: u8) -> bool
-    ensures { λ r. ⌜ r ≡ opens 2 b ⌝ }
-{
-    match b {
-        b'<' | b'_' => true,
-        _ => false,
-    }
-}
-
-// An IRI.
-fn opens_predicate(b: u8) -> bool
-    ensures { λ r. ⌜ r ≡ opens 1 b ⌝ }
+// Whether a term that `more` terms follow may begin with `b`: with `<`, an IRI; with `_`, a blank node, which is no
+// predicate; with `"`, a literal, which is the object alone.
+fn opens_term(more: u32, b: u8) -> bool
+    ensures { λ r. ⌜ r ≡ opens more b ⌝ }
 {
     match b {
         b'<' => true,
+        b'_' => more != 1,
+        b'"' => more == 0,
         _ => false,
     }
 }
 
-// An IRI, a blank node or a literal.
-fn opens_object(b: u8) -> bool
-    ensures { λ r. ⌜ r ≡ opens 0 b ⌝ }
+// The subject or the predicate that begins at `a`; `more` terms follow it.
+fn earlier_term(text: &[u8], a: usize, stop: usize, more: u32) -> TermEnd
+    requires { ⌜ NotWhite (now text) a stop ⌝ }
+    requires { ⌜ 1 ≤ more ⌝ }
+    ensures { λ r. ⌜ TermEnds (now (text .entry)) stop more a r ⌝ }
 {
-    match b {
-        b'<' | b'_' | b'"' => true,
-        _ => false,
+    if a == stop {
+        return TermEnd::Broken(a);
     }
+    if !opens_term(more, text[a]) {
+        return TermEnd::Broken(a);
+    }
+    term_end(text, a, stop)
 }
 
 fn subject(text: &[u8], a: usize, stop: usize) -> TermEnd
     requires { ⌜ NotWhite (now text) a stop ⌝ }
     ensures { λ r. ⌜ TermEnds (now (text .entry)) stop 2 a r ⌝ }
 {
-    if a == stop {
-        return TermEnd::Broken(a);
-    }
-    if !opens_subject(text[a]) {
-        return TermEnd::Broken(a);
-    }
-    term_end(text, a, stop)
+    earlier_term(text, a, stop, 2)
 }
 
 fn predicate(text: &[u8], a: usize, stop: usize) -> TermEnd
     requires { ⌜ NotWhite (now text) a stop ⌝ }
     ensures { λ r. ⌜ TermEnds (now (text .entry)) stop 1 a r ⌝ }
 {
-    if a == stop {
-        return TermEnd::Broken(a);
-    }
-    if !opens_predicate(text[a]) {
-        return TermEnd::Broken(a);
-    }
-    term_end(text, a, stop)
+    earlier_term(text, a, stop, 1)
 }
 
 fn object(text: &[u8], a: usize, stop: usize) -> ObjectEnd
@@ -246,7 +219,7 @@ fn object(text: &[u8], a: usize, stop: usize) -> ObjectEnd
     if a == stop {
         return ObjectEnd::Broken(a);
     }
-    if !opens_object(text[a]) {
+    if !opens_term(0, text[a]) {
         return ObjectEnd::Broken(a);
     }
     object_end(text, a, stop)
@@ -379,6 +352,7 @@ fn block_seen(text: &[u8], from: usize) -> bool
     requires { ⌜ from + 16 ≤ length (now text) ⌝ }
     ensures { λ r. ⌜ BlockSeen (now (text .entry)) from (from + 16) r ⌝ }
 {
+    // `found` is false only if the first `j` bytes have no LF.
     let mut found = false;
     let mut j = 0;
     while j < 16 {
@@ -393,6 +367,7 @@ fn skip_blocks(text: &[u8], at: usize) -> usize
     requires { ⌜ at ≤ length (now text) ⌝ }
     ensures { λ r. ⌜ Passed (now (text .entry)) at r ⌝ }
 {
+    // No LF stands from `at` up to `i`.
     let mut i = at;
     while text.len() - i >= 16 {
         if block_seen(text, i) {
@@ -408,6 +383,7 @@ fn end_of_line(text: &[u8], at: usize) -> usize
     requires { ⌜ at ≤ length (now text) ⌝ }
     ensures { λ r. ⌜ EolAt (now (text .entry)) at r ⌝ }
 {
+    // No LF stands from `at` up to `i`.
     let mut i = skip_blocks(text, at);
     while i < text.len() {
         if text[i] == b'\n' {
@@ -457,9 +433,9 @@ fn read_spelled(text: &[u8], at: usize) -> LineRead
     }
 }
 
-// Reads the line at the position `at` of the text. The position may stand anywhere, also inside a line, which is then read
-// from there. The next position is past the line and its EOL, after a refusal too; at or past the text's end it is `at`. The
-// object's part is answered without the string ending.
+// Reads the line at the position `at` of the text. The position may stand anywhere, also inside a line, which is then
+// read from there. The next position is past the line and its EOL, after a refusal too; at or past the text's end it is
+// `at`. The object's part is answered without the string ending.
 pub fn read_line(text: &[u8], at: usize) -> LineRead
     ensures { λ r. ⌜ r ≡ readOf nameLimit (now (text .entry)) at ⌝ }
 {

@@ -1,11 +1,13 @@
-// Reads a table of cases from standard input, a line each: a name, a position, and a text in which `\n`, `\r`, `\\` and `\xNN`
-// stand for a byte and `\{N}` for N letters a. Reads the text's line at the position, and prints one line a case: its number,
-// its name, the answer and the position after.
+// Reads a table of cases from standard input, a line each: a name, a position, and a text in which `\n`, `\r`, `\\` and
+// `\xNN` stand for a byte and `\{N}` for N letters a. Reads the text's line at the position, and prints one line a
+// case: its number, its name, the answer and the position after.
 //
 // The input and the expected output are those of `reference.py`, which follows paper 01 and knows nothing of this
 // library; the answers that docs/DECISIONS.md gives as examples are written out there by hand.
+use bytes::scan::find;
 use store::Refusal;
 use store::refusal_number;
+use term::class::byte_at;
 ghost use Prim.Native.Nat.{_≤_, _<_};
 ghost use mathlib.Core.Path.{_≡_};
 ghost use lib.ListN.{length};
@@ -68,14 +70,6 @@ fn print_answer(line: ntriples::Line) {
     }
 }
 
-// The byte at `i`, or LF past the end.
-fn byte_at(table: &[u8], i: usize) -> u8 {
-    if i < table.len() {
-        return table[i];
-    }
-    b'\n'
-}
-
 // The position after `i`, at most the table's end.
 fn past(table: &[u8], i: usize) -> usize
     requires { ⌜ i ≤ length (now table) ⌝ }
@@ -83,21 +77,6 @@ fn past(table: &[u8], i: usize) -> usize
 {
     if i < table.len() {
         return i + 1;
-    }
-    i
-}
-
-// The position of the first byte `b` from `from` on, or the table's end.
-fn find(table: &[u8], from: usize, b: u8) -> usize
-    requires { ⌜ from ≤ length (now table) ⌝ }
-    ensures { λ r. ⌜ (from ≤ r) × (r ≤ length (now (table .entry))) ⌝ }
-{
-    let mut i = from;
-    while i < table.len() {
-        if table[i] == b {
-            return i;
-        }
-        i += 1;
     }
     i
 }
@@ -118,6 +97,7 @@ fn decimal(table: &[u8], from: usize) -> Number
     requires { ⌜ from ≤ length (now table) ⌝ }
     ensures { λ r. ⌜ (r .value ≤ 9999) × (from ≤ r .next) × (r .next ≤ length (now (table .entry))) ⌝ }
 {
+    // `v` is the number that the digits from `from` up to `i` spell.
     let mut i = from;
     let mut v: usize = 0;
     while i < table.len() {
@@ -218,6 +198,7 @@ fn fill(text: &mut [u8], from: usize, count: usize, b: u8) -> usize
     requires { ⌜ from ≤ length (now text) ⌝ }
     ensures { λ r. ⌜ (r ≤ length (now (text .exit))) × (length (now (text .exit)) ≡ length (now (text .entry))) ⌝ }
 {
+    // `b` stands from `from` up to `i`, and is still to be laid out `left` times.
     let mut i = from;
     let mut left = count;
     while left > 0 {
@@ -237,6 +218,7 @@ fn lay(table: &[u8], from: usize, text: &mut [u8]) -> Laid
     ensures { λ r. ⌜ (from ≤ r .next) × (r .next ≤ length (now (table .entry))) × (r .len ≤ length (now (text .exit))) ⌝ }
     ensures { λ r. ⌜ length (now (text .exit)) ≡ length (now (text .entry)) ⌝ }
 {
+    // The first `n` bytes of the text are what stands in the table from `from` up to `i`.
     let mut i = from;
     let mut n = 0;
     while i < table.len() {
@@ -268,7 +250,7 @@ fn case(n: usize, table: &[u8], from: usize, text: &mut [u8]) -> usize
     requires { ⌜ from < length (now table) ⌝ }
     ensures { λ r. ⌜ r ≤ length (now (table .entry)) ⌝ }
 {
-    let space = find(table, from, b' ');
+    let space = find(table, from, table.len(), b' ');
     let at = decimal(table, past(table, space));
     let blank = at.next;
     let laid = lay(table, past(table, blank), text);
@@ -283,6 +265,7 @@ fn main() {
     let mut table = [0; ROOM];
     let mut text = [0; LINE_ROOM];
     let got = io::read_full(0, &mut table);
+    // The cases before `i` are run, and `n` is the next one's number.
     let mut i = 0;
     let mut n = 1;
     while i < got {

@@ -1,5 +1,5 @@
--- Laws of tests: a case split with its equation, conjunctions, and the same bytes. Assumes nothing.
-use mathlib.Core.Path.{_≡_, refl, ap₂}
+-- Laws of tests: a case split with its equation, conjunctions, classes of bytes, and the same bytes. Assumes nothing.
+use mathlib.Core.Path.{_≡_, refl, sym, ap, ap₂, _∙_}
 use mathlib.Core.List.{List, [], _∷_}
 use mathlib.Core.Bool.{Bool, true, false, _&&_, false≢true}
 use mathlib.Core.Logic.{_≢_}
@@ -23,6 +23,10 @@ and-r false b e = absurd (false≢true e)
 
 pub and-of : (a b : Bool) → a ≡ true → b ≡ true → a && b ≡ true
 and-of a b e d = rw (e, d)
+
+-- a byte of a class is none that the class lacks
+pub other : (f : ℕ → Bool) (k c : ℕ) → f k ≡ false → f c ≡ true → eqb c k ≡ false
+other f k c n h = decide (eqb c k) (λ e. absurd (false≢true (sym n ∙ (ap f (sym (eqb-true c k e)) ∙ h)))) (λ e. e)
 
 -- ---- the same bytes
 

@@ -3,28 +3,30 @@
 use Prim.Native.Nat.{ℕ, zero, suc, _+_, _≤_}
 use mathlib.Core.Path.{_≡_, refl, sym, ap, _∙_}
 use mathlib.Core.List.{List, [], _∷_, _++_}
-use mathlib.Core.Bool.{Bool, true, false, cond}
+use mathlib.Core.Bool.{Bool, true, false, cond, not}
 use mathlib.Core.Logic.{_⊎_, ⊎-elim, inl, inr}
-use lib.Dec.{eqb}
 use lib.ListN.{length, take}
 use lib.Seq.{take-nil}
 use native.Mathlib.Omega.{arith}
 use Rattle.term.specs.Bytes.{among, iriByte, textByte, pairByte, firstByte, labelByte, letter, alnum}
 use Rattle.term.specs.Grammar.{Name}
 use Rattle.term.specs.Scanner.{stepOf, runOf, wholeOf, isBad, haltOf, firstKindOf, longestOf}
-use Rattle.term.specs.Halting.{Begins, HaltIsFirstBreak, BeginningHasOneKind}
-use Rattle.term.specs.Halting.{LongestIsLongest, LongestEndsByHalt, WholeAtHalt, WholeBeforeDot}
+use Rattle.term.specs.Halting.{Begins, HaltIsFirstBreak, BeginningHasOneKind, LongestIsLongest, LongestEndsByHalt}
+use Rattle.term.specs.Halting.{WholeAtHalt, WholeBeforeDot}
 use Rattle.term.specs.declared.Scan.{Scan}
 use Rattle.term.specs.declared.Halt.{Halt}
 use Rattle.term.specs.declared.Scan.the-variants.{Start, IriOpen, Iri, Closed, Under, Colon, Label, Dot, Dots}
 use Rattle.term.specs.declared.Scan.the-variants.{Text, Escape, Quote, At, Tag, Hyphen, Group, Caret, Carets, Bad}
+use Rattle.term.proofs.Booleans.{decide}
+use Rattle.term.proofs.Lists.{head-same, no-nil}
+use Rattle.term.proofs.Places.{same, bad-only, every-if, leads}
 use Rattle.term.proofs.Names.{Accepts, never, bad, name-back, name-forth, name-kind}
-use Rattle.term.proofs.Runs.{bad-only, run-append, halt-first, halt-first-bad}
+use Rattle.term.proofs.Runs.{run-append, halt-first, halt-first-bad, at-first, at-first-bad}
 
 -- ---- the bytes before the halt begin a name
 
 -- bytes that end a name from a place
-abbrev completion : Scan → List ℕ
+abbrev pub completion : Scan → List ℕ
 completion Start = 60 ∷ (97 ∷ (62 ∷ []))
 completion IriOpen = 97 ∷ (62 ∷ [])
 completion Iri = 62 ∷ []
@@ -45,27 +47,9 @@ completion Caret = 94 ∷ (60 ∷ (97 ∷ (62 ∷ [])))
 completion Carets = 60 ∷ (97 ∷ (62 ∷ []))
 completion Bad = []
 
-completes : (q : Scan) → isBad q ≡ false → Accepts q (completion q)
+pub completes : (q : Scan) → isBad q ≡ false → Accepts q (completion q)
 unfolding stepOf runOf wholeOf isBad iriByte textByte pairByte firstByte labelByte letter alnum among
-completes Start e = refl
-completes IriOpen e = refl
-completes Iri e = refl
-completes Closed e = refl
-completes Under e = refl
-completes Colon e = refl
-completes Label e = refl
-completes Dot e = refl
-completes Dots e = refl
-completes Text e = refl
-completes Escape e = refl
-completes Quote e = refl
-completes At e = refl
-completes Tag e = refl
-completes Hyphen e = refl
-completes Group e = refl
-completes Caret e = refl
-completes Carets e = refl
-completes Bad e = never (sym e)
+completes q e = every-if (λ r. not (isBad r)) (λ r. wholeOf (runOf r (completion r))) refl q (rw e)
 
 pub begins : (p : List ℕ) → isBad (runOf Start p) ≡ false → Begins p
 begins p e =
@@ -92,13 +76,9 @@ record Halts (q : Scan) (i : ℕ) (s : List ℕ) : Type 0 where
   good : isBad (runOf q front) ≡ false
   stop : (b : ℕ) (r : List ℕ) → back ≡ b ∷ r → isBad (stepOf (runOf q front) b) ≡ true
 
-headOf : ℕ → List ℕ → ℕ
-headOf d [] = d
-headOf d (b ∷ s) = b
-
 halts-cons : (q : Scan) (i b : ℕ) (s : List ℕ) (t : Bool) → isBad (stepOf q b) ≡ t → isBad q ≡ false
     → (t ≡ false → Halts (stepOf q b) (i + 1) s) → Halts q i (b ∷ s)
-unfolding runOf headOf
+unfolding runOf
 halts-cons q i b s true e g f =
     let h = halt-first-bad q i b s e in
     record {
@@ -108,7 +88,7 @@ halts-cons q i b s true e g f =
       offset = ap (λ (x : Halt). x .at) h ∙ omega arith;
       place = ap (λ (x : Halt). x .state) h;
       good = g;
-      stop = λ c r w. rw (← ap (headOf 0) w) e;
+      stop = λ c r w. rw (← head-same w) e;
     }
 halts-cons q i b s false e g f =
     let h = halt-first q i b s e in
@@ -123,9 +103,6 @@ halts-cons q i b s false e g f =
       stop = x .stop;
     }
 
-no-cons : {C : Type 0} (b : ℕ) (r : List ℕ) → [] ≡ b ∷ r → C
-no-cons b r w = let z = ap (λ (l : List ℕ). length l) w in absurd (omega arith)
-
 halts : (s : List ℕ) (q : Scan) (i : ℕ) → isBad q ≡ false → Halts q i s
 unfolding runOf haltOf
 halts [] q i g =
@@ -136,7 +113,7 @@ halts [] q i g =
       offset = omega arith;
       place = refl;
       good = g;
-      stop = λ b r w. no-cons b r w;
+      stop = λ b r w. no-nil w;
     }
 halts (b ∷ s) q i g = halts-cons q i b s (isBad (stepOf q b)) refl g (λ e. halts s (stepOf q b) (i + 1) e)
 
@@ -258,22 +235,15 @@ longest-stop : (q : Scan) (best i b : ℕ) (s : List ℕ) → isBad (stepOf q b)
 unfolding longestOf
 longest-stop q best i b s e = rw (bad-only (stepOf q b) e) (longest-bad s (cond (wholeOf q) i best) (i + 1))
 
-halt-at : (q : Scan) (i b : ℕ) (s : List ℕ) → isBad (stepOf q b) ≡ false
-    → haltOf q i (b ∷ s) .at ≡ haltOf (stepOf q b) (i + 1) s .at
-halt-at q i b s e = ap (λ (h : Halt). h .at) (halt-first q i b s e)
-
-halt-at-bad : (q : Scan) (i b : ℕ) (s : List ℕ) → isBad (stepOf q b) ≡ true → haltOf q i (b ∷ s) .at ≡ i
-halt-at-bad q i b s e = ap (λ (h : Halt). h .at) (halt-first-bad q i b s e)
-
 ends-cons : (q : Scan) (best i b : ℕ) (s : List ℕ) (t : Bool) → isBad (stepOf q b) ≡ t → best ≤ i
     → longestOf best i q (b ∷ s) ≤ haltOf (stepOf q b) (i + 1) s .at → longestOf best i q (b ∷ s) ≤ haltOf q i
     (b ∷ s) .at
 ends-cons q best i b s true e l f =
     let x = longest-stop q best i b s e in
-    let y = halt-at-bad q i b s e in
+    let y = at-first-bad q i b s e in
     let z = cond-high (wholeOf q) best i l in
     omega arith
-ends-cons q best i b s false e l f = let y = halt-at q i b s e in omega arith
+ends-cons q best i b s false e l f = let y = at-first q i b s e in omega arith
 
 ends : (s : List ℕ) (q : Scan) (best i : ℕ) → best ≤ i → longestOf best i q s ≤ haltOf q i s .at
 unfolding longestOf haltOf
@@ -294,9 +264,9 @@ whole-cons : (q : Scan) (best i b : ℕ) (s : List ℕ) (t : Bool) → isBad (st
     → wholeOf (haltOf q i (b ∷ s) .state) ≡ true → longestOf best i q (b ∷ s) ≡ haltOf q i (b ∷ s) .at
 whole-cons q best i b s true e f w =
     let h : wholeOf q ≡ true = ap (λ (x : Halt). wholeOf (x .state)) (sym (halt-first-bad q i b s e)) ∙ w in
-    longest-stop q best i b s e ∙ rw h (sym (halt-at-bad q i b s e))
+    longest-stop q best i b s e ∙ rw h (sym (at-first-bad q i b s e))
 whole-cons q best i b s false e f w =
-    f (ap (λ (x : Halt). wholeOf (x .state)) (sym (halt-first q i b s e)) ∙ w) ∙ sym (halt-at q i b s e)
+    f (ap (λ (x : Halt). wholeOf (x .state)) (sym (halt-first q i b s e)) ∙ w) ∙ sym (at-first q i b s e)
 
 whole-at : (s : List ℕ) (q : Scan) (best i : ℕ) → wholeOf (haltOf q i s .state) ≡ true
     → longestOf best i q s ≡ haltOf q i s .at
@@ -311,58 +281,13 @@ whole-at-halt s w = whole-at s Start 0 0 w
 
 -- a lone dot at the halt: it follows a whole place, and only such
 abbrev notDot : Scan → Bool
-notDot Start = true
-notDot IriOpen = true
-notDot Iri = true
-notDot Closed = true
-notDot Under = true
-notDot Colon = true
-notDot Label = true
-notDot Dot = false
-notDot Dots = true
-notDot Text = true
-notDot Escape = true
-notDot Quote = true
-notDot At = true
-notDot Tag = true
-notDot Hyphen = true
-notDot Group = true
-notDot Caret = true
-notDot Carets = true
-notDot Bad = true
-
-off : (t : Bool) (x y : Scan) → notDot x ≡ true → notDot y ≡ true → notDot (cond t x y) ≡ true
-off true x y p q = p
-off false x y p q = q
-
-whole-or-off : (q : Scan) (b : ℕ) → (wholeOf q ≡ true) ⊎ (notDot (stepOf q b) ≡ true)
-unfolding wholeOf stepOf
-whole-or-off Start b =
-    inr (off (eqb b 60) IriOpen _ refl (off (eqb b 95) Under _ refl (off (eqb b 34) Text Bad refl refl)))
-whole-or-off IriOpen b = inr (off (iriByte b) Iri Bad refl refl)
-whole-or-off Iri b = inr (off (iriByte b) Iri _ refl (off (eqb b 62) Closed Bad refl refl))
-whole-or-off Closed b = inl refl
-whole-or-off Under b = inr (off (eqb b 58) Colon Bad refl refl)
-whole-or-off Colon b = inr (off (firstByte b) Label Bad refl refl)
-whole-or-off Label b = inl refl
-whole-or-off Dot b = inr (off (labelByte b) Label _ refl (off (eqb b 46) Dots Bad refl refl))
-whole-or-off Dots b = inr (off (labelByte b) Label _ refl (off (eqb b 46) Dots Bad refl refl))
-whole-or-off Text b =
-    inr (off (textByte b) Text _ refl (off (eqb b 34) Quote _ refl (off (eqb b 92) Escape Bad refl refl)))
-whole-or-off Escape b = inr (off (pairByte b) Text Bad refl refl)
-whole-or-off Quote b = inl refl
-whole-or-off At b = inr (off (letter b) Tag Bad refl refl)
-whole-or-off Tag b = inl refl
-whole-or-off Hyphen b = inr (off (alnum b) Group Bad refl refl)
-whole-or-off Group b = inl refl
-whole-or-off Caret b = inr (off (eqb b 94) Carets Bad refl refl)
-whole-or-off Carets b = inr (off (eqb b 60) IriOpen Bad refl refl)
-whole-or-off Bad b = inr refl
+notDot q = not (same q Dot)
 
 before-dot : (q : Scan) (b : ℕ) → stepOf q b ≡ Dot → wholeOf q ≡ true
+unfolding wholeOf
 before-dot q b e =
-    ⊎-elim (λ (w : wholeOf q ≡ true). w) (λ (w : notDot (stepOf q b) ≡ true). never (ap notDot (sym e) ∙ w))
-    (whole-or-off q b)
+    decide (wholeOf q) (λ w. w)
+    (λ w. never (ap notDot (sym e) ∙ leads (λ r. not (wholeOf r)) notDot refl q b (rw w)))
 
 dot-stop : (q : Scan) (best i : ℕ) → q ≡ Dot → (q ≡ Dot → best + 1 ≡ i) → cond (wholeOf q) i best + 1 ≡ i
 unfolding wholeOf
@@ -374,11 +299,11 @@ dot-cons : (q : Scan) (best i b : ℕ) (s : List ℕ) (t : Bool) → isBad (step
 dot-cons q best i b s true e d f w =
     let h : q ≡ Dot = ap (λ (x : Halt). x .state) (sym (halt-first-bad q i b s e)) ∙ w in
     let x = longest-stop q best i b s e in
-    let y = halt-at-bad q i b s e in
+    let y = at-first-bad q i b s e in
     let z = dot-stop q best i h d in
     omega arith
 dot-cons q best i b s false e d f w =
-    f (ap (λ (x : Halt). x .state) (sym (halt-first q i b s e)) ∙ w) ∙ sym (halt-at q i b s e)
+    f (ap (λ (x : Halt). x .state) (sym (halt-first q i b s e)) ∙ w) ∙ sym (at-first q i b s e)
 
 before-next : (q : Scan) (best i b : ℕ) → stepOf q b ≡ Dot → cond (wholeOf q) i best + 1 ≡ i + 1
 before-next q best i b e = rw (before-dot q b e)

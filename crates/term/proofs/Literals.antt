@@ -1,25 +1,16 @@
 -- A literal is what the paper spells out, and its text and its closing quote can be read in one way only.
 -- Assumes nothing.
 use Prim.Native.Nat.{ℕ}
-use mathlib.Core.Path.{_≡_, refl, sym, ap, _∙_}
+use mathlib.Core.Path.{_≡_, refl, sym, _∙_}
 use mathlib.Core.List.{List, [], _∷_, _++_}
 use mathlib.Core.Bool.{true}
-use lib.ListN.{getD}
 use native.Mathlib.Omega.{arith}
 use Rattle.term.specs.Bytes.{textByte, among}
 use Rattle.term.specs.Grammar as g
-use Rattle.term.specs.Spelling.{Piece, AllAllowed, spelling, SpelledLiteral, LiteralIsSpelled, TextReadOneWay, LiteralReadOneWay}
+use Rattle.term.specs.Spelling.{Piece, AllAllowed, spelling, SpelledLiteral, LiteralIsSpelled, TextReadOneWay}
+use Rattle.term.specs.Spelling.{LiteralReadOneWay}
+use Rattle.term.proofs.Lists.{head-same, tail-same}
 use Rattle.term.proofs.Names.{never}
-
-head-same : (a b : ℕ) (s t : List ℕ) → a ∷ s ≡ b ∷ t → a ≡ b
-head-same a b s t e = ap (λ (l : List ℕ). getD l 0 0) e
-
-abbrev tailOf : List ℕ → List ℕ
-tailOf [] = []
-tailOf (a ∷ s) = s
-
-tail-same : (a b : ℕ) (s t : List ℕ) → a ∷ s ≡ b ∷ t → s ≡ t
-tail-same a b s t e = ap tailOf e
 
 -- a byte of text is neither the quote nor the backslash
 no-quote : {C : Type 0} (b : ℕ) → textByte b ≡ true → b ≡ 34 → C
@@ -39,30 +30,30 @@ Later p s =
     (q : List Piece) (t : List ℕ) → AllAllowed q → spelling p ++ (34 ∷ s) ≡ spelling q ++ (34 ∷ t) → Same p q s t
 
 none-one-way : (q : List Piece) (s t : List ℕ) → AllAllowed q → 34 ∷ s ≡ spelling q ++ (34 ∷ t) → Same [] q s t
-none-one-way [] s t y e = (refl, tail-same 34 34 s t e)
-none-one-way (Piece.byte b ∷ q) s t y e = no-quote b (y .0) (sym (head-same 34 b s (spelling q ++ (34 ∷ t)) e))
+none-one-way [] s t y e = (refl, tail-same e)
+none-one-way (Piece.byte b ∷ q) s t y e = no-quote b (y .0) (sym (head-same e))
 none-one-way (Piece.pair b ∷ q) s t y e =
-    let z = head-same 34 92 s (b ∷ (spelling q ++ (34 ∷ t))) e in absurd (omega arith)
+    let z = head-same e in absurd (omega arith)
 
 byte-one-way : (a : ℕ) (p q : List Piece) (s t : List ℕ) → textByte a ≡ true → Later p s → AllAllowed q
     → a ∷ (spelling p ++ (34 ∷ s)) ≡ spelling q ++ (34 ∷ t) → Same (Piece.byte a ∷ p) q s t
-byte-one-way a p [] s t h f y e = no-quote a h (head-same a 34 (spelling p ++ (34 ∷ s)) t e)
+byte-one-way a p [] s t h f y e = no-quote a h (head-same e)
 byte-one-way a p (Piece.byte b ∷ q) s t h f y e =
-    let x = head-same a b (spelling p ++ (34 ∷ s)) (spelling q ++ (34 ∷ t)) e in
-    let r = f q t (y .1) (tail-same a b (spelling p ++ (34 ∷ s)) (spelling q ++ (34 ∷ t)) e) in
+    let x : a ≡ b = head-same e in
+    let r = f q t (y .1) (tail-same e) in
     (rw (x, r .0), r .1)
 byte-one-way a p (Piece.pair b ∷ q) s t h f y e =
-    no-slash a h (head-same a 92 (spelling p ++ (34 ∷ s)) (b ∷ (spelling q ++ (34 ∷ t))) e)
+    no-slash a h (head-same e)
 
 pair-one-way : (a : ℕ) (p q : List Piece) (s t : List ℕ) → Later p s → AllAllowed q
     → 92 ∷ (a ∷ (spelling p ++ (34 ∷ s))) ≡ spelling q ++ (34 ∷ t) → Same (Piece.pair a ∷ p) q s t
-pair-one-way a p [] s t f y e = let z = head-same 92 34 (a ∷ (spelling p ++ (34 ∷ s))) t e in absurd (omega arith)
+pair-one-way a p [] s t f y e = let z = head-same e in absurd (omega arith)
 pair-one-way a p (Piece.byte b ∷ q) s t f y e =
-    no-slash b (y .0) (sym (head-same 92 b (a ∷ (spelling p ++ (34 ∷ s))) (spelling q ++ (34 ∷ t)) e))
+    no-slash b (y .0) (sym (head-same e))
 pair-one-way a p (Piece.pair b ∷ q) s t f y e =
-    let d = tail-same 92 92 (a ∷ (spelling p ++ (34 ∷ s))) (b ∷ (spelling q ++ (34 ∷ t))) e in
-    let x = head-same a b (spelling p ++ (34 ∷ s)) (spelling q ++ (34 ∷ t)) d in
-    let r = f q t (y .1) (tail-same a b (spelling p ++ (34 ∷ s)) (spelling q ++ (34 ∷ t)) d) in
+    let d : a ∷ (spelling p ++ (34 ∷ s)) ≡ b ∷ (spelling q ++ (34 ∷ t)) = tail-same e in
+    let x : a ≡ b = head-same d in
+    let r = f q t (y .1) (tail-same d) in
     (rw (x, r .0), r .1)
 
 -- pairs and closing quote are read the only way possible
@@ -74,10 +65,8 @@ text-one-way (Piece.pair a ∷ p) q s t x y e = pair-one-way a p q s t (λ r u z
 
 pub literal-one-way : LiteralReadOneWay
 literal-one-way l x y =
-    let a = spelling (x .text) ++ (34 ∷ x .suffix) in
-    let b = spelling (y .text) ++ (34 ∷ y .suffix) in
     text-one-way (x .text) (y .text) (x .suffix) (y .suffix) (x .fine) (y .fine)
-    (tail-same 34 34 a b (sym (x .spells) ∙ y .spells))
+    (tail-same (sym (x .spells) ∙ y .spells))
 
 -- text and suffix of what follows the opening quote
 record Parts (s : List ℕ) : Type 0 where
@@ -95,8 +84,7 @@ parts (g.TextRest.byte {b = b} e r) =
       suffix = p .suffix;
       fine = (e, p .fine);
       ends = p .ends;
-      spells = rw
-          (← p .spells);
+      spells = rw (← p .spells);
     }
 parts (g.TextRest.pair {b = b} e r) =
     let p = parts r in
@@ -105,8 +93,7 @@ parts (g.TextRest.pair {b = b} e r) =
       suffix = p .suffix;
       fine = (e, p .fine);
       ends = p .ends;
-      spells = rw
-          (← p .spells);
+      spells = rw (← p .spells);
     }
 parts (g.TextRest.close {s = s} x) = record { text = []; suffix = s; fine = tt; ends = x; spells = refl }
 

@@ -10,31 +10,8 @@ use borrow.Author.Tests.{lt-leb, le-leb}
 use Rattle.term.specs.Scanner.{stepOf, runOf, isBad, haltOf, wholeOf, firstKindOf, kindOf}
 use Rattle.term.specs.declared.Scan.{Scan}
 use Rattle.term.specs.declared.Halt.{Halt}
-use Rattle.term.specs.declared.Scan.the-variants.{Start, IriOpen, Iri, Closed, Under, Colon, Label, Dot, Dots}
-use Rattle.term.specs.declared.Scan.the-variants.{Text, Escape, Quote, At, Tag, Hyphen, Group, Caret, Carets, Bad}
-use Rattle.term.proofs.Names.{never}
-
-pub bad-only : (q : Scan) → isBad q ≡ true → q ≡ Bad
-unfolding isBad
-bad-only Start e = never e
-bad-only IriOpen e = never e
-bad-only Iri e = never e
-bad-only Closed e = never e
-bad-only Under e = never e
-bad-only Colon e = never e
-bad-only Label e = never e
-bad-only Dot e = never e
-bad-only Dots e = never e
-bad-only Text e = never e
-bad-only Escape e = never e
-bad-only Quote e = never e
-bad-only At e = never e
-bad-only Tag e = never e
-bad-only Hyphen e = never e
-bad-only Group e = never e
-bad-only Caret e = never e
-bad-only Carets e = never e
-bad-only Bad e = refl
+use Rattle.term.specs.declared.Scan.the-variants.{Start, Bad}
+use Rattle.term.proofs.Places.{bad-only}
 
 -- nothing leads on from Bad
 pub run-bad : (s : List ℕ) → runOf Bad s ≡ Bad
@@ -58,11 +35,11 @@ pub halt-first : (q : Scan) (i b : ℕ) (s : List ℕ) → isBad (stepOf q b) �
 unfolding haltOf
 halt-first q i b s e = rw (haltOf, e)
 
-at-first : (q : Scan) (i b : ℕ) (s : List ℕ) → isBad (stepOf q b) ≡ false
+pub at-first : (q : Scan) (i b : ℕ) (s : List ℕ) → isBad (stepOf q b) ≡ false
     → haltOf q i (b ∷ s) .at ≡ haltOf (stepOf q b) (i + 1) s .at
 at-first q i b s e = ap (λ (h : Halt). h .at) (halt-first q i b s e)
 
-at-first-bad : (q : Scan) (i b : ℕ) (s : List ℕ) → isBad (stepOf q b) ≡ true → haltOf q i (b ∷ s) .at ≡ i
+pub at-first-bad : (q : Scan) (i b : ℕ) (s : List ℕ) → isBad (stepOf q b) ≡ true → haltOf q i (b ∷ s) .at ≡ i
 at-first-bad q i b s e = ap (λ (h : Halt). h .at) (halt-first-bad q i b s e)
 
 -- a scan that halts early: the run over all the bytes is bad

@@ -3,7 +3,7 @@
 use Prim.Native.Nat.{ℕ, suc, _+_, _-_, _≤_, _<_}
 use mathlib.Core.Path.{_≡_, refl, sym, ap, _∙_}
 use mathlib.Core.List.{List, [], _∷_, _++_, append-nil}
-use mathlib.Core.Bool.{Bool, true, false, cond}
+use mathlib.Core.Bool.{Bool, true, false, cond, not, _||_}
 use lib.Dec.{leb, eqb}
 use lib.ListN.{length, take, drop, getD, length-append, take-append-drop}
 use lib.Seq.{drop-append-seam, take-append-seam, drop-cons, getD-drop}
@@ -14,9 +14,9 @@ use Rattle.term.specs.Scanner.{stepOf, runOf, wholeOf, firstKindOf, kind
 use Rattle.term.specs.Canonical.{stringEnding, endingBytes, writesString, canonical}
 use Rattle.term.specs.Theorems.{CanonicalDrops, CanonicalKeeps, Canonical, CanonicalName}
 use Rattle.term.specs.declared.Scan.{Scan}
-use Rattle.term.specs.declared.Scan.the-variants.{Start, IriOpen, Iri, Closed, Under, Colon, Label, Dot, Dots}
-use Rattle.term.specs.declared.Scan.the-variants.{Text, Escape, Quote, At, Tag, Hyphen, Group, Caret, Carets, Bad}
+use Rattle.term.specs.declared.Scan.the-variants.{Start, IriOpen, Under, Text, Escape, Quote, Bad}
 use Rattle.term.proofs.Booleans.{decide, and-l, and-r, eqBytes-is, eqBytes-refl}
+use Rattle.term.proofs.Places.{same, same-is, every, every-if, leads}
 use Rattle.term.proofs.Names.{Accepts, never}
 use Rattle.term.proofs.Runs.{run-append}
 use Rattle.term.proofs.WellFormed.{accepted}
@@ -34,11 +34,13 @@ writes-drop : (w : List ℕ) → writesString w ≡ true → drop (length w - en
 unfolding writesString
 writes-drop w e = eqBytes-is _ _ (and-r (leb endingBytes (length w)) _ e)
 
-pub writes-of : (w : List ℕ) → endingBytes ≤ length w → drop (length w - endingBytes) w ≡ stringEnding → writesString w ≡ true
+pub writes-of : (w : List ℕ) → endingBytes ≤ length w → drop (length w - endingBytes) w ≡ stringEnding
+    → writesString w ≡ true
 unfolding writesString
 writes-of w h e = rw (le-leb endingBytes (length w) h, e, eqBytes-refl stringEnding)
 
-pub writes-not : (w : List ℕ) → (endingBytes ≤ length w → drop (length w - endingBytes) w ≡ stringEnding → ⊥) → writesString w ≡ false
+pub writes-not : (w : List ℕ) → (endingBytes ≤ length w → drop (length w - endingBytes) w ≡ stringEnding → ⊥)
+    → writesString w ≡ false
 writes-not w f = decide (writesString w) (λ e. absurd (f (writes-long w e) (writes-drop w e))) (λ e. e)
 
 -- ---- the test from the last byte back
@@ -89,98 +91,21 @@ canonical-front w =
 -- ---- the scanner over the ending
 
 abbrev pub isQuote : Scan → Bool
-isQuote Start = false
-isQuote IriOpen = false
-isQuote Iri = false
-isQuote Closed = false
-isQuote Under = false
-isQuote Colon = false
-isQuote Label = false
-isQuote Dot = false
-isQuote Dots = false
-isQuote Text = false
-isQuote Escape = false
-isQuote Quote = true
-isQuote At = false
-isQuote Tag = false
-isQuote Hyphen = false
-isQuote Group = false
-isQuote Caret = false
-isQuote Carets = false
-isQuote Bad = false
+isQuote q = same q Quote
 
 -- a whole name comes out from the closing quote alone
-ending-whole : (q : Scan) → wholeOf (runOf q stringEnding) ≡ isQuote q
+ending-whole : (q : Scan) → wholeOf (runOf q stringEnding) ≡ true → q ≡ Quote
 unfolding stepOf runOf wholeOf among iriByte textByte pairByte firstByte labelByte letter alnum
-ending-whole Start = refl
-ending-whole IriOpen = refl
-ending-whole Iri = refl
-ending-whole Closed = refl
-ending-whole Under = refl
-ending-whole Colon = refl
-ending-whole Label = refl
-ending-whole Dot = refl
-ending-whole Dots = refl
-ending-whole Text = refl
-ending-whole Escape = refl
-ending-whole Quote = refl
-ending-whole At = refl
-ending-whole Tag = refl
-ending-whole Hyphen = refl
-ending-whole Group = refl
-ending-whole Caret = refl
-ending-whole Carets = refl
-ending-whole Bad = refl
+ending-whole q e = same-is q Quote (every-if (λ r. wholeOf (runOf r stringEnding)) isQuote refl q e)
 
 -- and no quote is where the ending leaves off
-ending-off : (q : Scan) → isQuote (runOf q stringEnding) ≡ false
+ending-off : (q : Scan) → not (isQuote (runOf q stringEnding)) ≡ true
 unfolding stepOf runOf among iriByte textByte pairByte firstByte labelByte letter alnum
-ending-off Start = refl
-ending-off IriOpen = refl
-ending-off Iri = refl
-ending-off Closed = refl
-ending-off Under = refl
-ending-off Colon = refl
-ending-off Label = refl
-ending-off Dot = refl
-ending-off Dots = refl
-ending-off Text = refl
-ending-off Escape = refl
-ending-off Quote = refl
-ending-off At = refl
-ending-off Tag = refl
-ending-off Hyphen = refl
-ending-off Group = refl
-ending-off Caret = refl
-ending-off Carets = refl
-ending-off Bad = refl
-
-is-quote : (q : Scan) → isQuote q ≡ true → q ≡ Quote
-is-quote Start e = never e
-is-quote IriOpen e = never e
-is-quote Iri e = never e
-is-quote Closed e = never e
-is-quote Under e = never e
-is-quote Colon e = never e
-is-quote Label e = never e
-is-quote Dot e = never e
-is-quote Dots e = never e
-is-quote Text e = never e
-is-quote Escape e = never e
-is-quote Quote e = refl
-is-quote At e = never e
-is-quote Tag e = never e
-is-quote Hyphen e = never e
-is-quote Group e = never e
-is-quote Caret e = never e
-is-quote Carets e = never e
-is-quote Bad e = never e
+ending-off q = every (λ r. not (isQuote (runOf r stringEnding))) refl q
 
 -- before the ending of a whole name stands a closing quote
 pub at-quote : (x : List ℕ) → Accepts Start (x ++ stringEnding) → runOf Start x ≡ Quote
-at-quote x h =
-    is-quote (runOf Start x)
-    (sym (ending-whole (runOf Start x)) ∙ ap wholeOf (sym (run-append Start x stringEnding)) ∙ h)
+at-quote x h = ending-whole (runOf Start x) (ap wholeOf (sym (run-append Start x stringEnding)) ∙ h)
 
 quote-whole : (x : List ℕ) → runOf Start x ≡ Quote → wholeOf (runOf Start x) ≡ true
 unfolding wholeOf
@@ -191,8 +116,9 @@ quote-no-ending x e =
     decide (writesString x)
     (λ t.
     never
-    (sym (ending-off (runOf Start (canonical x)))
-    ∙ ap isQuote (sym (run-append Start (canonical x) stringEnding) ∙ ap (runOf Start) (sym (rejoined x t)) ∙ e)))
+    (sym (ap (λ (q : Scan). not (isQuote q))
+    (sym (run-append Start (canonical x) stringEnding) ∙ ap (runOf Start) (sym (rejoined x t)) ∙ e))
+    ∙ ending-off (runOf Start (canonical x))))
     (λ t. t)
 
 first-of : (x y : List ℕ) → runOf Start x ≡ Quote → firstKindOf (x ++ y) ≡ firstKindOf x
@@ -213,56 +139,12 @@ short-enough limit s h =
 
 -- the places from which no literal's text is entered any more
 abbrev pub isPast : Scan → Bool
-isPast Start = false
-isPast IriOpen = true
-isPast Iri = true
-isPast Closed = true
-isPast Under = true
-isPast Colon = true
-isPast Label = true
-isPast Dot = true
-isPast Dots = true
-isPast Text = false
-isPast Escape = false
-isPast Quote = false
-isPast At = true
-isPast Tag = true
-isPast Hyphen = true
-isPast Group = true
-isPast Caret = true
-isPast Carets = true
-isPast Bad = true
-
-cond-past : (t : Bool) (x y : Scan) → isPast x ≡ true → isPast y ≡ true → isPast (cond t x y) ≡ true
-cond-past true x y p q = p
-cond-past false x y p q = q
-
-past-step : (q : Scan) (b : ℕ) → isPast q ≡ true → isPast (stepOf q b) ≡ true
-unfolding stepOf
-past-step Start b e = never e
-past-step IriOpen b e = cond-past (iriByte b) Iri Bad refl refl
-past-step Iri b e = cond-past (iriByte b) Iri _ refl (cond-past (eqb b 62) Closed Bad refl refl)
-past-step Closed b e = refl
-past-step Under b e = cond-past (eqb b 58) Colon Bad refl refl
-past-step Colon b e = cond-past (firstByte b) Label Bad refl refl
-past-step Label b e = cond-past (labelByte b) Label _ refl (cond-past (eqb b 46) Dot Bad refl refl)
-past-step Dot b e = cond-past (labelByte b) Label _ refl (cond-past (eqb b 46) Dots Bad refl refl)
-past-step Dots b e = cond-past (labelByte b) Label _ refl (cond-past (eqb b 46) Dots Bad refl refl)
-past-step Text b e = never e
-past-step Escape b e = never e
-past-step Quote b e = never e
-past-step At b e = cond-past (letter b) Tag Bad refl refl
-past-step Tag b e = cond-past (letter b) Tag _ refl (cond-past (eqb b 45) Hyphen Bad refl refl)
-past-step Hyphen b e = cond-past (alnum b) Group Bad refl refl
-past-step Group b e = cond-past (alnum b) Group _ refl (cond-past (eqb b 45) Hyphen Bad refl refl)
-past-step Caret b e = cond-past (eqb b 94) Carets Bad refl refl
-past-step Carets b e = cond-past (eqb b 60) IriOpen Bad refl refl
-past-step Bad b e = refl
+isPast q = not (same q Start || same q Text || same q Escape || same q Quote)
 
 past-run : (x : List ℕ) (q : Scan) → isPast q ≡ true → isPast (runOf q x) ≡ true
 unfolding runOf
 past-run [] q e = e
-past-run (b ∷ x) q e = past-run x (stepOf q b) (past-step q b e)
+past-run (b ∷ x) q e = past-run x (stepOf q b) (leads isPast isPast refl q b e)
 
 pub past-quote : {C : Type 0} (x : List ℕ) (q : Scan) → isPast q ≡ true → runOf q x ≡ Quote → C
 past-quote x q e h = never (sym (ap isPast h) ∙ past-run x q e)
@@ -271,7 +153,7 @@ pub quote-last : (x : List ℕ) → runOf Quote x ≡ Quote → x ≡ []
 unfolding stepOf runOf
 quote-last [] h = refl
 quote-last (b ∷ x) h =
-    past-quote x (stepOf Quote b) (cond-past (eqb b 64) At _ refl (cond-past (eqb b 94) Caret Bad refl refl)) h
+    past-quote x (stepOf Quote b) (leads isQuote isPast refl Quote b refl) h
 
 -- ---- what is left of a name
 

@@ -7,8 +7,9 @@ use lib.Dec.{eqb}
 use borrow.Author.Tests.{eqb-true}
 use Rattle.term.specs.Bytes.{iriByte, firstByte, labelByte, letter, alnum, All}
 use Rattle.term.specs.Grammar as g
-use Rattle.term.specs.Spelling.{labelOrDot, lastOf, SpelledIri, SpelledBlank, Group, AllGroups, groups, SpelledTag}
-use Rattle.term.specs.Spelling.{IriIsSpelled, BlankIsSpelled, TagIsSpelled}
+use Rattle.term.specs.Spelling.{labelOrDot, lastOf, SpelledIri, SpelledBlank, Group, AllGroups, groups}
+use Rattle.term.specs.Spelling.{SpelledTag, IriIsSpelled, BlankIsSpelled, TagIsSpelled}
+use Rattle.term.proofs.Booleans.{other}
 use Rattle.term.proofs.Names.{never}
 
 -- ---- IRIs
@@ -48,15 +49,9 @@ wide : (b : ℕ) → labelByte b ≡ true → labelOrDot b ≡ true
 unfolding labelOrDot
 wide b e = label-wide b (eqb b 46) e
 
-label-off : (b : ℕ) (t : Bool) → eqb b 46 ≡ t → labelByte b ≡ true → t ≡ false
+off : (labelByte 46 ≡ false) × (firstByte 46 ≡ false)
 unfolding labelByte firstByte alnum letter
-label-off b true e h = never (rw (eqb-true b 46 e) at h)
-label-off b false e h = refl
-
-first-off : (b : ℕ) (t : Bool) → eqb b 46 ≡ t → firstByte b ≡ true → t ≡ false
-unfolding firstByte alnum letter
-first-off b true e h = never (rw (eqb-true b 46 e) at h)
-first-off b false e h = refl
+off = (refl, refl)
 
 wide-dot : labelOrDot 46 ≡ true
 unfolding labelOrDot
@@ -64,13 +59,13 @@ wide-dot = refl
 
 -- what may follow a label's first byte, in the wider class, and its last byte is no dot
 label-fine : {s : List ℕ} → g.LabelRest s → All labelOrDot s × ((d : ℕ) → eqb (lastOf d s) 46 ≡ false)
-label-fine (g.LabelRest.last {b = b} e) = ((wide b e, tt), λ d. label-off b (eqb b 46) refl e)
+label-fine (g.LabelRest.last {b = b} e) = ((wide b e, tt), λ d. other labelByte 46 b (off .0) e)
 label-fine (g.LabelRest.byte {b = b} e r) = ((wide b e, label-fine r .0), λ d. label-fine r .1 b)
 label-fine (g.LabelRest.dot r) = ((wide-dot, label-fine r .0), λ d. label-fine r .1 46)
 
 blank-spelled : {l : List ℕ} → g.Blank l → SpelledBlank l
 blank-spelled (g.Blank.single {b = b} e) =
-    record { first = b; later = []; starts = e; fine = tt; ends = first-off b (eqb b 46) refl e; spells = refl }
+    record { first = b; later = []; starts = e; fine = tt; ends = other firstByte 46 b (off .1) e; spells = refl }
 blank-spelled (g.Blank.longer {b = b} {s = s} e r) =
     record { first = b; later = s; starts = e; fine = label-fine r .0; ends = label-fine r .1 b; spells = refl }
 
@@ -110,13 +105,15 @@ record TagParts (f : ℕ → Bool) (s : List ℕ) : Type 0 where
   fine : AllGroups more
   spells : s ≡ later ++ groups more
 
-group-parts : {s : List ℕ} → g.GroupRest s → TagParts alnum s
-group-parts g.GroupRest.end = record { later = []; more = []; same = tt; fine = tt; spells = refl }
-group-parts (g.GroupRest.byte {b = b} e r) =
-    let p = group-parts r in
+no-parts : (f : ℕ → Bool) → TagParts f []
+no-parts f = record { later = []; more = []; same = tt; fine = tt; spells = refl }
+
+byte-parts : {f : ℕ → Bool} {b : ℕ} {s : List ℕ} → f b ≡ true → TagParts f s → TagParts f (b ∷ s)
+byte-parts {b = b} e p =
     record { later = b ∷ p .later; more = p .more; same = (e, p .same); fine = p .fine; spells = rw (← p .spells) }
-group-parts (g.GroupRest.group {b = b} e r) =
-    let p = group-parts r in
+
+parts-after : (f : ℕ → Bool) {b : ℕ} {s : List ℕ} → alnum b ≡ true → TagParts alnum s → TagParts f (45 ∷ (b ∷ s))
+parts-after f {b} e p =
     record {
       later = [];
       more = record { first = b; later = p .later } ∷ p .more;
@@ -125,20 +122,15 @@ group-parts (g.GroupRest.group {b = b} e r) =
       spells = rw (← p .spells);
     }
 
+group-parts : {s : List ℕ} → g.GroupRest s → TagParts alnum s
+group-parts g.GroupRest.end = no-parts alnum
+group-parts (g.GroupRest.byte e r) = byte-parts e (group-parts r)
+group-parts (g.GroupRest.group e r) = parts-after alnum e (group-parts r)
+
 tag-parts : {s : List ℕ} → g.TagRest s → TagParts letter s
-tag-parts g.TagRest.end = record { later = []; more = []; same = tt; fine = tt; spells = refl }
-tag-parts (g.TagRest.byte {b = b} e r) =
-    let p = tag-parts r in
-    record { later = b ∷ p .later; more = p .more; same = (e, p .same); fine = p .fine; spells = rw (← p .spells) }
-tag-parts (g.TagRest.group {b = b} e r) =
-    let p = group-parts r in
-    record {
-      later = [];
-      more = record { first = b; later = p .later } ∷ p .more;
-      same = tt;
-      fine = ((e, p .same), p .fine);
-      spells = rw (← p .spells);
-    }
+tag-parts g.TagRest.end = no-parts letter
+tag-parts (g.TagRest.byte e r) = byte-parts e (tag-parts r)
+tag-parts (g.TagRest.group e r) = parts-after letter e (group-parts r)
 
 tag-spelled : (l : List ℕ) → g.Suffix (64 ∷ l) → SpelledTag l
 tag-spelled (b ∷ s) (g.Suffix.tag e r) =

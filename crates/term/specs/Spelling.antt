@@ -1,6 +1,6 @@
 -- Names as the paper spells them out, each a list of bytes put together from its parts: the grammar of `Grammar.antt`
--- reads from the left, these say what the whole is, and the two agree. The proofs are in `proofs/Spellings.antt` and `Literals.antt`.
--- Assumes nothing.
+-- reads from the left, these say what the whole is, and the two agree. The proofs are in `proofs/Spellings.antt` and
+-- `Literals.antt`. Assumes nothing.
 use Rattle.term.specs.Prelude.{ℕ, _≡_, List, [], _∷_, _++_, Bool, true, false, cond, _↔_, eqb}
 use Rattle.term.specs.Bytes.{iriByte, textByte, pairByte, firstByte, labelByte, letter, alnum, All}
 use Rattle.term.specs.Grammar.{Iri, Blank, Suffix, Literal}

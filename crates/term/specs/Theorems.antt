@@ -1,5 +1,6 @@
--- What is proved of names (paper 01, "Names"; paper 02, note 7). The proofs are in `proofs/Names.antt`, `WellFormed.antt` and
--- `Shortened.antt`. `Spelling.antt` has the grammar's second reading, `Halting.antt` what is proved of the scanner. Assumes nothing.
+-- What is proved of names (paper 01, "Names"; paper 02, note 7). The proofs are in `proofs/Names.antt`,
+-- `WellFormed.antt` and `Shortened.antt`. `Spelling.antt` has the grammar's second reading, `Halting.antt` what is
+-- proved of the scanner. Assumes nothing.
 use Rattle.term.specs.Prelude.{ℕ, _≤_, _≡_, List, _++_, false, _↔_, length}
 use Rattle.term.specs.Grammar.{Name, WellFormed, nameLimit}
 use Rattle.term.specs.Scanner.{firstKindOf, kindOf, numberOf, refusalOf}
@@ -30,8 +31,8 @@ CanonicalDrops = (x : List ℕ) → canonical (x ++ stringEnding) ≡ x
 abbrev pub CanonicalKeeps : Type 0
 CanonicalKeeps = (w : List ℕ) → ((x : List ℕ) → w ≡ x ++ stringEnding → ⊥) → canonical w ≡ w
 
--- What it leaves of a name w: a name within the same limit, of the same kind, without the string ending, so that the step is done once.
--- Only a literal has that ending.
+-- What it leaves of a name w: a name within the same limit, of the same kind, without the string ending, so that the
+-- step is done once. Only a literal has that ending.
 pub record Canonical (limit : ℕ) (w : List ℕ) : Type 0 where
   pub kind : kindOf limit (canonical w) ≡ kindOf limit w
   pub ending : writesString (canonical w) ≡ false

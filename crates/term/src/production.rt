@@ -30,11 +30,12 @@ pub fn term(bytes: &[u8], at: usize) -> Halt
     }
 }
 
-// An IRI after its `<`: one byte or more, then `>`. The class is tested at this one place, so that its match is compiled
-// into the loop.
+// An IRI after its `<`: one byte or more, then `>`. The class is tested at this one place, so that its match is
+// compiled into the loop.
 pub fn iri(bytes: &[u8], at: usize) -> Halt
     ensures { λ r. ⌜ r ≡ haltOf IriOpen at (drop at (now (bytes .entry))) ⌝ }
 {
+    // From `at` up to `i` there are bytes of an IRI.
     let mut i = at;
     while is_iri_byte(byte_at(bytes, i)) {
         i += 1;
@@ -74,6 +75,7 @@ pub fn blank_node_label(bytes: &[u8], at: usize) -> Halt
             at: at + 1,
         };
     }
+    // From `at + 1` up to `i` there are bytes of a label, dots among them.
     let mut i = at + 2;
     while is_label_byte(byte_at(bytes, i)) {
         i += 1;
@@ -101,6 +103,7 @@ fn label_place(last: u8, before: u8) -> Scan
 pub fn string_literal(bytes: &[u8], at: usize) -> Halt
     ensures { λ r. ⌜ r ≡ haltOf Text at (drop at (now (bytes .entry))) ⌝ }
 {
+    // From `at` up to `i` there are bytes of text and pairs.
     let mut i = at;
     loop {
         let b = byte_at(bytes, i);
@@ -151,6 +154,7 @@ pub fn language_tag(bytes: &[u8], at: usize) -> Halt
             at: at,
         };
     }
+    // From `at` up to `i` there are letters.
     let mut i = at + 1;
     while is_letter(byte_at(bytes, i)) {
         i += 1;
@@ -174,6 +178,7 @@ pub fn subtags(bytes: &[u8], at: usize) -> Halt
             at: at,
         };
     }
+    // From `at` up to `i` there are letters, digits, and single `-` between them.
     let mut i = at + 1;
     loop {
         let b = byte_at(bytes, i);

@@ -4,6 +4,7 @@
 ghost use Prim.Native.Nat.{_≤_};
 ghost use lib.ListN.{length};
 ghost use Rattle.io.specs.Counts.{Counts};
+use bytes::scan::find;
 use libc::STDIN_FILENO;
 use libc::STDOUT_FILENO;
 use store::Refusal;
@@ -19,34 +20,20 @@ fn main() {
 
 // Every line of the text.
 fn run(text: &[u8]) {
+    // The lines before `at` are run, and `number` is the next one's.
     let mut number: u64 = 1;
     let mut at = 0;
     while at < text.len() {
-        let end = field_end(text, at, b'\n');
+        let end = find(text, at, text.len(), b'\n');
         run_case(number, &text[at..end]);
         number += 1;
         at = end + 1;
     }
 }
 
-// The offset of the next `stop` from `at` on, or the text's end.
-fn field_end(text: &[u8], at: usize, stop: u8) -> usize
-    requires { ⌜ at ≤ length (now text) ⌝ }
-    ensures { λ r. ⌜ (at ≤ r) × (r ≤ length (now (text .entry))) ⌝ }
-{
-    let mut i = at;
-    while i < text.len() {
-        if text[i] == stop {
-            return i;
-        }
-        i += 1;
-    }
-    i
-}
-
 // One line.
 fn run_case(number: u64, line: &[u8]) {
-    let gap = field_end(line, 0, b' ');
+    let gap = find(line, 0, line.len(), b' ');
     io::print_decimal(STDOUT_FILENO, number);
     io::write_all(STDOUT_FILENO, b" ");
     io::write_all(STDOUT_FILENO, &line[0..gap]);
@@ -80,6 +67,7 @@ fn answer(name: &[u8]) {
 fn decode(spelling: &[u8], out: &mut [u8]) -> usize
     ensures { λ r. ⌜ Counts r (now (out .exit)) ⌝ }
 {
+    // The first `n` bytes of `out` are what the first `i` of the spelling stand for.
     let mut i = 0;
     let mut n = 0;
     while i < spelling.len() {

@@ -1,12 +1,12 @@
 // The W3C's tests of RDF 1.1 N-Triples, read line by line (paper 01, "Names", "Read a line" and the checklist's
 // third item).
 //
-// Reads each file that an argument names, and prints a line for each line of it: the file's name, the line's number, then
-// the three parts, `nothing`, or `refused 10` and the offset. Of a file with no lines it prints that line 1 is the `end`.
-// A file that cannot be opened or read, or that is longer than the buffer, is told on standard error.
+// Reads each file that an argument names, and prints a line for each line of it: the file's name, the line's number,
+// then the three parts, `nothing`, or `refused 10` and the offset. Of a file with no lines it prints that line 1 is the
+// `end`. A file that cannot be opened or read, or that is longer than the buffer, is told on standard error.
 //
-// The files are the W3C's, unchanged, with their licence, in `data`. The expected output is that of `expected.py`, which
-// follows paper 01 and knows nothing of this library. `docs/W3C.md` compares it with the W3C's verdicts.
+// The files are the W3C's, unchanged, with their licence, in `data`. The expected output is that of `expected.py`,
+// which follows paper 01 and knows nothing of this library. `docs/W3C.md` compares it with the W3C's verdicts.
 use libc::STDERR_FILENO;
 use libc::STDOUT_FILENO;
 use store::Refusal;
@@ -63,11 +63,12 @@ fn report_line(name: &[u8], n: usize, text: &[u8], at: usize) -> usize {
     read.next
 }
 
-// Reads every line of a text. Before the text's end a line takes a byte or more, so the position moves on and the test in
-// the loop is never true.
+// Reads every line of a text. Before the text's end a line takes a byte or more, so the position moves on and the test
+// in the loop is never true.
 fn report_lines(name: &[u8], text: &[u8]) {
     let mut at = report_line(name, 1, text, 0);
     let mut n = 1;
+    // The `n` lines before `at` are reported.
     while at < text.len() {
         n += 1;
         let next = report_line(name, n, text, at);
@@ -115,6 +116,7 @@ fn report_file(i: usize) {
 
 fn main() {
     let count = os::arg_count();
+    // The files of the arguments before `i` are reported.
     let mut i = 1;
     while i < count {
         report_file(i);

@@ -1,3 +1,4 @@
+-- A block of 16 bytes, one after the other: no LF among them if none was seen. Assumes nothing.
 use Prim.Native.Nat.{_+_, _-_, _≤_}
 use mathlib.Core.Path.{_≡_}
 use mathlib.Core.Bool.{false}

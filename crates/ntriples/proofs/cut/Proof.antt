@@ -1,3 +1,4 @@
+-- The line's end, or byte 256 of the term. Assumes nothing.
 use mathlib.Core.Path.{sym}
 use native.Mathlib.Omega.{arith}
 use Rattle.ntriples.proofs.Halts.{cut-near, cut-long}

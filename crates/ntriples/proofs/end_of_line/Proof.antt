@@ -1,3 +1,4 @@
+-- The first LF: after the blocks without one, byte by byte. Assumes nothing.
 use Prim.Native.Nat.{_-_, _≤_}
 use lib.ListN.{length}
 use lib.Seq.{slice}

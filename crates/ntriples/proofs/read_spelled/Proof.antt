@@ -49,7 +49,8 @@ returns-2 c =
     let l = c .before .before .before .if1 .left in
     rw (c .whole-line .ensures)
     (sym
-    (read-stops (a .text .now) (a .at) (e .result) (c .before .if2 .stop) (c .before .if2 .next) (omega arith) (e .ensures)
+    (read-stops (a .text .now) (a .at) (e .result) (c .before .if2 .stop) (c .before .if2 .next)
+    (omega arith) (e .ensures)
     (⊎-elim
     (λ w. let t = w .0 .taken in inr ((λ (z : e .result ≡ _). omega arith), (w .2 ∙ w .1 .ensures), w .3))
     (λ w. let t = w .0 .left in inl (omega arith, w .1, w .2))

@@ -1,3 +1,4 @@
+-- Blocks without a LF, one after the other. Assumes nothing.
 use Prim.Native.Nat.{_+_, _-_, _≤_}
 use lib.ListN.{length}
 use lib.Seq.{slice}

@@ -1,3 +1,4 @@
+-- Four digits at most, so that the value stays below 10000. Assumes nothing.
 use Prim.Native.Nat.{_-_, _≤_}
 use lib.ListN.{length}
 use borrow.Author.Needs.{needs}

@@ -1,3 +1,4 @@
+-- The position stays within the text, and a turn leaves one byte less to lay out. Assumes nothing.
 use Prim.Native.Nat.{_-_, _≤_}
 use lib.ListN.{length, length-set}
 use native.Mathlib.Omega.{arith}

@@ -1,3 +1,4 @@
+-- Each piece moves the position on, and the text stays as long. Assumes nothing.
 use Prim.Native.Nat.{_-_, _≤_}
 use lib.ListN.{length}
 use mathlib.Core.Path.{_≡_}
@@ -10,7 +11,8 @@ use Rattle.ntriples_cases.proofs.fill.Reads as fill-reads
 use Rattle.ntriples_cases.proofs.piece.Reads as piece-reads
 
 abbrev Inv-loop : tie.InvT-loop
-Inv-loop table from text₀ i₀ n₀ text i n = (from ≤ i) × (i ≤ length table) × (n ≤ length text) × (length text ≡ length text₀)
+Inv-loop table from text₀ i₀ n₀ text i n = (from ≤ i) × (i ≤ length table) × (n ≤ length text)
+    × (length text ≡ length text₀)
 
 abbrev μ-loop : tie.MeasureT-loop
 μ-loop table from text₀ i₀ n₀ text i n = length table - i

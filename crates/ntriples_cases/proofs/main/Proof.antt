@@ -1,3 +1,4 @@
+-- Each case moves the position on. Assumes nothing.
 use Prim.Native.Nat.{_+_, _-_, _≤_}
 use lib.ListN.{length}
 use mathlib.Core.Path.{_≡_}
@@ -10,7 +11,8 @@ use Rattle.io.proofs.read_full.Reads as read-full-reads
 use Rattle.ntriples_cases.proofs.case.Reads as case-reads
 
 abbrev Inv-loop : tie.InvT-loop
-Inv-loop table text₀ got i₀ n₀ text i n = (i ≤ got) × (got ≤ 8192) × (n ≤ i + 1) × (length text ≡ 600) × (length table ≡ 8192)
+Inv-loop table text₀ got i₀ n₀ text i n = (i ≤ got) × (got ≤ 8192) × (n ≤ i + 1) × (length text ≡ 600)
+    × (length table ≡ 8192)
 
 abbrev μ-loop : tie.MeasureT-loop
 μ-loop table text₀ got i₀ n₀ text i n = got - i

@@ -13,7 +13,8 @@ writes-string-requires : tie.Need-writes-string-requires
 writes-string-requires c κs = search needs
 
 sub-end : tie.Need-sub-end
-sub-end c = writes-long (c .before .before .before .args .name .now) (sym (c .before .writes-string .ensures) ∙ c .if1 .taken)
+sub-end c = writes-long (c .before .before .before .args .name .now)
+    (sym (c .before .writes-string .ensures) ∙ c .if1 .taken)
 
 sub-result : tie.Need-sub-result
 sub-result c = search needs

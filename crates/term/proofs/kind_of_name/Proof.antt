@@ -1,9 +1,10 @@
 -- The kind of a name: a law for each way out. Assumes nothing.
-use mathlib.Core.Path.{sym, _∙_}
+use mathlib.Core.Path.{_≡_, sym, _∙_}
+use mathlib.Core.List.{[], _∷_}
 use native.Mathlib.Omega.{arith}
 use borrow.Author.Tests.{not-true, not-false, ne-eqb}
 use Rattle.term.specs.Grammar.{nameLimit}
-use Rattle.term.specs.Scanner.{numberOf, firstKindOf}
+use Rattle.term.specs.Scanner.{numberOf, firstKindOf, kindOf}
 use Rattle.term.proofs.Runs.{kind-long, kind-short, kind-part, kind-whole, first-byte}
 use borrow.Author.Needs.{needs}
 use Rattle.term.proofs.kind_of_name.Statement.{statement}
@@ -38,53 +39,34 @@ returns-3 c =
 byte-at-requires : tie.Need-byte-at-requires
 byte-at-requires c κs = search needs
 
+-- at the match on the first byte: all of the name is a term, and that byte gives the kind
+by-first : (c : tie.After-byte-at)
+    → kindOf nameLimit (c .before .before .before .before .before .before .before .before .args .name .now)
+    ≡ firstKindOf (c .byte-at .result ∷ [])
+by-first c =
+    let s = c .before .before .before .before .before .before .before .before .args .name .now in
+    let w = sym (c .before .before .whole .ensures)
+    ∙ not-false (c .before .before .whole .result) (c .before .if3 .left) in
+    kind-whole nameLimit s (omega arith) (c .before .before .before .before .before .term .ensures)
+    (c .before .before .before .if2 .left) w
+    ∙ first-byte s (c .byte-at .ensures)
+
 returns-4 : tie.Need-returns-4
 unfolding numberOf firstKindOf
-returns-4 c =
-    let s = c .before .before .before .before .before .before .before .before .before .args .name .now in
-    let w =
-    sym (c .before .before .before .whole .ensures) ∙ not-false (c .before .before .before .whole .result)
-    (c .before .before .if3 .left) in
-    let kind =
-    kind-whole nameLimit s (omega arith) (c .before .before .before .before .before .before .term .ensures)
-    (c .before .before .before .before .if2 .left) w in
-    sym (kind ∙ first-byte s (c .before .byte-at .ensures) ∙ rw (c .match .keys1))
+returns-4 c = sym (by-first (c .before) ∙ rw (c .match .keys1))
 
 returns-5 : tie.Need-returns-5
 unfolding numberOf firstKindOf
-returns-5 c =
-    let s = c .before .before .before .before .before .before .before .before .before .args .name .now in
-    let w =
-    sym (c .before .before .before .whole .ensures) ∙ not-false (c .before .before .before .whole .result)
-    (c .before .before .if3 .left) in
-    let kind =
-    kind-whole nameLimit s (omega arith) (c .before .before .before .before .before .before .term .ensures)
-    (c .before .before .before .before .if2 .left) w in
-    sym (kind ∙ first-byte s (c .before .byte-at .ensures) ∙ rw (c .match .keys2))
+returns-5 c = sym (by-first (c .before) ∙ rw (c .match .keys2))
 
 returns-6 : tie.Need-returns-6
 unfolding numberOf firstKindOf
-returns-6 c =
-    let s = c .before .before .before .before .before .before .before .before .before .args .name .now in
-    let w =
-    sym (c .before .before .before .whole .ensures) ∙ not-false (c .before .before .before .whole .result)
-    (c .before .before .if3 .left) in
-    let kind =
-    kind-whole nameLimit s (omega arith) (c .before .before .before .before .before .before .term .ensures)
-    (c .before .before .before .before .if2 .left) w in
-    sym (kind ∙ first-byte s (c .before .byte-at .ensures) ∙ rw (c .match .keys3))
+returns-6 c = sym (by-first (c .before) ∙ rw (c .match .keys3))
 
 returns-7 : tie.Need-returns-7
 unfolding numberOf firstKindOf
 returns-7 c =
-    let s = c .before .before .before .before .before .before .before .before .before .args .name .now in
-    let w =
-    sym (c .before .before .before .whole .ensures) ∙ not-false (c .before .before .before .whole .result)
-    (c .before .before .if3 .left) in
-    let kind =
-    kind-whole nameLimit s (omega arith) (c .before .before .before .before .before .before .term .ensures)
-    (c .before .before .before .before .if2 .left) w in
-    sym (kind ∙ first-byte s (c .before .byte-at .ensures) ∙ rw (
+    sym (by-first (c .before) ∙ rw (
       ne-eqb (c .before .byte-at .result) 60 (c .match .rest .0 .0 .1),
       ne-eqb (c .before .byte-at .result) 95 (c .match .rest .0 .1),
       ne-eqb (c .before .byte-at .result) 34 (c .match .rest .1),

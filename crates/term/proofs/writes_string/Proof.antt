@@ -70,7 +70,8 @@ loop-again c =
     let k = l .k - 1 in
     let i = l .inv in
     let r : k + 1 ≡ l .k = omega arith in
-    let d = back-more w stringEnding (length w - endingBytes) k (omega arith) (omega arith) (c .if3 .left) (rw r (i .4)) in
+    let d = back-more w stringEnding (length w - endingBytes) k (omega arith) (omega arith) (c .if3 .left)
+    (rw r (i .4)) in
     (i .0, i .1, refl, omega arith, d)
 
 returns-4 : tie.Need-returns-4 Inv-loop μ-loop

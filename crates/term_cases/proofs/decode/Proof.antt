@@ -1,3 +1,4 @@
+-- What is written stays within the room, and the spelling is read on to its end. Assumes nothing.
 use Prim.Native.Nat.{_-_, _≤_}
 use mathlib.Core.Path.{_≡_, sym}
 use lib.ListN.{length, length-set}

@@ -1,3 +1,4 @@
+-- Each line ends after it begins, and there are no more lines than bytes. Assumes nothing.
 use Prim.Native.Nat.{_-_, _+_, _≤_}
 use lib.ListN.{length}
 use borrow.Author.Needs.{needs}
@@ -5,7 +6,6 @@ use Rattle.term_cases.proofs.run.Statement.{statement}
 use Rattle.term_cases.proofs.run.Tie as tie
 use Rattle.term_cases.proofs.run.Reads as reads
 use Rattle.term_cases.proofs.run.Lts as lts
-use Rattle.term_cases.proofs.field_end.Reads as field-end-reads
 use Rattle.term_cases.proofs.run_case.Reads as run-case-reads
 
 abbrev Inv-loop : tie.InvT-loop
@@ -17,8 +17,8 @@ abbrev μ-loop : tie.MeasureT-loop
 loop-holds : tie.Need-loop-holds Inv-loop μ-loop
 loop-holds c = search needs
 
-field-end-requires : tie.Need-field-end-requires Inv-loop μ-loop
-field-end-requires c κs = search needs
+find-requires : tie.Need-find-requires Inv-loop μ-loop
+find-requires c κs = search needs
 
 sub-run-case : tie.Need-sub-run-case Inv-loop μ-loop
 sub-run-case c = search needs
@@ -54,7 +54,7 @@ run-spec =
     Inv-loop
     μ-loop
     loop-holds
-    field-end-requires
+    find-requires
     sub-run-case
     part-run-case-start
     part-run-case-end

@@ -37,4 +37,5 @@ returns c = search needs
 
 pub main-spec : {M : Type 1} → statement M
 main-spec =
-    tie.close (tie.spec Inv-loop μ-loop arg-count-requires loop-holds report-file-requires add-i loop-less loop-again returns)
+    tie.close (tie.spec Inv-loop μ-loop arg-count-requires loop-holds report-file-requires add-i loop-less
+    loop-again returns)

@@ -1,3 +1,4 @@
+-- A byte within the slice, and 0 past its end. Assumes nothing.
 use mathlib.Core.Path.{sym}
 use lib.ListN.{List·getD-eq-default}
 use borrow.Author.Needs.{needs}

@@ -23,7 +23,8 @@ returns-2 c =
     ⊎-elim
     (λ (h : b < 97). sym (at-range eqBool same-bool iriByte _ 92 4 ((93 ∷ (95 ∷ (126 ∷ []))) ∷ []) b tt (omega arith)
     (omega arith) (c .match .rest)))
-    (λ (h : 122 < b). sym (at-range eqBool same-bool iriByte _ 123 132 ((93 ∷ (95 ∷ (126 ∷ []))) ∷ []) b tt (omega arith)
+    (λ (h : 122 < b). sym (at-range eqBool same-bool iriByte _ 123 132 ((93 ∷ (95 ∷ (126 ∷ []))) ∷ []) b
+    tt (omega arith)
     (omega arith) (c .match .rest)))
     (c .before .pre .1)
 

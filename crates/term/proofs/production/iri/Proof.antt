@@ -1,29 +1,58 @@
 -- An IRI: its bytes by one loop, whose invariant is "the definition from here". Assumes nothing.
-use Prim.Native.Nat.{_-_, _+_, _≤_}
-use mathlib.Core.Path.{_≡_, refl, sym, _∙_}
+use Prim.Native.Nat.{ℕ, _-_, _≤_, _<_}
+use mathlib.Core.Path.{_≡_, refl, sym, ap, _∙_}
+use mathlib.Core.List.{List}
+use mathlib.Core.Bool.{Bool, false}
 use lib.ListN.{length, drop, getD}
 use native.Mathlib.Omega.{arith}
 use borrow.Author.Tests.{ne-eqb}
 use Rattle.term.specs.Bytes.{iriByte, among}
 use Rattle.term.specs.Scanner.{stepOf, isBad, haltOf}
+use Rattle.term.specs.declared.Scan.{Scan}
 use Rattle.term.specs.declared.Scan.the-variants.{IriOpen, Iri, Closed}
-use Rattle.term.proofs.Turn.{seen, unlike, inside, inside-byte, halt-stop}
-use Rattle.term.proofs.Turn.{halt-go, halt-closed, IriAt, iri-start, iri-turn}
+use Rattle.term.proofs.Turn.{seen, unlike, inside, inside-byte, Comes, comes-here, comes-on, comes-stop, IriAt}
+use Rattle.term.proofs.Turn.{iri-start, iri-turn}
 use borrow.Author.Needs.{needs}
 use Rattle.term.proofs.production.iri.Statement.{statement}
 use Rattle.term.proofs.production.iri.Tie as tie
 
 abbrev Inv-loop : tie.InvT-loop
-Inv-loop bytes at i₀ i = (at ≤ i) × (haltOf IriOpen at (drop at bytes) ≡ haltOf (IriAt at i) i (drop i bytes))
+Inv-loop bytes at i₀ i = (at ≤ i) × Comes bytes IriOpen at (IriAt at i) i
 
 abbrev μ-loop : tie.MeasureT-loop
 μ-loop bytes at i₀ i = length bytes - i
 
+-- ---- what holds at a place, once for every need after it
+
+abbrev bytes : tie.At-loop Inv-loop μ-loop → List ℕ
+bytes c = c .before .before .args .bytes .now
+
+abbrev first : tie.At-loop Inv-loop μ-loop → ℕ
+first c = c .before .before .args .at
+
+-- the byte that the loop tests
+tested : (c : tie.After-is-iri-byte Inv-loop μ-loop) {t : Bool} → c .is-iri-byte .result ≡ t
+    → (let l = c .before .before in iriByte (getD (bytes l) (l .loop .i) 0) ≡ t)
+tested c e = seen iriByte (c .before .byte-at .ensures) (c .is-iri-byte .ensures) e
+
+within : (c : tie.Then1 Inv-loop μ-loop) → (let l = c .before .before .before in l .loop .i < length (bytes l))
+unfolding iriByte among
+within c =
+    let l = c .before .before .before in inside (bytes l) (l .loop .i) iriByte refl (tested (c .before) (c .if1 .taken))
+
+-- a byte at least was taken
+after : (c : tie.Else2 Inv-loop μ-loop)
+    → (let l = c .before .before .before .before in Comes (bytes l) IriOpen (first l) Iri (l .loop .i))
+after c =
+    let l = c .before .before .before .before in
+    let q : IriAt (first l) (l .loop .i) ≡ Iri = rw (ne-eqb (l .loop .i) (first l) (c .if2 .left)) in
+    record { same = l .loop .inv .1 .same ∙ ap (λ (x : Scan). haltOf x (l .loop .i) (drop (l .loop .i) (bytes l))) q }
+
+-- ---- the needs
+
 loop-holds : tie.Need-loop-holds Inv-loop μ-loop
 loop-holds c =
-    let a = c .before .args .at in
-    let s = c .before .args .bytes .now in
-    (omega arith, rw (iri-start a))
+    let a = c .before .args in (omega arith, rw (iri-start (a .at)) (comes-here (a .bytes .now) IriOpen (a .at)))
 
 byte-at-requires : tie.Need-byte-at-requires Inv-loop μ-loop
 byte-at-requires c κs = search needs
@@ -32,90 +61,48 @@ is-iri-byte-requires : tie.Need-is-iri-byte-requires Inv-loop μ-loop
 is-iri-byte-requires c κs = search needs
 
 add-i : tie.Need-add-i Inv-loop μ-loop
-unfolding iriByte among
-add-i c =
-    let h =
-    inside (c .before .before .before .before .before .args .bytes .now) (c .before .before .before .loop .i)
-    iriByte refl
-    (seen iriByte (c .before .before .byte-at .ensures) (c .before .is-iri-byte .ensures) (c .if1 .taken)) in
-    omega arith
+add-i c = let h = within c in omega arith
 
 loop-less : tie.Need-loop-less Inv-loop μ-loop
-unfolding iriByte among
-loop-less c =
-    let h =
-    inside (c .before .before .before .before .before .args .bytes .now) (c .before .before .before .loop .i)
-    iriByte refl
-    (seen iriByte (c .before .before .byte-at .ensures) (c .before .is-iri-byte .ensures) (c .if1 .taken)) in
-    omega arith
+loop-less c = let h = within c in omega arith
 
 loop-again : tie.Need-loop-again Inv-loop μ-loop
 loop-again c =
-    let l = c .before .before .before .loop in
-    let e = seen iriByte (c .before .before .byte-at .ensures) (c .before .is-iri-byte .ensures) (c .if1 .taken) in (
-      omega arith,
-      l .inv .1 ∙ iri-turn (c .before .before .before .before .before .args .bytes .now)
-          (c .before .before .before .before .before .args .at) (l .i) (l .inv .0) e,
-    )
+    let l = c .before .before .before in
+    let v = l .loop .inv in
+    (omega arith, iri-turn (bytes l) (first l) (l .loop .i) (v .0) (tested (c .before) (c .if1 .taken)) (v .1))
 
 returns : tie.Need-returns Inv-loop μ-loop
 unfolding stepOf
 returns c =
-    let e =
-    rw (c .if2 .taken) at
-    (seen iriByte (c .before .before .before .byte-at .ensures) (c .before .before .is-iri-byte .ensures)
-    (c .before .if1 .left))
-    in
-    sym
-    (halt-stop (c .before .before .before .before .before .before .args .bytes .now) IriOpen
-    (c .before .before .before .before .before .before .args .at) (rw e))
+    let l = c .before .before .before .before in
+    let e : iriByte (getD (bytes l) (first l) 0) ≡ false =
+    ap (λ (i : ℕ). iriByte (getD (bytes l) i 0)) (sym (c .if2 .taken))
+    ∙ tested (c .before .before) (c .before .if1 .left) in
+    comes-stop (comes-here (bytes l) IriOpen (first l)) (rw e)
 
 byte-at-requires-2 : tie.Need-byte-at-requires-2 Inv-loop μ-loop
 byte-at-requires-2 c κs = search needs
 
 add-t10 : tie.Need-add-t10 Inv-loop μ-loop
 add-t10 c =
-    let h =
-    inside-byte (c .before .before .before .before .before .before .before .before .args .bytes .now)
-    (c .before .before .before .before .before .before .loop .i) 62 (omega arith)
-    (sym (c .before .byte-at2 .ensures) ∙ c .if3 .taken) in
+    let l = c .before .before .before .before .before .before in
+    let h = inside-byte (bytes l) (l .loop .i) 62 (omega arith) (c .before .byte-at2 .ensures) (c .if3 .taken) in
     omega arith
 
 returns-2 : tie.Need-returns-2 Inv-loop μ-loop
 unfolding stepOf isBad
 returns-2 c =
-    let s = c .before .before .before .before .before .before .before .before .args .bytes .now in
-    let i = c .before .before .before .before .before .before .loop .i in
-    let q : IriAt (c .before .before .before .before .before .before .before .before .args .at) i ≡ Iri =
-    rw
-    (ne-eqb i (c .before .before .before .before .before .before .before .before .args .at)
-    (c .before .before .if2 .left))
-    in
-    let g : getD s i 0 ≡ 62 = sym (c .before .byte-at2 .ensures) ∙ c .if3 .taken in
-    let e =
-    seen iriByte (c .before .before .before .before .before .byte-at .ensures)
-    (c .before .before .before .before .is-iri-byte .ensures) (c .before .before .before .if1 .left) in
-    sym
-    (c .before .before .before .before .before .before .loop .inv .1 ∙ rw q
-    (halt-go s Iri Closed i (rw (e, g)) refl ∙ halt-closed s (i + 1)))
+    let l = c .before .before .before .before .before .before in
+    let e = tested (c .before .before .before .before) (c .before .before .before .if1 .left) in
+    let g : getD (bytes l) (l .loop .i) 0 ≡ 62 = sym (c .before .byte-at2 .ensures) ∙ c .if3 .taken in
+    comes-stop (comes-on (after (c .before .before)) {r = Closed} (rw (e, g)) refl) refl
 
 returns-3 : tie.Need-returns-3 Inv-loop μ-loop
 unfolding stepOf
 returns-3 c =
-    let i = c .before .before .before .before .before .before .loop .i in
-    let q : IriAt (c .before .before .before .before .before .before .before .before .args .at) i ≡ Iri =
-    rw
-    (ne-eqb i (c .before .before .before .before .before .before .before .before .args .at)
-    (c .before .before .if2 .left))
-    in
-    let g = unlike 62 (c .before .byte-at2 .ensures) (c .if3 .left) in
-    let e =
-    seen iriByte (c .before .before .before .before .before .byte-at .ensures)
-    (c .before .before .before .before .is-iri-byte .ensures) (c .before .before .before .if1 .left) in
-    sym
-    (c .before .before .before .before .before .before .loop .inv .1 ∙ rw q
-    (halt-stop (c .before .before .before .before .before .before .before .before .args .bytes .now) Iri i
-    (rw (e, g))))
+    let e = tested (c .before .before .before .before) (c .before .before .before .if1 .left) in
+    comes-stop (after (c .before .before)) (rw (e, unlike 62 (c .before .byte-at2 .ensures) (c .if3 .left)))
 
 pub iri-spec : {M : Type 1} → statement M
 iri-spec =

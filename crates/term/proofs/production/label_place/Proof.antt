@@ -1,3 +1,4 @@
+-- The place by the last two bytes of a run of a label's. Assumes nothing.
 use borrow.Author.Tests.{eq-eqb, ne-eqb}
 use Rattle.term.specs.Scanner.{labelPlaceOf}
 use Rattle.term.proofs.production.label_place.Statement.{statement}
