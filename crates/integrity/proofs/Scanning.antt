@@ -36,13 +36,7 @@ all-dropped [] (suc i) h = refl
 all-dropped (x ∷ l) zero h = absurd (omega arith)
 all-dropped (x ∷ l) (suc i) h = all-dropped l i (omega arith)
 
--- a byte past the end reads 0
-pub past-zero : (l : List ℕ) (i : ℕ) → length l ≤ i → getD l i 0 ≡ 0
-past-zero [] i h = refl
-past-zero (x ∷ l) zero h = absurd (omega arith)
-past-zero (x ∷ l) (suc i) h = past-zero l i (omega arith)
-
--- so a byte that is not 0 lies in the text
+-- a byte past the end reads 0, so one that is not 0 lies in the text
 pub inside : (l : List ℕ) (i : ℕ) → (getD l i 0 ≡ 0 → ⊥) → i < length l
 inside [] i h = absurd (h refl)
 inside (x ∷ l) zero h = omega arith

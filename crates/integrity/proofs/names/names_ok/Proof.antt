@@ -4,7 +4,7 @@ use mathlib.Core.Path.{_≡_, sym, _∙_}
 use native.Mathlib.Omega.{arith}
 use denote.Ref.{now}
 use lib.ListN.{length}
-use borrow.Author.Tests.{not-true, not-false}
+use Rattle.table.proofs.Branches.{passed, failed}
 use Rattle.integrity.specs.Names.{namesOk}
 use borrow.Author.Needs.{needs}
 use Rattle.integrity.proofs.names.names_ok.Statement.{statement}
@@ -39,16 +39,12 @@ name-ok-requires c κs = search needs
 
 returns : tie.Need-returns Inv-loop μ-loop
 returns c =
-    let l = c .before .before .before .before .loop in
     let a = c .before .before .before .before .before .before .before .args in
-    let used = now (a .used) in
-    let res = now (a .resources) in
-    let the-name-ok = c .before .name-ok in
-    let if1 = c .if1 in
+    let l = c .before .before .before .before .loop in
     sym
     (l .inv .2
-    ∙ names-fail res used (a .r) (l .done) (l .from) (omega arith)
-    (sym (the-name-ok .ensures) ∙ not-true (the-name-ok .result) (if1 .taken)))
+    ∙ names-fail (now (a .resources)) (now (a .used)) (a .r) (l .done) (l .from) (omega arith)
+    (failed (c .before .name-ok .ensures) (c .if1 .taken)))
 
 add-from : tie.Need-add-from Inv-loop μ-loop
 add-from c = search needs
@@ -61,31 +57,23 @@ loop-less c = search needs
 
 loop-again : tie.Need-loop-again Inv-loop μ-loop
 loop-again c =
-    let the-name-end = c .before .before .name-end in
-    let the-name-ok = c .before .name-ok in
-    let if1 = c .if1 in
     let a = c .before .before .before .before .before .before .before .args in
-    let used = now (a .used) in
-    let res = now (a .resources) in
     let l = c .before .before .before .before .loop in
-    let e = the-name-end .ensures .0 in
-    let t = sym (the-name-ok .ensures) ∙ not-false (the-name-ok .result) (if1 .left) in
-    let h = name-closed res used (l .done + 1) (l .from) t in (
+    let res = now (a .resources) in
+    let used = now (a .used) in
+    let ok = passed (c .before .name-ok .ensures) (c .if1 .left) in
+    let closed = name-closed res used (l .done + 1) (l .from) ok in (
       omega arith,
-      omega arith,
+      omega (arith, c .before .before .name-end .ensures .0),
       l .inv .2
-          ∙ rw (e)
-          (names-turn res used (a .r) (l .done) (l .from) (omega arith)
-          (sym (the-name-ok .ensures) ∙ not-false (the-name-ok .result) (if1 .left))),
+          ∙ rw (c .before .before .name-end .ensures .0) (names-turn res used (a .r) (l .done) (l .from) (omega arith) ok),
     )
 
 returns-2 : tie.Need-returns-2 Inv-loop μ-loop
 returns-2 c =
-    let l = c .before .loop in
     let a = c .before .before .before .before .args in
-    let used = now (a .used) in
-    let res = now (a .resources) in
-    sym (l .inv .2 ∙ names-end res used (a .r) (l .done) (l .from) (omega arith))
+    let l = c .before .loop in
+    sym (l .inv .2 ∙ names-end (now (a .resources)) (now (a .used)) (a .r) (l .done) (l .from) (omega arith))
 
 pub names-ok-spec : {M : Type 1} → statement M
 names-ok-spec =

@@ -9,7 +9,7 @@ use Rattle.integrity.proofs.unique.stands_once_on.Statement.{statement}
 use Rattle.integrity.proofs.unique.stands_once_on.Tie as tie
 use Rattle.integrity.proofs.unique.stands_once_on.Reads as reads
 use Rattle.integrity.proofs.unique.stands_once_on.Lts as lts
-use Rattle.integrity.proofs.unique.same.Reads as same-reads
+use Rattle.table.proofs.triple.same.Reads as same-reads
 use Rattle.table.proofs.word.next_at.Reads as next-at-reads
 use Rattle.table.proofs.word.triple_at.Reads as triple-at-reads
 
