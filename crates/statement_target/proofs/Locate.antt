@@ -14,12 +14,13 @@ use Rattle.store.specs.Shared.{at, known, same}
 use Rattle.store.specs.Tables.{Tables, tables, fits, countAt, liveAt, tripleAt}
 use Rattle.store.specs.Walk.{pickChain, pickable, startOf, linkOf, visitable, walk, Step, foundIn}
 use Rattle.store.specs.Statement.{seek, countable, locate}
-use Rattle.store.proofs.Tests.{and-l, and-r, known-low, known-high}
+use Rattle.store.proofs.Tests.{and-l, and-r}
 use Rattle.store.proofs.LiveCounts.{countable-at}
 use Rattle.table.specs.Held.{TripleHeld}
 use Rattle.table.proofs.Capacity.{fits-room}
+use Rattle.table.proofs.Held.{triple-held}
 use Rattle.chain.specs.Chains.{PatternHeld}
-use Rattle.chain.proofs.Chains.{held, pick-bound, start-within, count-within}
+use Rattle.chain.proofs.Chains.{pick-bound, start-within, count-within}
 use Rattle.chain_walk.specs.declared.walk.Sought.the-variants.{Same}
 use Rattle.chain_walk.specs.declared.walk.Walked.{Walked}
 use Rattle.chain_walk.specs.Walks.{hits, stepOf}
@@ -29,9 +30,7 @@ use Rattle.chain_walk.proofs.Walks.{numberIn, walk-within, falling}
 
 module _ (c : Counters) (m : Tables) (e : fits c m ≡ true) (x : Triple) (d : known (c .resources) x ≡ true) where
   pub known-held : TripleHeld (m .resources) x
-  known-held =
-      let h = held (m .resources) (c .resources) x (fits-room c m e .in-resources) (known-high (c .resources) x d) in
-      record { each = λ p. record { from-one = known-low (c .resources) x d p; whole = h .each p } }
+  known-held = triple-held (m .resources) (c .resources) x (fits-room c m e .in-resources) d
 
 -- a triple in the table is a pattern in it
 pub held-pattern : (res : List ℕ) (x : Triple) → TripleHeld res x → PatternHeld res x

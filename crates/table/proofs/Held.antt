@@ -1,15 +1,19 @@
 -- A number in range names a record that lies whole in its table, where the counters are within capacity. Assumes nothing.
 use mathlib.Core.Path.{_≡_}
 use mathlib.Core.Bool.{true}
-use Prim.Native.Nat.{ℕ, _<_, _≤_}
+use mathlib.Core.List.{List}
+use Prim.Native.Nat.{ℕ, _*_, _<_, _≤_}
 use native.Mathlib.Omega.{arith}
+use lib.ListN.{length}
 use lib.Dec.{leb, ltb}
 use borrow.Author.Tests.{leb-true, ltb-true}
 use Rattle.store.specs.declared.Counters.{Counters}
-use Rattle.store.specs.Tables.{Tables, fits}
+use Rattle.store.specs.declared.Triple.{Triple}
+use Rattle.store.specs.Shared.{known}
+use Rattle.store.specs.Tables.{Tables, fits, resourceWords}
 use Rattle.store.specs.Reading.{inRange}
-use Rattle.table.specs.Held.{StatementHeld, ResourceHeld}
-use Rattle.store.proofs.Tests.{and-l, and-r}
+use Rattle.table.specs.Held.{StatementHeld, ResourceHeld, TripleHeld}
+use Rattle.store.proofs.Tests.{and-l, and-r, known-low, known-high}
 use Rattle.table.proofs.Capacity.{fits-room}
 
 pub from-one : (n x : ℕ) → inRange n x ≡ true → 0 < x
@@ -34,3 +38,8 @@ module _ (c : Counters) (m : Tables) (f : fits c m ≡ true) (x : ℕ) where
       let a = from-one (c .resources) x e in
       let b = up-to (c .resources) x e in
       record { from-one = omega arith; whole = omega arith }
+
+-- the resources of a known triple lie in the table
+pub triple-held : (res : List ℕ) (r : ℕ) (x : Triple) → resourceWords * r ≤ length res → known r x ≡ true → TripleHeld res x
+triple-held res r x room e =
+    record { each = λ p. let h = known-high r x e p in record { from-one = known-low r x e p; whole = omega arith } }
