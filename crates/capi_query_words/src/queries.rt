@@ -5,8 +5,8 @@
 // is refused 6, or 13 where the third word is not the store's; slots past the levels entered are ignored, and so are all slots at the
 // start and at the end. A reply's words are its status (1 found, 2 ended, 3 spent), the visits, and the number of each of the `VARIABLES`
 // variables, 0 for one not used.
-use capi_words::replies::chain_of;
-use capi_words::replies::chain_word;
+use capi_words::words::chain_of;
+use capi_words::words::chain_word;
 use graph::Level;
 use graph::MAX_PATTERNS;
 use graph::Progress;

@@ -23,7 +23,7 @@ ghost use mathlib.Core.Path.{_≡_};
 ghost use Prim.Native.Nat.{_≤_};
 ghost use lib.ListN.{length};
 ghost use Rattle.store.specs.Tables.{tables, lent};
-ghost use Rattle.capi_calls.specs.Words.{done};
+ghost use Rattle.capi_calls.specs.Words.{done, beside};
 ghost use Rattle.capi_calls.specs.QueryWords.{queryCursorWords, nextQueryFrom};
 ghost use Rattle.capi_calls.specs.QueryCalls.{queryOpenCall, queryNextCall};
 
@@ -105,7 +105,7 @@ pub extern "C" fn lt_query_next(
     budget: u32,
     reply: &mut [u32],
 ) -> u32
-    ensures { λ r. ⌜ (r, (now (cursor .exit), now (reply .exit)))
+    ensures { λ r. ⌜ beside r (now (cursor .exit)) (now (reply .exit))
         ≡ queryNextCall (now (counters .entry)) (lent (resources .entry) (statements .entry) (index .entry) (text .entry))
         (now (words .entry)) (now (cursor .entry)) budget (now (reply .entry)) ⌝ }
 {

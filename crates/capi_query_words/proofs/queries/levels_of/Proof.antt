@@ -14,7 +14,7 @@ use Rattle.capi_query_words.proofs.queries.levels_of.Statement.{stateme
 use Rattle.capi_query_words.proofs.queries.levels_of.Tie as tie
 use Rattle.capi_query_words.proofs.queries.levels_of.Reads as reads
 use Rattle.capi_query_words.proofs.queries.levels_of.Lts as lts
-use Rattle.capi_words.proofs.replies.chain_of.Reads as chain-of-reads
+use Rattle.capi_words.proofs.words.chain_of.Reads as chain-of-reads
 use Rattle.query_stack.proofs.stack.level.Reads as level-reads
 
 abbrev Inv-loop : tie.InvT-loop

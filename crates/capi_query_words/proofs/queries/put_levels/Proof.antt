@@ -12,7 +12,7 @@ use Rattle.capi_query_words.proofs.queries.put_levels.Statement.{statem
 use Rattle.capi_query_words.proofs.queries.put_levels.Tie as tie
 use Rattle.capi_query_words.proofs.queries.put_levels.Reads as reads
 use Rattle.capi_query_words.proofs.queries.put_levels.Lts as lts
-use Rattle.capi_words.proofs.replies.chain_word.Reads as chain-word-reads
+use Rattle.capi_words.proofs.words.chain_word.Reads as chain-word-reads
 
 abbrev Inv-loop : tie.InvT-loop
 Inv-loop words₀ levels i₀ words i = (i ≤ maxPatterns) × (length words ≡ length words₀) × (sets words₀ 3 (levelWords levels 0 maxPatterns) ≡ sets words (3 + 2 * i) (levelWords levels i (maxPatterns - i)))
