@@ -32,7 +32,8 @@ offset-at-requires : tie.Need-offset-at-requires
 offset-at-requires c κs =
     let start = c .before .before .before .before .before in
     let a = start .args in
-    entry-held (a .r) (now (a .resources)) (now (a .index)) (now (a .used)) (start .pre .0) (start .pre .1) (a .i) (omega arith)
+    entry-held (a .r) (now (a .resources)) (now (a .index)) (now (a .used)) (start .pre .0) (start .pre .1 .0)
+    (a .i) (omega arith)
 
 wide-requires : tie.Need-wide-requires
 wide-requires c κs = search needs
@@ -41,7 +42,8 @@ offset-at-requires-2 : tie.Need-offset-at-requires-2
 offset-at-requires-2 c κs =
     let start = c .before .before .before .before .before .before .before in
     let a = start .args in
-    entry-held (a .r) (now (a .resources)) (now (a .index)) (now (a .used)) (start .pre .0) (start .pre .1) (a .i + 1) (omega arith)
+    entry-held (a .r) (now (a .resources)) (now (a .index)) (now (a .used)) (start .pre .0) (start .pre .1 .0)
+    (a .i + 1) (omega arith)
 
 wide-requires-2 : tie.Need-wide-requires-2
 wide-requires-2 c κs = search needs
