@@ -12,9 +12,8 @@ use Rattle.store.proofs.refusal_number.Reads as refusal-number-reads
 
 returns : tie.Need-returns
 returns c =
-    let a = c .before .before .before .before .before .before .args in
-    let if1 = c .if1 in
-    reclaim-no-counters (a .counters .now) (if1 .taken)
+    let start = c .before .before .before .before .before .before in
+    reclaim-no-counters (start .args .counters .now) (c .if1 .taken)
 
 counters-of-requires : tie.Need-counters-of-requires
 counters-of-requires c κs = search needs
@@ -45,13 +44,13 @@ same-length-3 c = search needs
 
 returns-2 : tie.Need-returns-2
 returns-2 c =
-    let a = c .before .before .before .before .before .before .before .before .before .before .before .before .before .before .before .before .before .before .before .args in
-    let if1 = c .before .before .before .before .before .before .before .before .before .before .before .before .before .if1 in
-    let counters-of = c .before .before .before .before .before .before .before .before .before .before .before .counters-of in
-    let reclaim = c .before .before .before .before .before .before .before .before .reclaim in
-    let e = c .before .before .e in
-    let refusal-number = c .refusal-number in
-    reclaim-refused (a .counters .now) (counters-of .ensures) (reclaim .ensures) (e .given .1) (refusal-number .ensures) (if1 .left)
+    let refused = c .before .before in
+    let done = refused .before .before .before .before .before .before in
+    let read = done .before .before .before in
+    let long = read .before .before in
+    let start = long .before .before .before .before .before .before in
+    reclaim-refused (start .args .counters .now) (read .counters-of .ensures) (done .reclaim .ensures) (refused .e .given .1)
+    (c .refusal-number .ensures) (long .if1 .left)
 
 same-length-4 : tie.Need-same-length-4
 same-length-4 c = search needs
@@ -64,13 +63,14 @@ same-length-6 c = search needs
 
 returns-3 : tie.Need-returns-3
 returns-3 c =
-    let a = c .before .before .before .before .before .before .before .before .before .before .before .before .before .before .before .before .before .before .before .before .before .before .args in
-    let if1 = c .before .before .before .before .before .before .before .before .before .before .before .before .before .before .before .before .if1 in
-    let counters-of = c .before .before .before .before .before .before .before .before .before .before .before .before .before .before .counters-of in
-    let reclaim = c .before .before .before .before .before .before .before .before .before .before .before .reclaim in
-    let d = c .before .before .before .before .before .d in
-    let put-counters = c .before .before .put-counters in
-    reclaim-done (a .counters .now) (counters-of .ensures) (reclaim .ensures) (d .given .1) (put-counters .ensures) (if1 .left)
+    let put = c .before .before in
+    let after = put .before .before .before in
+    let done = after .before .before .before .before .before .before in
+    let read = done .before .before .before in
+    let long = read .before .before in
+    let start = long .before .before .before .before .before .before in
+    reclaim-done (start .args .counters .now) (read .counters-of .ensures) (done .reclaim .ensures) (after .d .given .1)
+    (put .put-counters .ensures) (long .if1 .left)
 
 pub lt-reclaim-spec : {M : Type 1} → statement M
 lt-reclaim-spec =
