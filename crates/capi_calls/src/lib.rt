@@ -17,11 +17,17 @@ pub const QUERY_CURSOR_WORDS: usize = 3 + 2 * MAX_PATTERNS;
 
 // The words of replies, as the structs below name them; of a line, with words of 64 bits; of a query.
 pub const NUMBER_REPLY_WORDS: usize = 1;
+
 pub const NAME_REPLY_WORDS: usize = 2;
+
 pub const STATEMENT_REPLY_WORDS: usize = 4;
+
 pub const ASSERT_REPLY_WORDS: usize = 2;
+
 pub const SCAN_REPLY_WORDS: usize = 3;
+
 pub const LINE_WORDS: usize = 8;
+
 pub const QUERY_REPLY_WORDS: usize = 2 + VARIABLES;
 
 // The result where a lent counters, cursor or reply slice is too short.

@@ -251,14 +251,8 @@ fn no_parts(result: u32, what: u64, next: usize, offset: usize) -> LineReply
             start: offset as u64,
             size: 0,
         },
-        predicate: Part {
-            start: 0,
-            size: 0,
-        },
-        object: Part {
-            start: 0,
-            size: 0,
-        },
+        predicate: Part { start: 0, size: 0 },
+        object: Part { start: 0, size: 0 },
     }
 }
 

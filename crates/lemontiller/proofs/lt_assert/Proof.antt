@@ -1,4 +1,4 @@
--- `capi::lt_assert` meets its contract. Assumes nothing.
+-- `lemontiller::lt_assert` meets its contract. Assumes nothing.
 use Rattle.lemontiller.proofs.Writes.{assert-refused, assert-answered}
 use Rattle.store.specs.Tables.{tables}
 use Rattle.capi_calls.specs.Calls.{assertCall}

@@ -1,4 +1,4 @@
--- `capi::lt_check` meets its contract. Assumes nothing.
+-- `lemontiller::lt_check` meets its contract. Assumes nothing.
 use mathlib.Core.Bool.{false}
 use Rattle.lemontiller.proofs.Lengths.{short-counters, short-reply, room, no-counters, no-reply}
 use Rattle.capi_calls.specs.Calls.{checkAs}

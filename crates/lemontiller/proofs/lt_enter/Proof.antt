@@ -1,4 +1,4 @@
--- `capi::lt_enter` meets its contract. Assumes nothing.
+-- `lemontiller::lt_enter` meets its contract. Assumes nothing.
 use Rattle.lemontiller.proofs.Writes.{enter-no-counters, enter-no-reply, enter-refused, enter-answered}
 use borrow.Author.Needs.{needs}
 use Rattle.lemontiller.proofs.lt_enter.Statement.{statement}

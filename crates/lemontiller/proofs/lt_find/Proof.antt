@@ -1,4 +1,4 @@
--- `capi::lt_find` meets its contract. Assumes nothing.
+-- `lemontiller::lt_find` meets its contract. Assumes nothing.
 use Rattle.store.specs.declared.Lookup.the-variants.{Absent}
 use Rattle.lemontiller.proofs.Lengths.{short-counters, short-reply, room, no-counters, no-reply}
 use Rattle.capi_calls.specs.Calls.{findAs}

@@ -1,4 +1,4 @@
--- `capi::lt_name` meets its contract. Assumes nothing.
+-- `lemontiller::lt_name` meets its contract. Assumes nothing.
 use Rattle.capi_calls.specs.Calls.{nameCall}
 use native.Mathlib.Omega.{arith}
 use lib.ListN.{length-set}

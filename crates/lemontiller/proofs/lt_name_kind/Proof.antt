@@ -1,4 +1,4 @@
--- `capi::lt_name_kind` meets its contract. Assumes nothing.
+-- `lemontiller::lt_name_kind` meets its contract. Assumes nothing.
 use Rattle.capi_calls.specs.Words.{numberReplyWords}
 use Rattle.capi_calls.specs.Calls.{kindCall}
 use lib.ListN.{length}

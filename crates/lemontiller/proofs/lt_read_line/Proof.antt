@@ -1,4 +1,4 @@
--- `capi::lt_read_line` meets its contract. Assumes nothing.
+-- `lemontiller::lt_read_line` meets its contract. Assumes nothing.
 use Rattle.capi_calls.specs.Words.{lineWords}
 use Rattle.capi_calls.specs.Calls.{lineCall}
 use native.Mathlib.Omega.{arith}

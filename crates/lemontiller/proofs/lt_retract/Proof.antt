@@ -1,4 +1,4 @@
--- `capi::lt_retract` meets its contract. Assumes nothing.
+-- `lemontiller::lt_retract` meets its contract. Assumes nothing.
 use Rattle.lemontiller.proofs.Writes.{retract-done}
 use Rattle.store.specs.Tables.{tables}
 use Rattle.capi_calls.specs.Calls.{retractCall}

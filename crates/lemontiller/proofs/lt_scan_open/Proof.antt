@@ -1,4 +1,4 @@
--- `capi::lt_scan_open` meets its contract. Assumes nothing.
+-- `lemontiller::lt_scan_open` meets its contract. Assumes nothing.
 use Rattle.lemontiller.proofs.Writes.{open-refused, open-opened}
 use Rattle.store.specs.Tables.{tables}
 use Rattle.capi_calls.specs.Calls.{openCall}

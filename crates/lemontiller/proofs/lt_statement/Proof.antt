@@ -1,4 +1,4 @@
--- `capi::lt_statement` meets its contract. Assumes nothing.
+-- `lemontiller::lt_statement` meets its contract. Assumes nothing.
 use Rattle.capi_calls.specs.Calls.{statementCall}
 use native.Mathlib.Omega.{arith}
 use lib.ListN.{length-set}

@@ -1,4 +1,4 @@
--- `capi::queries::lt_query_next` meets its contract. Assumes nothing.
+-- `lemontiller::queries::lt_query_next` meets its contract. Assumes nothing.
 use Rattle.lemontiller.proofs.QueryWrites.{next-refused, next-answered}
 use Rattle.capi_calls.specs.QueryCalls.{queryNextCall}
 use Rattle.lemontiller.proofs.Lengths.{any-short-counters, any-short-cursor, any-short-reply}

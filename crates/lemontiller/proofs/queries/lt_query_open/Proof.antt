@@ -1,4 +1,4 @@
--- `capi::queries::lt_query_open` meets its contract. Assumes nothing.
+-- `lemontiller::queries::lt_query_open` meets its contract. Assumes nothing.
 use Rattle.lemontiller.proofs.QueryWrites.{open-refused, open-opened}
 use Rattle.capi_calls.specs.QueryCalls.{queryOpenCall}
 use Rattle.lemontiller.proofs.Lengths.{short-counters, short-reply}

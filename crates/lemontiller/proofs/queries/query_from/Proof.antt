@@ -1,4 +1,4 @@
--- `capi::queries::query_from` meets its contract. Assumes nothing.
+-- `lemontiller::queries::query_from` meets its contract. Assumes nothing.
 use Rattle.lemontiller.proofs.QueryWrites.{from-told, from-refused, from-stale, from-bad}
 use Rattle.store.specs.Tables.{tables, word}
 use mathlib.Core.Path.{_≡_, sym, _∙_}

@@ -1,4 +1,4 @@
--- `capi::reclaim::lt_reclaim` meets its contract. Assumes nothing.
+-- `lemontiller::reclaim::lt_reclaim` meets its contract. Assumes nothing.
 use Rattle.lemontiller.proofs.Writes.{reclaim-no-counters, reclaim-refused, reclaim-done}
 use borrow.Author.Needs.{needs}
 use Rattle.lemontiller.proofs.reclaim.lt_reclaim.Statement.{statement}
