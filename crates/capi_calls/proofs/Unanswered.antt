@@ -46,7 +46,7 @@ use Rattle.store.proofs.Numbers.{refuses, not-beyond}
 use Rattle.capi_calls.proofs.Runs as runs
 use Rattle.capi_calls.specs.Words.{tooShort, counterWords, cursorWords, numberReplyWords, nameReplyWords}
 use Rattle.capi_calls.specs.Words.{statementReplyWords, assertReplyWords, scanReplyWords, countersOf, ifShort, ifAnyShort}
-use Rattle.capi_calls.specs.Words.{longEnough, done, numberAs, nameAs, statementAs, lookupAnswer, nameAnswer, statementAnswer}
+use Rattle.capi_calls.specs.Words.{longEnough, numberAs, nameAs, statementAs, lookupAnswer, nameAnswer, statementAnswer}
 use Rattle.capi_calls.specs.Words.{retractAs, openedAs, scannedAs, assertAs, enteredAs, reclaimedAs, nextFrom}
 use Rattle.capi_calls.specs.Calls.{findAs, nameCall, statementCall, retractCall, openCall, nextCall, assertCall}
 use Rattle.capi_calls.specs.Calls.{enterAs, reclaimAs}

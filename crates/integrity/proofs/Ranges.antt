@@ -1,8 +1,9 @@
--- Tests and sums over a range: each number's test; no term falls short where the sums are the same; entries that each
--- hold one number of 1..r, counted for each number, add up. Assumes nothing.
+-- Tests and sums over a range: each number's test, and what code that tests in a row or in a loop answers; no term falls
+-- short where the sums are the same; entries that each hold one number of 1..r, counted for each number, add up. Assumes
+-- nothing.
 use mathlib.Core.Path.{_≡_, refl, sym, ap, ap₂, _∙_}
 use mathlib.Core.Logic.{_≢_}
-use mathlib.Core.Bool.{Bool, true, false, cond, not}
+use mathlib.Core.Bool.{Bool, true, false, cond, not, _&&_}
 use Prim.Native.Nat.{ℕ, zero, suc, _+_, _≤_, _<_}
 use native.Mathlib.Omega.{arith}
 use native.Mathlib.Numerals.{add-one}
@@ -44,6 +45,14 @@ all-fails f n i h e = decide (allBelow f n) (λ a. absurd (clash (sym (all-at f 
   where
     clash : true ≡ false → ⊥
     clash z = let q : _≡_ {A = ℕ} 0 1 = cc in omega arith
+
+-- ---- tests in a row, each only where those before it hold; x is the code's value of the first
+
+pub stops : {x a : Bool} (rest : Bool) → x ≡ a → not x ≡ true → false ≡ a && rest
+stops rest e h = rw (failed e h)
+
+pub goes-on : {x a z rest : Bool} → x ≡ a → not x ≡ false → z ≡ rest → z ≡ a && rest
+goes-on e h r = rw (passed e h) r
 
 -- ---- a loop that tests 0 .. n - 1 and ends at the first that fails
 

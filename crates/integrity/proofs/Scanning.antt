@@ -1,6 +1,6 @@
 -- What the passes over the text and the index meet byte by byte: the ways out of their loops, and a turn. Assumes nothing.
 use mathlib.Core.Path.{_≡_, refl, ap, _∙_}
-use mathlib.Core.Bool.{Bool, true, false}
+use mathlib.Core.Bool.{Bool, true, false, not, _&&_}
 use mathlib.Core.List.{List, [], _∷_}
 use Prim.Native.Nat.{ℕ, zero, suc, _+_, _-_, _≤_, _<_}
 use native.Mathlib.Omega.{arith}
@@ -98,27 +98,19 @@ module _ (res used : List ℕ) (y o : ℕ) where
   unfolding nameOk storable wellFormed
   name-ill h e k = rw (lt-ltb (o + length n) (length used) h, eq-eqb (offsetAt res y) o e, k)
 
-  pub name-ending : o + length n < length used → offsetAt res y ≡ o → (kindOf nameLimit n ≡ 0 → ⊥) → writesString n ≡ true
-      → nameOk res used y o ≡ false
-  unfolding nameOk storable wellFormed
-  name-ending h e k t =
-      rw (
-        lt-ltb (o + length n) (length used) h,
-        eq-eqb (offsetAt res y) o e,
-        lt-ltb 0 (kindOf nameLimit n) (omega arith),
-        t,
-      )
+  -- a name at its offset, of some kind: without the string ending the kinds decide
+  module _ (h : o + length n < length used) (e : offsetAt res y ≡ o) (k : kindOf nameLimit n ≡ 0 → ⊥) where
+    name-formed : nameOk res used y o ≡ not (writesString n) && eqb (kindAt res y) (kindOf nameLimit n)
+    unfolding nameOk storable wellFormed
+    name-formed =
+        let formed = lt-ltb 0 (kindOf nameLimit n) (omega arith) in
+        rw (lt-ltb (o + length n) (length used) h, eq-eqb (offsetAt res y) o e, formed)
 
-  pub name-kinds : o + length n < length used → offsetAt res y ≡ o → (kindOf nameLimit n ≡ 0 → ⊥) → writesString n ≡ false
-      → nameOk res used y o ≡ eqb (kindAt res y) (kindOf nameLimit n)
-  unfolding nameOk storable wellFormed
-  name-kinds h e k t =
-      rw (
-        lt-ltb (o + length n) (length used) h,
-        eq-eqb (offsetAt res y) o e,
-        lt-ltb 0 (kindOf nameLimit n) (omega arith),
-        t,
-      )
+    pub name-ending : writesString n ≡ true → nameOk res used y o ≡ false
+    name-ending t = name-formed ∙ rw t
+
+    pub name-kinds : writesString n ≡ false → nameOk res used y o ≡ eqb (kindAt res y) (kindOf nameLimit n)
+    name-kinds t = name-formed ∙ rw t
 
 module _ (res used : List ℕ) (r done o : ℕ) where
   pub names-end : r ≤ done → namesOk res used (r - done) (done + 1) o ≡ eqb o (length used)
@@ -144,7 +136,8 @@ module _ (used : List ℕ) (i j : ℕ) where
   unfolding nameLess
   less-here h = rw (name-step used j (λ e. omega arith)) (by (eqb (getD used i 0) 0) refl)
     where
-      by : (b : Bool) → eqb (getD used i 0) 0 ≡ b → isLess (compareBytes (nameFrom used i) (getD used j 0 ∷ nameFrom used (j + 1))) ≡ true
+      by : (b : Bool) → eqb (getD used i 0) 0 ≡ b
+          → isLess (compareBytes (nameFrom used i) (getD used j 0 ∷ nameFrom used (j + 1))) ≡ true
       by true e = unfold compareBytes in rw (name-stop used i (eqb-true (getD used i 0) 0 e))
       by false e =
           rw (
@@ -156,7 +149,8 @@ module _ (used : List ℕ) (i j : ℕ) where
   unfolding nameLess
   more-here h = rw (name-step used i (λ e. omega arith)) (by (eqb (getD used j 0) 0) refl)
     where
-      by : (b : Bool) → eqb (getD used j 0) 0 ≡ b → isLess (compareBytes (getD used i 0 ∷ nameFrom used (i + 1)) (nameFrom used j)) ≡ false
+      by : (b : Bool) → eqb (getD used j 0) 0 ≡ b
+          → isLess (compareBytes (getD used i 0 ∷ nameFrom used (i + 1)) (nameFrom used j)) ≡ false
       by true e = unfold compareBytes in rw (name-stop used j (eqb-true (getD used j 0) 0 e))
       by false e =
           rw (

@@ -1,4 +1,5 @@
-use Rattle.table.proofs.Branches.{passed, failed}
+use Rattle.table.proofs.Branches.{passed}
+use Rattle.integrity.proofs.Ranges.{stops, goes-on}
 use Rattle.integrity.specs.Records.{recordsOk}
 use borrow.Author.Needs.{needs}
 use Rattle.integrity.proofs.records_ok.Statement.{statement}
@@ -14,7 +15,7 @@ each-ok-requires c κs = search needs
 
 returns : tie.Need-returns
 unfolding recordsOk
-returns c = rw (failed (c .before .each-ok .ensures) (c .if1 .taken))
+returns c = stops _ (c .before .each-ok .ensures) (c .if1 .taken)
 
 all-chains-sound-requires : tie.Need-all-chains-sound-requires
 all-chains-sound-requires c κs = search needs
@@ -22,10 +23,8 @@ all-chains-sound-requires c κs = search needs
 returns-2 : tie.Need-returns-2
 unfolding recordsOk
 returns-2 c =
-    rw (
-      passed (c .before .before .before .each-ok .ensures) (c .before .before .if1 .left),
-      failed (c .before .all-chains-sound .ensures) (c .if2 .taken),
-    )
+    goes-on (c .before .before .before .each-ok .ensures) (c .before .before .if1 .left)
+    (stops _ (c .before .all-chains-sound .ensures) (c .if2 .taken))
 
 all-stand-once-requires : tie.Need-all-stand-once-requires
 all-stand-once-requires c κs =
@@ -35,11 +34,8 @@ all-stand-once-requires c κs =
 returns-3 : tie.Need-returns-3
 unfolding recordsOk
 returns-3 c =
-    rw (
-      passed (c .before .before .before .before .each-ok .ensures) (c .before .before .before .if1 .left),
-      passed (c .before .before .all-chains-sound .ensures) (c .before .if2 .left),
-    )
-    (c .all-stand-once .ensures)
+    goes-on (c .before .before .before .before .each-ok .ensures) (c .before .before .before .if1 .left)
+    (goes-on (c .before .before .all-chains-sound .ensures) (c .before .if2 .left) (c .all-stand-once .ensures))
 
 pub records-ok-spec : {M : Type 1} → statement M
 records-ok-spec =

@@ -1,4 +1,5 @@
-use Rattle.table.proofs.Branches.{passed, failed}
+use Rattle.table.proofs.Branches.{passed}
+use Rattle.integrity.proofs.Ranges.{stops, goes-on}
 use Rattle.integrity.specs.Index.{indexOk}
 use borrow.Author.Needs.{needs}
 use Rattle.integrity.proofs.index.index_ok.Statement.{statement}
@@ -13,7 +14,7 @@ entries-ok-requires c κs = search needs
 
 returns : tie.Need-returns
 unfolding indexOk
-returns c = rw (failed (c .before .entries-ok .ensures) (c .if1 .taken))
+returns c = stops _ (c .before .entries-ok .ensures) (c .if1 .taken)
 
 entries-rise-requires : tie.Need-entries-rise-requires
 entries-rise-requires c κs =
@@ -22,7 +23,7 @@ entries-rise-requires c κs =
 
 returns-2 : tie.Need-returns-2
 unfolding indexOk
-returns-2 c = rw (passed (c .before .before .entries-ok .ensures) (c .before .if1 .left)) (c .entries-rise .ensures)
+returns-2 c = goes-on (c .before .before .entries-ok .ensures) (c .before .if1 .left) (c .entries-rise .ensures)
 
 pub index-ok-spec : {M : Type 1} → statement M
 index-ok-spec = tie.close (tie.spec entries-ok-requires returns entries-rise-requires returns-2)

@@ -4,7 +4,6 @@ use denote.Ref.{now}
 use Rattle.store.specs.declared.Position.the-variants.{Subject, Predicate, Object}
 use Rattle.table.proofs.Held.{triple-held}
 use Rattle.integrity.proofs.Walking.{short-po, short-p, short-o, short-s}
-use borrow.Author.Needs.{needs}
 use Rattle.integrity.proofs.unique.shortest.Statement.{statement}
 use Rattle.integrity.proofs.unique.shortest.Tie as tie
 use Rattle.integrity.proofs.unique.shortest.Reads as reads
