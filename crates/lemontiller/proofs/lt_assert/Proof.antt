@@ -1,6 +1,5 @@
 -- `lemontiller::lt_assert` meets its contract. Assumes nothing.
 use Rattle.lemontiller.proofs.Writes.{assert-refused, assert-answered}
-use Rattle.store.specs.Tables.{tables}
 use Rattle.capi_calls.specs.Calls.{assertCall}
 use Rattle.lemontiller.proofs.Lengths.{short-counters, short-reply}
 use borrow.Author.Needs.{needs}
@@ -60,10 +59,7 @@ returns-3 c =
     let known = done .before .before .before in
     let read = known .before in
     let long = read .before .before in
-    let start = long .before .before .before .before .before .before .before .before in
-    let a = start .args in
-    let m = tables (a .resources .now) (a .statements .now) (a .index .now) (a .text .now) in
-    assert-refused (a .counters .now) (a .reply .now) m (read .counters-of .ensures) (known .triple-of .ensures)
+    assert-refused _ _ _ (read .counters-of .ensures) (known .triple-of .ensures)
     (done .assert .ensures) (told .assert-answer .ensures) (c .if3 .taken) (long .before .if1 .left) (long .if2 .left)
 
 asserted-counters-requires : tie.Need-asserted-counters-requires
@@ -94,10 +90,7 @@ returns-4 c =
     let known = done .before .before .before in
     let read = known .before in
     let long = read .before .before in
-    let start = long .before .before .before .before .before .before .before .before in
-    let a = start .args in
-    let m = tables (a .resources .now) (a .statements .now) (a .index .now) (a .text .now) in
-    assert-answered (a .counters .now) (a .reply .now) m (read .counters-of .ensures) (known .triple-of .ensures)
+    assert-answered _ _ _ (read .counters-of .ensures) (known .triple-of .ensures)
     (done .assert .ensures) (told .assert-answer .ensures) (tested .if3 .left) (after .asserted-counters .ensures)
     (put .put-counters .ensures) (long .before .if1 .left) (long .if2 .left)
 

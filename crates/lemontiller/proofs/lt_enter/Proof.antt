@@ -13,13 +13,11 @@ use Rattle.dictionary.proofs.intern.Reads as intern-reads
 
 returns : tie.Need-returns
 returns c =
-    let start = c .before .before .before .before .before .before .before .before in
-    enter-no-counters (start .args .counters .now) (start .args .reply .now) (c .if1 .taken)
+    enter-no-counters _ _ (c .if1 .taken)
 
 returns-2 : tie.Need-returns-2
 returns-2 c =
-    let start = c .before .before .before .before .before .before .before .before .before in
-    enter-no-reply (start .args .counters .now) (start .args .reply .now) (c .before .if1 .left) (c .if2 .taken)
+    enter-no-reply _ _ (c .before .if1 .left) (c .if2 .taken)
 
 counters-of-requires : tie.Need-counters-of-requires
 counters-of-requires c κs = search needs
@@ -54,9 +52,7 @@ returns-3 c =
     let entered = told .before .before .before .before .before .before .before in
     let read = entered .before .before .before .before in
     let long = read .before .before in
-    let start = long .before .before .before .before .before .before .before .before .before in
-    let a = start .args in
-    enter-refused (a .counters .now) (a .reply .now) (read .counters-of .ensures) (entered .intern .ensures)
+    enter-refused _ _ (read .counters-of .ensures) (entered .intern .ensures)
     (told .enter-answer .ensures) (c .if3 .taken) (long .before .if1 .left) (long .if2 .left)
 
 interned-counters-requires : tie.Need-interned-counters-requires
@@ -89,9 +85,7 @@ returns-4 c =
     let entered = told .before .before .before .before .before .before .before in
     let read = entered .before .before .before .before in
     let long = read .before .before in
-    let start = long .before .before .before .before .before .before .before .before .before in
-    let a = start .args in
-    enter-answered (a .counters .now) (a .reply .now) (read .counters-of .ensures) (entered .intern .ensures)
+    enter-answered _ _ (read .counters-of .ensures) (entered .intern .ensures)
     (told .enter-answer .ensures) (tested .if3 .left) (after .interned-counters .ensures) (put .put-counters .ensures)
     (long .before .if1 .left) (long .if2 .left)
 

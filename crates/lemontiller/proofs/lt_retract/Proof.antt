@@ -1,6 +1,5 @@
 -- `lemontiller::lt_retract` meets its contract. Assumes nothing.
 use Rattle.lemontiller.proofs.Writes.{retract-done}
-use Rattle.store.specs.Tables.{tables}
 use Rattle.capi_calls.specs.Calls.{retractCall}
 use Rattle.lemontiller.proofs.Lengths.{short-counters, short-reply}
 use borrow.Author.Needs.{needs}
@@ -51,10 +50,7 @@ returns-3 c =
     let known = done .before .before .before in
     let read = known .before in
     let long = read .before in
-    let start = long .before .before .before .before .before .before .before .before in
-    let a = start .args in
-    let m = tables (a .resources .now) (a .statements .now) (a .index .now) (a .text .now) in
-    retract-done (a .counters .now) (a .reply .now) m (read .counters-of .ensures) (known .triple-of .ensures)
+    retract-done _ _ _ (read .counters-of .ensures) (known .triple-of .ensures)
     (done .retract .ensures) (c .retract-answer .ensures) (long .before .if1 .left) (long .if2 .left)
 
 pub lt-retract-spec : {M : Type 1} → statement M

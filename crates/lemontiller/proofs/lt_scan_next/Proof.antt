@@ -1,6 +1,5 @@
 -- `lemontiller::lt_scan_next` meets its contract. Assumes nothing.
 use Rattle.lemontiller.proofs.Writes.{next-refused, next-answered}
-use Rattle.store.specs.Tables.{tables}
 use Rattle.capi_calls.specs.Calls.{nextCall}
 use native.Mathlib.Omega.{arith}
 use lib.ListN.{length-set}
@@ -58,10 +57,7 @@ returns-4 c =
     let walked = told .before in
     let read = walked .before .before in
     let long = read .before in
-    let start = long .before .before .before .before .before .before .before .before .before .before in
-    let a = start .args in
-    let m = tables (a .resources .now) (a .statements .now) (a .index .now) (a .text .now) in
-    next-refused (a .counters .now) (a .cursor .now) (a .reply .now) m (a .budget) (read .counters-of .ensures)
+    next-refused _ _ _ _ _ (read .counters-of .ensures)
     (walked .next-from .ensures) (told .scanned-answer .ensures) (c .if4 .taken)
     (long .before .before .if1 .left) (long .before .if2 .left) (long .if3 .left)
 
@@ -86,10 +82,7 @@ returns-5 c =
     let walked = told .before in
     let read = walked .before .before in
     let long = read .before in
-    let start = long .before .before .before .before .before .before .before .before .before .before in
-    let a = start .args in
-    let m = tables (a .resources .now) (a .statements .now) (a .index .now) (a .text .now) in
-    next-answered (a .counters .now) (a .cursor .now) (a .reply .now) m (a .budget) (read .counters-of .ensures)
+    next-answered _ _ _ _ _ (read .counters-of .ensures)
     (walked .next-from .ensures) (told .scanned-answer .ensures) (tested .if4 .left)
     (cursor .scanned-cursor .ensures) (put .put-cursor .ensures)
     (long .before .before .if1 .left) (long .before .if2 .left) (long .if3 .left)

@@ -1,6 +1,5 @@
 -- `lemontiller::lt_scan_open` meets its contract. Assumes nothing.
 use Rattle.lemontiller.proofs.Writes.{open-refused, open-opened}
-use Rattle.store.specs.Tables.{tables}
 use Rattle.capi_calls.specs.Calls.{openCall}
 use Rattle.lemontiller.proofs.Lengths.{short-counters, short-reply}
 use borrow.Author.Needs.{needs}
@@ -50,10 +49,7 @@ returns-3 c =
     let known = opened .before in
     let read = known .before in
     let long = read .before in
-    let start = long .before .before .before .before .before .before .before .before in
-    let a = start .args in
-    let m = tables (a .resources .now) (a .statements .now) (a .index .now) (a .text .now) in
-    open-refused (a .counters .now) (a .cursor .now) m (read .counters-of .ensures) (known .triple-of .ensures)
+    open-refused _ _ _ (read .counters-of .ensures) (known .triple-of .ensures)
     (opened .scan-open .ensures) (refused .e .given .1) (c .refusal-number .ensures) (long .before .if1 .left) (long .if2 .left)
 
 same-length : tie.Need-same-length
@@ -67,10 +63,7 @@ returns-4 c =
     let known = opened .before in
     let read = known .before in
     let long = read .before in
-    let start = long .before .before .before .before .before .before .before .before in
-    let a = start .args in
-    let m = tables (a .resources .now) (a .statements .now) (a .index .now) (a .text .now) in
-    open-opened (a .counters .now) (a .cursor .now) m (read .counters-of .ensures) (known .triple-of .ensures)
+    open-opened _ _ _ (read .counters-of .ensures) (known .triple-of .ensures)
     (opened .scan-open .ensures) (cursor .q .given .1) (put .put-cursor .ensures) (long .before .if1 .left) (long .if2 .left)
 
 pub lt-scan-open-spec : {M : Type 1} → statement M

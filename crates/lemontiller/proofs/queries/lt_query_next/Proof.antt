@@ -2,7 +2,6 @@
 use Rattle.lemontiller.proofs.QueryWrites.{next-refused, next-answered}
 use Rattle.capi_calls.specs.QueryCalls.{queryNextCall}
 use Rattle.lemontiller.proofs.Lengths.{any-short-counters, any-short-cursor, any-short-reply}
-use Rattle.store.specs.Tables.{tables}
 use borrow.Author.Needs.{needs}
 use Rattle.lemontiller.proofs.queries.lt_query_next.Statement.{statement}
 use Rattle.lemontiller.proofs.queries.lt_query_next.Tie as tie
@@ -51,10 +50,7 @@ returns-4 c =
     let walked = put .before .before in
     let read = walked .before .before in
     let long = read .before in
-    let start = long .before .before .before .before .before .before .before .before .before .before .before in
-    let a = start .args in
-    let m = tables (a .resources .now) (a .statements .now) (a .index .now) (a .text .now) in
-    next-refused (a .counters .now) (a .cursor .now) (a .reply .now) (a .words .now) m (a .budget) (read .counters-of .ensures)
+    next-refused _ _ _ _ _ _ (read .counters-of .ensures)
     (walked .query-from .ensures) (put .put-query-answer .ensures) (told .step-refusal .ensures) (c .if4 .taken)
     (long .before .before .if1 .left) (long .before .if2 .left) (long .if3 .left)
 
@@ -76,10 +72,7 @@ returns-5 c =
     let walked = put .before .before in
     let read = walked .before .before in
     let long = read .before in
-    let start = long .before .before .before .before .before .before .before .before .before .before .before in
-    let a = start .args in
-    let m = tables (a .resources .now) (a .statements .now) (a .index .now) (a .text .now) in
-    next-answered (a .counters .now) (a .cursor .now) (a .reply .now) (a .words .now) m (a .budget) (read .counters-of .ensures)
+    next-answered _ _ _ _ _ _ (read .counters-of .ensures)
     (walked .query-from .ensures) (put .put-query-answer .ensures) (told .step-refusal .ensures) (tested .if4 .left)
     (cursor .put-query-cursor .ensures) (long .before .before .if1 .left) (long .before .if2 .left) (long .if3 .left)
 

@@ -2,7 +2,6 @@
 use Rattle.lemontiller.proofs.QueryWrites.{open-refused, open-opened}
 use Rattle.capi_calls.specs.QueryCalls.{queryOpenCall}
 use Rattle.lemontiller.proofs.Lengths.{short-counters, short-reply}
-use Rattle.store.specs.Tables.{tables}
 use borrow.Author.Needs.{needs}
 use Rattle.lemontiller.proofs.queries.lt_query_open.Statement.{statement}
 use Rattle.lemontiller.proofs.queries.lt_query_open.Tie as tie
@@ -36,10 +35,7 @@ returns-3 c =
     let opened = told .before in
     let read = opened .before in
     let long = read .before in
-    let start = long .before .before .before .before .before .before .before .before .before in
-    let a = start .args in
-    let m = tables (a .resources .now) (a .statements .now) (a .index .now) (a .text .now) in
-    open-refused (a .counters .now) (a .cursor .now) (a .words .now) m (read .counters-of .ensures) (opened .query-open .ensures)
+    open-refused _ _ _ _ (read .counters-of .ensures) (opened .query-open .ensures)
     (told .opening-refusal .ensures) (c .if3 .taken) (long .before .if1 .left) (long .if2 .left)
 
 put-query-cursor-requires : tie.Need-put-query-cursor-requires
@@ -56,10 +52,7 @@ returns-4 c =
     let opened = told .before in
     let read = opened .before in
     let long = read .before in
-    let start = long .before .before .before .before .before .before .before .before .before in
-    let a = start .args in
-    let m = tables (a .resources .now) (a .statements .now) (a .index .now) (a .text .now) in
-    open-opened (a .counters .now) (a .cursor .now) (a .words .now) m (read .counters-of .ensures) (opened .query-open .ensures)
+    open-opened _ _ _ _ (read .counters-of .ensures) (opened .query-open .ensures)
     (told .opening-refusal .ensures) (tested .if3 .left) (put .put-query-cursor .ensures)
     (long .before .if1 .left) (long .if2 .left)
 

@@ -1,6 +1,6 @@
 -- `lemontiller::queries::query_from` meets its contract. Assumes nothing.
 use Rattle.lemontiller.proofs.QueryWrites.{from-told, from-refused, from-stale, from-bad}
-use Rattle.store.specs.Tables.{tables, word}
+use Rattle.store.specs.Tables.{word}
 use mathlib.Core.Path.{_≡_, sym, _∙_}
 use mathlib.Core.Logic.{_≢_}
 use native.Mathlib.Omega.{arith}
@@ -28,10 +28,7 @@ returns : tie.Need-returns
 returns c =
     let told = c .before in
     let tested = told .before in
-    let start = tested .before .before .before .before .before .before .before .before in
-    let a = start .args in
-    let m = tables (a .resources .now) (a .statements .now) (a .index .now) (a .text .now) in
-    from-told (a .c) m (a .words .now) (a .cursor .now) (a .budget) (sym (tested .before .spelt .ensures) ∙ tested .if1 .taken)
+    from-told _ _ _ _ _ (sym (tested .before .spelt .ensures) ∙ tested .if1 .taken)
     (told .query-cursor-of .ensures) (c .query-next .ensures)
 
 query-open-requires : tie.Need-query-open-requires
@@ -59,9 +56,8 @@ returns-2 c =
     let tested = opened .before in
     let start = tested .before .before .before .before .before .before .before .before in
     let a = start .args in
-    let m = tables (a .resources .now) (a .statements .now) (a .index .now) (a .text .now) in
     let ne : word (a .cursor .now) 2 ≢ a .c .generation = λ e. omega arith in
-    from-stale (a .c) m (a .words .now) (a .cursor .now) (a .budget) (sym (tested .before .spelt .ensures) ∙ tested .if1 .left)
+    from-stale _ _ _ _ _ (sym (tested .before .spelt .ensures) ∙ tested .if1 .left)
     (opened .query-open .ensures) (case .enum-told .given .1) ne (c .refused2 .ensures)
 
 refused-requires-3 : tie.Need-refused-requires-3
@@ -72,10 +68,7 @@ returns-3 c =
     let case = c .before .before in
     let opened = case .before .before in
     let tested = opened .before in
-    let start = tested .before .before .before .before .before .before .before .before in
-    let a = start .args in
-    let m = tables (a .resources .now) (a .statements .now) (a .index .now) (a .text .now) in
-    from-refused (a .c) m (a .words .now) (a .cursor .now) (a .budget) (sym (tested .before .spelt .ensures) ∙ tested .if1 .left)
+    from-refused _ _ _ _ _ (sym (tested .before .spelt .ensures) ∙ tested .if1 .left)
     (opened .query-open .ensures) (case .opening .given .1) (c .refused .ensures)
 
 returns-4 : tie.Need-returns-4
@@ -85,9 +78,8 @@ returns-4 c =
     let tested = opened .before in
     let start = tested .before .before .before .before .before .before .before .before in
     let a = start .args in
-    let m = tables (a .resources .now) (a .statements .now) (a .index .now) (a .text .now) in
     let same : word (a .cursor .now) 2 ≡ a .c .generation = omega arith in
-    from-bad (a .c) m (a .words .now) (a .cursor .now) (a .budget) (sym (tested .before .spelt .ensures) ∙ tested .if1 .left)
+    from-bad _ _ _ _ _ (sym (tested .before .spelt .ensures) ∙ tested .if1 .left)
     (opened .query-open .ensures) (case .enum-told .given .1) same (c .refused3 .ensures)
 
 pub query-from-spec : {M : Type 1} → statement M

@@ -12,8 +12,7 @@ use Rattle.store.proofs.refusal_number.Reads as refusal-number-reads
 
 returns : tie.Need-returns
 returns c =
-    let start = c .before .before .before .before .before .before in
-    reclaim-no-counters (start .args .counters .now) (c .if1 .taken)
+    reclaim-no-counters _ (c .if1 .taken)
 
 counters-of-requires : tie.Need-counters-of-requires
 counters-of-requires c κs = search needs
@@ -48,8 +47,7 @@ returns-2 c =
     let done = refused .before .before .before .before .before .before in
     let read = done .before .before .before in
     let long = read .before .before in
-    let start = long .before .before .before .before .before .before in
-    reclaim-refused (start .args .counters .now) (read .counters-of .ensures) (done .reclaim .ensures) (refused .e .given .1)
+    reclaim-refused _ (read .counters-of .ensures) (done .reclaim .ensures) (refused .e .given .1)
     (c .refusal-number .ensures) (long .if1 .left)
 
 same-length-4 : tie.Need-same-length-4
@@ -68,8 +66,7 @@ returns-3 c =
     let done = after .before .before .before .before .before .before in
     let read = done .before .before .before in
     let long = read .before .before in
-    let start = long .before .before .before .before .before .before in
-    reclaim-done (start .args .counters .now) (read .counters-of .ensures) (done .reclaim .ensures) (after .d .given .1)
+    reclaim-done _ (read .counters-of .ensures) (done .reclaim .ensures) (after .d .given .1)
     (put .put-counters .ensures) (long .if1 .left)
 
 pub lt-reclaim-spec : {M : Type 1} → statement M
