@@ -38,10 +38,8 @@ in-range-requires c κs = search needs
 returns : tie.Need-returns Inv-loop μ-loop
 unfolding entryOk
 returns c =
-    let a = c .before .before .before .before .before .before .before .args in
     let l = c .before .before .before .before .loop in
-    let test = entryOk (a .r) (now (a .index)) in
-    loop-fails test (a .r) (l .i) {k = l .i} (omega arith) (c .before .in-range .ensures) refl (c .if1 .taken)
+    loop-fails _ _ (l .i) {k = l .i} (omega arith) (c .before .in-range .ensures) refl (c .if1 .taken)
 
 add-i : tie.Need-add-i Inv-loop μ-loop
 add-i c = search needs
@@ -52,16 +50,11 @@ loop-less c = search needs
 loop-again : tie.Need-loop-again Inv-loop μ-loop
 unfolding entryOk
 loop-again c =
-    let a = c .before .before .before .before .before .before .before .args in
     let l = c .before .before .before .before .loop in
-    let test = entryOk (a .r) (now (a .index)) in
-    loop-turns test (a .r) (l .i) {k = l .i} (l .inv) (omega arith) (c .before .in-range .ensures) refl (c .if1 .left)
+    loop-turns _ _ (l .i) {k = l .i} (l .inv) (omega arith) (c .before .in-range .ensures) refl (c .if1 .left)
 
 returns-2 : tie.Need-returns-2 Inv-loop μ-loop
-returns-2 c =
-    let a = c .before .before .before .before .args in
-    let test = entryOk (a .r) (now (a .index)) in
-    loop-ends test (a .r) (c .before .loop .i) (c .before .loop .inv) (omega arith)
+returns-2 c = loop-ends _ _ (c .before .loop .i) (c .before .loop .inv) (omega arith)
 
 pub entries-ok-spec : {M : Type 1} → statement M
 entries-ok-spec =

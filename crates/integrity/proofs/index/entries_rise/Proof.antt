@@ -34,10 +34,8 @@ neighbours-rise-requires c κs = search needs
 
 returns : tie.Need-returns Inv-loop μ-loop
 returns c =
-    let a = c .before .before .before .before .before .before .before .before .args in
     let l = c .before .before .before .loop in
-    let test = neighboursRise (now (a .resources)) (now (a .index)) (now (a .used)) in
-    loop-fails test (a .r - 1) (l .i) (omega arith) (c .before .neighbours-rise .ensures) refl (c .if1 .taken)
+    loop-fails _ _ (l .i) (omega arith) (c .before .neighbours-rise .ensures) refl (c .if1 .taken)
 
 add-i : tie.Need-add-i Inv-loop μ-loop
 add-i c = search needs
@@ -47,17 +45,11 @@ loop-less c = search needs
 
 loop-again : tie.Need-loop-again Inv-loop μ-loop
 loop-again c =
-    let a = c .before .before .before .before .before .before .before .before .args in
     let l = c .before .before .before .loop in
-    let test = neighboursRise (now (a .resources)) (now (a .index)) (now (a .used)) in
-    loop-turns test (a .r - 1) (l .i) (l .inv) (omega arith)
-    (c .before .neighbours-rise .ensures) refl (c .if1 .left)
+    loop-turns _ _ (l .i) (l .inv) (omega arith) (c .before .neighbours-rise .ensures) refl (c .if1 .left)
 
 returns-2 : tie.Need-returns-2 Inv-loop μ-loop
-returns-2 c =
-    let a = c .before .before .before .before .before .before .args in
-    let test = neighboursRise (now (a .resources)) (now (a .index)) (now (a .used)) in
-    loop-ends test (a .r - 1) (c .before .loop .i) (c .before .loop .inv) (omega arith)
+returns-2 c = loop-ends _ _ (c .before .loop .i) (c .before .loop .inv) (omega arith)
 
 pub entries-rise-spec : {M : Type 1} → statement M
 entries-rise-spec =

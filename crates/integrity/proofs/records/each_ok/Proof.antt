@@ -29,10 +29,8 @@ record-ok-requires c κs = search needs
 
 returns : tie.Need-returns Inv-loop μ-loop
 returns c =
-    let a = c .before .before .before .before .before .before .args in
     let l = c .before .before .before .loop in
-    let test = recordOk (a .r) (now (a .resources)) (now (a .statements)) in
-    loop-fails test (a .t) (l .done) (omega arith) (c .before .record-ok .ensures) (omega arith) (c .if1 .taken)
+    loop-fails _ _ (l .done) (omega arith) (c .before .record-ok .ensures) (omega arith) (c .if1 .taken)
 
 add-done : tie.Need-add-done Inv-loop μ-loop
 add-done c = search needs
@@ -42,17 +40,11 @@ loop-less c = search needs
 
 loop-again : tie.Need-loop-again Inv-loop μ-loop
 loop-again c =
-    let a = c .before .before .before .before .before .before .args in
     let l = c .before .before .before .loop in
-    let test = recordOk (a .r) (now (a .resources)) (now (a .statements)) in
-    loop-turns test (a .t) (l .done) (l .inv) (omega arith)
-    (c .before .record-ok .ensures) (omega arith) (c .if1 .left)
+    loop-turns _ _ (l .done) (l .inv) (omega arith) (c .before .record-ok .ensures) (omega arith) (c .if1 .left)
 
 returns-2 : tie.Need-returns-2 Inv-loop μ-loop
-returns-2 c =
-    let a = c .before .before .before .before .args in
-    let test = recordOk (a .r) (now (a .resources)) (now (a .statements)) in
-    loop-ends test (a .t) (c .before .loop .done) (c .before .loop .inv) (omega arith)
+returns-2 c = loop-ends _ _ (c .before .loop .done) (c .before .loop .inv) (omega arith)
 
 pub each-ok-spec : {M : Type 1} → statement M
 each-ok-spec =

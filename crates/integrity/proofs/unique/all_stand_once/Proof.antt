@@ -38,10 +38,8 @@ stands-once-requires c κs =
 
 returns : tie.Need-returns Inv-loop μ-loop
 returns c =
-    let a = c .before .before .before .before .before .before .args in
     let l = c .before .before .before .loop in
-    let test = standsOnce (now (a .resources)) (now (a .statements)) in
-    loop-fails test (a .t) (l .done) (omega arith) (c .before .stands-once .ensures) (omega arith) (c .if1 .taken)
+    loop-fails _ _ (l .done) (omega arith) (c .before .stands-once .ensures) (omega arith) (c .if1 .taken)
 
 add-done : tie.Need-add-done Inv-loop μ-loop
 add-done c = search needs
@@ -51,17 +49,11 @@ loop-less c = search needs
 
 loop-again : tie.Need-loop-again Inv-loop μ-loop
 loop-again c =
-    let a = c .before .before .before .before .before .before .args in
     let l = c .before .before .before .loop in
-    let test = standsOnce (now (a .resources)) (now (a .statements)) in
-    loop-turns test (a .t) (l .done) (l .inv) (omega arith)
-    (c .before .stands-once .ensures) (omega arith) (c .if1 .left)
+    loop-turns _ _ (l .done) (l .inv) (omega arith) (c .before .stands-once .ensures) (omega arith) (c .if1 .left)
 
 returns-2 : tie.Need-returns-2 Inv-loop μ-loop
-returns-2 c =
-    let a = c .before .before .before .before .args in
-    let test = standsOnce (now (a .resources)) (now (a .statements)) in
-    loop-ends test (a .t) (c .before .loop .done) (c .before .loop .inv) (omega arith)
+returns-2 c = loop-ends _ _ (c .before .loop .done) (c .before .loop .inv) (omega arith)
 
 pub all-stand-once-spec : {M : Type 1} → statement M
 all-stand-once-spec =

@@ -1,6 +1,5 @@
 use mathlib.Core.Path.{sym}
 use native.Mathlib.Omega.{arith}
-use denote.Ref.{now}
 use Rattle.store.specs.declared.Position.the-variants.{Subject, Predicate, Object}
 use Rattle.table.proofs.Held.{triple-held}
 use Rattle.integrity.proofs.Walking.{short-po, short-p, short-o, short-s}
@@ -26,24 +25,16 @@ count-at-requires-3 c κs =
     triple-held _ _ _ (pre .0 .in-resources) (pre .1) .each Object
 
 returns : tie.Need-returns
-returns c =
-    let a = c .before .before .before .before .before .before .args in
-    sym (short-po (now (a .resources)) (a .x) (omega arith) (omega arith))
+returns c = sym (short-po _ _ (omega arith) (omega arith))
 
 returns-2 : tie.Need-returns-2
-returns-2 c =
-    let a = c .before .before .before .before .before .before .args in
-    sym (short-p (now (a .resources)) (a .x) (omega arith) (omega arith))
+returns-2 c = sym (short-p _ _ (omega arith) (omega arith))
 
 returns-3 : tie.Need-returns-3
-returns-3 c =
-    let a = c .before .before .before .before .before .before .args in
-    sym (short-o (now (a .resources)) (a .x) (omega arith) (omega arith))
+returns-3 c = sym (short-o _ _ (omega arith) (omega arith))
 
 returns-4 : tie.Need-returns-4
-returns-4 c =
-    let a = c .before .before .before .before .before .before .args in
-    sym (short-s (now (a .resources)) (a .x) (omega arith) (omega arith))
+returns-4 c = sym (short-s _ _ (omega arith) (omega arith))
 
 pub shortest-spec : {M : Type 1} → statement M
 shortest-spec =
