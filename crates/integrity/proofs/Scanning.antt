@@ -6,7 +6,7 @@ use Prim.Native.Nat.{ℕ, zero, suc, _+_, _-_, _≤_, _<_}
 use native.Mathlib.Omega.{arith}
 use native.Mathlib.Numerals.{add-one}
 use lib.ListN.{length, getD, take, drop}
-use lib.Seq.{drop-cons}
+use lib.Seq.{drop-cons, take-all}
 use lib.Dec.{eqb, ltb}
 use borrow.Author.Tests.{eqb-true, eqb-false, ltb-true, ltb-false, eq-eqb, ne-eqb, lt-ltb, le-ltb}
 use Rattle.term.specs.Grammar.{nameLimit}
@@ -17,6 +17,7 @@ use Rattle.store.specs.Shared.{wellFormed}
 use Rattle.store.specs.Names.{storable, upToZero, compareBytes, isLess}
 use Rattle.store.proofs.Tests.{and-l}
 use Rattle.store.proofs.Order.{compare-less, compare-more, compare-tail}
+use Rattle.bytes.specs.Bytes.{indexOf, indexAfter, slice}
 use Rattle.integrity.specs.Names.{nameFrom, nameOk, namesOk}
 use Rattle.integrity.specs.Index.{nameLess}
 
@@ -29,6 +30,12 @@ upto-zero (suc x) l e = absurd (omega arith)
 upto-more : (x : ℕ) (l : List ℕ) → (x ≡ 0 → ⊥) → upToZero (x ∷ l) ≡ x ∷ upToZero l
 upto-more zero l e = absurd (e refl)
 upto-more (suc x) l e = refl
+
+index-zero : (l : List ℕ) → indexOf 0 l ≡ length (upToZero l)
+unfolding indexOf indexAfter
+index-zero [] = refl
+index-zero (zero ∷ l) = refl
+index-zero (suc x ∷ l) = rw (ne-eqb (suc x) 0 (λ e. omega arith)) (ap suc (index-zero l))
 
 all-dropped : (l : List ℕ) (i : ℕ) → length l ≤ i → drop i l ≡ []
 all-dropped [] zero h = refl
@@ -75,6 +82,11 @@ module _ (used : List ℕ) where
   -- the same, by where the name ends
   pub name-slice : (o e : ℕ) → e ≡ o + length (nameFrom used o) → take (e - o) (drop o used) ≡ nameFrom used o
   name-slice o e h = let q : e - o ≡ length (nameFrom used o) = omega arith in rw q (name-part o)
+
+  -- where the next zero byte stands, or the end
+  pub name-found : (o e : ℕ) → e ≡ o + indexOf 0 (slice o (length used) used) → e ≡ o + length (nameFrom used o)
+  unfolding nameFrom slice
+  name-found o e h = h ∙ rw (take-all (length used) used (omega arith), index-zero (drop o used))
 
 -- ---- one name, and all of them
 

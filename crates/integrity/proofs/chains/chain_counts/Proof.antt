@@ -36,7 +36,8 @@ returns c =
     let if2 = c .if2 in
     let the-term-at = c .before .before .before .term-at in
     sym
-    (along-lacks _ _ _ _ _ (l .met) (l .alive) (l .n .0) (l .inv .2) _ _ (test .taken) (λ e. if2 .taken (the-term-at .ensures ∙ e)))
+    (along-lacks _ _ _ _ _ (l .met) (l .alive) (l .n .0) (l .inv .2) _ _ (test .taken)
+    (λ e. if2 .taken (the-term-at .ensures ∙ e)))
 
 next-at-requires : tie.Need-next-at-requires Inv-loop μ-loop
 next-at-requires c κs = search needs
@@ -48,7 +49,8 @@ returns-2 c =
     let the-term-at = c .before .before .before .before .before .before .before .term-at in
     let if2 = c .before .before .before .before .if2 in
     sym
-    (along-climbs _ _ _ _ _ (l .met) (l .alive) (l .n .0) (l .inv .2) _ _ (test .taken) (sym (the-term-at .ensures) ∙ if2 .left) (omega arith))
+    (along-climbs _ _ _ _ _ (l .met) (l .alive) (l .n .0) (l .inv .2) _ _ (test .taken)
+    (sym (the-term-at .ensures) ∙ if2 .left) (omega arith))
 
 add-met : tie.Need-add-met Inv-loop μ-loop
 add-met c = search needs

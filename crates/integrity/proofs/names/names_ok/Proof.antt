@@ -1,4 +1,4 @@
-use Rattle.integrity.proofs.Scanning.{name-closed, names-end, names-fail, names-turn}
+use Rattle.integrity.proofs.Scanning.{name-found, name-closed, names-end, names-fail, names-turn}
 use Prim.Native.Nat.{_+_, _-_, _≤_}
 use mathlib.Core.Path.{_≡_, sym, _∙_}
 use native.Mathlib.Omega.{arith}
@@ -11,7 +11,7 @@ use Rattle.integrity.proofs.names.names_ok.Statement.{statement}
 use Rattle.integrity.proofs.names.names_ok.Tie as tie
 use Rattle.integrity.proofs.names.names_ok.Reads as reads
 use Rattle.integrity.proofs.names.names_ok.Lts as lts
-use Rattle.integrity.proofs.names.name_end.Reads as name-end-reads
+use Rattle.bytes.proofs.scan.find.Reads as find-reads
 use Rattle.integrity.proofs.names.name_ok.Reads as name-ok-reads
 
 abbrev Inv-loop : tie.InvT-loop
@@ -28,14 +28,16 @@ loop-holds c =
     let e : a .r - 0 ≡ a .r = omega arith in
     (omega arith, omega arith, rw e)
 
-name-end-requires : tie.Need-name-end-requires Inv-loop μ-loop
-name-end-requires c κs = search needs
+find-requires : tie.Need-find-requires Inv-loop μ-loop
+find-requires c κs = search needs
 
-add-t8 : tie.Need-add-t8 Inv-loop μ-loop
-add-t8 c = search needs
+add-t9 : tie.Need-add-t9 Inv-loop μ-loop
+add-t9 c = search needs
 
 name-ok-requires : tie.Need-name-ok-requires Inv-loop μ-loop
-name-ok-requires c κs = search needs
+name-ok-requires c κs =
+    let found = name-found _ (c .before .before .loop .from) _ (c .find .ensures .0) in
+    (search needs, (found, c .find .ensures .1))
 
 returns : tie.Need-returns Inv-loop μ-loop
 returns c =
@@ -62,11 +64,11 @@ loop-again c =
     let res = now (a .resources) in
     let used = now (a .used) in
     let ok = passed (c .before .name-ok .ensures) (c .if1 .left) in
+    let found = name-found used (l .from) _ (c .before .before .find .ensures .0) in
     let closed = name-closed res used (l .done + 1) (l .from) ok in (
       omega arith,
-      omega (arith, c .before .before .name-end .ensures .0),
-      l .inv .2
-          ∙ rw (c .before .before .name-end .ensures .0) (names-turn res used (a .r) (l .done) (l .from) (omega arith) ok),
+      omega arith,
+      l .inv .2 ∙ rw found (names-turn res used (a .r) (l .done) (l .from) (omega arith) ok),
     )
 
 returns-2 : tie.Need-returns-2 Inv-loop μ-loop
@@ -82,8 +84,8 @@ names-ok-spec =
     Inv-loop
     μ-loop
     loop-holds
-    name-end-requires
-    add-t8
+    find-requires
+    add-t9
     name-ok-requires
     returns
     add-from
