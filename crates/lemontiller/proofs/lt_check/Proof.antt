@@ -14,20 +14,13 @@ use Rattle.integrity.proofs.check.Reads as check-reads
 returns : tie.Need-returns
 unfolding checkAs
 returns c =
-    record {
-      sound = false;
-      told = short-counters _ _ _ _ _ (c .if1 .taken);
-      exact = no-counters _ _ _ (c .if1 .taken);
-    }
+    record { sound = false; told = short-counters _ _ _ _ _ (c .if1 .taken); exact = no-counters _ _ _ (c .if1 .taken) }
 
 returns-2 : tie.Need-returns-2
 unfolding checkAs
 returns-2 c =
-    record {
-      sound = false;
-      told = short-reply _ _ _ _ _ (c .before .if1 .left) (c .if2 .taken);
-      exact = no-reply _ _ _ (c .before .if1 .left) (c .if2 .taken);
-    }
+    let long = c .before .if1 .left in
+    record { sound = false; told = short-reply _ _ _ _ _ long (c .if2 .taken); exact = no-reply _ _ _ long (c .if2 .taken) }
 
 counters-of-requires : tie.Need-counters-of-requires
 counters-of-requires c κs = search needs

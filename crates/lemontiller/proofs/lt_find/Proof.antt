@@ -14,20 +14,13 @@ use Rattle.dictionary.proofs.find.Reads as find-reads
 returns : tie.Need-returns
 unfolding findAs
 returns c =
-    record {
-      found = Absent;
-      told = short-counters _ _ _ _ _ (c .if1 .taken);
-      exact = no-counters _ _ _ (c .if1 .taken);
-    }
+    record { found = Absent; told = short-counters _ _ _ _ _ (c .if1 .taken); exact = no-counters _ _ _ (c .if1 .taken) }
 
 returns-2 : tie.Need-returns-2
 unfolding findAs
 returns-2 c =
-    record {
-      found = Absent;
-      told = short-reply _ _ _ _ _ (c .before .if1 .left) (c .if2 .taken);
-      exact = no-reply _ _ _ (c .before .if1 .left) (c .if2 .taken);
-    }
+    let long = c .before .if1 .left in
+    record { found = Absent; told = short-reply _ _ _ _ _ long (c .if2 .taken); exact = no-reply _ _ _ long (c .if2 .taken) }
 
 counters-of-requires : tie.Need-counters-of-requires
 counters-of-requires c κs = search needs
