@@ -1,5 +1,6 @@
--- The ten marked examples (paper 01, "Bench examples") as one table: what is asked of the store, in turn, after the sample load, and what
--- is answered. The rows are data; `Marked` says that the definitions answer each row so. Assumes nothing.
+-- The ten marked examples (paper 01, "Bench examples") as one table: what is asked of the store, in turn, after the
+-- sample load, and what is answered. The rows are data; `Marked` says that the definitions answer each row so. Assumes
+-- nothing.
 use mathlib.Core.Path.{_≡_}
 use mathlib.Core.Bool.{Bool, true, false}
 use mathlib.Core.List.{List, [], _∷_, _++_}
@@ -75,8 +76,10 @@ unfoldable pub readOn : ℕ → Store → ℕ → ℕ → List ℕ → List ℕ
 readOn zero s j v ns = v ∷ ns
 readOn (suc calls) s j v ns =
     let r = callStore s (next j 1000) in
-    elim (eqb ((r .1) .status) 1)
-    [ false ↦ (v + (r .1) .visits) ∷ ns | true ↦ readOn calls (r .0) j (v + (r .1) .visits) (ns ++ (r .1) .number ∷ []) ]
+    elim (eqb ((r .1) .status) 1) [
+      | false ↦ (v + (r .1) .visits) ∷ ns
+      | true ↦ readOn calls (r .0) j (v + (r .1) .visits) (ns ++ (r .1) .number ∷ [])
+    ]
 
 abbrev pub isFound : QueryStep → Bool
 isFound Found = true
@@ -88,8 +91,10 @@ unfoldable pub solveOn : ℕ → Store → List ℕ → ℕ → QueryCursor → 
 solveOn zero s ws x q v ns = v ∷ ns
 solveOn (suc calls) s ws x q v ns =
     let a = nextQueryOf (s .counters) (s .tables) ws q 1000 in
-    elim (isFound (a .step))
-    [ false ↦ (v + a .visits) ∷ ns | true ↦ solveOn calls s ws x (a .cursor) (v + a .visits) (ns ++ boundTo (a .solution .values) x ∷ []) ]
+    elim (isFound (a .step)) [
+      | false ↦ (v + a .visits) ∷ ns
+      | true ↦ solveOn calls s ws x (a .cursor) (v + a .visits) (ns ++ boundTo (a .solution .values) x ∷ [])
+    ]
 
 -- the opening's number among those of the store
 abbrev pub opened : Store → Triple → Store
@@ -105,7 +110,9 @@ answer s (links n) = (
 answer s (solve ws x) = (s, solveOn 9 s ws x (startCursor (s .counters .generation)) 0 [])
 answer s (remove x) = let r = callStore s (retract byValue x) in (r .0, (r .1) .number ∷ [])
 answer s (put x) = let r = callStore s (assert byValue x) in (r .0, (r .1) .status ∷ (r .1) .number ∷ [])
-answer s (once x b) = let r = callStore (opened s x) (next (length (s .cursors)) b) in (s, (r .1) .status ∷ (r .1) .visits ∷ [])
+answer s (once x b) =
+    let r = callStore (opened s x) (next (length (s .cursors)) b) in
+    (s, (r .1) .status ∷ (r .1) .visits ∷ [])
 
 -- ---- the table
 

@@ -1,4 +1,5 @@
--- The words that refusal 8 accepts, in the paper's terms (`WordsClaim`); they stay accepted as R grows. Assumes nothing.
+-- The words that refusal 8 accepts, in the paper's terms (`WordsClaim`); they stay accepted as R grows.
+-- Assumes nothing.
 use mathlib.Core.Path.{_≡_, refl, sym}
 use mathlib.Core.Logic.{_⊎_, inl, inr}
 use mathlib.Core.Bool.{Bool, true, false, _&&_, _||_, false≢true}
@@ -14,7 +15,7 @@ use Rattle.graph.specs.Words.{maxPatterns, variables, firstVariable, pat
 use Rattle.graph.specs.Claims.{WordsClaim}
 use Rattle.graph.proofs.Laws.{patterns-length}
 
-abbrev Word : ℕ → ℕ → Type 0
+abbrev pub Word : ℕ → ℕ → Type 0
 Word r w = ((0 < w) × (w ≤ r)) ⊎ ((v : ℕ) × (v < variables) × (w ≡ firstVariable + v))
 
 or-of : (a b : Bool) → (a ≡ true) ⊎ (b ≡ true) → a || b ≡ true
@@ -22,11 +23,11 @@ or-of true b h = refl
 or-of false b (inl e) = absurd (false≢true e)
 or-of false b (inr e) = e
 
-pub or-cases : (a b : Bool) → a || b ≡ true → (a ≡ true) ⊎ (b ≡ true)
+or-cases : (a b : Bool) → a || b ≡ true → (a ≡ true) ⊎ (b ≡ true)
 or-cases true b e = inl refl
 or-cases false b e = inr e
 
-word-means : (r w : ℕ) → wordOk r w ≡ true → Word r w
+pub word-means : (r w : ℕ) → wordOk r w ≡ true → Word r w
 unfolding wordOk
 word-means r w e = one (or-cases (ltb 0 w && leb w r) _ e)
   where

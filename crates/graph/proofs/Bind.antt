@@ -1,5 +1,5 @@
--- What a record that meets a pattern binds (`bindWord`, `match`): exactly its resources at the pattern's open variables, and only where
--- every other word is the record's. Assumes nothing.
+-- What a record that meets a pattern binds (`bindWord`, `match`): exactly its resources at the pattern's open
+-- variables, and only where every other word is the record's. Assumes nothing.
 use mathlib.Core.Path.{_≡_, refl, sym, ap, _∙_}
 use mathlib.Core.Logic.{_≢_}
 use mathlib.Core.Bool.{Bool, true, false, _||_, true≢false}
@@ -19,13 +19,8 @@ use Rattle.store.proofs.Tests.{decide}
 use Rattle.graph.specs.declared.QueryPattern.{QueryPattern}
 use Rattle.graph.specs.Query.{bindWord, andThen, orElse, isSome, match}
 use Rattle.graph.specs.Words.{firstVariable, isVariable, Bindings, resource, boundTo, valueOf, under}
+pub use Rattle.graph.specs.Words.{wordAt}
 unfoldable pub use Rattle.graph.specs.Standing.{isThe, occursIn}
-
--- a pattern's word at a position
-abbrev pub wordAt : Position → QueryPattern → ℕ
-wordAt Subject x = x .subject
-wordAt Predicate x = x .predicate
-wordAt Object x = x .object
 
 -- ---- what is bound after a store
 

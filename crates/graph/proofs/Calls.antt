@@ -1,14 +1,15 @@
--- A query's words in order, and calls one after another with no change between: on a sound store what they find is a first part of the
--- enumeration (`solve`), all of it once they have ended, and they end (`ReadingClaim`). Assumes nothing.
+-- A query's words in order, and calls one after another with no change between: on a sound store what they find is a
+-- first part of the enumeration (`solve`), all of it once they have ended, and they end (`ReadingClaim`).
+-- Assumes nothing.
 use mathlib.Core.Path.{_≡_, refl, ap, _∙_}
-use mathlib.Core.Logic.{_≢_, _⊎_, inl, inr}
-use mathlib.Core.Bool.{true, false, _&&_}
+use mathlib.Core.Logic.{inl, inr}
+use mathlib.Core.Bool.{true, false}
 use mathlib.Core.List.{List, [], _∷_}
-use Prim.Native.Nat.{ℕ, suc, _+_, _*_, _-_, _≤_, _<_}
+use Prim.Native.Nat.{ℕ, suc, _*_, _-_, _≤_, _<_}
 use native.Mathlib.Omega.{arith}
 use lib.ListN.{length}
-use lib.Dec.{eqb, leb, ltb}
-use borrow.Author.Tests.{leb-true, leb-false, ltb-true, ne-eqb}
+use lib.Dec.{eqb, leb}
+use borrow.Author.Tests.{leb-true, leb-false}
 use Rattle.store.specs.declared.Position.{Position}
 use Rattle.store.specs.declared.Position.the-variants.{Subject, Predicate, Object}
 use Rattle.store.specs.declared.Counters.{Counters}
@@ -23,16 +24,18 @@ use Rattle.graph.specs.declared.QueryAnswer.{QueryAnswer}
 use Rattle.graph.specs.Words.{maxPatterns, variables, firstVariable, isVariable, wordOk, allOk, wordsOk}
 use Rattle.graph.specs.Place.{Place, start, inside, finish, startCursor, cursorAt}
 use Rattle.graph.specs.Words.{patternsOf, pattern, Bindings, unbound, under}
-use Rattle.graph.specs.Query.{Answer, refused, found, ended, spent, answerOf}
-use Rattle.graph.specs.Query.{openQueryOf, packed, nextQueryOf}
+use Rattle.graph.specs.Query.{Answer, refused, found, ended, spent, answerOf, openQueryOf, packed, nextQueryOf}
 use Rattle.graph.specs.Values.{queryValues}
 use Rattle.graph.specs.Order.{Descending, recordOf, statementsOf}
-use Rattle.graph.specs.Claims.{Reply, queryReply, AllPositive, statementNumbers, AllInOrder, nextReply, reading, ReadingClaim}
-use Rattle.graph.proofs.Accepted.{or-cases}
+use Rattle.graph.specs.Claims.{Reply, queryReply, AllPositive, statementNumbers, AllInOrder, nextReply, reading}
+use Rattle.graph.specs.Claims.{ReadingClaim}
+use Rattle.graph.proofs.Accepted.{Word, word-means}
 use Rattle.graph.proofs.Laws.{Shallow, place-cursor}
+use Rattle.graph.proofs.Refusals.{resumes}
 use Rattle.graph.proofs.Generations.{cursor-number, own-number, read-on}
 use Rattle.graph.proofs.Bind.{wordAt, Fit}
-use Rattle.graph.proofs.Solve.{solve, AllFit, solve-descending, statements, numberOf, descending-nodup}
+use Rattle.graph.proofs.Solve.{solve, AllFit, solve-descending, statements, numberOf, descending-map}
+use Rattle.graph.proofs.Solve.{descending-nodup}
 use Rattle.graph.proofs.Levels.{AllLow}
 use Rattle.graph.specs.Work.{workOf}
 use Rattle.graph.proofs.Reading.{leftAt, toilAt, visitsAt, Reached, Outcome, go-outcome, reached-ok}
@@ -43,21 +46,20 @@ use Rattle.graph.proofs.ReadThrough.{Told, told-ends, Leaves, told}
 -- ---- words in order
 
 word-fit : (r w : ℕ) → r < firstVariable → wordOk r w ≡ true → Fit variables w × (isVariable w ≡ false → w ≤ r)
-unfolding wordOk
-word-fit r w h e = one (or-cases (ltb 0 w && leb w r) _ e)
+word-fit r w h e = one (word-means r w e)
   where
-    one : (ltb 0 w && leb w r ≡ true) ⊎ (leb firstVariable w && ltb w (firstVariable + variables) ≡ true)
-        → Fit variables w × (isVariable w ≡ false → w ≤ r)
-    one (inl d) =
-        let a = ltb-true 0 w (and-l _ _ d) in
-        let b = leb-true w r (and-r (ltb 0 w) _ d) in
-        (record { number = λ q. a; variable = λ q. absurd (omega (arith, leb-true firstVariable w q)) }, λ q. b)
-    one (inr d) =
-        let a = leb-true firstVariable w (and-l _ _ d) in
-        let b = ltb-true w (firstVariable + variables) (and-r (leb firstVariable w) _ d) in (
-          record { number = λ q. absurd (omega (arith, leb-false firstVariable w q)); variable = λ q. omega arith },
-          λ q. absurd (omega (arith, leb-false firstVariable w q)),
-        )
+    one : Word r w → Fit variables w × (isVariable w ≡ false → w ≤ r)
+    one (inl d) = (
+      record { number = λ q. d .0; variable = λ q. absurd (omega (arith, d .1, leb-true firstVariable w q)) },
+      λ q. d .1,
+    )
+    one (inr d) = (
+      record {
+        number = λ q. absurd (omega (arith, d .2, leb-false firstVariable w q));
+        variable = λ q. omega (arith, d .1, d .2);
+      },
+      λ q. absurd (omega (arith, d .2, leb-false firstVariable w q)),
+    )
 
 abbrev WordFit : ℕ → ℕ → Type 0
 WordFit r w = Fit variables w × (isVariable w ≡ false → w ≤ r)
@@ -109,13 +111,6 @@ pub words-fitting : (c : Counters) (m : Tables) (ws : List ℕ) → fits c m ≡
     → AllFit variables (patternsOf ws) × AllLow (c .resources) (patternsOf ws)
 words-fitting c m ws f w = words-fit (c .resources) ws (fits-small c m f) (words-all (c .resources) ws w)
 
--- ---- parts of a list in order
-
-pub descending-cong : {A : Type 0} (k k′ : A → List ℕ) (xs : List A) → ((x : A) → k x ≡ k′ x) → Descending k xs
-    → Descending k′ xs
-descending-cong k k′ [] e h = tt
-descending-cong k k′ (x ∷ xs) e h = ((λ y q. rw (← e y, ← e x) (h .0 y q)), descending-cong k k′ xs e (h .1))
-
 pub statements-are : (t : ℕ) (stm : List ℕ) (ps : List QueryPattern) (s : Bindings)
     → statements (entryAt stm) t ps s ≡ statementsOf t stm ps s
 unfolding statements statementsOf numberOf recordOf entryAt
@@ -158,16 +153,10 @@ module _ (c : Counters) (m : Tables) (S : Sound c m) (ws : List ℕ) (words : wo
   reached-shallow finish R = tt
 
   pub next-comes : (q : Place) (b : ℕ) → At q → 0 < b → Comes q b (answerOf c m ws q b)
-  unfolding answerOf
   next-comes q b R h =
-      let n : b ≢ 0 = omega arith in
-      rw (
-        S .capacity,
-        words,
-        reached-ok (c .resources) (c .statements) (m .resources) (m .statements)
-            (patternsOf ws) (S .linked) fit low q R,
-        ne-eqb b 0 n,
-      )
+      let o = reached-ok (c .resources) (c .statements) (m .resources) (m .statements) (patternsOf ws)
+      (S .linked) fit low q R in
+      rw (resumes c m ws q b (record { capacity = S .capacity; words = words; place = o; budget = h }))
       (go-outcome (c .resources) (c .statements) (m .resources) (m .statements) (patternsOf ws)
       (S .linked) fit low q b R h)
 
@@ -229,15 +218,17 @@ module _ (c : Counters) (m : Tables) (S : Sound c m) (ws : List ℕ) (words : wo
   unfolding openQueryOf
   opens = rw (S .capacity, words)
 
-  start-told : (bs : List ℕ) → AllPositive bs → Told everything (workOf c m ws) (suc (workOf c m ws)) bs (reading c m ws bs)
+  start-told : (bs : List ℕ) → AllPositive bs
+      → Told everything (workOf c m ws) (suc (workOf c m ws)) bs (reading c m ws bs)
   unfolding leftAt visitsAt toilAt cursorAt
-  start-told bs h = rw opens (told (nextReply c m ws) cursorHere leftFrom visitsFrom toilFrom At next-leaves bs start tt h)
+  start-told bs h =
+      rw opens (told (nextReply c m ws) cursorHere leftFrom visitsFrom toilFrom At next-leaves bs start tt h)
 
   everything-order : Descending (statementNumbers c m ws) everything
   everything-order =
-      descending-cong (statements (entryAt (m .statements)) (c .statements) (patternsOf ws))
-      (statementNumbers c m ws) everything
-      (statements-are (c .statements) (m .statements) (patternsOf ws))
+      let e = statements-are (c .statements) (m .statements) (patternsOf ws) in
+      descending-map (statements (entryAt (m .statements)) (c .statements) (patternsOf ws))
+      (statementNumbers c m ws) everything (λ x y a b q. rw (← e y, ← e x) q)
       (solve-descending (entryAt (m .statements)) (c .statements) (positive c m S) (single c m S)
       (patternsOf ws) unbound fit)
 

@@ -1,5 +1,5 @@
--- The number of reclaims in a query's cursor: a cursor with the store's own number is read on from its place, one with another number is
--- refused 13 (`StaleClaim`). Assumes nothing.
+-- The number of reclaims in a query's cursor: a cursor with the store's own number is read on from its place, one with
+-- another number is refused 13 (`StaleClaim`). Assumes nothing.
 use mathlib.Core.Path.{_≡_, refl, sym, ap, _∙_}
 use mathlib.Core.Logic.{_≢_, inr}
 use mathlib.Core.Bool.{Bool, true, false, _&&_, true≢false}
@@ -54,7 +54,8 @@ module _ (c : Counters) (m : Tables) (ws : List ℕ) (q : QueryCursor) where
   unfolding stale
   own-number e = rw (eq-eqb (q .generation) (c .generation) e) (and-none (fits c m) (wordsOk (c .resources) ws))
 
-  pub read-on : (b : ℕ) → stale c m ws q ≡ false → nextQueryOf c m ws q b ≡ packed (c .generation) (answerOf c m ws (placeOf q) b)
+  pub read-on : (b : ℕ) → stale c m ws q ≡ false
+      → nextQueryOf c m ws q b ≡ packed (c .generation) (answerOf c m ws (placeOf q) b)
   unfolding nextQueryOf
   read-on b e = rw e
 
@@ -69,7 +70,8 @@ module _ (c : Counters) (m : Tables) (ws : List ℕ) (q : QueryCursor) where
 -- ---- refusal 13
 
 pub stale-number : (c : Counters) (m : Tables) (ws : List ℕ) (q : QueryCursor) (b : ℕ) → fits c m ≡ true
-    → wordsOk (c .resources) ws ≡ true → q .generation ≢ c .generation → (queryValues (nextQueryOf c m ws q b)) .refusal ≡ 13
+    → wordsOk (c .resources) ws ≡ true → q .generation ≢ c .generation
+    → (queryValues (nextQueryOf c m ws q b)) .refusal ≡ 13
 unfolding nextQueryOf stale packed
 stale-number c m ws q b f w n = rw (f, w, ne-eqb (q .generation) (c .generation) n)
 

@@ -1,25 +1,27 @@
--- One law for each way out of the walk and of its inner loops, on any tables, in the terms of code; the words of a pattern; the levels in a
--- cursor's array; refusal 6, test by test. Assumes nothing.
+-- One law for each way out of the walk and of its inner loops, on any tables, in the terms of code; the words of a
+-- pattern; the levels in a cursor's array; refusal 6, test by test. Assumes nothing.
 use mathlib.Core.Path.{_≡_, refl, sym, ap, _∙_}
 use mathlib.Core.Logic.{_≢_, _↔_}
-use mathlib.Core.Bool.{true, false, cond, _&&_}
+use mathlib.Core.Bool.{true, cond, _&&_}
 use mathlib.Core.List.{List, [], _∷_}
 use Prim.Native.Nat.{ℕ, zero, suc, _+_, _*_, _-_, _≤_, _<_}
 use native.Mathlib.Omega.{arith}
 use lib.ListN.{length, getD, set, length-set, replicate}
-use lib.Seq.{getD-set-same, getD-set-other, ext-getD}
+use lib.Seq.{getD-set-same, getD-set-other}
 use lib.Dec.{eqb, leb, ltb}
-use borrow.Author.Tests.{eqb-true, eqb-false, eq-eqb, ne-eqb, leb-true, ltb-true, ltb-false, le-leb, lt-ltb, le-ltb}
+use borrow.Author.Tests.{eqb-true, eqb-false, eq-eqb, ne-eqb, leb-true, ltb-true, le-leb, lt-ltb}
 use Rattle.store.specs.declared.Refusal.the-variants.{Damaged}
 use Rattle.store.specs.Shared.{known, prev}
 use Rattle.store.specs.Scan.{chainOk, recordOk}
-use Rattle.store.proofs.Tests.{decide, and-l, and-r, and-of}
+use Rattle.store.proofs.Tests.{decide, and-l, and-r, and-of, cond-all}
 use Rattle.graph.specs.declared.QueryPattern.{QueryPattern}
 use Rattle.graph.specs.declared.Level.{Level}
-use Rattle.graph.specs.Query.{bad, go, whole, refused, found, ended, spent, past, backtrack, remains, visit, walk}
+use Rattle.graph.specs.Query.{Turn, bad, go, whole, Answer, refused, found, ended, spent}
+use Rattle.graph.specs.Query.{past, backtrack, remains, intact, pruned, enter, visit, walk, begun, resume}
 use Rattle.graph.specs.Query.{match, isSome, recordAt, nextPattern, binds, asked, enteredOk, placeOk}
-use Rattle.graph.specs.Place.{Place, start, inside, finish, noLevel, levelsOf, insideOf, placeAs, placeOf, written, cursorAt}
-use Rattle.graph.specs.Words.{patternsOf, pattern, maxPatterns, Bindings}
+use Rattle.graph.specs.Place.{Place, start, inside, finish, noLevel, levelsOf, insideOf, placeAs, placeOf}
+use Rattle.graph.specs.Place.{written, cursorAt}
+use Rattle.graph.specs.Words.{patternsOf, pattern, maxPatterns, Bindings, unbound}
 -- Every law stands on this file, and so on the closed runs: a definition that changes an answer is refused there first.
 use Rattle.graph.proofs.Runs as runs
 
@@ -49,15 +51,6 @@ module _ (stm : List ℕ) where
   remains-here l [] h = lt-ltb 0 (l .statement .0) (omega arith)
   remains-here l (e ∷ up) h = rw (lt-ltb 0 (l .statement .0) (omega arith))
 
-  pub remains-up : (l e : Level) (up : List Level) → l .statement .0 ≡ 0
-      → remains stm l (e ∷ up) ≡ remains stm (past stm e) up
-  unfolding remains
-  remains-up l e up h = rw (le-ltb 0 (l .statement .0) (omega arith))
-
-  pub remains-last : (l : Level) → l .statement .0 ≡ 0 → remains stm l [] ≡ false
-  unfolding remains
-  remains-last l h = le-ltb 0 (l .statement .0) (omega arith)
-
 -- ---- the walk
 
 module _ (r t : ℕ) (res stm : List ℕ) (ps : List QueryPattern) (l : Level) (up : List Level) (v : ℕ) where
@@ -65,23 +58,44 @@ module _ (r t : ℕ) (res stm : List ℕ) (ps : List QueryPattern) (l : Level) (
   unfolding walk
   walk-ended b e = rw (walk, e)
 
-  pub walk-bad : (b : ℕ) (n : Level) (top : List Level) → backtrack stm l up ≡ n ∷ top → visit r t res stm ps n top ≡ bad
+  pub walk-bad : (b : ℕ) (n : Level) (top : List Level) → backtrack stm l up ≡ n ∷ top
+      → visit r t res stm ps n top ≡ bad
       → walk r t res stm ps (suc b) l up v ≡ refused Damaged
   unfolding walk
   walk-bad b n top e d = rw (walk, e, d)
 
   pub walk-go : (b : ℕ) (n : Level) (top : List Level) (n′ : Level) (top′ : List Level) → backtrack stm l up ≡ n ∷ top
-      → visit r t res stm ps n top ≡ go n′ top′ → walk r t res stm ps (suc b) l up v ≡ walk r t res stm ps b n′ top′
-      (v + 1)
+      → visit r t res stm ps n top ≡ go n′ top′
+      → walk r t res stm ps (suc b) l up v ≡ walk r t res stm ps b n′ top′ (v + 1)
   unfolding walk
   walk-go b n top n′ top′ e d = rw (walk, e, d)
 
   pub walk-whole : (b : ℕ) (n : Level) (top : List Level) (s : Bindings) (n′ : Level) (top′ : List Level)
-      → backtrack stm l up ≡ n ∷ top
-      → visit r t res stm ps n top ≡ whole s n′ top′ → walk r t res stm ps (suc b) l up v ≡ found s (v + 1)
-      (inside n′ top′)
+      → backtrack stm l up ≡ n ∷ top → visit r t res stm ps n top ≡ whole s n′ top′
+      → walk r t res stm ps (suc b) l up v ≡ found s (v + 1) (inside n′ top′)
   unfolding walk
   walk-whole b n top s n′ top′ e d = rw (walk, e, d)
+
+  -- whatever holds of each way a turn goes holds of the walk with a visit left
+  pub walk-turn : (P : Answer → Type 0) (b : ℕ) → (backtrack stm l up ≡ [] → P (ended v))
+      → ((n : Level) (top : List Level) → backtrack stm l up ≡ n ∷ top → visit r t res stm ps n top ≡ bad
+      → P (refused Damaged))
+      → ((n : Level) (top : List Level) (n′ : Level) (top′ : List Level) → backtrack stm l up ≡ n ∷ top
+      → visit r t res stm ps n top ≡ go n′ top′ → P (walk r t res stm ps b n′ top′ (v + 1)))
+      → ((n : Level) (top : List Level) (s : Bindings) (n′ : Level) (top′ : List Level) → backtrack stm l up ≡ n ∷ top
+      → visit r t res stm ps n top ≡ whole s n′ top′ → P (found s (v + 1) (inside n′ top′)))
+      → P (walk r t res stm ps (suc b) l up v)
+  walk-turn P b over stop on all = from (backtrack stm l up) refl
+    where
+      turn : (n : Level) (top : List Level) → backtrack stm l up ≡ n ∷ top → (g : Turn)
+          → visit r t res stm ps n top ≡ g → P (walk r t res stm ps (suc b) l up v)
+      turn n top e bad d = rw (walk-bad b n top e d) (stop n top e d)
+      turn n top e (go n′ top′) d = rw (walk-go b n top n′ top′ e d) (on n top n′ top′ e d)
+      turn n top e (whole s n′ top′) d = rw (walk-whole b n top s n′ top′ e d) (all n top s n′ top′ e d)
+
+      from : (k : List Level) → backtrack stm l up ≡ k → P (walk r t res stm ps (suc b) l up v)
+      from [] e = rw (walk-ended b e) (over e)
+      from (n ∷ top) e = turn n top e (visit r t res stm ps n top) refl
 
   -- the same in the code's terms: a budget left that is 0 or is not
   pub walk-over : (left : ℕ) → left ≡ 0
@@ -89,29 +103,42 @@ module _ (r t : ℕ) (res stm : List ℕ) (ps : List QueryPattern) (l : Level) (
   unfolding walk
   walk-over left e = rw e
 
-  more-left : (left : ℕ) → (left ≡ 0 → ⊥) → walk r t res stm ps left l up v ≡ walk r t res stm ps
-      (suc (left - 1)) l up v
+  more-left : (left : ℕ) → (left ≡ 0 → ⊥)
+      → walk r t res stm ps left l up v ≡ walk r t res stm ps (suc (left - 1)) l up v
   more-left left h = let q : left ≡ suc (left - 1) = omega arith in ap (λ (z : ℕ). walk r t res stm ps z l up v) q
 
   pub turn-ended : (left : ℕ) → (left ≡ 0 → ⊥) → backtrack stm l up ≡ [] → walk r t res stm ps left l up v ≡ ended v
   turn-ended left h e = more-left left h ∙ walk-ended (left - 1) e
 
   pub turn-bad : (left : ℕ) (n : Level) (top : List Level) → (left ≡ 0 → ⊥) → backtrack stm l up ≡ n ∷ top
-      → visit r t res stm ps n top ≡ bad
-      → walk r t res stm ps left l up v ≡ refused Damaged
+      → visit r t res stm ps n top ≡ bad → walk r t res stm ps left l up v ≡ refused Damaged
   turn-bad left n top h e d = more-left left h ∙ walk-bad (left - 1) n top e d
 
   pub turn-go : (left : ℕ) (n : Level) (top : List Level) (n′ : Level) (top′ : List Level) → (left ≡ 0 → ⊥)
-      → backtrack stm l up ≡ n ∷ top
-      → visit r t res stm ps n top ≡ go n′ top′ → walk r t res stm ps left l up v ≡ walk r t res stm ps
-      (left - 1) n′ top′ (v + 1)
+      → backtrack stm l up ≡ n ∷ top → visit r t res stm ps n top ≡ go n′ top′
+      → walk r t res stm ps left l up v ≡ walk r t res stm ps (left - 1) n′ top′ (v + 1)
   turn-go left n top n′ top′ h e d = more-left left h ∙ walk-go (left - 1) n top n′ top′ e d
 
   pub turn-whole : (left : ℕ) (n : Level) (top : List Level) (s : Bindings) (n′ : Level) (top′ : List Level)
-      → (left ≡ 0 → ⊥)
-      → backtrack stm l up ≡ n ∷ top → visit r t res stm ps n top ≡ whole s n′ top′
+      → (left ≡ 0 → ⊥) → backtrack stm l up ≡ n ∷ top → visit r t res stm ps n top ≡ whole s n′ top′
       → walk r t res stm ps left l up v ≡ found s (v + 1) (inside n′ top′)
   turn-whole left n top s n′ top′ h e d = more-left left h ∙ walk-whole (left - 1) n top s n′ top′ e d
+
+-- whatever holds of refusal 9, of the empty solution, of the end and of every walk holds of a call from any place
+module _ (r t : ℕ) (res stm : List ℕ) (ps : List QueryPattern) (P : Answer → Type 0) (b : ℕ)
+    (nine : P (refused Damaged)) (empty : P (found unbound 0 finish)) (over : P (ended 0))
+    (on : (l : Level) (up : List Level) → P (walk r t res stm ps b l up 0)) where
+  begun-cases : (g : Turn) → P (begun r t res stm ps b g)
+  unfolding begun
+  begun-cases bad = nine
+  begun-cases (go l up) = on l up
+  begun-cases (whole s l up) = nine
+
+  pub resume-cases : (q : Place) → P (resume r t res stm ps q b)
+  unfolding resume
+  resume-cases start = cond-all P (eqb (length ps) 0) _ _ empty (begun-cases (enter r t res stm ps []))
+  resume-cases (inside l up) = cond-all P (intact stm up) _ _ (on ((pruned stm l up) .0) ((pruned stm l up) .1)) nine
+  resume-cases finish = over
 
 -- ---- levels in an array
 
@@ -146,7 +173,7 @@ written-levels (e ∷ up) h =
     levels-push (written up) (length up) e (omega (arith, written-length up))
     ∙ ap (λ (z : List Level). e ∷ z) (written-levels up (omega arith))
 
--- a place of no more than eight levels is that of its cursor
+-- a place of no more levels than the limit is that of its cursor
 abbrev pub Shallow : Place → Type 0
 Shallow start = Unit {0}
 Shallow (inside l up) = length up < maxPatterns
@@ -177,8 +204,9 @@ written-past (e ∷ up) i h =
     let q : i ≢ length up = omega arith in getD-set-other (written up) (length up) i e noLevel q
     ∙ written-past up i (omega arith)
 
-written-at : (ls : List Level) (d i : ℕ) → d ≤ maxPatterns → i < d → getD (written (levelsOf ls d)) i noLevel
-    ≡ getD ls i noLevel
+-- what stands there before them
+pub written-at : (ls : List Level) (d i : ℕ) → d ≤ maxPatterns → i < d
+    → getD (written (levelsOf ls d)) i noLevel ≡ getD ls i noLevel
 unfolding written levelsOf
 written-at ls zero i h q = absurd (omega arith)
 written-at ls (suc d) i h q =
@@ -190,21 +218,11 @@ written-at ls (suc d) i h q =
     getD-set-other (written (levelsOf ls d)) d i (getD ls d noLevel) noLevel n
     ∙ written-at ls d i (omega arith) (omega arith)))
 
--- an array of eight with zeros past its first d levels is what is written of them
-pub written-is : (ls : List Level) (d : ℕ) → d ≤ maxPatterns → length ls ≡ maxPatterns
-    → ((i : ℕ) → d ≤ i → i < maxPatterns → getD ls i noLevel ≡ noLevel) → ls ≡ written (levelsOf ls d)
-written-is ls d h k z =
-    ext-getD noLevel ls (written (levelsOf ls d)) (k ∙ sym (written-length (levelsOf ls d))) (λ i q.
-    decide (ltb i d)
-    (λ e. sym (written-at ls d i h (ltb-true i d e)))
-    (λ e. let g : d ≤ i = ltb-false i d e in
-    z i g (omega arith) ∙ sym (written-past (levelsOf ls d) i (omega (arith, levels-length ls d)))))
-
 -- ---- the words of pattern d
 
 pub pattern-words : (ws : List ℕ) (d : ℕ) → d < length (patternsOf ws)
-    → getD (patternsOf ws) d (pattern 0 0 0) ≡ pattern (getD ws (3 * d) 0) (getD ws (3 * d + 1) 0)
-    (getD ws (3 * d + 2) 0)
+    → getD (patternsOf ws) d (pattern 0 0 0)
+    ≡ pattern (getD ws (3 * d) 0) (getD ws (3 * d + 1) 0) (getD ws (3 * d + 2) 0)
 unfolding patternsOf
 pattern-words [] d h = absurd (omega arith)
 pattern-words (a ∷ []) d h = absurd (omega arith)
@@ -218,9 +236,8 @@ pattern-words (a ∷ b ∷ e ∷ r) d h = one d h (pattern-words r)
     same3 e f g = rw (e, f, g)
 
     one : (d : ℕ) → d < suc (length (patternsOf r))
-        → ((d : ℕ) → d < length (patternsOf r)
-        → getD (patternsOf r) d (pattern 0 0 0) ≡ pattern (getD r (3 * d) 0) (getD r (3 * d + 1) 0)
-        (getD r (3 * d + 2) 0))
+        → ((d : ℕ) → d < length (patternsOf r) → getD (patternsOf r) d (pattern 0 0 0)
+        ≡ pattern (getD r (3 * d) 0) (getD r (3 * d + 1) 0) (getD r (3 * d + 2) 0))
         → getD (pattern a b e ∷ patternsOf r) d (pattern 0 0 0)
         ≡ pattern (getD (a ∷ b ∷ e ∷ r) (3 * d) 0) (getD (a ∷ b ∷ e ∷ r) (3 * d + 1) 0)
         (getD (a ∷ b ∷ e ∷ r) (3 * d + 2) 0)
@@ -273,9 +290,10 @@ module _ (r t : ℕ) (stm : List ℕ) (ps : List QueryPattern) where
               },
               and-r (w && (o && (k && f))) _ h,
             ),
-        λ h. and-of _ _
-            (and-of _ _ (and-of _ _ (lt-ltb 0 (e .statement .0) (h .0 .positive)) (le-leb (e .statement .0) t (h .0 .within)))
-            (and-of _ _ (h .0 .chain) (and-of _ _ (h .0 .resources) (h .0 .matched))))
+        λ h. let T = h .0 in
+            and-of _ _
+            (and-of _ _ (and-of _ _ (lt-ltb 0 (e .statement .0) (T .positive)) (le-leb (e .statement .0) t (T .within)))
+            (and-of _ _ (T .chain) (and-of _ _ (T .resources) (T .matched))))
             (h .1),
       )
 
@@ -301,5 +319,6 @@ module _ (r t : ℕ) (stm : List ℕ) (ps : List QueryPattern) where
           next = and-r (chainOk (l .chain) (asked stm ps up)) _ d;
         },
     λ P. and-of _ _ (lt-ltb (length up) (length ps) (P .room))
-        (and-of _ _ (P .entered) (and-of _ _ (le-leb (l .statement .0) t (P .within)) (and-of _ _ (P .chain) (P .next)))),
+        (and-of _ _ (P .entered)
+        (and-of _ _ (le-leb (l .statement .0) t (P .within)) (and-of _ _ (P .chain) (P .next)))),
   )

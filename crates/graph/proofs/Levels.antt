@@ -1,5 +1,5 @@
--- On linked tables one visit, one level left, one level entered goes through the list of solutions (`solve`) and is never refused; the
--- visits left are counted beside. Assumes nothing.
+-- On linked tables one visit, one level left, one level entered goes through the list of solutions (`solve`) and is
+-- never refused; the visits left are counted beside. Assumes nothing.
 use mathlib.Core.Path.{_≡_, refl, sym, ap, _∙_}
 use mathlib.Core.Logic.{_≢_}
 use mathlib.Core.Bool.{Bool, true, false, cond, true≢false}
@@ -29,13 +29,15 @@ use Rattle.store.proofs.Picking.{Bound, pick-ok}
 use Rattle.store.proofs.Chains.{onWords, chain-links, chain-fine, chain-start, pickable-linked}
 use Rattle.graph.specs.declared.QueryPattern.{QueryPattern}
 use Rattle.graph.specs.declared.Level.{Level}
-use Rattle.graph.specs.Words.{firstVariable, isVariable, variables, Bindings, resource, boundTo, pattern, valueOf, under}
+use Rattle.graph.specs.Words.{firstVariable, isVariable, variables, Bindings, resource, boundTo, pattern, valueOf}
+use Rattle.graph.specs.Words.{under}
 use Rattle.graph.specs.Query.{bindWord, match, Turn, bad, go, whole, recordAt, past}
 use Rattle.graph.specs.Place.{level}
-use Rattle.graph.specs.Query.{levelRetracted, backtrack, remains, nextPattern, binds, asked, enter, hit, tried, visit}
+use Rattle.graph.specs.Query.{levelRetracted, backtrack, remains, nextPattern, binds, asked, enter, hit, tried}
+use Rattle.graph.specs.Query.{visit}
 use Rattle.graph.proofs.Bind.{wordAt, bound-same, bound-other, Fits3, Known3, or-l, or-r, none≢some, some-eq}
 use Rattle.graph.proofs.Bind.{after-some, value-number, value-variable, value-more, match-matched}
-use Rattle.graph.proofs.Solve.{down, each, solve, AllFit, under-at, hit-some}
+use Rattle.graph.proofs.Solve.{down, each, solve, Every, every-at, AllFit, under-at, hit-some}
 use Rattle.graph.specs.Work.{hitAt, sumTo, eachN, work}
 
 -- ---- leaving out what a chain leaves out
@@ -88,20 +90,18 @@ match-low k x t b b′ h q e =
     (r2 .2)
 
 -- the numbers of a pattern are known ones
+abbrev pub LowWords : ℕ → QueryPattern → Type 0
+LowWords k x = (p : Position) → isVariable (wordAt p x) ≡ false → wordAt p x ≤ k
+
 abbrev pub AllLow : ℕ → List QueryPattern → Type 0
-AllLow k [] = Unit {0}
-AllLow k (x ∷ ps) = ((p : Position) → isVariable (wordAt p x) ≡ false → wordAt p x ≤ k) × AllLow k ps
+AllLow k ps = Every (λ x. LowWords k x) ps
 
-pub fit-at : (k : ℕ) (ps : List QueryPattern) (i : ℕ) → AllFit k ps → i < length ps → Fits3 k (getD ps i (pattern 0 0 0))
-fit-at k [] i f h = absurd (omega arith)
-fit-at k (x ∷ ps) zero f h = f .0
-fit-at k (x ∷ ps) (suc i) f h = fit-at k ps i (f .1) (omega arith)
+pub fit-at : (k : ℕ) (ps : List QueryPattern) (i : ℕ) → AllFit k ps → i < length ps
+    → Fits3 k (getD ps i (pattern 0 0 0))
+fit-at k ps i f h = every-at (λ x. Fits3 k x) (pattern 0 0 0) ps i f h
 
-low-at : (k : ℕ) (ps : List QueryPattern) (i : ℕ) → AllLow k ps → i < length ps → (p : Position)
-    → isVariable (wordAt p (getD ps i (pattern 0 0 0))) ≡ false → wordAt p (getD ps i (pattern 0 0 0)) ≤ k
-low-at k [] i f h = absurd (omega arith)
-low-at k (x ∷ ps) zero f h = f .0
-low-at k (x ∷ ps) (suc i) f h = low-at k ps i (f .1) (omega arith)
+low-at : (k : ℕ) (ps : List QueryPattern) (i : ℕ) → AllLow k ps → i < length ps → LowWords k (getD ps i (pattern 0 0 0))
+low-at k ps i f h = every-at (λ x. LowWords k x) (pattern 0 0 0) ps i f h
 
 pub low-none : (k n : ℕ) → Low k (replicate n (resource 0))
 low-none k zero v = omega arith
@@ -313,7 +313,8 @@ module _ (r t : ℕ) (res stm : List ℕ) (ps : List QueryPattern) where
     unfolding down
     down-zero up n e = rw e
 
-    backtracked-more : (l l′ : Level) (up up′ r : List Level) → left l up ≡ left l′ up′ → toilLeft l up ≡ toilLeft l′ up′
+    backtracked-more : (l l′ : Level) (up up′ r : List Level) → left l up ≡ left l′ up′
+        → toilLeft l up ≡ toilLeft l′ up′
         → Backtracked l up r → Backtracked l′ up′ r
     backtracked-more l l′ up up′ [] e h S = (sym e ∙ S .0, sym h ∙ S .1)
     backtracked-more l l′ up up′ (m ∷ top) e h S = (S .0, S .1, S .2, S .3 ∙ e, S .4 ∙ h)

@@ -3,6 +3,7 @@ pub mod Refusals
 pub mod Generations
 pub mod Bind
 pub mod Solve
+pub mod Permuted
 pub mod Levels
 pub mod ReadThrough
 pub mod Reading

@@ -1,31 +1,32 @@
--- The graph of the plain lists (crate `store`, `Model`), and what entering, asserting, retracting and reclaiming do to it. Assumes nothing.
+-- The graph of the plain lists (crate `store`, `Model`), and what entering, asserting, retracting and reclaiming do to
+-- it. Assumes nothing.
 use mathlib.Core.Path.{_≡_, refl, sym, ap, _∙_}
 use mathlib.Core.Logic.{_≢_, _⊎_, inl, inr, _↔_}
 use mathlib.Core.Bool.{true, false, _&&_, true≢false}
 use mathlib.Core.List.{List, [], _∷_, _++_}
 use Prim.Native.Nat.{ℕ, zero, suc, _+_, _-_, _≤_, _<_}
 use native.Mathlib.Omega.{arith}
-use lib.ListN.{length, getD, List·getD-append}
+use lib.ListN.{length, List·getD-append}
 use lib.Seq.{getD-append-seam}
 use lib.Dec.{eqb, leb, ltb}
 use borrow.Author.Tests.{eqb-true, eqb-false, ltb-true, ltb-false}
-use Rattle.term.specs.Bytes.{eqBytes}
 use Rattle.term.specs.Scanner.{firstKindOf}
 use Rattle.term.specs.Canonical.{canonical}
-use Rattle.term.proofs.Booleans.{eqBytes-is}
 use Rattle.store.specs.declared.Position.{Position}
 use Rattle.store.specs.declared.Position.the-variants.{Subject, Predicate, Object}
 use Rattle.store.specs.declared.Triple.{Triple}
-use Rattle.store.specs.Shared.{at, known, same, kindsPermitted, maxReclaims, Entry, wellFormed, nameOf, textBytes, lookupName}
+use Rattle.store.specs.Shared.{at, known, same, kindsPermitted, maxReclaims, Entry, wellFormed, nameOf, textBytes}
+use Rattle.store.specs.Shared.{lookupName}
 use Rattle.store.specs.Values.{Values}
 use Rattle.store.specs.Model.{Model, Capacities, intern, internName, internModel, entry, lookup, mark, put, assertModel}
 use Rattle.store.specs.Model.{retractEntry, retractModel, unretracted, reclaimModel, callModel}
-use Rattle.store.proofs.Tests.{decide, three, known-low, known-high, same-self, same-is}
-use Rattle.store.proofs.Falling.{head-le, head-passes, head-pos}
+use Rattle.store.proofs.Tests.{decide, three, known-low, known-high, same-is}
+use Rattle.store.proofs.Falling.{head-le, head-passes}
 use Rattle.store.proofs.Text.{name-old, name-new, length-snoc}
 use Rattle.store.proofs.Represented.{mark-length, mark-same, mark-other}
 use Rattle.store.proofs.Unretracted.{unretracted-keep, unretracted-drop, origin, origin-in, origin-reads}
-use Rattle.store.proofs.Kept.{Tidy}
+use Rattle.store.proofs.Pins.{listed}
+use Rattle.store.proofs.Kept.{Tidy, absent}
 use Rattle.graph.specs.Meaning.{Term, RdfTriple, partAt, Graph}
 use Rattle.graph.specs.Claims.{SameGraph}
 use Rattle.graph.proofs.Solve.{triple-ext}
@@ -35,8 +36,7 @@ unfoldable pub nameTriple : List Term → Triple → RdfTriple
 nameTriple ns x = record {
   subject = nameOf ns (x .subject .0);
   predicate = nameOf ns (x .predicate .0);
-  object =
-      nameOf ns (x .object .0);
+  object = nameOf ns (x .object .0);
 }
 
 pub name-triple-at : (ns : List Term) (x : Triple) (p : Position) → partAt p (nameTriple ns x) ≡ nameOf ns (at p x)
@@ -73,20 +73,6 @@ listed-at x l i e = (
   same-is x ((entry l i) .spo) (head-passes (λ i. same x ((entry l i) .spo)) (length l) i e),
 )
 
-pub unlisted : (x : Triple) (l : List Entry) → lookup x l ≡ 0 → (i : ℕ) → i < length l → (entry l i) .spo ≢ x
-unfolding lookup
-unlisted x l e i h d =
-    omega (arith, head-pos (λ i. same x ((entry l i) .spo)) (length l) i h (same-self x ((entry l i) .spo) d), e)
-
-pub name-listed : (w : Term) (ns : List Term) (i : ℕ) → lookupName w ns ≡ suc i → (i < length ns)
-    × (nameOf ns (suc i) ≡ w)
-unfolding lookupName nameOf
-name-listed w ns i e =
-    let q : suc i - 1 ≡ i = omega arith in (
-      omega (arith, head-le (λ i. eqBytes (getD ns i []) w) (length ns), e),
-      rw q (eqBytes-is (getD ns i []) w (head-passes (λ i. eqBytes (getD ns i []) w) (length ns) i e)),
-    )
-
 -- ---- names more
 
 named-more : (ns : List Term) (w : Term) (l : List Entry)
@@ -115,14 +101,13 @@ module _ (k : Capacities) (s : Model) (D : Tidy s) where
   unchanged w v h = record {
     graph = graph-same (modelGraph s);
     longer = omega arith;
-    kept =
-        λ n a b. refl;
+    kept = λ n a b. refl;
     answered = λ e. absurd (h e);
   }
 
   entered-as : (w : Term) (t : ℕ) → lookupName w (s .names) ≡ t
       → ModelEntered s ((internName k s w t) .0) w ((internName k s w t) .1)
-  unfolding internName
+  unfolding internName nameOf
   entered-as w zero e =
       decide (ltb (length (s .names)) (k .resources) && leb (textBytes (s .names ++ w ∷ [])) (k .text))
       (λ d. rw d (record {
@@ -137,10 +122,12 @@ module _ (k : Capacities) (s : Model) (D : Tidy s) where
     graph = graph-same (modelGraph s);
     longer = omega arith;
     kept = λ n a b. refl;
-    answered = λ z. let h = name-listed w (s .names) i e in (omega arith, omega (arith, h .0), h .1);
+    answered = λ z. let h = listed w (s .names) i e in
+        let q : suc i - 1 ≡ i = omega arith in (omega arith, omega (arith, h .0), rw q (h .1));
   }
 
-  pub model-enters : (w : Term) → ModelEntered s ((callModel k s (intern w)) .0) (canonical w) ((callModel k s (intern w)) .1)
+  pub model-enters : (w : Term)
+      → ModelEntered s ((callModel k s (intern w)) .0) (canonical w) ((callModel k s (intern w)) .1)
   unfolding callModel internModel
   model-enters w =
       decide (wellFormed w) (λ e. rw e (entered-as (canonical w) (lookupName (canonical w) (s .names)) refl))
@@ -150,6 +137,17 @@ module _ (k : Capacities) (s : Model) (D : Tidy s) where
 
 abbrev live : Triple → Entry
 live x = record { spo = x; retracted = false }
+
+-- a live entry's triple is in the graph
+live-at : (ns : List Term) (l : List Entry) (j : ℕ) (x : Triple) (z : RdfTriple) → j < length l → entry l j ≡ live x
+    → nameTriple ns x ≡ z → listGraph ns l z
+live-at ns l j x z h o e = (j, h, ap (λ (e : Entry). e .retracted) o, ap (λ (e : Entry). nameTriple ns (e .spo)) o ∙ e)
+
+-- and that of an entry of the graph of another list
+same-entry : (ns : List Term) (l l′ : List Entry) (z : RdfTriple) (g : listGraph ns l z) (j : ℕ) → j < length l′
+    → entry l′ j ≡ entry l (g .0) → listGraph ns l′ z
+same-entry ns l l′ z g j h o =
+    (j, h, ap (λ (e : Entry). e .retracted) o ∙ g .2, ap (λ (e : Entry). nameTriple ns (e .spo)) o ∙ g .3)
 
 module _ (ns : List Term) (l : List Entry) where
   more-old : (e : Entry) (i : ℕ) → i < length l → entry (l ++ e ∷ []) i ≡ entry l i
@@ -170,14 +168,7 @@ module _ (ns : List Term) (l : List Entry) where
       there g =
           decide (ltb (g .0) (length l))
           (λ d. let h = ltb-true (g .0) (length l) d in
-          let o = more-old (live x) (g .0) h in
-          inl (
-            g .0,
-            h,
-            ap (λ (e : Entry). e .retracted) (sym o) ∙ g .2,
-            ap (λ (e : Entry). nameTriple ns (e .spo))
-                (sym o) ∙ g .3,
-          ))
+          inl (same-entry ns (l ++ live x ∷ []) l z g (g .0) h (sym (more-old (live x) (g .0) h))))
           (λ d. let h : g .0 ≡ length l = omega (arith, g .1, more-length (live x), ltb-false (g .0) (length l) d) in
           let o : entry (l ++ live x ∷ []) (g .0) ≡ live x = ap (λ (i : ℕ). entry (l ++ live x ∷ []) i) h
           ∙ more-new (live x) in
@@ -185,19 +176,10 @@ module _ (ns : List Term) (l : List Entry) where
 
       back : listGraph ns l z ⊎ (z ≡ nameTriple ns x) → listGraph ns (l ++ live x ∷ []) z
       back (inl g) =
-          let o = more-old (live x) (g .0) (g .1) in (
-            g .0,
-            omega (arith, g .1, more-length (live x)),
-            ap (λ (e : Entry). e .retracted) o ∙ g .2,
-            ap (λ (e : Entry). nameTriple ns (e .spo)) o ∙ g .3,
-          )
+          same-entry ns l (l ++ live x ∷ []) z g (g .0) (omega (arith, g .1, more-length (live x)))
+          (more-old (live x) (g .0) (g .1))
       back (inr e) =
-          let o = more-new (live x) in (
-            length l,
-            omega (arith, more-length (live x)),
-            ap (λ (e : Entry). e .retracted) o,
-            ap (λ (e : Entry). nameTriple ns (e .spo)) o ∙ sym e,
-          )
+          live-at ns (l ++ live x ∷ []) (length l) x z (omega (arith, more-length (live x))) (more-new (live x)) (sym e)
 
   -- a triple marked live
   revived : (i : ℕ) → i < length l → (z : RdfTriple) → listGraph ns (mark l i false) z
@@ -211,38 +193,22 @@ module _ (ns : List Term) (l : List Entry) where
           let o : entry (mark l i false) (g .0) ≡ record { spo = (entry l i) .spo; retracted = false } =
           ap (λ (j : ℕ). entry (mark l i false) j) e ∙ mark-same l i false h in
           inr (sym (g .3) ∙ ap (λ (e : Entry). nameTriple ns (e .spo)) o))
-          (λ d. let o = mark-other l i (g .0) false (eqb-false (g .0) i d) in
-          inl (
-            g .0,
-            omega (arith, g .1, mark-length l i false),
-            ap (λ (e : Entry). e .retracted) (sym o) ∙ g .2,
-            ap (λ (e : Entry). nameTriple ns (e .spo)) (sym o) ∙ g .3,
-          ))
+          (λ d. inl (same-entry ns (mark l i false) l z g (g .0) (omega (arith, g .1, mark-length l i false))
+          (sym (mark-other l i (g .0) false (eqb-false (g .0) i d)))))
+
+      -- at i stands the triple, live
+      here : nameTriple ns ((entry l i) .spo) ≡ z → listGraph ns (mark l i false) z
+      here e =
+          live-at ns (mark l i false) i ((entry l i) .spo) z (omega (arith, mark-length l i false))
+          (mark-same l i false h) e
 
       back : listGraph ns l z ⊎ (z ≡ nameTriple ns ((entry l i) .spo)) → listGraph ns (mark l i false) z
       back (inl g) =
           decide (eqb (g .0) i)
-          (λ d. let e = eqb-true (g .0) i d in
-          let o = mark-same l i false h in (
-            i,
-            omega (arith, mark-length l i false),
-            ap (λ (e : Entry). e .retracted) o,
-            ap (λ (e : Entry). nameTriple ns (e .spo)) o ∙ ap (λ (j : ℕ). nameTriple ns ((entry l j) .spo)) (sym e)
-                ∙ g .3,
-          ))
-          (λ d. let o = mark-other l i (g .0) false (eqb-false (g .0) i d) in (
-            g .0,
-            omega (arith, g .1, mark-length l i false),
-            ap (λ (e : Entry). e .retracted) o ∙ g .2,
-            ap (λ (e : Entry). nameTriple ns (e .spo)) o ∙ g .3,
-          ))
-      back (inr e) =
-          let o = mark-same l i false h in (
-            i,
-            omega (arith, mark-length l i false),
-            ap (λ (e : Entry). e .retracted) o,
-            ap (λ (e : Entry). nameTriple ns (e .spo)) o ∙ sym e,
-          )
+          (λ d. here (ap (λ (j : ℕ). nameTriple ns ((entry l j) .spo)) (sym (eqb-true (g .0) i d)) ∙ g .3))
+          (λ d. same-entry ns l (mark l i false) z g (g .0) (omega (arith, g .1, mark-length l i false))
+          (mark-other l i (g .0) false (eqb-false (g .0) i d)))
+      back (inr e) = here (sym e)
 
 module _ (s : Model) (D : Tidy s)
     (distinct : (y z : ℕ) → 0 < y → y ≤ length (s .names) → 0 < z → z ≤ length (s .names)
@@ -260,20 +226,15 @@ module _ (s : Model) (D : Tidy s)
   pub in-graph : (x : Triple) → known (length (s .names)) x ≡ true → modelGraph s (N x)
       → (i : ℕ) × (i < length (s .entries)) × ((entry (s .entries) i) .spo ≡ x)
       × ((entry (s .entries) i) .retracted ≡ false)
-  in-graph x k g = (
-    g .0,
-    g .1,
-    triples-apart ((entry (s .entries) (g .0)) .spo) x (D .inside (g .0) (g .1)) k
-        (g .3),
-    g .2,
-  )
+  in-graph x k g =
+      (g .0, g .1, triples-apart ((entry (s .entries) (g .0)) .spo) x (D .inside (g .0) (g .1)) k (g .3), g .2)
 
   one-place : (i j : ℕ) → i < length (s .entries) → j < length (s .entries)
       → (entry (s .entries) i) .spo ≡ (entry (s .entries) j) .spo → i ≡ j
   one-place i j h g e = three i j (λ q. absurd (D .once i j q g e)) (λ q. q) (λ q. absurd (D .once j i q h (sym e)))
 
   not-in : (x : Triple) → known (length (s .names)) x ≡ true → lookup x (s .entries) ≡ 0 → modelGraph s (N x) → ⊥
-  not-in x k e g = let r = in-graph x k g in unlisted x (s .entries) e (r .0) (r .1) (r .2)
+  not-in x k e g = let r = in-graph x k g in absent x (s .entries) e (r .0) (r .1) (r .2)
 
   not-retracted : (x : Triple) (i : ℕ) → known (length (s .names)) x ≡ true → lookup x (s .entries) ≡ suc i
       → (entry (s .entries) i) .retracted ≡ true
@@ -295,12 +256,11 @@ module _ (s : Model) (D : Tidy s)
     pub added : v .refusal ≡ 0 → (z : RdfTriple) → modelGraph s′ z ↔ (modelGraph s z ⊎ (z ≡ y))
     pub already : v .refusal ≡ 0 → (v .status ≡ 2) ↔ modelGraph s y
 
-  not-added : (y : RdfTriple) (v : Values) → v .refusal ≢ 0 → ModelAdded s y v
+  pub not-added : (y : RdfTriple) (v : Values) → v .refusal ≢ 0 → ModelAdded s y v
   not-added y v h = record {
     refused = λ n. graph-same (modelGraph s);
     added = λ e. absurd (h e);
-    already =
-        λ e. absurd (h e);
+    already = λ e. absurd (h e);
   }
 
   put-adds : (k : Capacities) (x : Triple) → known (length (s .names)) x ≡ true → (t : ℕ) → lookup x (s .entries) ≡ t
@@ -349,12 +309,11 @@ module _ (s : Model) (D : Tidy s)
     pub removed : v .refusal ≡ 0 → (z : RdfTriple) → modelGraph s′ z ↔ (modelGraph s z × (z ≢ y))
     pub absent : v .refusal ≡ 0 → (v .number ≡ 0) ↔ (modelGraph s y → ⊥)
 
-  not-removed : (y : RdfTriple) (v : Values) → v .refusal ≢ 0 → ModelRemoved s y v
+  pub not-removed : (y : RdfTriple) (v : Values) → v .refusal ≢ 0 → ModelRemoved s y v
   not-removed y v h = record {
     refused = λ n. graph-same (modelGraph s);
     removed = λ e. absurd (h e);
-    absent =
-        λ e. absurd (h e);
+    absent = λ e. absurd (h e);
   }
 
   -- nothing to take away
@@ -380,11 +339,8 @@ module _ (s : Model) (D : Tidy s)
       there g =
           decide (eqb (g .0) i)
           (λ d. let j = eqb-true (g .0) i d in
-          let o : entry (mark (s .entries) i true) (g .0) ≡ record {
-            spo = (entry (s .entries) i) .spo;
-            retracted =
-                true;
-          } =
+          let o : entry (mark (s .entries) i true) (g .0)
+          ≡ record { spo = (entry (s .entries) i) .spo; retracted = true } =
           ap (λ (j : ℕ). entry (mark (s .entries) i true) j) j ∙ mark-same (s .entries) i true h in
           absurd (true≢false (ap (λ (e : Entry). e .retracted) (sym o) ∙ g .2)))
           (λ d. let n = eqb-false (g .0) i d in
@@ -401,12 +357,8 @@ module _ (s : Model) (D : Tidy s)
       back p =
           let g = p .0 in
           let n : g .0 ≢ i = λ j. p .1 (sym (g .3) ∙ ap (λ (k : ℕ). N ((entry (s .entries) k) .spo)) j ∙ ap N is-x) in
-          let o = mark-other (s .entries) i (g .0) true n in (
-            g .0,
-            omega (arith, g .1, mark-length (s .entries) i true),
-            ap (λ (e : Entry). e .retracted) o ∙ g .2,
-            ap (λ (e : Entry). N (e .spo)) o ∙ g .3,
-          )
+          same-entry (s .names) (s .entries) (mark (s .entries) i true) z g (g .0)
+          (omega (arith, g .1, mark-length (s .entries) i true)) (mark-other (s .entries) i (g .0) true n)
 
   retract-entry-removes : (x : Triple) → known (length (s .names)) x ≡ true → (t : ℕ) → lookup x (s .entries) ≡ t
       → ModelRemoved ((retractEntry s t) .0) (N x) ((retractEntry s t) .1)
@@ -443,18 +395,9 @@ stays (e ∷ l) (suc i) h d =
 
 unretracted-graph : (ns : List Term) (l : List Entry) → SameGraph (listGraph ns (unretracted l)) (listGraph ns l)
 unretracted-graph ns l z = (
-  (λ g. let e = origin-reads l (g .0) (g .1) in (
-    origin l (g .0),
-    origin-in l (g .0) (g .1),
-    ap (λ (e : Entry). e .retracted) (sym e) ∙ g .2,
-    ap (λ (e : Entry). nameTriple ns (e .spo)) (sym e) ∙ g .3,
-  )),
-  (λ g. let r = stays l (g .0) (g .1) (g .2) in (
-    r .0,
-    r .1,
-    ap (λ (e : Entry). e .retracted) (r .2) ∙ g .2,
-    ap (λ (e : Entry). nameTriple ns (e .spo)) (r .2) ∙ g .3,
-  )),
+  (λ g. same-entry ns (unretracted l) l z g (origin l (g .0)) (origin-in l (g .0) (g .1))
+      (sym (origin-reads l (g .0) (g .1)))),
+  (λ g. let r = stays l (g .0) (g .1) (g .2) in same-entry ns l (unretracted l) z g (r .0) (r .1) (r .2)),
 )
 
 -- what reclaiming does to the lists

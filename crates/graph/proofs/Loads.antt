@@ -1,5 +1,5 @@
--- A line's three names entered and asserted on a sound store add exactly the line's triple; they are refused as by the plain lists, and
--- only for want of room (`LoadClaim`). Assumes nothing.
+-- A line's three names entered and asserted on a sound store add exactly the line's triple; they are refused as by the
+-- plain lists, and only for want of room (`LoadClaim`). Assumes nothing.
 use mathlib.Core.Path.{_≡_, refl, sym, _∙_}
 use mathlib.Core.Logic.{_≢_, _⊎_, inl, inr}
 use mathlib.Core.Bool.{true, _&&_}
@@ -31,8 +31,8 @@ use Rattle.store.proofs.Kept.{kindIn, Tidy, tidy-call}
 use Rattle.store.proofs.Held.{sound-agrees, sound-tidy}
 use Rattle.graph.specs.Meaning.{RdfTriple}
 use Rattle.graph.specs.Graph.{named}
-use Rattle.graph.specs.Claims.{SoundStore, graphIn, SameGraph, Entered, Added, loading, loadOf, loadModel, canonicalTriple}
-use Rattle.graph.specs.Claims.{Loadable, Loaded, LoadClaim}
+use Rattle.graph.specs.Claims.{SoundStore, graphIn, SameGraph, Entered, Added, loading, loadOf, loadModel}
+use Rattle.graph.specs.Claims.{canonicalTriple, Loadable, Loaded, LoadClaim}
 use Rattle.graph.proofs.Listed.{graph-trans, model-enters}
 use Rattle.graph.proofs.Writes.{writes}
 
@@ -72,7 +72,8 @@ module _ (s : Store) (S : SoundStore s) (y : RdfTriple) where
   fourth : Added (d .0) (e .0) (named (d .0 .tables) numbers) (e .1)
   fourth = writes (d .0) (third .sound) .asserts byValue numbers
 
-  names-are : a .1 .refusal ≡ 0 → b .1 .refusal ≡ 0 → d .1 .refusal ≡ 0 → named (d .0 .tables) numbers ≡ canonicalTriple y
+  names-are : a .1 .refusal ≡ 0 → b .1 .refusal ≡ 0 → d .1 .refusal ≡ 0
+      → named (d .0 .tables) numbers ≡ canonicalTriple y
   names-are p q r =
       let x = first .answered p in
       let y₂ = second .kept (a .1 .number) (x .0) (x .1) in
@@ -80,8 +81,8 @@ module _ (s : Store) (S : SoundStore s) (y : RdfTriple) where
       let z = second .answered q in
       let z₃ = third .kept (b .1 .number) (z .0) (z .1) in
       let w = third .answered r in
-      triple-named (d .0 .tables) (a .1 .number) (b .1 .number) (d .1 .number) (canonicalTriple y) (y₃ .1 ∙ y₂ .1 ∙ x .2)
-      (z₃ .1 ∙ z .2) (w .2)
+      triple-named (d .0 .tables) (a .1 .number) (b .1 .number) (d .1 .number) (canonicalTriple y)
+      (y₃ .1 ∙ y₂ .1 ∙ x .2) (z₃ .1 ∙ z .2) (w .2)
 
   two-graph : SameGraph (graphIn (b .0)) (graphIn s)
   two-graph = graph-trans (graphIn (b .0)) (graphIn (a .0)) (graphIn s) (second .graph) (first .graph)
@@ -89,10 +90,12 @@ module _ (s : Store) (S : SoundStore s) (y : RdfTriple) where
   three-graph : SameGraph (graphIn (d .0)) (graphIn s)
   three-graph = graph-trans (graphIn (d .0)) (graphIn (b .0)) (graphIn s) (third .graph) two-graph
 
-  stopped : (s′ : Store) (n : ℕ) → SoundStore s′ → SameGraph (graphIn s′) (graphIn s) → n ≢ 0 → Loaded s s′ (canonicalTriple y) n
+  stopped : (s′ : Store) (n : ℕ) → SoundStore s′ → SameGraph (graphIn s′) (graphIn s) → n ≢ 0
+      → Loaded s s′ (canonicalTriple y) n
   stopped s′ n T g h = record { sound = T; refused = λ q. g; loaded = λ q. absurd (h q) }
 
-  whole : a .1 .refusal ≡ 0 → b .1 .refusal ≡ 0 → d .1 .refusal ≡ 0 → Loaded s (e .0) (canonicalTriple y) (e .1 .refusal)
+  whole : a .1 .refusal ≡ 0 → b .1 .refusal ≡ 0 → d .1 .refusal ≡ 0
+      → Loaded s (e .0) (canonicalTriple y) (e .1 .refusal)
   whole p q r = record {
     sound = fourth .sound;
     refused = λ n. graph-trans (graphIn (e .0)) (graphIn (d .0)) (graphIn s) (fourth .refused n) three-graph;
@@ -102,15 +105,18 @@ module _ (s : Store) (S : SoundStore s) (y : RdfTriple) where
     );
   }
     where
-      there : (z : RdfTriple) → graphIn (d .0) z ⊎ (z ≡ named (d .0 .tables) numbers) → graphIn s z ⊎ (z ≡ canonicalTriple y)
+      there : (z : RdfTriple) → graphIn (d .0) z ⊎ (z ≡ named (d .0 .tables) numbers)
+          → graphIn s z ⊎ (z ≡ canonicalTriple y)
       there z (inl g) = inl (three-graph z .0 g)
       there z (inr h) = inr (h ∙ names-are p q r)
 
-      back : (z : RdfTriple) → graphIn s z ⊎ (z ≡ canonicalTriple y) → graphIn (d .0) z ⊎ (z ≡ named (d .0 .tables) numbers)
+      back : (z : RdfTriple) → graphIn s z ⊎ (z ≡ canonicalTriple y)
+          → graphIn (d .0) z ⊎ (z ≡ named (d .0 .tables) numbers)
       back z (inl g) = inl (three-graph z .1 g)
       back z (inr h) = inr (h ∙ sym (names-are p q r))
 
-loaded : (s : Store) (S : SoundStore s) (y : RdfTriple) → Loaded s ((loadOf s y) .0) (canonicalTriple y) ((loadOf s y) .1 .refusal)
+loaded : (s : Store) (S : SoundStore s) (y : RdfTriple)
+    → Loaded s ((loadOf s y) .0) (canonicalTriple y) ((loadOf s y) .1 .refusal)
 unfolding loading
 loaded s S y =
     decide (eqb (a s S y .1 .refusal) 0)
@@ -140,7 +146,8 @@ asserts-alike : (k : Capacities) (s : Store) (l : Model) → Agreeing k (bare s)
 unfolding callStore
 asserts-alike k s l R x = call-agrees k (bare s) l R (assert byValue x)
 
-load-agrees : (k : Capacities) (s : Store) (l : Model) → Agreeing k (bare s) l → (y : RdfTriple) → (loadOf s y) .1 ≡ (loadModel k l y) .1
+load-agrees : (k : Capacities) (s : Store) (l : Model) → Agreeing k (bare s) l → (y : RdfTriple)
+    → (loadOf s y) .1 ≡ (loadModel k l y) .1
 unfolding loading
 load-agrees k s l R y =
     let a = callModel k l (intern (y .subject)) in
@@ -175,7 +182,8 @@ module _ (k : Capacities) (l : Model) where
     where
       at-place : (t : ℕ) → AnswersOrFull (internName k l (canonical w) t)
       at-place zero =
-          cond-all AnswersOrFull (ltb (length (l .names)) (k .resources) && leb (textBytes (l .names ++ canonical w ∷ [])) (k .text)) _ _
+          cond-all AnswersOrFull
+          (ltb (length (l .names)) (k .resources) && leb (textBytes (l .names ++ canonical w ∷ [])) (k .text)) _ _
           (inl refl) (inr refl)
       at-place (suc i) = inl refl
 
@@ -277,4 +285,5 @@ pub loads : LoadClaim
 loads s S y =
     let k = capacitiesOf (s .tables) in
     let e = load-agrees k s (listsOf s) (sound-agrees (s .counters) (s .tables) S) y in
-    (loaded s S y, record { listed = e; room = λ L. rw e (load-full k (listsOf s) (sound-tidy (s .counters) (s .tables) S) y L) })
+    let D = sound-tidy (s .counters) (s .tables) S in
+    (loaded s S y, record { listed = e; room = λ L. rw e (load-full k (listsOf s) D y L) })

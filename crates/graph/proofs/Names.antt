@@ -1,13 +1,12 @@
--- On a sound store numbers and names are in bijection, and the live statements are an RDF graph (`GraphClaim`). Assumes nothing.
+-- On a sound store numbers and names are in bijection, and the live statements are an RDF graph (`GraphClaim`).
+-- Assumes nothing.
 use mathlib.Core.Path.{_≡_, refl, sym, ap, _∙_}
 use mathlib.Core.Logic.{_≢_, _⊎_, inl, inr}
-use mathlib.Core.Bool.{true, false, not, _&&_, false≢true}
+use mathlib.Core.Bool.{true, false}
 use mathlib.Core.List.{[]}
 use Prim.Native.Nat.{ℕ, _-_, _≤_, _<_}
 use native.Mathlib.Omega.{arith}
 use lib.ListN.{length, getD}
-use lib.Dec.{eqb}
-use borrow.Author.Tests.{eqb-true, eq-eqb}
 use Rattle.term.specs.Bytes.{eqBytes}
 use Rattle.term.specs.Grammar.{Iri, Blank, Literal, Name, iri, blank, literal}
 use Rattle.term.specs.Scanner.{firstKindOf}
@@ -17,12 +16,13 @@ use Rattle.store.specs.declared.Position.{Position}
 use Rattle.store.specs.declared.Position.the-variants.{Subject, Predicate, Object}
 use Rattle.store.specs.declared.Counters.{Counters}
 use Rattle.store.specs.declared.Triple.{Triple}
-use Rattle.store.specs.Shared.{at, kindsPermitted, wellFormed, nameOf, lookupName}
+use Rattle.store.specs.Shared.{at, wellFormed, nameOf, lookupName}
 use Rattle.store.specs.Tables.{Tables, tripleAt, kindAt}
 use Rattle.store.specs.Names.{nameAt}
 use Rattle.store.specs.Soundness.{Sound}
-use Rattle.store.proofs.Tests.{and-l, and-r, three}
+use Rattle.store.proofs.Tests.{three}
 use Rattle.store.proofs.Falling.{head-le}
+use Rattle.store.proofs.Pins.{kinds-permitted-means}
 use Rattle.store.proofs.Words.{triple-at}
 use Rattle.store.proofs.Form.{form-kind, form-kindOf, storable-formed, storable-plain}
 use Rattle.store.proofs.NamesAgree.{name-at}
@@ -56,9 +56,6 @@ asObject (iri h) = inl h
 asObject (blank h) = inr (inl h)
 asObject (literal h) = inr (inr h)
 
-not-three : (k : ℕ) → not (eqb k 3) ≡ true → k ≢ 3
-not-three k e d = false≢true (rw (eq-eqb k 3 d) at e)
-
 module _ (c : Counters) (m : Tables) (S : Sound c m) where
   -- ---- the bijection
 
@@ -72,7 +69,8 @@ module _ (c : Counters) (m : Tables) (S : Sound c m) where
 
   name-plain : (y : ℕ) → 0 < y → y ≤ c .resources → writesString (nameAt m y) ≡ false
   name-plain y a b =
-      ap writesString (name-at (S .names) c m (S .named) y a b) ∙ storable-plain (nameOf (S .names) y) (name-storable c m S y a b)
+      ap writesString (name-at (S .names) c m (S .named) y a b)
+      ∙ storable-plain (nameOf (S .names) y) (name-storable c m S y a b)
 
   -- the number of a name, or 0
   unfoldable pub numberOfName : Term → ℕ
@@ -92,7 +90,8 @@ module _ (c : Counters) (m : Tables) (S : Sound c m) where
   pub name-kind : (y : ℕ) → 0 < y → y ≤ c .resources → Name (kindAt (m .resources) y) (nameAt m y)
   name-kind y a b =
       let w = nameOf (S .names) y in
-      let f : wellFormed w ≡ true = (unfold nameOf in (storable-formed _ (S .named .well (y - 1) (omega (arith, S .named .size))))) in
+      let f : wellFormed w ≡ true =
+      (unfold nameOf in (storable-formed _ (S .named .well (y - 1) (omega (arith, S .named .size))))) in
       let e = S .named .kinds y a b in
       rw (e, name-at (S .names) c m (S .named) y a b)
       ((kinds 255 (firstKindOf w) w (form-kind w f)) .0 (form-kindOf w f) .1)
@@ -104,16 +103,13 @@ module _ (c : Counters) (m : Tables) (S : Sound c m) where
   term-high p i h = rw (triple-at (m .statements) p i) (S .linked .high p i h)
 
   live-triple : (i : ℕ) → i < c .statements → IsTriple (named m (tripleAt (m .statements) i))
-  unfolding named kindsPermitted
+  unfolding named
   live-triple i h =
       let x = tripleAt (m .statements) i in
-      let k′ : not (eqb (kindAt (m .resources) (x .subject .0)) 3) && eqb (kindAt (m .resources) (x .predicate .0)) 1
-      ≡ true = S .kinds i h in
+      let k = (kinds-permitted-means (kindAt (m .resources)) x) .0 (S .kinds i h) in
       record {
-        subject-kind = asSubject (name-kind (x .subject .0) (term-low Subject i h) (term-high Subject i h))
-            (not-three _ (and-l _ _ k′));
-        predicate-kind = asIri (name-kind (x .predicate .0) (term-low Predicate i h) (term-high Predicate i h))
-            (eqb-true _ 1 (and-r (not (eqb (kindAt (m .resources) (x .subject .0)) 3)) _ k′));
+        subject-kind = asSubject (name-kind (x .subject .0) (term-low Subject i h) (term-high Subject i h)) (k .0);
+        predicate-kind = asIri (name-kind (x .predicate .0) (term-low Predicate i h) (term-high Predicate i h)) (k .1);
         object-kind = asObject (name-kind (x .object .0) (term-low Object i h) (term-high Object i h));
         object-spelling = name-plain (x .object .0) (term-low Object i h) (term-high Object i h);
       }

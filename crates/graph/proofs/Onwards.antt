@@ -1,6 +1,7 @@
--- One next call from any cursor that refusals 13 and 6 accept answers from the solutions holding at the call, at or after the cursor's
--- place (`NextClaim`); a cursor answered is never refused 6 later (`KeptClaim`), and is refused 13 once a reclaim was answered since
--- (`ReclaimedClaim`); with no change between, budgets add up (`SplitClaim`). Assumes nothing.
+-- One next call from any cursor that refusals 13 and 6 accept answers from the solutions holding at the call, at or
+-- after the cursor's place (`NextClaim`); a cursor answered is never refused 6 later (`KeptClaim`), and is refused 13
+-- once a reclaim was answered since (`ReclaimedClaim`); with no change between, budgets add up (`SplitClaim`).
+-- Assumes nothing.
 use mathlib.Core.Path.{_≡_, refl, sym, ap, _∙_, fun-ext}
 use mathlib.Core.Logic.{_≢_, inl, inr}
 use mathlib.Core.Bool.{Bool, true, false, cond, true≢false}
@@ -8,8 +9,8 @@ use mathlib.Core.List.{List, [], _∷_}
 use Prim.Native.Nat.{ℕ, zero, suc, _+_, _-_, _<_}
 use native.Mathlib.Omega.{arith}
 use lib.ListN.{length}
-use lib.Dec.{eqb, ltb}
-use borrow.Author.Tests.{eqb-true, eqb-false, eq-eqb, ltb-true, ne-eqb}
+use lib.Dec.{eqb}
+use borrow.Author.Tests.{eqb-true, eqb-false, eq-eqb, ne-eqb}
 use Rattle.store.specs.declared.Counters.{Counters}
 use Rattle.store.specs.declared.ScanCursor.{ScanCursor}
 use Rattle.store.specs.declared.Refusal.the-variants.{Damaged, StaleCursor}
@@ -23,43 +24,38 @@ use Rattle.graph.specs.declared.QueryPattern.{QueryPattern}
 use Rattle.graph.specs.declared.Level.{Level}
 use Rattle.graph.specs.declared.QueryCursor.{QueryCursor}
 use Rattle.graph.specs.declared.QueryAnswer.{QueryAnswer}
-use Rattle.graph.specs.Query.{Turn, bad, go, whole, Answer, refused, found, ended, spent, backtrack, remains, intact, pruned}
+use Rattle.graph.specs.Query.{Turn, bad, go, whole, Answer, refused, found, ended, spent, remains, intact, pruned}
 use Rattle.graph.specs.Place.{Place, start, inside, finish, placeAs, placeOf, cursorAt}
 use Rattle.graph.specs.Words.{wordsOk, patternsOf, Bindings, unbound}
-use Rattle.graph.specs.Query.{placeOk, enter, visit, walk, begun, resume, answerOf, packed, stale, openQueryOf, nextQueryOf}
+use Rattle.graph.specs.Query.{placeOk, enter, walk, begun, resume, answerOf, packed, stale, openQueryOf}
+use Rattle.graph.specs.Query.{nextQueryOf}
 use Rattle.graph.specs.Values.{QueryValues, queryOpenedValues, queryValues}
 use Rattle.graph.specs.Order.{numbersOn, atOrAfter, onwardsOf}
 use Rattle.store.specs.Shared.{keep}
 use Rattle.graph.specs.Claims.{statementNumbers, accepted, onwardsFrom, Answers, NextClaim}
 use Rattle.graph.specs.Claims.{KeptClaim, ReclaimedClaim, moreVisits, SplitClaim}
-use Rattle.graph.proofs.Laws.{Shallow, place-cursor, walk-ended, walk-bad, walk-go, walk-whole}
-use Rattle.graph.proofs.Refusals.{says, answer-not, number-not}
-use Rattle.graph.proofs.Generations.{cursor-number, NotRefused, own-number, read-on, unrefused-read, stale-number}
+use Rattle.graph.proofs.Laws.{Shallow, place-cursor, place-tests, walk-ended, walk-bad, walk-go, walk-whole}
+use Rattle.graph.proofs.Laws.{walk-turn}
+use Rattle.graph.proofs.Refusals.{says, Passed, resumes, answer-cases, answer-not, number-not}
+use Rattle.graph.proofs.Generations.{cursor-number, NotRefused, own-number, read-on, unrefused-read}
+use Rattle.graph.proofs.Generations.{stale-number}
 use Rattle.graph.proofs.Solve.{statements}
 use Rattle.graph.proofs.Reading.{Reached, Outcome, walk-outcome, intact-ok, pruned-same}
 use Rattle.graph.proofs.Place.{fromPlace, Gives, any-place, place-keeps}
-use Rattle.graph.proofs.Later.{place-kept, calls-keep, calls-onward, calls-sound}
+use Rattle.store.proofs.Onward.{calls-keep, calls-onward}
+use Rattle.graph.proofs.Later.{place-kept, calls-sound}
 use Rattle.graph.proofs.Accepted.{words-more}
 use Rattle.graph.proofs.Solutions.{single}
 use Rattle.graph.proofs.Calls.{words-few, statements-are, fit, low, everything, in-order, next-is}
 
 -- ---- an accepted place fits its cursor
 
-accepted-room : (stm : List ℕ) (ps : List QueryPattern) (r t : ℕ) (l : Level) (up : List Level)
-    → placeOk stm ps r t (inside l up) ≡ true
-    → length up < length ps
-unfolding placeOk
-accepted-room stm ps r t l up o = ltb-true (length up) (length ps) (and-l (ltb (length up) (length ps)) _ o)
-
 accepted-shallow : (c : Counters) (m : Tables) (ws : List ℕ) → wordsOk (c .resources) ws ≡ true → (q : Place)
     → placeOk (m .statements) (patternsOf ws) (c .resources) (c .statements) q ≡ true → Shallow q
 accepted-shallow c m ws words start o = tt
 accepted-shallow c m ws words (inside l up) o =
-    omega (
-      arith,
-      accepted-room (m .statements) (patternsOf ws) (c .resources) (c .statements) l up o,
-      words-few (c .resources) ws words,
-    )
+    let P = (place-tests (c .resources) (c .statements) (m .statements) (patternsOf ws) l up) .0 o in
+    omega (arith, P .room, words-few (c .resources) ws words)
 accepted-shallow c m ws words finish o = tt
 
 module _ (c : Counters) (m : Tables) (S : Sound c m) (ws : List ℕ) (words : wordsOk (c .resources) ws ≡ true) where
@@ -90,10 +86,8 @@ module _ (c : Counters) (m : Tables) (S : Sound c m) (ws : List ℕ) (words : wo
 
   answer-gives : (q : Place) (b : ℕ) → Ok q → 0 < b
       → Gives (c .resources) (c .statements) (m .resources) (m .statements) (patternsOf ws) q b (answerOf c m ws q b)
-  unfolding answerOf
   answer-gives q b o h =
-      let n : b ≢ 0 = omega arith in
-      rw (S .capacity, words, o, ne-eqb b 0 n)
+      rw (resumes c m ws q b (record { capacity = S .capacity; words = words; place = o; budget = h }))
       (any-place (c .resources) (c .statements) (m .resources) (m .statements) (patternsOf ws) (S .linked)
       (fit c m S ws words) (low c m S ws words) q b o h)
 
@@ -150,7 +144,10 @@ module _ (c : Counters) (m : Tables) (S : Sound c m) (ws : List ℕ) (words : wo
     status = inr (inr refl);
     found = λ e. absurd (omega arith);
     ended = λ e. absurd (omega arith);
-    spent = λ e. (sym (from-after (placeOf q) o) ∙ g .0 ∙ from-after q′ (g .1) ∙ sym (cursor-after q′ (g .1)), omega (arith, g .2));
+    spent = λ e. (
+      sym (from-after (placeOf q) o) ∙ g .0 ∙ from-after q′ (g .1) ∙ sym (cursor-after q′ (g .1)),
+      omega (arith, g .2),
+    );
     kept = cursor-ok q′ (g .1);
   }
 
@@ -167,26 +164,11 @@ next-onwards c m S ws words = (everything c m S ws words, in-order c m S ws word
 
 -- ---- a call that is not refused has passed the tests
 
-pub record Passed (c : Counters) (m : Tables) (ws : List ℕ) (q : Place) (b : ℕ) : Type 0 where
-  pub capacity : fits c m ≡ true
-  pub words : wordsOk (c .resources) ws ≡ true
-  pub place : placeOk (m .statements) (patternsOf ws) (c .resources) (c .statements) q ≡ true
-  pub budget : 0 < b
-
-pub passed : (c : Counters) (m : Tables) (ws : List ℕ) (q : Place) (b : ℕ) → NotRefused (answerOf c m ws q b)
+passed : (c : Counters) (m : Tables) (ws : List ℕ) (q : Place) (b : ℕ) → NotRefused (answerOf c m ws q b)
     → Passed c m ws q b
-unfolding answerOf
 passed c m ws q b =
-    decide (fits c m)
-    (λ f. decide (wordsOk (c .resources) ws)
-    (λ w. decide (placeOk (m .statements) (patternsOf ws) (c .resources) (c .statements) q)
-    (λ p. decide (eqb b 0)
-    (λ z. rw (f, w, p, z) (λ n. absurd n))
-    (λ z. λ n. let d : b ≢ 0 = eqb-false b 0 z in
-    record { capacity = f; words = w; place = p; budget = omega arith }))
-    (λ p. rw (f, w, p) (λ n. absurd n)))
-    (λ w. rw (f, w) (λ n. absurd n)))
-    (λ f. rw f (λ n. absurd n))
+    answer-cases c m ws q b (λ a. NotRefused a → Passed c m ws q b) (λ f n. absurd n) (λ w n. absurd n)
+    (λ o n. absurd n) (λ z n. absurd n) (λ P n. P)
 
 -- ---- refusal 6 is given by its test alone
 
@@ -298,7 +280,8 @@ opened-words c m ws =
 pub reclaimed-refused : ReclaimedClaim
 reclaimed-refused c m S ws qs calls h b′ = (
   λ d. let o = opened-words c m ws d in gone c m S ws qs calls h b′ ((openQueryOf c m ws) .cursor) (o .0) (o .1),
-  λ q b u. gone c m S ws qs calls h b′ ((nextQueryOf c m ws q b) .cursor) (tests c m S ws q b u .words) (now-number c m S ws q b u),
+  λ q b u. gone c m S ws qs calls h b′ ((nextQueryOf c m ws q b) .cursor) (tests c m S ws q b u .words)
+      (now-number c m S ws q b u),
 )
 
 -- ---- budgets add up
@@ -309,7 +292,8 @@ plus w (found s v q) = found s (w + v) q
 plus w (ended v) = ended (w + v)
 plus w (spent v q) = spent (w + v) q
 
-packed-plus : (g w : ℕ) (a : Answer) → NotRefused a → queryValues (packed g (plus w a)) ≡ moreVisits w (queryValues (packed g a))
+packed-plus : (g w : ℕ) (a : Answer) → NotRefused a
+    → queryValues (packed g (plus w a)) ≡ moreVisits w (queryValues (packed g a))
 unfolding packed
 packed-plus g w (refused e) n = absurd n
 packed-plus g w (found s v q) n = refl
@@ -326,38 +310,18 @@ spent-only : (a : Answer) (v : ℕ) (q : Place) {P : Type 0} → isSpentAnswer a
 spent-only a v q z e = absurd (true≢false (sym (ap isSpentAnswer e) ∙ z))
 
 module _ (r t : ℕ) (res stm : List ℕ) (ps : List QueryPattern) where
-  walk-plus : (b : ℕ) (l : Level) (up : List Level) (w v : ℕ) → walk r t res stm ps b l up (w + v)
-      ≡ plus w (walk r t res stm ps b l up v)
+  walk-plus : (b : ℕ) (l : Level) (up : List Level) (w v : ℕ)
+      → walk r t res stm ps b l up (w + v) ≡ plus w (walk r t res stm ps b l up v)
   walk-plus zero l up w v = unfold walk in (decide (remains stm l up) (λ e. rw e) (λ e. rw e))
-  walk-plus (suc b) l up w v = one (backtrack stm l up) refl (λ l up v. walk-plus b l up w v)
-    where
-      two : (n : Level) (top : List Level) → backtrack stm l up ≡ n ∷ top → (g : Turn) → visit r t res stm ps n top ≡ g
-          → ((l : Level) (up : List Level) (v : ℕ) → walk r t res stm ps b l up (w + v)
-          ≡ plus w (walk r t res stm ps b l up v))
-          → walk r t res stm ps (suc b) l up (w + v) ≡ plus w (walk r t res stm ps (suc b) l up v)
-      two n top e bad d ih =
-          rw (walk-bad r t res stm ps l up (w + v) b n top e d, walk-bad r t res stm ps l up v b n top e d)
-      two n top e (go n′ top′) d ih =
-          let k : w + v + 1 ≡ w + (v + 1) = omega arith in
-          rw (
-            walk-go r t res stm ps l up (w + v) b n top n′ top′ e d,
-            walk-go r t res stm ps l up v b n top n′ top′ e d,
-            k,
-          ) (ih n′ top′ (v + 1))
-      two n top e (whole s n′ top′) d ih =
-          let k : w + v + 1 ≡ w + (v + 1) = omega arith in
-          rw (
-            walk-whole r t res stm ps l up (w + v) b n top s n′ top′ e d,
-            walk-whole r t res stm ps l up v b n top s n′ top′ e d,
-            k,
-          )
-
-      one : (k : List Level) → backtrack stm l up ≡ k
-          → ((l : Level) (up : List Level) (v : ℕ) → walk r t res stm ps b l up (w + v)
-          ≡ plus w (walk r t res stm ps b l up v))
-          → walk r t res stm ps (suc b) l up (w + v) ≡ plus w (walk r t res stm ps (suc b) l up v)
-      one [] e ih = rw (walk-ended r t res stm ps l up (w + v) b e, walk-ended r t res stm ps l up v b e)
-      one (n ∷ top) e ih = two n top e (visit r t res stm ps n top) refl ih
+  walk-plus (suc b) l up w v =
+      let k : w + v + 1 ≡ w + (v + 1) = omega arith in
+      walk-turn r t res stm ps l up v (λ a. walk r t res stm ps (suc b) l up (w + v) ≡ plus w a) b
+      (λ e. walk-ended r t res stm ps l up (w + v) b e)
+      (λ n top e d. walk-bad r t res stm ps l up (w + v) b n top e d)
+      (λ n top n′ top′ e d. walk-go r t res stm ps l up (w + v) b n top n′ top′ e d
+      ∙ ap (λ (z : ℕ). walk r t res stm ps b n′ top′ z) k ∙ walk-plus b n′ top′ w (v + 1))
+      (λ n top s n′ top′ e d. walk-whole r t res stm ps l up (w + v) b n top s n′ top′ e d
+      ∙ ap (λ (z : ℕ). found s z (inside n′ top′)) k)
 
   -- where the first budget is spent, the walk with both goes on as the second
   abbrev Splits : ℕ → ℕ → Level → List Level → ℕ → ℕ → Place → Type 0
@@ -383,35 +347,19 @@ module _ (r t : ℕ) (res stm : List ℕ) (ps : List QueryPattern) where
             ap (λ (k : ℕ). walk r t res stm ps k l up v) z
                 ∙ ap (λ (k : ℕ). walk r t res stm ps b′ l up k) x,
           )
-  walk-split (suc b) b′ l up v v′ q = one (backtrack stm l up) refl (λ l up v. walk-split b b′ l up v v′ q)
-    where
-      more : suc b + b′ ≡ suc (b + b′)
-      more = omega arith
-
-      two : (n : Level) (top : List Level) → backtrack stm l up ≡ n ∷ top → (g : Turn) → visit r t res stm ps n top ≡ g
-          → ((l : Level) (up : List Level) (v : ℕ) → walk r t res stm ps b l up v ≡ spent v′ q
-          → Splits b b′ l up v v′ q)
-          → walk r t res stm ps (suc b) l up v ≡ spent v′ q → Splits (suc b) b′ l up v v′ q
-      two n top e bad d ih k =
-          spent-only (refused Damaged) v′ q refl (sym (walk-bad r t res stm ps l up v b n top e d) ∙ k)
-      two n top e (go n′ top′) d ih k =
-          let w = ih n′ top′ (v + 1) (sym (walk-go r t res stm ps l up v b n top n′ top′ e d) ∙ k) in (
-            w .0,
-            w .1,
-            w .2,
-            ap (λ (z : ℕ). walk r t res stm ps z l up v) more
-                ∙ walk-go r t res stm ps l up v (b + b′) n top n′ top′ e d ∙ w .3,
-          )
-      two n top e (whole s n′ top′) d ih k =
-          spent-only (found s (v + 1) (inside n′ top′)) v′ q refl
-          (sym (walk-whole r t res stm ps l up v b n top s n′ top′ e d) ∙ k)
-
-      one : (k : List Level) → backtrack stm l up ≡ k
-          → ((l : Level) (up : List Level) (v : ℕ) → walk r t res stm ps b l up v ≡ spent v′ q
-          → Splits b b′ l up v v′ q)
-          → walk r t res stm ps (suc b) l up v ≡ spent v′ q → Splits (suc b) b′ l up v v′ q
-      one [] e ih k = spent-only (ended v) v′ q refl (sym (walk-ended r t res stm ps l up v b e) ∙ k)
-      one (n ∷ top) e ih k = two n top e (visit r t res stm ps n top) refl ih k
+  walk-split (suc b) b′ l up v v′ q =
+      let more : suc b + b′ ≡ suc (b + b′) = omega arith in
+      walk-turn r t res stm ps l up v (λ a. a ≡ spent v′ q → Splits (suc b) b′ l up v v′ q) b
+      (λ e k. spent-only (ended v) v′ q refl k)
+      (λ n top e d k. spent-only (refused Damaged) v′ q refl k)
+      (λ n top n′ top′ e d k. let w = walk-split b b′ n′ top′ (v + 1) v′ q k in (
+        w .0,
+        w .1,
+        w .2,
+        ap (λ (z : ℕ). walk r t res stm ps z l up v) more
+            ∙ walk-go r t res stm ps l up v (b + b′) n top n′ top′ e d ∙ w .3,
+      ))
+      (λ n top s n′ top′ e d k. spent-only (found s (v + 1) (inside n′ top′)) v′ q refl k)
 
   abbrev Resumes : ℕ → ℕ → Place → ℕ → Place → Type 0
   Resumes b b′ p v q =
@@ -438,13 +386,6 @@ module _ (r t : ℕ) (res stm : List ℕ) (ps : List QueryPattern) where
       (λ e. rw e (λ d. walk-split b b′ ((pruned stm l up) .0) ((pruned stm l up) .1) 0 v q d))
       (λ e. rw e (λ d. spent-only (refused Damaged) v q refl d))
   resume-split b b′ finish v q = λ d. spent-only (ended 0) v q refl d
-
--- tests passed: the walk is all that is left
-resumes : (c : Counters) (m : Tables) (ws : List ℕ) (q : Place) (b : ℕ) → Passed c m ws q b
-    → answerOf c m ws q b ≡ resume (c .resources) (c .statements) (m .resources) (m .statements) (patternsOf ws) q b
-unfolding answerOf
-resumes c m ws q b P = let n : b ≢ 0 = let h = P .budget in omega arith in
-    rw (P .capacity, P .words, P .place, ne-eqb b 0 n)
 
 spent-answer : (g : ℕ) (a : Answer) → (queryValues (packed g a)) .status ≡ 3 → (v : ℕ) × (q : Place) × (a ≡ spent v q)
 unfolding packed
@@ -534,7 +475,8 @@ budgets-add c m S ws q b b′ h e =
     let k₀ = spent-answer (c .generation) (outcome c m ws q b) (unfold nextQueryOf in e) in
     let f = unrefused-read c m ws q b (unfold nextQueryOf in (rw (k₀ .2))) .0 in
     let n = read-on c m ws q b f in
-    let k = spent-answer (c .generation) (answerOf c m ws (placeOf q) b) (ap (λ (z : QueryAnswer). (queryValues z) .status) (sym n) ∙ e) in
+    let k = spent-answer (c .generation) (answerOf c m ws (placeOf q) b)
+    (ap (λ (z : QueryAnswer). (queryValues z) .status) (sym n) ∙ e) in
     let P = passed c m ws (placeOf q) b (rw (k .2) tt) in
     ap queryValues (read-on c m ws q (b + b′) f)
     ∙ both c m S ws (P .words) (placeOf q) b b′ (k .0) (k .1) P h (k .2)

@@ -1,5 +1,6 @@
--- Any place that refusal 6 accepts, after whatever was asserted or retracted since it was given: a call answers from the solutions that
--- hold now, at or after the place; levels below a record retracted since do not count. Assumes nothing.
+-- Any place that refusal 6 accepts, after whatever was asserted or retracted since it was given: a call answers from
+-- the solutions that hold now, at or after the place; levels below a record retracted since do not count.
+-- Assumes nothing.
 use mathlib.Core.Path.{_≡_, refl, sym, ap, _∙_, fun-ext}
 use mathlib.Core.Logic.{_≢_}
 use mathlib.Core.Bool.{Bool, true, false, _||_, true≢false, false≢true}
@@ -33,13 +34,13 @@ use Rattle.graph.specs.Query.{intact, anyRetracted, pruned, nextPattern,
 use Rattle.graph.specs.Order.{atOrAfter, numbersOn}
 use Rattle.graph.proofs.Laws.{entered-tests, place-tests}
 use Rattle.graph.proofs.Bind.{or-l, or-r, some-orElse, Known3, match-matched}
-use Rattle.graph.proofs.Solve.{down, each, solve, AllFit, hit-some, hit-of, statements, numberOf}
+use Rattle.graph.proofs.Solve.{down, each, solve, Every, AllFit, hit-some, hit-of, statements, numberOf}
 use Rattle.graph.specs.Work.{hitAt}
 use Rattle.graph.proofs.Solve.{number-in}
 use Rattle.graph.proofs.Levels.{AllLow, left, toilLeft, above, sols, Deep, Entered, past-deep, suc-prev}
 use Rattle.graph.proofs.Levels.{tri-low, pat-fit, match-on, hit-same, left-past}
 use Rattle.graph.proofs.Reading.{leftAt, toilAt, visitsAt, Reached, Outcome, walk-outcome, start-outcome}
-use Rattle.graph.proofs.Reading.{reached-ok}
+use Rattle.graph.proofs.Reading.{retracted-entry, reached-ok}
 
 -- ---- the solutions from a tuple of statement numbers on
 
@@ -134,8 +135,7 @@ from-none E n [] b = refl
 from-none E n (x ∷ ps) b = refl
 
 abbrev pub AllLe : ℕ → List ℕ → Type 0
-AllLe n [] = Unit {0}
-AllLe n (m ∷ ms) = (m ≤ n) × AllLe n ms
+AllLe n ms = Every (λ m. m ≤ n) ms
 
 module _ (E : ℕ → Entry) (n : ℕ) (positive : (i : ℕ) → i < n → Known3 ((E i) .spo))
     (once : (i j : ℕ) → i < j → j < n → (E i) .spo ≢ (E j) .spo) where
@@ -229,21 +229,29 @@ module _ (r t : ℕ) (res stm : List ℕ) (ps : List QueryPattern) where
     in-deep up (suc i) h = in-suc up i [] h ∙ unfold sols down in
         (rw (fun-ext (λ b′. from-none (entryAt stm) t (drop (suc (length up)) ps) b′)))
 
+    -- by what the record of a level hits
+    record-split : (e : Level) (up : List Level) (ns : List ℕ) (o : Option Bindings) → length up < length ps
+        → 0 < e .statement .0
+        → hitAt (entryAt stm) (nextPattern ps up) (binds stm ps up) (prev (e .statement .0)) ≡ o
+        → fromIn up (e .statement .0 ∷ ns)
+        ≡ each o (λ b′. from (entryAt stm) t (drop (suc (length up)) ps) b′ ns)
+        ++ down (sols r t res stm ps up) (prev (e .statement .0))
+    record-split e up ns o h p d =
+        ap (λ (z : ℕ). fromIn up (z ∷ ns)) (suc-prev (e .statement .0) p)
+        ∙ in-suc up (prev (e .statement .0)) ns h
+        ∙ ap (λ (z : Option Bindings). each z (λ b′. from (entryAt stm) t (drop (suc (length up)) ps) b′ ns)
+        ++ down (sols r t res stm ps up) (prev (e .statement .0))) d
+
     from-split : (up : List Level) (ns : List ℕ) → Entered r t res stm ps up
         → fromC (numbersOn up ns) ≡ fromIn up ns ++ above r t res stm ps up
     unfolding numbersOn above
     from-split [] ns N = unfold binds in (sym (append-nil (from (entryAt stm) t ps unbound ns)))
     from-split (e ∷ up) ns N =
         let P = N .0 in
-        let q = suc-prev (e .statement .0) (P .pos) in
         let h = sym (hit-same r t res stm ps L fit low e up) ∙ P .hits in
         from-split up (e .statement .0 ∷ ns) (N .1)
-        ∙ ap (λ (z : ℕ). fromIn up (z ∷ ns) ++ above r t res stm ps up) q
         ∙ ap (λ (z : List Bindings). z ++ above r t res stm ps up)
-        (in-suc up (prev (e .statement .0)) ns (P .deep .room))
-        ∙ ap (λ (z : Option Bindings).
-        (each z (λ b′. from (entryAt stm) t (drop (suc (length up)) ps) b′ ns) ++ down (sols r t res stm ps up)
-        (prev (e .statement .0))) ++ above r t res stm ps up) h
+        (record-split e up ns (some (binds stm ps (e ∷ up))) (P .deep .room) (P .pos) h)
         ∙ append-assoc (fromIn (e ∷ up) ns) (down (sols r t res stm ps up) (prev (e .statement .0)))
         (above r t res stm ps up)
 
@@ -262,7 +270,8 @@ module _ (r t : ℕ) (res stm : List ℕ) (ps : List QueryPattern) where
     bits e up h =
         let f = (entered-tests r t stm ps e up) .0 h in
         let T = f .0 in
-        (record { pos = T .positive; le = T .within; picked = T .chain; matched = some-orElse _ (binds stm ps up) (T .matched) }, f .1)
+        let b = some-orElse _ (binds stm ps up) (T .matched) in
+        (record { pos = T .positive; le = T .within; picked = T .chain; matched = b }, f .1)
 
     deep-of : (e : Level) (up : List Level) → Entered r t res stm ps up → length up < length ps → Bits e up
         → Deep r t res stm ps e up
@@ -285,10 +294,6 @@ module _ (r t : ℕ) (res stm : List ℕ) (ps : List QueryPattern) where
             (pat-fit r t res stm ps L fit low up N h) (tri-low r t res stm ps L fit low (prev (e .statement .0)) i)
             (unfold asked in o) (B .matched))
 
-    retracted-entry : (e : Level) → levelRetracted stm e ≡ (entryAt stm (prev (e .statement .0))) .retracted
-    unfolding levelRetracted entryAt
-    retracted-entry e = refl
-
     hit-entry : (e : Level) (up : List Level) → (entryAt stm (prev (e .statement .0))) .retracted ≡ false
         → match (nextPattern ps up) (tripleAt stm (prev (e .statement .0))) (binds stm ps up)
         ≡ some (binds stm ps (e ∷ up))
@@ -310,7 +315,7 @@ module _ (r t : ℕ) (res stm : List ℕ) (ps : List QueryPattern) where
             deep = deep-of e up N (omega arith) B;
             pos = B .pos;
             hits = hit-same r t res stm ps L fit low e up
-                ∙ hit-entry e up (sym (retracted-entry e) ∙ or-l (levelRetracted stm e) _ z) (B .matched);
+                ∙ hit-entry e up (sym (retracted-entry stm e) ∙ or-l (levelRetracted stm e) _ z) (B .matched);
           },
           N,
         )
@@ -318,20 +323,21 @@ module _ (r t : ℕ) (res stm : List ℕ) (ps : List QueryPattern) where
     hit-retracted : (e : Level) (up : List Level) → levelRetracted stm e ≡ true
         → hitAt (entryAt stm) (nextPattern ps up) (binds stm ps up) (prev (e .statement .0)) ≡ none
     unfolding hitAt
-    hit-retracted e up z = rw (sym (retracted-entry e) ∙ z)
+    hit-retracted e up z = rw (sym (retracted-entry stm e) ∙ z)
 
     -- a record retracted: what is deeper does not count
     retracted-split : (e : Level) (up : List Level) (ns : List ℕ) → Entered r t res stm ps up → length up < length ps
         → 0 < e .statement .0 → levelRetracted stm e ≡ true
-        → fromC (numbersOn up (e .statement .0 ∷ ns)) ≡ down (sols r t res stm ps up)
-        (prev (e .statement .0)) ++ above r t res stm ps up
+        → fromC (numbersOn up (e .statement .0 ∷ ns))
+        ≡ down (sols r t res stm ps up) (prev (e .statement .0)) ++ above r t res stm ps up
     retracted-split e up ns N h p z =
         from-split up (e .statement .0 ∷ ns) N
-        ∙ ap (λ (z : ℕ). fromIn up (z ∷ ns) ++ above r t res stm ps up) (suc-prev (e .statement .0) p)
-        ∙ ap (λ (z : List Bindings). z ++ above r t res stm ps up) (in-suc up (prev (e .statement .0)) ns h)
-        ∙ ap (λ (z : Option Bindings).
-        (each z (λ b′. from (entryAt stm) t (drop (suc (length up)) ps) b′ ns) ++ down (sols r t res stm ps up)
-        (prev (e .statement .0))) ++ above r t res stm ps up) (hit-retracted e up z)
+        ∙ ap (λ (z : List Bindings). z ++ above r t res stm ps up)
+        (record-split e up ns none h p (hit-retracted e up z))
+
+    only-last : (a b : Bool) → a || b ≡ true → b ≡ false → a ≡ true
+    only-last true b e d = refl
+    only-last false b e d = absurd (true≢false (sym e ∙ d))
 
     from-cut : (up : List Level) (ns ns′ : List ℕ) → length up ≤ length ps → enteredOk stm ps r t up ≡ true
         → anyRetracted stm up ≡ true → fromC (numbersOn up ns) ≡ fromC (numbersOn up ns′)
@@ -341,20 +347,12 @@ module _ (r t : ℕ) (res stm : List ℕ) (ps : List QueryPattern) where
         let K = bits e up o in
         decide (anyRetracted stm up)
         (λ d. from-cut up (e .statement .0 ∷ ns) (e .statement .0 ∷ ns′) (omega arith) (K .1) d)
-        (λ d. let N = entered-of up (omega arith) (K .1) d in let k : levelRetracted stm e ≡ true =
-        last (levelRetracted stm e) (rw d at z) in
+        (λ d. let N = entered-of up (omega arith) (K .1) d in
+        let k = only-last (levelRetracted stm e) (anyRetracted stm up) z d in
         retracted-split e up ns N (omega arith) (K .0 .pos) k
         ∙ sym (retracted-split e up ns′ N (omega arith) (K .0 .pos) k))
-      where
-        last : (a : Bool) → a || false ≡ true → a ≡ true
-        last true e = refl
-        last false e = e
 
     -- ---- the place as the walk takes it up
-
-    only-last : (a b : Bool) → a || b ≡ true → b ≡ false → a ≡ true
-    only-last true b e d = refl
-    only-last false b e d = absurd (true≢false (sym e ∙ d))
 
     past-step : (e : Level) (up : List Level) (l : Level) → length up < length ps
         → enteredOk stm ps r t (e ∷ up) ≡ true → anyRetracted stm (e ∷ up) ≡ true

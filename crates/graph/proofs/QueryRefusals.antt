@@ -1,5 +1,5 @@
--- The refusals of a query's two operations, each exactly (`RefusalsClaim`): the tests in their order give the number, and the numbers
--- differ. Assumes nothing.
+-- The refusals of a query's two operations, each exactly (`RefusalsClaim`): the tests in their order give the number,
+-- and the numbers differ. Assumes nothing.
 use mathlib.Core.Path.{_≡_, refl, sym, _∙_}
 use mathlib.Core.Logic.{_≢_, _⊎_, inl, inr}
 use mathlib.Core.Bool.{true, false, true≢false}
@@ -7,17 +7,17 @@ use mathlib.Core.List.{List}
 use Prim.Native.Nat.{ℕ, _<_}
 use native.Mathlib.Omega.{arith}
 use lib.Dec.{eqb}
-use borrow.Author.Tests.{eqb-true, eqb-false, eq-eqb, ne-eqb}
+use borrow.Author.Tests.{eqb-true, eqb-false, eq-eqb}
 use Rattle.store.specs.declared.Counters.{Counters}
 use Rattle.store.specs.Tables.{Tables, fits}
 use Rattle.store.proofs.Tests.{decide}
 use Rattle.graph.specs.declared.QueryCursor.{QueryCursor}
 use Rattle.graph.specs.Words.{wordsOk, patternsOf}
 use Rattle.graph.specs.Place.{placeOf}
-use Rattle.graph.specs.Query.{Answer, placeOk, resume, answerOf, packed, stale, openQueryOf, nextQueryOf}
+use Rattle.graph.specs.Query.{Answer, placeOk, answerOf, packed, stale, openQueryOf, nextQueryOf}
 use Rattle.graph.specs.Values.{queryValues, queryOpenedValues}
 use Rattle.graph.specs.QueryRefusals.{OpenRefused, Admitted, NextRefused, RefusalsClaim}
-use Rattle.graph.proofs.Refusals.{says, resume-not, number-not}
+use Rattle.graph.proofs.Refusals.{says, Passed, resumes, resume-not, number-not}
 use Rattle.graph.proofs.Generations.{own-number, read-on, stale-number}
 use Rattle.graph.proofs.Standing.{place-stands, bad-place}
 
@@ -44,28 +44,28 @@ module _ (c : Counters) (m : Tables) (ws : List ℕ) (q : QueryCursor) (b : ℕ)
   unfolding nextQueryOf stale answerOf packed
   eight-of f w = rw (f, w)
 
-  place-ok : Admitted c m ws q → placeOk (m .statements) (patternsOf ws) (c .resources) (c .statements) (placeOf q) ≡ true
+  place-ok : Admitted c m ws q
+      → placeOk (m .statements) (patternsOf ws) (c .resources) (c .statements) (placeOf q) ≡ true
   place-ok A = (place-stands c m ws (A .capacity) (A .words) (placeOf q)) .1 (A .place)
 
   seven-of : Admitted c m ws q → b ≡ 0 → number ≡ 7
   seven-of A z = rw (read-on c m ws q b (own-number c m ws q (A .generation)))
       (unfold answerOf packed in (rw (A .capacity, A .words, place-ok A, eq-eqb b 0 z)))
 
-  resumed : Admitted c m ws q → 0 < b → answerOf c m ws (placeOf q) b
-      ≡ resume (c .resources) (c .statements) (m .resources) (m .statements) (patternsOf ws) (placeOf q) b
-  unfolding answerOf
-  resumed A h = rw (A .capacity, A .words, place-ok A, ne-eqb b 0 (λ d. omega arith))
-
   walked-of : Admitted c m ws q → 0 < b → (number ≡ 0) ⊎ (number ≡ 9)
-  walked-of A h = rw (read-on c m ws q b (own-number c m ws q (A .generation)), resumed A h)
-      (nine-only (c .generation) _
-      (λ k n. resume-not k n (c .resources) (c .statements) (m .resources) (m .statements) (patternsOf ws) (placeOf q) b))
+  walked-of A h =
+      let P : Passed c m ws (placeOf q) b =
+      record { capacity = A .capacity; words = A .words; place = place-ok A; budget = h } in
+      rw (read-on c m ws q b (own-number c m ws q (A .generation)), resumes c m ws (placeOf q) b P)
+      (nine-only (c .generation) _ (λ k n.
+      resume-not k n (c .resources) (c .statements) (m .resources) (m .statements) (patternsOf ws) (placeOf q) b))
 
   -- ---- the tests, by the number
 
   module _ (P : Type 0) (one : fits c m ≡ false → number ≡ 1 → P)
-      (eight : fits c m ≡ true → wordsOk (c .resources) ws ≡ false → number ≡ 8 → P) (thirteen : number ≡ 13 → P) (six : number ≡ 6 → P)
-      (seven : Admitted c m ws q → b ≡ 0 → number ≡ 7 → P) (walked : Admitted c m ws q → 0 < b → (number ≡ 0) ⊎ (number ≡ 9) → P) where
+      (eight : fits c m ≡ true → wordsOk (c .resources) ws ≡ false → number ≡ 8 → P) (thirteen : number ≡ 13 → P)
+      (six : number ≡ 6 → P) (seven : Admitted c m ws q → b ≡ 0 → number ≡ 7 → P)
+      (walked : Admitted c m ws q → 0 < b → (number ≡ 0) ⊎ (number ≡ 9) → P) where
     by-tests : P
     by-tests =
         decide (fits c m)
@@ -96,35 +96,40 @@ module _ (c : Counters) (m : Tables) (ws : List ℕ) (q : QueryCursor) (b : ℕ)
   next-refused : NextRefused c m ws q b number
   next-refused = record {
     capacity = (
-      λ e. by-tests (fits c m ≡ false) (λ f n. f) (λ f w n. absurd (omega (arith, e, n))) (λ n. absurd (omega (arith, e, n)))
-          (λ n. absurd (omega (arith, e, n))) (λ A z n. absurd (omega (arith, e, n)))
-          (λ A h s. absurd (not-walked 1 (omega arith) (omega arith) e s)),
+      λ e. by-tests (fits c m ≡ false) (λ f n. f) (λ f w n. absurd (omega (arith, e, n)))
+          (λ n. absurd (omega (arith, e, n))) (λ n. absurd (omega (arith, e, n)))
+          (λ A z n. absurd (omega (arith, e, n))) (λ A h s. absurd (not-walked 1 (omega arith) (omega arith) e s)),
       one-of,
     );
     words = (
-      λ e. by-tests ((fits c m ≡ true) × (wordsOk (c .resources) ws ≡ false)) (λ f n. absurd (omega (arith, e, n))) (λ f w n. (f, w))
-          (λ n. absurd (omega (arith, e, n))) (λ n. absurd (omega (arith, e, n))) (λ A z n. absurd (omega (arith, e, n)))
-          (λ A h s. absurd (not-walked 8 (omega arith) (omega arith) e s)),
+      λ e. by-tests ((fits c m ≡ true) × (wordsOk (c .resources) ws ≡ false))
+          (λ f n. absurd (omega (arith, e, n))) (λ f w n. (f, w))
+          (λ n. absurd (omega (arith, e, n))) (λ n. absurd (omega (arith, e, n)))
+          (λ A z n. absurd (omega (arith, e, n))) (λ A h s. absurd (not-walked 8 (omega arith) (omega arith) e s)),
       λ h. eight-of (h .0) (h .1),
     );
     budget = (
-      λ e. by-tests (Admitted c m ws q × (b ≡ 0)) (λ f n. absurd (omega (arith, e, n))) (λ f w n. absurd (omega (arith, e, n)))
-          (λ n. absurd (omega (arith, e, n))) (λ n. absurd (omega (arith, e, n))) (λ A z n. (A, z))
-          (λ A h s. absurd (not-walked 7 (omega arith) (omega arith) e s)),
+      λ e. by-tests (Admitted c m ws q × (b ≡ 0))
+          (λ f n. absurd (omega (arith, e, n))) (λ f w n. absurd (omega (arith, e, n)))
+          (λ n. absurd (omega (arith, e, n))) (λ n. absurd (omega (arith, e, n)))
+          (λ A z n. (A, z)) (λ A h s. absurd (not-walked 7 (omega arith) (omega arith) e s)),
       λ h. seven-of (h .0) (h .1),
     );
     walked = (
-      λ s. by-tests (Admitted c m ws q × (0 < b)) (λ f n. absurd (not-walked 1 (omega arith) (omega arith) n s))
-          (λ f w n. absurd (not-walked 8 (omega arith) (omega arith) n s)) (λ n. absurd (not-walked 13 (omega arith) (omega arith) n s))
-          (λ n. absurd (not-walked 6 (omega arith) (omega arith) n s)) (λ A z n. absurd (not-walked 7 (omega arith) (omega arith) n s))
-          (λ A h s. (A, h)),
+      λ s. by-tests (Admitted c m ws q × (0 < b))
+          (λ f n. absurd (not-walked 1 (omega arith) (omega arith) n s))
+          (λ f w n. absurd (not-walked 8 (omega arith) (omega arith) n s))
+          (λ n. absurd (not-walked 13 (omega arith) (omega arith) n s))
+          (λ n. absurd (not-walked 6 (omega arith) (omega arith) n s))
+          (λ A z n. absurd (not-walked 7 (omega arith) (omega arith) n s)) (λ A h s. (A, h)),
       λ h. walked-of (h .0) (h .1),
     );
   }
 
 -- ---- open
 
-open-refused : (c : Counters) (m : Tables) (ws : List ℕ) → OpenRefused c m ws ((queryOpenedValues (openQueryOf c m ws)) .refusal)
+open-refused : (c : Counters) (m : Tables) (ws : List ℕ)
+    → OpenRefused c m ws ((queryOpenedValues (openQueryOf c m ws)) .refusal)
 unfolding openQueryOf
 open-refused c m ws =
     decide (fits c m)

@@ -1,5 +1,5 @@
--- Calls one after another, of a query or of a scan, from what one call leaves: none is refused, what was found and what is left are all
--- there is, the visits add up, and the reading ends. Assumes nothing.
+-- Calls one after another, of a query or of a scan, from what one call leaves: none is refused, what was found and what
+-- is left are all there is, the visits add up, and the reading ends. Assumes nothing.
 use mathlib.Core.Path.{_≡_, refl, sym, ap, _∙_}
 use mathlib.Core.Bool.{Bool, true, false, false≢true}
 use mathlib.Core.List.{List, [], _∷_, _++_, append-nil}
@@ -8,7 +8,8 @@ use native.Mathlib.Omega.{arith}
 use lib.ListN.{length}
 use Rattle.graph.specs.Claims.{Reply, readOn, AllPositive, foundIn, hasEnded, lastSpent, visitsIn, Read, Ends}
 
--- what one call comes to: ss is left before it, ss′ and w′ visits after it; at most k calls before it, k′ after it, do not end
+-- what one call comes to: ss is left before it, ss′ and w′ visits after it; at most k calls before it, k′ after it, do
+-- not end
 pub data Comes {A Q : Type 0} (ss ss′ : List A) (w′ k k′ : ℕ) (r : Reply A Q) : Type 0 where
   found : r .status ≡ 1 → ss ≡ r .value ∷ ss′ → k′ < k → Comes ss ss′ w′ k k′ r
   ended : r .status ≡ 2 → ss ≡ [] → ss′ ≡ [] → w′ ≡ 0 → Comes ss ss′ w′ k k′ r
@@ -89,8 +90,10 @@ module _ {A Q : Type 0} where
     early = λ bs p e. T bs p .early false (λ q. absurd (false≢true q)) e;
   }
 
--- places with their cursors, what is left at each, the visits left, how many calls from it do not end, and which of them calls leave
-module _ {A Q P : Type 0} (next : Q → ℕ → Reply A Q) (cursor : P → Q) (left : P → List A) (visits calls : P → ℕ) (Ok : P → Type 0) where
+-- places with their cursors, what is left at each, the visits left, how many calls from it do not end, and which of
+-- them calls leave
+module _ {A Q P : Type 0} (next : Q → ℕ → Reply A Q) (cursor : P → Q) (left : P → List A) (visits calls : P → ℕ)
+    (Ok : P → Type 0) where
   -- the place from now on
   pub record Leaves (p : P) (r : Reply A Q) : Type 0 where
     pub now : P
@@ -100,11 +103,13 @@ module _ {A Q P : Type 0} (next : Q → ℕ → Reply A Q) (cursor : P → Q) (l
     pub paid : r .visits + visits now ≡ visits p
     pub comes : Comes (left p) (left now) (visits now) (calls p) (calls now) r
 
-  pub told : ((p : P) (b : ℕ) → Ok p → 0 < b → Leaves p (next (cursor p) b)) → (bs : List ℕ) (p : P) → Ok p → AllPositive bs
+  pub told : ((p : P) (b : ℕ) → Ok p → 0 < b → Leaves p (next (cursor p) b)) → (bs : List ℕ) (p : P) → Ok p
+      → AllPositive bs
       → Told (left p) (visits p) (calls p) bs (readOn next (cursor p) bs)
   unfolding readOn
   told step [] p o h = told-none (left p) (visits p) (calls p)
   told step (b ∷ bs) p o h =
       let L = step p b o (h .0) in
-      told-more (left p) (left (L .now)) (visits p) (visits (L .now)) (calls p) (calls (L .now)) b bs (next (cursor p) b) _
-      (L .unrefused) (L .paid) (L .comes) (rw (L .unrefused, L .reached) (told step bs (L .now) (L .ok) (h .1)))
+      let q = L .now in
+      told-more (left p) (left q) (visits p) (visits q) (calls p) (calls q) b bs (next (cursor p) b) _
+      (L .unrefused) (L .paid) (L .comes) (rw (L .unrefused, L .reached) (told step bs q (L .ok) (h .1)))

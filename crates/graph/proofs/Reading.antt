@@ -1,5 +1,5 @@
--- A query's next call on linked tables, from any place that calls leave: it takes the first solution left, or says that none is left, or
--- spends its budget on the visits; it is never refused. Assumes nothing.
+-- A query's next call on linked tables, from any place that calls leave: it takes the first solution left, or says that
+-- none is left, or spends its budget on the visits; it is never refused. Assumes nothing.
 use mathlib.Core.Path.{_≡_, refl, sym, ap, _∙_}
 use mathlib.Core.Logic.{_≢_}
 use mathlib.Core.Bool.{true, false}
@@ -8,7 +8,7 @@ use Prim.Native.Nat.{ℕ, zero, suc, _+_, _-_, _≤_, _<_}
 use native.Mathlib.Omega.{arith}
 use lib.ListN.{length}
 use lib.Dec.{eqb}
-use borrow.Author.Tests.{eqb-true, eqb-false, le-leb, lt-ltb}
+use borrow.Author.Tests.{eqb-true, eqb-false, le-leb}
 use Rattle.store.specs.declared.Chain.{Chain}
 use Rattle.store.specs.declared.Triple.{Triple}
 use Rattle.store.specs.Shared.{known, prev, Entry}
@@ -21,12 +21,13 @@ use Rattle.store.proofs.Falling.{head-le}
 use Rattle.store.proofs.Chains.{onWords, entry-known, chain-holds-resource}
 use Rattle.graph.specs.declared.QueryPattern.{QueryPattern}
 use Rattle.graph.specs.declared.Level.{Level}
-use Rattle.graph.specs.Query.{match, isSome, Turn, bad, go, whole, Answer, refused, found, ended, spent, recordAt, past}
+use Rattle.graph.specs.Query.{match, isSome, Turn, bad, go, whole, Answer, refused, found, ended, spent, recordAt}
+use Rattle.graph.specs.Query.{past}
 use Rattle.graph.specs.Place.{Place, start, inside, finish}
 use Rattle.graph.specs.Words.{variables, Bindings, unbound}
-use Rattle.graph.specs.Query.{levelRetracted, intact, anyRetracted, pruned, backtrack, remains, nextPattern, binds, asked, enteredOk}
-use Rattle.graph.specs.Query.{placeOk, visit, walk, begun, resume}
-use Rattle.graph.proofs.Laws.{walk-ended, walk-go, walk-whole}
+use Rattle.graph.specs.Query.{levelRetracted, intact, anyRetracted, pruned, backtrack, remains, nextPattern}
+use Rattle.graph.specs.Query.{binds, asked, enteredOk, placeOk, visit, walk, begun, resume}
+use Rattle.graph.proofs.Laws.{walk-turn, entered-tests, place-tests}
 use Rattle.graph.proofs.Solve.{solve, AllFit, hit-some}
 use Rattle.graph.proofs.Levels.{AllLow, left, toilLeft, Deep, Passed, Entered, Backtracked, Turned, firstOf}
 use Rattle.graph.specs.Work.{work}
@@ -43,6 +44,18 @@ work-empty : (E : ℕ → Entry) (n : ℕ) (pk : Triple → Chain) (ps : List Qu
 unfolding work
 work-empty E n pk [] b e = refl
 work-empty E n pk (x ∷ ps) b e = absurd (omega arith)
+
+pub retracted-entry : (stm : List ℕ) (e : Level)
+    → levelRetracted stm e ≡ (entryAt stm (prev (e .statement .0))) .retracted
+unfolding levelRetracted entryAt
+retracted-entry stm e = refl
+
+-- what stands on a chain passes a scan's test of the record to read on from
+pub record-on : (stm : List ℕ) (ch : Chain) (x : Triple) (n : ℕ) → ((i : ℕ) → n ≡ suc i → onWords stm ch x i ≡ true)
+    → recordOk stm ch x n ≡ true
+unfolding recordOk
+record-on stm ch x zero h = refl
+record-on stm ch x (suc i) h = chain-holds-resource stm ch x i (h i refl)
 
 module _ (r t : ℕ) (res stm : List ℕ) (ps : List QueryPattern) where
   unfoldable pub leftAt : Place → List Bindings
@@ -98,38 +111,30 @@ module _ (r t : ℕ) (res stm : List ℕ) (ps : List QueryPattern) where
         (λ e. let z = remains-none r t res stm ps L fit low l up N e in unfold walk in
         (rw e (z .0, omega (arith, z .1))))
     walk-outcome (suc b) l up v D N =
-        one (backtrack stm l up) refl (backtracked r t res stm ps L fit low l up D N)
-        (λ l up v D N. walk-outcome b l up v D N)
+        walk-turn r t res stm ps l up v
+        (Outcome v (suc b) (left r t res stm ps l up) (toilLeft r t res stm ps l up) (toilLeft r t res stm ps l up)) b
+        (λ e. let K : Backtracked r t res stm ps l up [] = rw e at behind in (K .0, omega (arith, K .1)))
+        (λ n top e d. absurd (came n top e bad d .1))
+        (λ n top n′ top′ e d. let K = came n top e (go n′ top′) d in let S = K .0 in let T = K .1 in
+        outcome-more (v + 1) v b (suc b) (left r t res stm ps n′ top′) (left r t res stm ps l up)
+        (toilLeft r t res stm ps n′ top′) (toilLeft r t res stm ps l up)
+        (toilLeft r t res stm ps n′ top′) (toilLeft r t res stm ps l up)
+        (walk r t res stm ps b n′ top′ (v + 1))
+        (T .2 ∙ S .3) (omega (arith, T .3, S .4)) (omega arith) (omega (arith, T .3, S .4)) (omega arith)
+        (walk-outcome b n′ top′ (v + 1) (T .0) (T .1)))
+        (λ n top s n′ top′ e d. let K = came n top e (whole s n′ top′) d in let S = K .0 in let T = K .1 in
+        unfold leftAt toilAt visitsAt in
+        (sym (S .3) ∙ T .2, (T .0, T .1), omega (arith, T .3, S .4), omega (arith, T .3, S .4)))
       where
-        two : (m : Level) (top : List Level) → backtrack stm l up ≡ m ∷ top → Backtracked r t res stm ps l up (m ∷ top)
-            → (g : Turn) → visit r t res stm ps m top ≡ g → Turned r t res stm ps m top g
-            → ((l : Level) (up : List Level) (v : ℕ) → Deep r t res stm ps l up → Entered r t res stm ps up
-            → Outcome v b (left r t res stm ps l up) (toilLeft r t res stm ps l up)
-            (toilLeft r t res stm ps l up) (walk r t res stm ps b l up v))
-            → Outcome v (suc b) (left r t res stm ps l up) (toilLeft r t res stm ps l up)
-            (toilLeft r t res stm ps l up) (walk r t res stm ps (suc b) l up v)
-        two m top e S bad d T ih = absurd T
-        two m top e S (go m′ top′) d T ih = rw (walk-go r t res stm ps l up v b m top m′ top′ e d)
-            (outcome-more (v + 1) v b (suc b) (left r t res stm ps m′ top′) (left r t res stm ps l up)
-            (toilLeft r t res stm ps m′ top′) (toilLeft r t res stm ps l up)
-            (toilLeft r t res stm ps m′ top′) (toilLeft r t res stm ps l up)
-            (walk r t res stm ps b m′ top′ (v + 1))
-            (T .2 ∙ S .3) (omega (arith, T .3, S .4)) (omega arith) (omega (arith, T .3, S .4)) (omega arith)
-            (ih m′ top′ (v + 1) (T .0) (T .1)))
-        two m top e S (whole s m′ top′) d T ih = rw (walk-whole r t res stm ps l up v b m top s m′ top′ e d)
-            (unfold leftAt toilAt visitsAt in
-            (sym (S .3) ∙ T .2, (T .0, T .1), omega (arith, T .3, S .4), omega (arith, T .3, S .4)))
+        behind : Backtracked r t res stm ps l up (backtrack stm l up)
+        behind = backtracked r t res stm ps L fit low l up D N
 
-        one : (k : List Level) → backtrack stm l up ≡ k → Backtracked r t res stm ps l up k
-            → ((l : Level) (up : List Level) (v : ℕ) → Deep r t res stm ps l up → Entered r t res stm ps up
-            → Outcome v b (left r t res stm ps l up) (toilLeft r t res stm ps l up)
-            (toilLeft r t res stm ps l up) (walk r t res stm ps b l up v))
-            → Outcome v (suc b) (left r t res stm ps l up) (toilLeft r t res stm ps l up)
-            (toilLeft r t res stm ps l up) (walk r t res stm ps (suc b) l up v)
-        one [] e S ih = rw (walk-ended r t res stm ps l up v b e) (S .0, omega (arith, S .1))
-        one (m ∷ top) e S ih =
-            two m top e S (visit r t res stm ps m top) refl
-            (turn r t res stm ps L fit low m top (S .0) (S .1) (S .2)) ih
+        came : (n : Level) (top : List Level) → backtrack stm l up ≡ n ∷ top → (g : Turn)
+            → visit r t res stm ps n top ≡ g
+            → Backtracked r t res stm ps l up (n ∷ top) × Turned r t res stm ps n top g
+        came n top e g d =
+            let K : Backtracked r t res stm ps l up (n ∷ top) = rw e at behind in
+            (K, rw d at (turn r t res stm ps L fit low n top (K .0) (K .1) (K .2)))
 
     binds-none : binds stm ps [] ≡ unbound
     unfolding binds
@@ -146,38 +151,33 @@ module _ (r t : ℕ) (res stm : List ℕ) (ps : List QueryPattern) where
     unfolding recordAt
     isSome-match e up P = rw (passed-match r t res stm ps L fit low e up P)
 
-    retracted-same : (e : Level) → levelRetracted stm e ≡ (entryAt stm (prev (e .statement .0))) .retracted
-    unfolding levelRetracted entryAt
-    retracted-same e = refl
-
     entered-ok : (up : List Level) → Entered r t res stm ps up → enteredOk stm ps r t up ≡ true
-    unfolding enteredOk
-    entered-ok [] N = refl
+    entered-ok [] N = unfold enteredOk in refl
     entered-ok (e ∷ up) N =
-        let P = N .0 in let D = P .deep in
-        let i = under-top r t res stm ps L fit low e up P in
-        and-of _ _
-        (and-of _ _ (and-of _ _ (lt-ltb 0 (e .statement .0) (P .pos)) (le-leb (e .statement .0) t (D .le)))
-        (and-of _ _ (D .picked)
-        (and-of _ _
-        (known-record (e .statement .0) i) (isSome-match e up P))))
-        (entered-ok up (N .1))
-
-    next-ok : (ch : Chain) (x : Triple) (n : ℕ) → ((i : ℕ) → n ≡ suc i → onWords stm ch x i ≡ true)
-        → recordOk stm ch x n ≡ true
-    unfolding recordOk
-    next-ok ch x zero h = refl
-    next-ok ch x (suc i) h = chain-holds-resource stm ch x i (h i refl)
+        let P = N .0 in
+        (entered-tests r t stm ps e up) .1 (
+          record {
+            positive = P .pos;
+            within = P .deep .le;
+            chain = P .deep .picked;
+            resources = known-record (e .statement .0) (under-top r t res stm ps L fit low e up P);
+            matched = isSome-match e up P;
+          },
+          entered-ok up (N .1),
+        )
 
     pub reached-ok : (q : Place) → Reached q → placeOk stm ps r t q ≡ true
-    unfolding placeOk
-    reached-ok start R = refl
+    reached-ok start R = unfold placeOk in refl
     reached-ok (inside l up) R =
         let D = R .0 in
-        and-of _ _ (lt-ltb (length up) (length ps) (D .room)) (and-of _ _ (entered-ok up (R .1))
-        (and-of _ _ (le-leb (l .statement .0) t (D .le))
-        (and-of _ _ (D .picked) (next-ok (l .chain) (asked stm ps up) (l .statement .0) (D .here)))))
-    reached-ok finish R = refl
+        (place-tests r t stm ps l up) .1 (record {
+          room = D .room;
+          entered = entered-ok up (R .1);
+          within = D .le;
+          chain = D .picked;
+          next = record-on stm (l .chain) (asked stm ps up) (l .statement .0) (D .here);
+        })
+    reached-ok finish R = unfold placeOk in refl
 
     pub intact-ok : (up : List Level) → Entered r t res stm ps up → intact stm up ≡ true
     unfolding intact
@@ -198,7 +198,7 @@ module _ (r t : ℕ) (res stm : List ℕ) (ps : List QueryPattern) where
     none-retracted [] N = refl
     none-retracted (e ∷ up) N =
         let h = (hit-some _ _ _ _ _ (sym (hit-same r t res stm ps L fit low e up) ∙ N .0 .hits)) .0 in
-        rw (none-retracted up (N .1), retracted-same e, h)
+        rw (none-retracted up (N .1), retracted-entry stm e, h)
 
     pub pruned-same : (l : Level) (up : List Level) → Entered r t res stm ps up → pruned stm l up ≡ (l, up)
     unfolding pruned

@@ -1,9 +1,10 @@
--- Closed runs of a query over the tables: the paper's example, the edges of its rules and the number of reclaims (paper 02, note 6), whole
--- answers and cursors compared; and the words of the claims for a reading, of queries and of scans. Assumes nothing.
+-- Closed runs of a query over the tables: the paper's example, the edges of its rules and the number of reclaims (paper
+-- 02, note 6), whole answers and cursors compared; and the words of the claims for a reading, of queries and of scans.
+-- Assumes nothing.
 use mathlib.Core.Path.{_≡_, refl}
 use mathlib.Core.Bool.{Bool, true, false}
 use mathlib.Core.List.{List, [], _∷_, _++_, map}
-use Prim.Native.Nat.{ℕ, zero, suc, _+_}
+use Prim.Native.Nat.{ℕ, zero, suc, _+_, _-_}
 use lib.ListN.{replicate}
 use Rattle.store.specs.declared.Counters.{Counters}
 use Rattle.store.specs.declared.Chain.the-variants.{All, By}
@@ -20,18 +21,21 @@ use Rattle.graph.specs.declared.Level.{Level}
 use Rattle.graph.specs.declared.Progress.{Progress}
 use Rattle.graph.specs.declared.Progress.the-variants.{Start, Within, End}
 use Rattle.graph.specs.declared.QueryCursor.{QueryCursor}
-use Rattle.graph.specs.Query.{bindWord, match, recordAt, past, levelRetracted, intact, anyRetracted, pruned, backtrack}
-use Rattle.graph.specs.Words.{patternsOf, wordOk, allOk, wordsOk, Bindings, resource, valueOf, under}
+use Rattle.graph.specs.Query.{bindWord, match, recordAt, past, levelRetracted, intact, anyRetracted, pruned}
+use Rattle.graph.specs.Query.{backtrack}
+use Rattle.graph.specs.Words.{maxPatterns, variables, firstVariable, patternsOf, wordOk, allOk, wordsOk}
+use Rattle.graph.specs.Words.{Bindings, resource, valueOf, under}
 use Rattle.graph.specs.Place.{level, noLevel, levelsOf, insideOf, placeAs, written, cursorAt}
 use Rattle.graph.specs.Query.{remains, nextPattern, binds, asked, enteredOk, placeOk, enter, hit, tried, visit}
 use Rattle.graph.specs.Query.{walk, begun, resume, answerOf, openQueryOf, packed, stale, nextQueryOf}
 use Rattle.graph.specs.Values.{queryOpenedValues}
-use Rattle.graph.specs.Claims.{Reply, queryReply, readOn, foundIn, hasEnded, lastSpent, visitsIn, nextReply, reading, scanning}
+use Rattle.graph.specs.Claims.{Reply, queryReply, readOn, foundIn, hasEnded, lastSpent, visitsIn, nextReply}
+use Rattle.graph.specs.Claims.{reading, scanning}
 
 -- ---- stores, cursors and answers as numbers
 
 abbrev v : ℕ → ℕ
-v n = 2147483648 + n
+v n = firstVariable + n
 
 pub record TestStore : Type 0 where
   pub counters : Counters
@@ -41,8 +45,7 @@ pub record TestStore : Type 0 where
 abbrev store : ℕ → ℕ → List ℕ → List ℕ → TestStore
 store r t res stm = record {
   counters = record { resources = r; statements = t; text = 0; generation = 0 };
-  tables =
-      tables res stm (replicate r 0) [];
+  tables = tables res stm (replicate r 0) [];
 }
 
 -- a resource record: firsts, counts, offset, kind, live counts, which no query looks at
@@ -81,77 +84,59 @@ much = store 4 1 (rr 1 0 0 1 0 0 (rr 0 1 0 0 1 0 (rr 0 0 1 99 0 1 (rr 0 0 0 0 0 
 odd : ℕ → TestStore
 odd n = store 4 1 (rr 1 0 0 1 0 0 (rr 0 1 0 0 1 0 (rr 0 0 0 0 0 0 (rr 0 0 0 0 0 0 [])))) (sr 1 2 n 0 0 0 0 [])
 
--- the same tables with t for T
-abbrev counted : ℕ → TestStore → TestStore
-counted t s = record {
-  counters = record { resources = s .counters .resources; statements = t; text = s .counters .text; generation = s .counters .generation };
+-- the same tables with t for T and g for the number of reclaims
+abbrev counting : ℕ → ℕ → TestStore → TestStore
+counting t g s = record {
+  counters = record { resources = s .counters .resources; statements = t; text = s .counters .text; generation = g };
   tables = s .tables;
 }
 
--- the same tables with g for the number of reclaims
+abbrev counted : ℕ → TestStore → TestStore
+counted t s = counting t (s .counters .generation) s
+
 abbrev numbered : ℕ → TestStore → TestStore
-numbered g s = record {
-  counters = record { resources = s .counters .resources; statements = s .counters .statements; text = s .counters .text; generation = g };
-  tables = s .tables;
-}
+numbered g s = counting (s .counters .statements) g s
 
 -- after a reclaim
 abbrev reclaimed : TestStore → TestStore
-reclaimed s = let r = reclaimOf (s .counters) (s .tables) in record { counters = afterReclaim (s .counters) (r .1); tables = r .0 }
+reclaimed s = let r = reclaimOf (s .counters) (s .tables) in
+    record { counters = afterReclaim (s .counters) (r .1); tables = r .0 }
 
--- the cursors of a store never reclaimed: eight levels written out, the first pattern first
-abbrev none : QueryCursor
-none = record {
-  progress = Start;
-  depth = 0;
+-- the cursors of a store never reclaimed: the levels entered, the first pattern's first, and blank ones up to the limit
+abbrev standing : Progress → ℕ → List Level → QueryCursor
+standing g n ls = record {
+  progress = g;
+  depth = n;
   generation = 0;
-  levels =
-      noLevel ∷ noLevel ∷ noLevel ∷ noLevel ∷ noLevel ∷ noLevel ∷ noLevel ∷ noLevel ∷ [];
+  levels = ls ++ replicate (maxPatterns - n) noLevel;
 }
+
+abbrev none : QueryCursor
+none = standing Start 0 []
 
 abbrev end : QueryCursor
-end = record {
-  progress = End;
-  depth = 0;
-  generation = 0;
-  levels =
-      noLevel ∷ noLevel ∷ noLevel ∷ noLevel ∷ noLevel ∷ noLevel ∷ noLevel ∷ noLevel ∷ [];
-}
+end = standing End 0 []
 
 abbrev in1 : Level → QueryCursor
-in1 a = record {
-  progress = Within;
-  depth = 1;
-  generation = 0;
-  levels =
-      a ∷ noLevel ∷ noLevel ∷ noLevel ∷ noLevel ∷ noLevel ∷ noLevel ∷ noLevel ∷ [];
-}
+in1 a = standing Within 1 (a ∷ [])
 
 abbrev in2 : Level → Level → QueryCursor
-in2 a b = record {
-  progress = Within;
-  depth = 2;
-  generation = 0;
-  levels =
-      a ∷ b ∷ noLevel ∷ noLevel ∷ noLevel ∷ noLevel ∷ noLevel ∷ noLevel ∷ [];
-}
+in2 a b = standing Within 2 (a ∷ b ∷ [])
 
 abbrev in3 : Level → Level → Level → QueryCursor
-in3 a b d = record {
-  progress = Within;
-  depth = 3;
-  generation = 0;
-  levels =
-      a ∷ b ∷ d ∷ noLevel ∷ noLevel ∷ noLevel ∷ noLevel ∷ noLevel ∷ [];
-}
+in3 a b d = standing Within 3 (a ∷ b ∷ d ∷ [])
 
 -- the same place with g for the number of reclaims
 abbrev after : ℕ → QueryCursor → QueryCursor
 after g q = record { progress = q .progress; depth = q .depth; generation = g; levels = q .levels }
 
--- the first two of sixteen
+-- the first two variables
 abbrev sol : ℕ → ℕ → Bindings
-sol a b = resource a ∷ resource b ∷ replicate 14 (resource 0)
+sol a b = resource a ∷ resource b ∷ replicate (variables - 2) (resource 0)
+
+-- the first three
+abbrev sol3 : ℕ → ℕ → ℕ → Bindings
+sol3 a b d = resource a ∷ resource b ∷ resource d ∷ replicate (variables - 3) (resource 0)
 
 abbrev S : ℕ → Level
 S n = level (By Subject) n
@@ -204,9 +189,9 @@ copies : ℕ → List ℕ
 copies zero = []
 copies (suc n) = 1 ∷ 2 ∷ 3 ∷ copies n
 
--- a cursor of eight equal levels
-abbrev filled : Progress → ℕ → QueryCursor
-filled g n = record { progress = g; depth = n; generation = 0; levels = replicate 8 (P 77) }
+-- a cursor with a level in every slot
+abbrev filled : Progress → ℕ → Level → QueryCursor
+filled g n l = record { progress = g; depth = n; generation = 0; levels = l ∷ replicate (maxPatterns - 1) (P 77) }
 
 -- open, one next call, calls one after another from the start
 abbrev open′ : TestStore → List ℕ → Replied
@@ -253,29 +238,29 @@ opened = record {
       ∷ refusedWith 8 ∷ [];
 }
 
--- no patterns: one empty solution, with the end as place; a budget of 0 is refused at the end too; a level is one too many
+-- no patterns: one empty solution, with the end as place; a budget of 0 is refused at the end too; a level is one too
+-- many
 no-patterns : Case
 no-patterns = record {
   given = read two [] (1 ∷ 1 ∷ 0 ∷ []) ++ next two [] (in1 (level All 1)) 1 ∷ [];
   due = found 0 (sol 0 0) end ∷ ended 0 ∷ refusedWith 7 ∷ refusedWith 6 ∷ [];
 }
 
--- eight patterns, and nine: a visit at each level
-eight-patterns : Case
-eight-patterns = record {
-  given = next two (copies 8) none 9 ∷ next two (copies 9) none 9 ∷ [];
-  due = found 8 (sol 0 0)
-      (record { progress = Within; depth = 8; generation = 0; levels = O 1 ∷ O 1 ∷ O 1 ∷ O 1 ∷ O 1 ∷ O 1 ∷ O 1 ∷ O 0 ∷ [] })
+-- as many patterns as there may be, and one more: a visit at each level
+most-patterns : Case
+most-patterns = record {
+  given = next two (copies maxPatterns) none 99 ∷ next two (copies (maxPatterns + 1)) none 99 ∷ [];
+  due = found maxPatterns (sol 0 0) (standing Within maxPatterns (replicate (maxPatterns - 1) (O 1) ++ O 0 ∷ []))
       ∷ refusedWith 8 ∷ [];
 }
 
 -- what stands past the levels is ignored, and within with no levels is the start
 slots-ignored : Case
 slots-ignored = record {
-  given = next two (1 ∷ 2 ∷ 3 ∷ []) (filled Within 0) 1
-      ∷ next two (1 ∷ 2 ∷ 3 ∷ []) (filled Start 5) 1
-      ∷ next two (1 ∷ 2 ∷ 3 ∷ []) (filled End 5) 1
-      ∷ next two (1 ∷ 2 ∷ 3 ∷ []) (record { progress = Within; depth = 1; generation = 0; levels = O 1 ∷ replicate 7 (P 77) }) 1 ∷ [];
+  given = next two (1 ∷ 2 ∷ 3 ∷ []) (filled Within 0 (P 77)) 1
+      ∷ next two (1 ∷ 2 ∷ 3 ∷ []) (filled Start 5 (P 77)) 1
+      ∷ next two (1 ∷ 2 ∷ 3 ∷ []) (filled End 5 (P 77)) 1
+      ∷ next two (1 ∷ 2 ∷ 3 ∷ []) (filled Within 1 (O 1)) 1 ∷ [];
   due = found 1 (sol 0 0) (in1 (O 0))
       ∷ found 1 (sol 0 0) (in1 (O 0))
       ∷ ended 0
@@ -289,10 +274,10 @@ variable-thrice = record {
   due = spent 1 (in1 (level All 1)) ∷ ended 1 ∷ ended 2 ∷ [];
 }
 
--- 6, clause by clause: two places that stand, the chain of one not the least; a level more than patterns; a number above T, entered and
--- deepest; an entered record 0, one with a resource above R, one with 0, one that is not its pattern's, one that does not match under the
--- earlier ones; a chain that a scan refuses, entered and deepest; a deepest next without the chain's resource. Nothing else of the deepest
--- record is tested: the visit refuses it 9.
+-- 6, clause by clause: two places that stand, the chain of one not the least; a level more than patterns; a number
+-- above T, entered and deepest; an entered record 0, one with a resource above R, one with 0, one that is not its
+-- pattern's, one that does not match under the earlier ones; a chain that a scan refuses, entered and deepest; a
+-- deepest next without the chain's resource. Nothing else of the deepest record is tested: the visit refuses it 9.
 places-accepted : Case
 places-accepted = record {
   given = next (three 0 0) hops (in2 (P 1) (S 3)) 9
@@ -311,8 +296,8 @@ places-accepted = record {
       ∷ next (three 0 0) hops (in2 (P 1) (level All 3)) 9
       ∷ next (three 0 0) hops (in2 (P 1) (S 2)) 9
       ∷ next (odd 5) (1 ∷ 2 ∷ v 0 ∷ []) (in1 (S 1)) 9 ∷ [];
-  due = found 1 (resource 1 ∷ resource 3 ∷ resource 4 ∷ replicate 13 (resource 0)) (in2 (P 1) (S 0))
-      ∷ found 1 (resource 1 ∷ resource 3 ∷ resource 4 ∷ replicate 13 (resource 0)) (in2 (P 1) (P 2))
+  due = found 1 (sol3 1 3 4) (in2 (P 1) (S 0))
+      ∷ found 1 (sol3 1 3 4) (in2 (P 1) (P 2))
       ∷ replicate 13 (refusedWith 6) ++ refusedWith 9 ∷ [];
 }
 
@@ -354,14 +339,14 @@ found-run-out = record {
 -- 9 before any visit, also below a record retracted since
 damaged-below : Case
 damaged-below = record {
-  given = next (three 1 3) (v 0 ∷ 2 ∷ v 1 ∷ v 1 ∷ 2 ∷ v 2 ∷ v 2 ∷ 2 ∷ v 3 ∷ []) (in3 (P 1) (S 3) (S 0)) 1 ∷ [];
+  given = next (three 1 3) three-hops (in3 (P 1) (S 3) (S 0)) 1 ∷ [];
   due = refusedWith 9 ∷ [];
 }
 
 -- a reading to the end: 4 visits, whatever is left of the budget
 large-budget : Case
 large-budget = record {
-  given = next (three 0 0) (v 0 ∷ 2 ∷ v 1 ∷ v 1 ∷ 2 ∷ v 2 ∷ v 2 ∷ 2 ∷ v 3 ∷ []) none 4294967295 ∷ [];
+  given = next (three 0 0) three-hops none 4294967295 ∷ [];
   due = ended 4 ∷ [];
 }
 
@@ -377,13 +362,7 @@ stale-places = record {
       ∷ next (numbered 1 two) (1 ∷ 2 ∷ 3 ∷ []) (in1 (O 1)) 1
       ∷ next two (1 ∷ 2 ∷ 3 ∷ []) (after 1 none) 1
       ∷ next (numbered 2 two) (1 ∷ 2 ∷ 3 ∷ []) (after 1 (in1 (O 1))) 1 ∷ [];
-  due = refusedWith 13
-      ∷ refusedWith 13
-      ∷ refusedWith 13
-      ∷ refusedWith 13
-      ∷ refusedWith 13
-      ∷ refusedWith 13
-      ∷ refusedWith 13 ∷ [];
+  due = replicate 7 (refusedWith 13);
 }
 
 -- 1, 8, 13, 6, 7: each before the next, with a cursor that is refused all the later ones too
@@ -396,7 +375,7 @@ refusals-in-order = record {
       ∷ next (numbered 65535 two) (1 ∷ 2 ∷ 3 ∷ []) (after 65535 (in1 (P 1))) 0
       ∷ open′ (numbered 65536 two) (1 ∷ 2 ∷ [])
       ∷ open′ (numbered 65535 two) (1 ∷ 2 ∷ []) ∷ [];
-  due = refusedWith 1 ∷ refusedWith 8 ∷ refusedWith 13 ∷ refusedWith 6 ∷ refusedWith 7 ∷ refusedWith 1 ∷ refusedWith 8 ∷ [];
+  due = map refusedWith (1 ∷ 8 ∷ 13 ∷ 6 ∷ 7 ∷ 1 ∷ 8 ∷ []);
 }
 
 -- opened, found, ended, spent: the cursor answered has the number
@@ -417,7 +396,8 @@ carried = record {
       ∷ endedAfter 3 0 ∷ [];
 }
 
--- statement 1 is retracted, a query stands before 2: once reclaimed, its cursor is refused 13, and a query anew finds the two left
+-- statement 1 is retracted, a query stands before 2: once reclaimed, its cursor is refused 13, and a query anew finds
+-- the two left
 reclaimed-between : Case
 reclaimed-between = record {
   given = next (three 1 0) (v 0 ∷ 2 ∷ 4 ∷ []) (in1 (P 2)) 9
@@ -432,9 +412,9 @@ reclaimed-between = record {
 
 cases : List Case
 cases =
-    paper ∷ opened ∷ no-patterns ∷ eight-patterns ∷ slots-ignored ∷ variable-thrice ∷ places-accepted ∷ retracted-since ∷ enter-refused ∷
-    run-out-stays ∷ nothing-remains ∷ found-run-out ∷ damaged-below ∷ large-budget ∷ stale-places ∷ refusals-in-order ∷ carried ∷
-    reclaimed-between ∷ []
+    paper ∷ opened ∷ no-patterns ∷ most-patterns ∷ slots-ignored ∷ variable-thrice ∷ places-accepted ∷
+    retracted-since ∷ enter-refused ∷ run-out-stays ∷ nothing-remains ∷ found-run-out ∷ damaged-below ∷
+    large-budget ∷ stale-places ∷ refusals-in-order ∷ carried ∷ reclaimed-between ∷ []
 
 -- ---- the words for a reading
 
@@ -451,7 +431,8 @@ heard rs = record { all = foundIn rs; visits = visitsIn rs; has-ended = hasEnded
 abbrev due : {A : Type 0} → List A → ℕ → Bool → Bool → Heard A
 due xs n e l = record { all = xs; visits = n; has-ended = e; last-spent = l }
 
--- the paper's question: no call; spent; both found and no end yet; ended, and ended again, a refusal between; then spent twice
+-- the paper's question: no call; spent; both found and no end yet; ended, and ended again, a refusal between; then
+-- spent twice
 queries-heard : List (Heard Bindings)
 queries-heard = heard (read two paper-words [])
     ∷ heard (read two paper-words (1 ∷ []))
@@ -466,7 +447,8 @@ queries-due = due [] 0 false false
     ∷ due (sol 1 4 ∷ sol 1 3 ∷ []) 3 true false
     ∷ due [] 2 false true ∷ []
 
--- scans, the latest retracted: spent on it; found, a refusal between; ended, and ended again; of three, the first retracted or not
+-- scans, the latest retracted: spent on it; found, a refusal between; ended, and ended again; of three, the first
+-- retracted or not
 abbrev scan : TestStore → Triple → List ℕ → Heard ℕ
 scan s x bs = heard (scanning (s .counters) (s .tables) x bs)
 
@@ -488,13 +470,14 @@ scans-due = due [] 1 false true
 
 all-as-due : (map (λ (x : Case). x .given) cases ≡ map (λ (x : Case). x .due) cases)
     × (queries-heard ≡ queries-due) × (scans-heard ≡ scans-due)
-unfolding cases paper opened no-patterns eight-patterns slots-ignored variable-thrice places-accepted retracted-since
+unfolding cases paper opened no-patterns most-patterns slots-ignored variable-thrice places-accepted retracted-since
     enter-refused run-out-stays nothing-remains found-run-out damaged-below large-budget stale-places refusals-in-order
-    carried reclaimed-between queries-heard queries-due scans-heard scans-due two three latest-retracted lone much odd copies
-    wordOk allOk wordsOk patternsOf valueOf under bindWord match recordAt past levelRetracted intact anyRetracted pruned backtrack
-    remains nextPattern binds asked enteredOk placeOk enter hit tried visit walk begun resume answerOf levelsOf
+    carried reclaimed-between queries-heard queries-due scans-heard scans-due two three latest-retracted lone much odd
+    copies wordOk allOk wordsOk patternsOf valueOf under bindWord match recordAt past levelRetracted intact
+    anyRetracted pruned backtrack remains nextPattern binds asked enteredOk placeOk enter hit tried visit walk begun
+    resume answerOf levelsOf
     insideOf placeAs written cursorAt openQueryOf packed stale nextQueryOf readOn foundIn hasEnded lastSpent visitsIn
-    known within agrees matches better pick termAt nextAt flagAt tripleAt firstAt countAt liveAt entryAt linkOf startOf holdsResource
-    visitable pickChain pickable chainOk recordOk cursorOk along walkFrom openOf nextOf fits appendRecord
+    known within agrees matches better pick termAt nextAt flagAt tripleAt firstAt countAt liveAt entryAt linkOf startOf
+    holdsResource visitable pickChain pickable chainOk recordOk cursorOk along walkFrom openOf nextOf fits appendRecord
     linkFirst linkRecord unlinked sweepOne sweep blanked sweptOf reclaimOf
 all-as-due = (refl, refl, refl)

@@ -1,9 +1,10 @@
--- A pattern scan read through on a sound store gives exactly the live triples that match, each once, and ends (`ScanClaim`); of one
--- resource at one position it finds as many as the live count says (`LiveCountClaim`). Assumes nothing.
+-- A pattern scan read through on a sound store gives exactly the live triples that match, each once, and ends
+-- (`ScanClaim`); of one resource at one position it finds as many as the live count says (`LiveCountClaim`).
+-- Assumes nothing.
 use mathlib.Core.Path.{_≡_, refl, sym, ap, _∙_}
-use mathlib.Core.Logic.{_≢_, _⊎_, inl, inr}
-use mathlib.Core.Bool.{Bool, true, false, not, _&&_, _||_, true≢false, false≢true}
-use mathlib.Core.List.{List, [], _∷_, List·Memᴰ}
+use mathlib.Core.Logic.{_≢_, _⊎_, inl, inr, ⊎-elim}
+use mathlib.Core.Bool.{Bool, true, false, not, _&&_, true≢false}
+use mathlib.Core.List.{List, [], _∷_, List·Memᴰ, Memᴰ·map, Memᴰ·of-map}
 use mathlib.Core.Option.{some}
 use Prim.Native.Nat.{ℕ, zero, suc, _+_, _-_, _≤_, _<_}
 use native.Mathlib.Omega.{arith}
@@ -24,24 +25,27 @@ use Rattle.store.specs.Values.{scannedValues}
 use Rattle.store.specs.Model.{onChain, Taken, found as took, ended as emptied, spent as stopped, oneMore, readRest}
 use Rattle.store.specs.Walk.{entryAt, pickChain}
 use Rattle.store.specs.Names.{nameAt}
-use Rattle.store.specs.Scan.{openOf, cursorIn, chainOk, recordOk, cursorOk, walkFrom, scannedAs, nextOf}
+use Rattle.store.specs.Scan.{openOf, cursorIn, chainOk, cursorOk, walkFrom, scannedAs, nextOf}
 use Rattle.store.specs.Soundness.{living, Sound}
-use Rattle.store.proofs.Tests.{decide, and-l, and-r, and-of, all3-at, all3-of, within-high, within-of}
+use Rattle.store.proofs.Tests.{decide, and-of, within-high, within-of}
 use Rattle.store.proofs.Falling.{below-cong, below-yes, below-no, below-nil, below-in, below-out, head-le, head-passes}
 use Rattle.store.proofs.Words.{triple-at}
 use Rattle.store.proofs.Walks.{asStep, take-hit, take-miss}
 use Rattle.store.proofs.Picking.{pick-ok}
+use Rattle.store.proofs.Pins.{matches-means}
 use Rattle.store.proofs.LiveCounts.{counted-is}
-use Rattle.store.proofs.Chains.{onWords, pickChain-bound, chain-holds-resource, chain-start, pickable-linked, walk-linked}
+use Rattle.store.proofs.Chains.{onWords, pickChain-bound, chain-start, pickable-linked, walk-linked}
 use Rattle.graph.specs.Work.{scanWorkOf}
 use Rattle.graph.specs.Order.{Descending}
 use Rattle.graph.specs.Meaning.{RdfTriple, partAt}
 use Rattle.graph.specs.Graph.{named, graphOf}
-use Rattle.graph.specs.Claims.{Reply, scanReply, readOn, AllPositive, namedAt, Matches, AllMatches, scanNext, scanning, ScanClaim}
+use Rattle.graph.specs.Claims.{Reply, scanReply, readOn, AllPositive, namedAt, Matches, AllMatches, scanNext}
+use Rattle.graph.specs.Claims.{scanning, ScanClaim}
 use Rattle.graph.specs.LiveClaims.{only, LiveCountClaim}
 use Rattle.graph.proofs.Solve.{descending-nodup}
+use Rattle.graph.proofs.Reading.{record-on}
 use Rattle.graph.proofs.Names.{named-at, names-apart, live-graph}
-use Rattle.graph.proofs.Solutions.{mem-map, map-mem, map-once}
+use Rattle.graph.proofs.Solutions.{map-once}
 use Rattle.graph.proofs.ReadThrough as read
 use Rattle.graph.proofs.ReadThrough.{read-all, Told, told-ends, Leaves, told}
 
@@ -63,7 +67,8 @@ module _ (f hit : ℕ → Bool) (on : (i : ℕ) → hit i ≡ true → f i ≡ t
 
   -- what is taken off the positions below k that are on the chain, with budget b
   abbrev Takes : ℕ → ℕ → Taken → Type 0
-  Takes b k (took n v r) = (j : ℕ) × (j ≤ k) × (r ≡ below f j) × (below hit k ≡ n ∷ below hit j) × (v + many j ≡ many k) × (0 < v)
+  Takes b k (took n v r) =
+      (j : ℕ) × (j ≤ k) × (r ≡ below f j) × (below hit k ≡ n ∷ below hit j) × (v + many j ≡ many k) × (0 < v)
   Takes b k (emptied v) = (below hit k ≡ []) × (v ≡ many k)
   Takes b k (stopped v r) =
       (j : ℕ) × (j ≤ k) × (r ≡ below f j) × (below hit k ≡ below hit j) × (v + many j ≡ many k) × (v ≡ b) × (0 < many j)
@@ -76,9 +81,11 @@ module _ (f hit : ℕ → Bool) (on : (i : ℕ) → hit i ≡ true → f i ≡ t
   takes-skip b k (stopped v r) e d t = (t .0, omega (arith, t .1), t .2, e ∙ t .3, rw d (t .4), t .5, t .6)
 
   -- a position more, visited and passed by
-  takes-miss : (b k : ℕ) (z : Taken) → below hit (suc k) ≡ below hit k → below f (suc k) ≡ suc k ∷ below f k → Takes b k z
+  takes-miss : (b k : ℕ) (z : Taken) → below hit (suc k) ≡ below hit k → below f (suc k) ≡ suc k ∷ below f k
+      → Takes b k z
       → Takes (suc b) (suc k) (oneMore z)
-  takes-miss b k (took n v r) e d t = (t .0, omega (arith, t .1), t .2, e ∙ t .3, rw d (omega (arith, t .4)), omega arith)
+  takes-miss b k (took n v r) e d t =
+      (t .0, omega (arith, t .1), t .2, e ∙ t .3, rw d (omega (arith, t .4)), omega arith)
   takes-miss b k (emptied v) e d t = (e ∙ t .0, rw d (omega (arith, t .1)))
   takes-miss b k (stopped v r) e d t =
       (t .0, omega (arith, t .1), t .2, e ∙ t .3, rw d (omega (arith, t .4)), omega (arith, t .5), t .6)
@@ -114,35 +121,25 @@ module _ (c : Counters) (m : Tables) (S : Sound c m) (x : Triple) (known : withi
   abbrev hit : ℕ → Bool
   hit i = matches x (entryAt (m .statements) i)
 
-  matched : (i : ℕ) → hit i ≡ true → (flagAt (m .statements) i ≢ 1) × (agrees x (tripleAt (m .statements) i) ≡ true)
-  unfolding matches entryAt
-  matched i e = (
-    not-one (flagAt (m .statements) i) (and-l _ _ e),
-    and-r (not (eqb (flagAt (m .statements) i) 1)) _ e,
-  )
-    where
-      not-one : (n : ℕ) → not (eqb n 1) ≡ true → n ≢ 1
-      not-one n e d = false≢true (rw (eq-eqb n 1 d) at e)
+  -- a triple with the pattern's resources, 0 standing for any
+  abbrev Meets : Triple → Type 0
+  Meets t = (p : Position) → (at p x ≡ 0) ⊎ (at p t ≡ at p x)
 
-  matches-of : (i : ℕ) → flagAt (m .statements) i ≡ 0 → agrees x (tripleAt (m .statements) i) ≡ true → hit i ≡ true
-  unfolding matches entryAt
-  matches-of i e d = let n : flagAt (m .statements) i ≢ 1 = omega arith in
-      rw (ne-eqb (flagAt (m .statements) i) 1 n, d)
+  matched : (i : ℕ) → hit i ≡ true → (flagAt (m .statements) i ≢ 1) × Meets (tripleAt (m .statements) i)
+  unfolding entryAt
+  matched i e =
+      let h = (matches-means x (entryAt (m .statements) i)) .0 e in (
+        eqb-false (flagAt (m .statements) i) 1 (h .0),
+        λ p. decide (eqb (at p x) 0) (λ d. inl (eqb-true (at p x) 0 d))
+            (λ d. let n : at p x ≢ 0 = eqb-false (at p x) 0 d in inr (h .1 p (omega arith))),
+      )
 
-  agrees-at : (t : Triple) → agrees x t ≡ true → (p : Position) → (at p x ≡ 0) ⊎ (at p t ≡ at p x)
-  unfolding agrees
-  agrees-at t e p =
-      decide (eqb (at p x) 0)
-      (λ d. inl (eqb-true (at p x) 0 d))
-      (λ d. inr (eqb-true (at p t) (at p x) (rw d at (all3-at (λ p. eqb (at p x) 0 || eqb (at p t) (at p x)) e p))))
-
-  agrees-of : (t : Triple) → ((p : Position) → (at p x ≡ 0) ⊎ (at p t ≡ at p x)) → agrees x t ≡ true
-  unfolding agrees
-  agrees-of t h = all3-of (λ p. eqb (at p x) 0 || eqb (at p t) (at p x)) (λ p. one p (h p))
-    where
-      one : (p : Position) → (at p x ≡ 0) ⊎ (at p t ≡ at p x) → eqb (at p x) 0 || eqb (at p t) (at p x) ≡ true
-      one p (inl e) = rw (eq-eqb (at p x) 0 e)
-      one p (inr e) = rw (eq-eqb (at p t) (at p x) e) (decide (eqb (at p x) 0) (λ d. rw d) (λ d. rw d))
+  matches-of : (i : ℕ) → flagAt (m .statements) i ≡ 0 → Meets (tripleAt (m .statements) i) → hit i ≡ true
+  unfolding entryAt
+  matches-of i e h =
+      let n : flagAt (m .statements) i ≢ 1 = omega arith in
+      (matches-means x (entryAt (m .statements) i)) .1
+      (ne-eqb (flagAt (m .statements) i) 1 n, λ p q. ⊎-elim (λ d. absurd (omega arith)) (λ d. d) (h p))
 
   -- ---- one call, from a cursor on its chain
 
@@ -159,10 +156,10 @@ module _ (c : Counters) (m : Tables) (S : Sound c m) (x : Triple) (known : withi
       where
         one : (ch : Chain) → chainOk ch x ≡ true → onWords (m .statements) ch x i ≡ true
         one All o = unfold onChain in refl
-        one (By p) o = two (agrees-at (tripleAt (m .statements) i) (matched i e .1) p)
+        one (By p) o = two (matched i e .1 p)
           where
-            two : (at p x ≡ 0) ⊎ (at p (tripleAt (m .statements) i) ≡ at p x) → onWords (m .statements) (By p) x i
-                ≡ true
+            two : (at p x ≡ 0) ⊎ (at p (tripleAt (m .statements) i) ≡ at p x)
+                → onWords (m .statements) (By p) x i ≡ true
             two (inl d) = absurd (omega (arith, bound-at p o, d))
             two (inr d) = unfold onChain in (eq-eqb _ _ d)
 
@@ -170,18 +167,13 @@ module _ (c : Counters) (m : Tables) (S : Sound c m) (x : Triple) (known : withi
     abbrev here : ℕ → ScanCursor
     here k = cursorIn (c .generation) x ch (head0 (below F k))
 
-    record-ok : (n : ℕ) → ((i : ℕ) → n ≡ suc i → F i ≡ true) → recordOk (m .statements) ch x n ≡ true
-    unfolding recordOk
-    record-ok zero h = refl
-    record-ok (suc i) h = chain-holds-resource (m .statements) ch x i (h i refl)
-
     here-ok : (k : ℕ) → k ≤ c .statements → cursorOk c m (here k) ≡ true
     unfolding cursorOk
     here-ok k h =
         and-of _ _ known
         (and-of _ _ picked
         (and-of _ _ (le-leb (head0 (below F k)) (c .statements) (omega (arith, head-le F k)))
-        (record-ok (head0 (below F k)) (λ i e. head-passes F k i e))))
+        (record-on (m .statements) ch x (head0 (below F k)) (λ i e. head-passes F k i e))))
 
     next-is : (k b : ℕ) → k ≤ c .statements → 0 < b
         → nextOf c m (here k) b ≡ scannedAs (here k) (some (asStep (readRest hit b (below F k))))
@@ -270,7 +262,7 @@ module _ (c : Counters) (m : Tables) (S : Sound c m) (x : Triple) (known : withi
       let f = S .linked .flag i (r .2) in
       let e : prev n ≡ i = ap prev (r .1) in (
         (i, (r .2, omega (arith, h .0)), ap (λ (z : ℕ). named m (tripleAt (m .statements) z)) (sym e)),
-        (λ p. rw e (one i p (agrees-at (tripleAt (m .statements) i) (h .1) p))),
+        (λ p. rw e (one i p (h .1 p))),
       )
     where
       one : (i : ℕ) (p : Position) → (at p x ≡ 0) ⊎ (at p (tripleAt (m .statements) i) ≡ at p x)
@@ -281,9 +273,7 @@ module _ (c : Counters) (m : Tables) (S : Sound c m) (x : Triple) (known : withi
   all-at : (y : RdfTriple) → graphOf c m y → Matches m x y → (n : ℕ) × List·Memᴰ n every × (namedAt m n ≡ y)
   all-at y g M =
       let i = g .0 in
-      let t = tripleAt (m .statements) i in
-      let a : agrees x t ≡ true = agrees-of t (λ p. one p (M p)) in
-      (suc i, below-in hit (c .statements) i (g .1 .0) (matches-of i (g .1 .1) a), g .2)
+      (suc i, below-in hit (c .statements) i (g .1 .0) (matches-of i (g .1 .1) (λ p. one p (M p))), g .2)
     where
       one : (p : Position) → (at p x ≡ 0) ⊎ (nameAt m (at p x) ≡ partAt p y)
           → (at p x ≡ 0) ⊎ (at p (tripleAt (m .statements) (g .0)) ≡ at p x)
@@ -316,8 +306,8 @@ module _ (c : Counters) (m : Tables) (S : Sound c m) (x : Triple) (known : withi
   all-match : AllMatches c m x every
   all-match = record {
     exact = λ y. (
-      λ g. let r = all-at y (g .0) (g .1) in rw (← r .2) (mem-map (namedAt m) every (r .0) (r .1)),
-      λ k. let r = map-mem (namedAt m) every y k in rw (r .2) (right-at (r .0) (r .1)),
+      λ g. let r = all-at y (g .0) (g .1) in rw (← r .2) (Memᴰ·map (namedAt m) (r .1)),
+      λ k. let r = Memᴰ·of-map (namedAt m) every k in rw (← r .2) (right-at (r .0) (r .1)),
     );
     once = map-once (namedAt m) every apart (descending-nodup (λ n. n ∷ []) every (below-falling hit (c .statements)));
     order = below-falling hit (c .statements);
@@ -332,7 +322,8 @@ scan-reads c m S x known = record {
   all = every c m S x known;
   exactly = all-match c m S x known;
   read = λ bs h. start-told c m S x known bs h .read;
-  ends = told-ends (scanning c m x) (every c m S x known) (scanWorkOf c m x) (scanWorkOf c m x) (omega arith) (start-told c m S x known);
+  ends = told-ends (scanning c m x) (every c m S x known) (scanWorkOf c m x) (scanWorkOf c m x) (omega arith)
+      (start-told c m S x known);
 }
 
 -- ---- live counts
@@ -370,6 +361,7 @@ live-counts c m S p y a b bs g e =
     let L = S .linked in
     let same : below (hit c m S x k) (c .statements) ≡ below (living (m .statements) p y) (c .statements) =
     below-cong _ _ (c .statements) (λ i h.
-    ap (λ (z : Bool). not (entryAt (m .statements) i .retracted) && z) (agrees-only p y (entryAt (m .statements) i .spo) a)
+    ap (λ (z : Bool). not (entryAt (m .statements) i .retracted) && z)
+    (agrees-only p y (entryAt (m .statements) i .spo) a)
     ∙ counted-is (m .statements) p y i (L .flag i h)) in
     ap (λ (z : List ℕ). length z) (read-all (start-told c m S x k bs g .read) e ∙ same) ∙ sym (L .live p y a b)

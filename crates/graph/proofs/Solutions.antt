@@ -1,10 +1,10 @@
--- Bindings to numbers against solution mappings to names: on a sound store the enumerated solutions (`solve`), as mappings, are exactly
--- those that solve the basic graph pattern over the graph, each once. Assumes nothing.
+-- Bindings to numbers against solution mappings to names: on a sound store the enumerated solutions (`solve`), as
+-- mappings, are exactly those that solve the basic graph pattern over the graph, each once. Assumes nothing.
 use mathlib.Core.Path.{_≡_, refl, sym, ap, _∙_, fun-ext}
 use mathlib.Core.Logic.{_≢_, _⊎_, inl, inr, _↔_}
 use mathlib.Core.Bool.{Bool, true, false, _||_, true≢false, false≢true}
 use mathlib.Core.List.{List, [], _∷_, map, List·Memᴰ, List·Memᴰ·head, List·Memᴰ·tail, List·Memᴰ·not-nil}
-use mathlib.Core.List.{List·Memᴰ·cases-cons}
+use mathlib.Core.List.{List·Memᴰ·cases-cons, Memᴰ·map, Memᴰ·of-map}
 use mathlib.Core.Option.{Option, none, some}
 use Prim.Native.Nat.{ℕ, zero, suc, _+_, _-_, _≤_, _<_}
 use native.Mathlib.Omega.{arith}
@@ -22,40 +22,23 @@ use Rattle.store.specs.Walk.{entryAt}
 use Rattle.store.specs.Names.{nameAt}
 use Rattle.store.specs.Soundness.{Sound}
 use Rattle.store.proofs.Tests.{decide}
-use Rattle.store.proofs.Words.{triple-at}
 use Rattle.graph.specs.declared.QueryPattern.{QueryPattern}
-use Rattle.graph.specs.Words.{firstVariable, isVariable, variables, Bindings, resource, boundTo, unbound, valueOf, under}
+use Rattle.graph.specs.Words.{firstVariable, isVariable, variables, Bindings, resource, boundTo, unbound, valueOf}
+use Rattle.graph.specs.Words.{under}
 use Rattle.graph.specs.Order.{NoDuplicates}
 use Rattle.graph.specs.Meaning.{Term, RdfTriple, partAt, PatternTerm, term, var, TriplePattern, patternAt}
 use Rattle.graph.specs.Meaning.{Mapping, Takes, Instance, Solves}
 use Rattle.graph.specs.Graph.{named, graphOf, termOf, patternOf, nameOr, mappingOf}
 use Rattle.graph.proofs.Bind.{wordAt, bound-ext, Fits3, Known3, isThe, occursIn, none≢some, some-eq}
 use Rattle.graph.proofs.Bind.{value-number, value-variable}
-use Rattle.graph.proofs.Solve.{down-out, each, each-out, hit-some, solve, occurs, Among, Holds, Solved}
+use Rattle.graph.proofs.Solve.{every-member, every-of, down-out, each, each-out, hit-some, solve, occurs, Among}
+use Rattle.graph.proofs.Solve.{Solved}
 use Rattle.graph.specs.Work.{hitAt}
 use Rattle.graph.proofs.Solve.{AllFit, occursIn-at, solve-sound, solve-complete, under-at, value-var, triple-ext}
-use Rattle.graph.proofs.Levels.{Low, AllLow, match-low, low-none}
-use Rattle.graph.proofs.Names.{named-at, names-apart, numberOfName, number-le, number-name}
+use Rattle.graph.proofs.Levels.{Low, LowWords, AllLow, match-low, low-none}
+use Rattle.graph.proofs.Names.{named-at, names-apart, numberOfName, number-le, number-name, term-low, term-high}
 
 -- ---- lists
-
-pub mem-map : {A B : Type 0} (f : A → B) (l : List A) (a : A) → List·Memᴰ a l → List·Memᴰ (f a) (map f l)
-mem-map f [] a h = absurd (List·Memᴰ·not-nil h)
-mem-map f (x ∷ l) a h = one (List·Memᴰ·cases-cons h) (mem-map f l a)
-  where
-    one : (a ≡ x) ⊎ List·Memᴰ a l → (List·Memᴰ a l → List·Memᴰ (f a) (map f l)) → List·Memᴰ (f a) (f x ∷ map f l)
-    one (inl e) k = List·Memᴰ·head (ap f e)
-    one (inr h) k = List·Memᴰ·tail (k h)
-
-pub map-mem : {A B : Type 0} (f : A → B) (l : List A) (z : B) → List·Memᴰ z (map f l) → (a : A) × List·Memᴰ a l
-    × (z ≡ f a)
-map-mem f [] z h = absurd (List·Memᴰ·not-nil h)
-map-mem f (x ∷ l) z h = one (List·Memᴰ·cases-cons h) (map-mem f l z)
-  where
-    one : (z ≡ f x) ⊎ List·Memᴰ z (map f l) → (List·Memᴰ z (map f l) → (a : _) × List·Memᴰ a l × (z ≡ f a))
-        → (a : _) × List·Memᴰ a (x ∷ l) × (z ≡ f a)
-    one (inl e) k = (x, List·Memᴰ·head refl, e)
-    one (inr h) k = let r = k h in (r .0, List·Memᴰ·tail (r .1), r .2)
 
 -- a function that tells the members apart keeps a list free of duplicates
 pub map-once : {A B : Type 0} (f : A → B) (l : List A)
@@ -63,8 +46,8 @@ pub map-once : {A B : Type 0} (f : A → B) (l : List A)
     → NoDuplicates l → NoDuplicates (map f l)
 map-once f [] h d = tt
 map-once f (x ∷ l) h d = (
-  (λ k. let r = map-mem f l (f x) k in
-      d .0 (rw (← h x (r .0) (List·Memᴰ·head refl) (List·Memᴰ·tail (r .1)) (r .2)) at (r .1))),
+  (λ k. let r = Memᴰ·of-map f l k in
+      d .0 (rw (h (r .0) x (List·Memᴰ·tail (r .1)) (List·Memᴰ·head refl) (r .2)) at (r .1))),
   map-once f l (λ x y a b. h x y (List·Memᴰ·tail a) (List·Memᴰ·tail b)) (d .1),
 )
 
@@ -132,41 +115,6 @@ occurs-at v (x ∷ ps) e =
     decide (occursIn v x)
     (λ d. let r = occursIn-at v x d in (x, List·Memᴰ·head refl, r .0, r .1))
     (λ d. let r = occurs-at v ps (rw d at e) in (r .0, List·Memᴰ·tail (r .1), r .2, r .3))
-
-pub holds-at : (E : ℕ → Entry) (n : ℕ) (ps : List QueryPattern) (s : Bindings) (y : QueryPattern) → Holds E n ps s
-    → List·Memᴰ y ps
-    → Among E n (under s y)
-holds-at E n [] s y h k = absurd (List·Memᴰ·not-nil k)
-holds-at E n (x ∷ ps) s y h k = one (List·Memᴰ·cases-cons k) (holds-at E n ps s y (h .1))
-  where
-    one : (y ≡ x) ⊎ List·Memᴰ y ps → (List·Memᴰ y ps → Among E n (under s y)) → Among E n (under s y)
-    one (inl d) k = rw d (h .0)
-    one (inr q) k = k q
-
-holds-of : (E : ℕ → Entry) (n : ℕ) (ps : List QueryPattern) (s : Bindings)
-    → ((y : QueryPattern) → List·Memᴰ y ps → Among E n (under s y))
-    → Holds E n ps s
-holds-of E n [] s h = tt
-holds-of E n (x ∷ ps) s h = (h x (List·Memᴰ·head refl), holds-of E n ps s (λ y k. h y (List·Memᴰ·tail k)))
-
-fit-mem : (k : ℕ) (ps : List QueryPattern) (y : QueryPattern) → AllFit k ps → List·Memᴰ y ps → Fits3 k y
-fit-mem k [] y f h = absurd (List·Memᴰ·not-nil h)
-fit-mem k (x ∷ ps) y f h = one (List·Memᴰ·cases-cons h) (fit-mem k ps y (f .1))
-  where
-    one : (y ≡ x) ⊎ List·Memᴰ y ps → (List·Memᴰ y ps → Fits3 k y) → Fits3 k y
-    one (inl d) g = rw d (f .0)
-    one (inr q) g = g q
-
-low-mem : (k : ℕ) (ps : List QueryPattern) (y : QueryPattern) → AllLow k ps → List·Memᴰ y ps
-    → (p : Position) → isVariable (wordAt p y) ≡ false → wordAt p y ≤ k
-low-mem k [] y f h = absurd (List·Memᴰ·not-nil h)
-low-mem k (x ∷ ps) y f h = one (List·Memᴰ·cases-cons h) (low-mem k ps y (f .1))
-  where
-    one : (y ≡ x) ⊎ List·Memᴰ y ps
-        → (List·Memᴰ y ps → (p : Position) → isVariable (wordAt p y) ≡ false → wordAt p y ≤ k)
-        → (p : Position) → isVariable (wordAt p y) ≡ false → wordAt p y ≤ k
-    one (inl d) g = rw d (f .0)
-    one (inr q) g = g q
 
 -- solutions hold known numbers alone
 solve-low : (E : ℕ → Entry) (n k : ℕ) → ((i : ℕ) → i < n → (p : Position) → at p ((E i) .spo) ≤ k)
@@ -247,11 +195,11 @@ module _ (c : Counters) (m : Tables) (S : Sound c m) where
 
   pub positive : (i : ℕ) → i < c .statements → Known3 ((entryAt (m .statements) i) .spo)
   unfolding entryAt
-  positive i h p = rw (triple-at (m .statements) p i) (S .linked .low p i h)
+  positive i h p = term-low c m S p i h
 
   pub smaller : (i : ℕ) → i < c .statements → (p : Position) → at p ((entryAt (m .statements) i) .spo) ≤ c .resources
   unfolding entryAt
-  smaller i h p = rw (triple-at (m .statements) p i) (S .linked .high p i h)
+  smaller i h p = term-high c m S p i h
 
   pub single : (i j : ℕ) → i < j → j < c .statements
       → (entryAt (m .statements) i) .spo ≢ (entryAt (m .statements) j) .spo
@@ -309,22 +257,26 @@ module _ (c : Counters) (m : Tables) (S : Sound c m) where
   module _ (ps : List QueryPattern) (fit : AllFit variables ps) (low : AllLow (c .resources) ps) where
     -- ---- what is enumerated solves
 
+    -- the pattern's triple is that of a live entry
+    abbrev held : Bindings → QueryPattern → Type 0
+    held s x = Among E (c .statements) (under s x)
+
     solved-solves : (s : Bindings) → Solved E (c .statements) ps unbound s
         → Solves (graphOf c m) (map (patternOf m) ps) (mappingOf m s)
     solved-solves s W = record {
       domain = λ v. (
-        (λ o. let r = map-mem (patternOf m) ps (o .0) (o .1) in
+        (λ o. let r = Memᴰ·of-map (patternOf m) ps (o .1) in
             let y = r .0 in
             let p = o .2 in
             let w : wordAt p y ≡ firstVariable + v =
-            term-var m (wordAt p y) v (sym (pattern-at m p y) ∙ ap (patternAt p) (sym (r .2)) ∙ o .3) in
-            let k = among-low (under s y) (holds-at E (c .statements) ps s y (W .holds) (r .1)) p in
+            term-var m (wordAt p y) v (sym (pattern-at m p y) ∙ ap (patternAt p) (r .2) ∙ o .3) in
+            let k = among-low (under s y) (every-member (held s) ps y (W .holds) (r .1)) p in
             let e : at p (under s y) ≡ boundTo s v = under-at s y p ∙ ap (valueOf s) w ∙ value-var s v in
             (nameAt m (boundTo s v), mapping-at m s v ∙ name-pos m (boundTo s v) (rw e at k))),
         (λ d. decide (occurs v ps)
             (λ e. let r = occurs-at v ps e in (
               patternOf m (r .0),
-              mem-map (patternOf m) ps (r .0) (r .1),
+              Memᴰ·map (patternOf m) (r .1),
               r .2,
               pattern-at m (r .2) (r .0) ∙ ap (termOf m) (r .3) ∙ var-term m v,
             ))
@@ -332,13 +284,19 @@ module _ (c : Counters) (m : Tables) (S : Sound c m) where
             let n = name-zero m (boundTo s v) (d .0) (sym (mapping-at m s v) ∙ d .1) in
             absurd (omega (arith, n .0)))),
       );
-      holds = λ x k. let r = map-mem (patternOf m) ps x k in
+      holds = λ x k. let r = Memᴰ·of-map (patternOf m) ps k in
           let y = r .0 in
-          let a = holds-at E (c .statements) ps s y (W .holds) (r .1) in
-          (named m (under s y), (λ p. takes-at m s y p (r .2) (among-low (under s y) a p)), among-in (under s y) a);
+          let a = every-member (held s) ps y (W .holds) (r .1) in (
+            named m (under s y),
+            (λ p. takes-at m s y p (sym (r .2)) (among-low (under s y) a p)),
+            among-in (under s y) a,
+          );
     }
 
     -- ---- what solves is enumerated
+
+    fit-member : (y : QueryPattern) → List·Memᴰ y ps → Fits3 variables y
+    fit-member y k = every-member (λ x. Fits3 variables x) ps y fit k
 
     -- the word's number is that of the instance
     word-number : (s : Bindings) (y : QueryPattern) (t : Triple) (p : Position) → Low (c .resources) s
@@ -348,8 +306,8 @@ module _ (c : Counters) (m : Tables) (S : Sound c m) where
     word-number s y t p g k a b =
         rw (pattern-at m p y) (decide (isVariable (wordAt p y))
         (λ d. takes-variable s (wordAt p y) (at p t) d g a b)
-        (λ d. takes-number s (wordAt p y) (at p t) d (fit-mem variables ps y fit k p .number d)
-        (low-mem (c .resources) ps y low k p d) a b))
+        (λ d. takes-number s (wordAt p y) (at p t) d (fit-member y k p .number d)
+        (every-member (λ x. LowWords (c .resources) x) ps y low k p d) a b))
 
     under-is : (s : Bindings) (y : QueryPattern) (x : RdfTriple) → Low (c .resources) s → List·Memᴰ y ps
         → Instance (mappingOf m s) (patternOf m y) x → graphOf c m x → Among E (c .statements) (under s y)
@@ -372,12 +330,12 @@ module _ (c : Counters) (m : Tables) (S : Sound c m) where
           (λ d. let z : boundTo s v ≢ 0 = eqb-false (boundTo s v) 0 d in
           let o = (W .domain v) .1
           (nameAt m (boundTo s v), mapping-at m s v ∙ name-pos m (boundTo s v) (omega arith)) in
-          let r = map-mem (patternOf m) ps (o .0) (o .1) in
+          let r = Memᴰ·of-map (patternOf m) ps (o .1) in
           let w = term-var m (wordAt (o .2) (r .0)) v
-          (sym (pattern-at m (o .2) (r .0)) ∙ ap (patternAt (o .2)) (sym (r .2)) ∙ o .3) in
+          (sym (pattern-at m (o .2) (r .0)) ∙ ap (patternAt (o .2)) (r .2) ∙ o .3) in
           absurd (true≢false (sym (occurs-of v ps (r .0) (o .2) (r .1) w) ∙ e)));
-      holds = holds-of E (c .statements) ps s (λ y k.
-          let r = W .holds (patternOf m y) (mem-map (patternOf m) ps y k) in under-is s y (r .0) g k (r .1) (r .2));
+      holds = every-of (held s) ps (λ y k.
+          let r = W .holds (patternOf m y) (Memᴰ·map (patternOf m) k) in under-is s y (r .0) g k (r .1) (r .2));
     }
 
     -- the number a variable is taken to, 0 where it is not
@@ -389,15 +347,15 @@ module _ (c : Counters) (m : Tables) (S : Sound c m) where
     number-at-le none = omega arith
     number-at-le (some w) = number-le c m S w
 
-    -- a defined variable is one of the sixteen, and its name is a number's
+    -- a defined variable is below the limit, and its name is a number's
     defined : (μ : Mapping) → Solves (graphOf c m) (map (patternOf m) ps) μ → (v : ℕ) (w : Term) → μ v ≡ some w
         → (v < variables) × (0 < numberOfName c m S w) × (nameAt m (numberOfName c m S w) ≡ w)
     defined μ W v w e =
         let o = (W .domain v) .1 (w, e) in
-        let r = map-mem (patternOf m) ps (o .0) (o .1) in
+        let r = Memᴰ·of-map (patternOf m) ps (o .1) in
         let y = r .0 in
         let p = o .2 in
-        let k = term-var m (wordAt p y) v (is-term p y (r .2) (o .3)) in
+        let k = term-var m (wordAt p y) v (is-term p y (sym (r .2)) (o .3)) in
         let i : isVariable (wordAt p y) ≡ true = rw k (le-leb firstVariable (firstVariable + v) (omega arith)) in
         let h = W .holds (o .0) (o .1) in
         let a = in-among (h .0) (h .2) in
@@ -406,7 +364,7 @@ module _ (c : Counters) (m : Tables) (S : Sound c m) where
         let n : numberOfName c m S w ≡ at p (a .0) =
         ap (numberOfName c m S) q ∙ number-name c m S (at p (a .0)) (among-low (a .0) (a .1) p)
         (among-high (a .0) (a .1) p) in (
-          omega (arith, fit-mem variables ps y fit (r .1) p .variable i, k),
+          omega (arith, fit-member y (r .1) p .variable i, k),
           rw n (among-low (a .0) (a .1) p),
           ap (nameAt m) n ∙ sym q,
         )
@@ -418,7 +376,7 @@ module _ (c : Counters) (m : Tables) (S : Sound c m) where
         says : {x : PatternTerm} {u : Term} → x ≡ var v → Takes μ x u → μ v ≡ some u
         says e h = rw e at h
 
-    -- a solving mapping is that of a list of sixteen
+    -- a solving mapping is that of a list with a resource for each variable
     pub as-list : (μ : Mapping) → Solves (graphOf c m) (map (patternOf m) ps) μ
         → (s : Bindings) × (length s ≡ variables) × Low (c .resources) s × (mappingOf m s ≡ μ)
     unfolding mappingOf
@@ -452,11 +410,11 @@ module _ (c : Counters) (m : Tables) (S : Sound c m) where
         ↔ List·Memᴰ μ (map (mappingOf m) (solve E (c .statements) ps unbound))
     exactly μ = (
       (λ W. let r = as-list μ W in
-          rw (← r .3) (mem-map (mappingOf m) (solve E (c .statements) ps unbound) (r .0)
+          rw (← r .3) (Memᴰ·map (mappingOf m)
           (solve-complete E (c .statements) positive ps unbound (r .0) fit
           (solves-solved (r .0) (r .1) (r .2) (rw (← r .3) at W))))),
-      (λ k. let r = map-mem (mappingOf m) (solve E (c .statements) ps unbound) μ k in
-          rw (r .2) (solved-solves (r .0) (solve-sound E (c .statements) positive ps unbound (r .0) fit (r .1)))),
+      (λ k. let r = Memᴰ·of-map (mappingOf m) (solve E (c .statements) ps unbound) k in
+          rw (← r .2) (solved-solves (r .0) (solve-sound E (c .statements) positive ps unbound (r .0) fit (r .1)))),
     )
 
     pub solution-low : (s : Bindings) → List·Memᴰ s (solve E (c .statements) ps unbound) → Low (c .resources) s

@@ -1,5 +1,6 @@
--- All solutions of a list of patterns over entries, in the paper's order (`solve`): nested, with no word of chains or places. It gives
--- exactly the bindings under which every pattern's triple is a live entry's, each once. Assumes nothing.
+-- All solutions of a list of patterns over entries, in the paper's order (`solve`): nested, with no word of chains or
+-- places. It gives exactly the bindings under which every pattern's triple is a live entry's, each once.
+-- Assumes nothing.
 use mathlib.Core.Path.{_≡_, refl, sym, ap, _∙_}
 use mathlib.Core.Logic.{_≢_, _⊎_, inl, inr}
 use mathlib.Core.Bool.{Bool, true, false, _||_}
@@ -8,7 +9,7 @@ use mathlib.Core.List.{List·Memᴰ·cases-cons, Memᴰ·append-left, Memᴰ·ap
 use mathlib.Core.Option.{Option, none, some}
 use Prim.Native.Nat.{ℕ, zero, suc, _+_, _-_, _<_}
 use native.Mathlib.Omega.{arith}
-use lib.ListN.{length}
+use lib.ListN.{length, getD}
 use lib.Dec.{eqb}
 use borrow.Author.Tests.{eqb-true, eqb-false, le-leb}
 use Rattle.store.specs.declared.Position.{Position}
@@ -40,6 +41,30 @@ unfoldable pub solve : (ℕ → Entry) → ℕ → List QueryPattern → Binding
 solve E n [] b = b ∷ []
 solve E n (x ∷ ps) b = down (λ i. each (hitAt E x b i) (λ b′. solve E n ps b′)) n
 
+-- ---- every member
+
+abbrev pub Every : {A : Type 0} → (A → Type 0) → List A → Type 0
+Every P [] = Unit {0}
+Every P (x ∷ xs) = P x × Every P xs
+
+pub every-at : {A : Type 0} (P : A → Type 0) (d : A) (xs : List A) (i : ℕ) → Every P xs → i < length xs
+    → P (getD xs i d)
+every-at P d [] i h q = absurd (omega arith)
+every-at P d (x ∷ xs) zero h q = h .0
+every-at P d (x ∷ xs) (suc i) h q = every-at P d xs i (h .1) (omega arith)
+
+pub every-member : {A : Type 0} (P : A → Type 0) (xs : List A) (y : A) → Every P xs → List·Memᴰ y xs → P y
+every-member P [] y h m = absurd (List·Memᴰ·not-nil m)
+every-member P (x ∷ xs) y h m = one (List·Memᴰ·cases-cons m) (every-member P xs y (h .1))
+  where
+    one : (y ≡ x) ⊎ List·Memᴰ y xs → (List·Memᴰ y xs → P y) → P y
+    one (inl e) k = rw e (h .0)
+    one (inr q) k = k q
+
+pub every-of : {A : Type 0} (P : A → Type 0) (xs : List A) → ((y : A) → List·Memᴰ y xs → P y) → Every P xs
+every-of P [] h = tt
+every-of P (x ∷ xs) h = (h x (List·Memᴰ·head refl), every-of P xs (λ y m. h y (List·Memᴰ·tail m)))
+
 -- ---- what is to be had
 
 unfoldable pub occurs : ℕ → List QueryPattern → Bool
@@ -51,8 +76,7 @@ unfoldable pub Among : (ℕ → Entry) → ℕ → Triple → Type 0
 Among E n t = (i : ℕ) × (i < n) × ((E i) .spo ≡ t) × ((E i) .retracted ≡ false)
 
 abbrev pub Holds : (ℕ → Entry) → ℕ → List QueryPattern → Bindings → Type 0
-Holds E n [] s = Unit {0}
-Holds E n (x ∷ ps) s = Among E n (under s x) × Holds E n ps s
+Holds E n ps s = Every (λ x. Among E n (under s x)) ps
 
 pub record Solved (E : ℕ → Entry) (n : ℕ) (ps : List QueryPattern) (b s : Bindings) : Type 0 where
   pub len : length s ≡ length b
@@ -61,8 +85,7 @@ pub record Solved (E : ℕ → Entry) (n : ℕ) (ps : List QueryPattern) (b s : 
   pub holds : Holds E n ps s
 
 abbrev pub AllFit : ℕ → List QueryPattern → Type 0
-AllFit k [] = Unit {0}
-AllFit k (x ∷ ps) = Fits3 k x × AllFit k ps
+AllFit k ps = Every (λ x. Fits3 k x) ps
 
 -- ---- lists
 
@@ -73,7 +96,8 @@ down-out g zero a m = absurd (List·Memᴰ·not-nil m)
 down-out g (suc n) a m = pickOne (List·Memᴰ·append-cases (g n) m) (down-out g n a)
   where
     pickOne : List·Memᴰ a (g n) ⊎ List·Memᴰ a (down g n)
-        → (List·Memᴰ a (down g n) → (i : ℕ) × (i < n) × List·Memᴰ a (g i)) → (i : ℕ) × (i < suc n) × List·Memᴰ a (g i)
+        → (List·Memᴰ a (down g n) → (i : ℕ) × (i < n) × List·Memᴰ a (g i))
+        → (i : ℕ) × (i < suc n) × List·Memᴰ a (g i)
     pickOne (inl h) k = (n, omega arith, h)
     pickOne (inr h) k = let r = k h in (r .0, omega (arith, r .1), r .2)
 
@@ -233,7 +257,7 @@ descending-append k (x ∷ xs) ys a b h = (
     pickOne y (inl m) = a .0 y m
     pickOne y (inr m) = h x y (List·Memᴰ·head refl) m
 
-descending-map : {A : Type 0} (k k′ : A → List ℕ) (xs : List A)
+pub descending-map : {A : Type 0} (k k′ : A → List ℕ) (xs : List A)
     → ((x y : A) → List·Memᴰ x xs → List·Memᴰ y xs → Lower (k y) (k x) → Lower (k′ y) (k′ x)) → Descending k xs
     → Descending k′ xs
 descending-map k k′ [] h a = tt

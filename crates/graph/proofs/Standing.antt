@@ -1,77 +1,47 @@
--- Refusal 6 of a query in the paper's words (`PlaceClaim`, `BadPlaceClaim`): entered records match, each under the earlier ones, exactly if one
--- assignment serves them all, and what they bind is that assignment on the variables of their patterns. Assumes nothing.
+-- Refusal 6 of a query in the paper's words (`PlaceClaim`, `BadPlaceClaim`): entered records match, each under the
+-- earlier ones, exactly if one assignment serves them all, and what they bind is that assignment on the variables of
+-- their patterns. Assumes nothing.
 use mathlib.Core.Path.{_≡_, refl, sym, ap, _∙_, fun-ext}
 use mathlib.Core.Logic.{_≢_, _↔_, inl}
 use mathlib.Core.Bool.{true, false, cond, true≢false}
 use mathlib.Core.List.{List, [], _∷_}
 use mathlib.Core.Option.{some}
-use Prim.Native.Nat.{ℕ, zero, suc, _+_, _-_, _≤_, _<_}
+use Prim.Native.Nat.{ℕ, _+_, _-_, _≤_, _<_}
 use native.Mathlib.Omega.{arith}
 use lib.ListN.{length}
 use lib.Dec.{eqb, ltb}
-use borrow.Author.Tests.{eqb-true, eqb-false, eq-eqb, ltb-true, ltb-false, le-leb, lt-ltb}
+use borrow.Author.Tests.{eqb-true, eqb-false, ltb-true, ltb-false, le-leb}
 use Rattle.store.specs.declared.Counters.{Counters}
 use Rattle.store.specs.declared.Position.{Position}
 use Rattle.store.specs.declared.Position.the-variants.{Subject, Predicate, Object}
-use Rattle.store.specs.declared.Chain.{Chain}
-use Rattle.store.specs.declared.Chain.the-variants.{All, By}
 use Rattle.store.specs.declared.Triple.{Triple}
 use Rattle.store.specs.Shared.{at}
-use Rattle.store.specs.Tables.{Tables, fits, termAt}
-use Rattle.store.specs.Walk.{holdsResource}
-use Rattle.store.specs.Scan.{chainOk, recordOk}
-use Rattle.store.proofs.Tests.{decide, all3-at, all3-of, known-low, known-high, known-of}
+use Rattle.store.specs.Tables.{Tables, fits}
+use Rattle.store.specs.Scan.{chainOk}
+use Rattle.store.specs.RefusalClaims.{ChainStands}
+use Rattle.store.proofs.Tests.{decide, known-low, known-high, known-of}
+use Rattle.store.proofs.Limits.{chain-means, record-means}
 use Rattle.graph.specs.declared.QueryPattern.{QueryPattern}
 use Rattle.graph.specs.declared.Level.{Level}
 use Rattle.graph.specs.declared.QueryCursor.{QueryCursor}
 use Rattle.graph.specs.declared.QueryAnswer.{QueryAnswer}
-use Rattle.graph.specs.Words.{variables, firstVariable, isVariable, patternsOf, wordsOk, Bindings, boundTo, valueOf, under}
+use Rattle.graph.specs.Words.{variables, firstVariable, isVariable, patternsOf, wordsOk, Bindings, boundTo}
+use Rattle.graph.specs.Words.{valueOf, under}
 use Rattle.graph.specs.Place.{Place, start, inside, finish, placeOf}
 use Rattle.graph.specs.Query.{match, isSome, recordAt, nextPattern, binds, asked, enteredOk, placeOk}
 use Rattle.graph.specs.Query.{answerOf, packed, stale, nextQueryOf}
 use Rattle.graph.specs.Values.{queryValues}
-use Rattle.graph.specs.Standing.{wordUnder, tripleUnder, Each, occursIn, boundBy, scanUnder, ChainStands, recordOn, InsideStands, PlaceStands}
-use Rattle.graph.specs.Standing.{PlaceClaim, BadPlaceClaim}
+use Rattle.graph.specs.Standing.{wordUnder, tripleUnder, Each, occursIn, boundBy, scanUnder, recordOn}
+use Rattle.graph.specs.Standing.{InsideStands, PlaceStands, PlaceClaim, BadPlaceClaim}
 use Rattle.graph.proofs.Laws.{Tested, entered-tests, PlaceTested, place-tests}
 use Rattle.graph.proofs.Refusals.{says, answer-not, number-not}
 use Rattle.graph.proofs.Generations.{own-number, read-on, stale-number, stale-means}
-use Rattle.graph.proofs.Bind.{wordAt, Fit, More, Fits3, Known3, Matched, some-orElse, more-trans, match-matched, match-complete}
-use Rattle.graph.proofs.Bind.{value-number, value-variable}
+use Rattle.graph.proofs.Bind.{wordAt, Fit, More, Fits3, Known3, Matched, some-orElse, more-trans, match-matched}
+use Rattle.graph.proofs.Bind.{match-complete, value-number, value-variable}
 use Rattle.graph.proofs.Solve.{AllFit, triple-ext, under-at, under-more, occursIn-at, matched-reads}
 use Rattle.graph.proofs.Levels.{fit-at}
 use Rattle.graph.proofs.Solutions.{tab, tab-length, tab-at, past-end, unbound-at}
 use Rattle.graph.proofs.Calls.{words-fitting}
-
--- ---- what a scan accepts
-
-chain-means : (ch : Chain) (x : Triple) → chainOk ch x ≡ true ↔ ChainStands ch x
-unfolding chainOk
-chain-means All x = (
-  λ e. record {
-    bound = λ p d. let z : _≡_ {A = ℕ} 0 1 = cc in absurd (omega arith);
-    unbound = λ d p. eqb-true (at p x) 0 (all3-at (λ p. eqb (at p x) 0) e p);
-  },
-  λ S. all3-of (λ p. eqb (at p x) 0) (λ p. eq-eqb (at p x) 0 (S .unbound refl p)),
-)
-chain-means (By q) x = (
-  λ e. record {
-    bound = λ p d. let s : q ≡ p = cc in rw (← s) (ltb-true 0 (at q x) e);
-    unbound = λ d p. let z : _≡_ {A = ℕ} 0 1 = cc in absurd (omega arith);
-  },
-  λ S. lt-ltb 0 (at q x) (S .bound q refl),
-)
-
-abbrev Next : List ℕ → Chain → Triple → ℕ → Type 0
-Next stm ch x n = (p : Position) (i : ℕ) → ch ≡ By p → n ≡ suc i → termAt stm p i ≡ at p x
-
-next-means : (stm : List ℕ) (ch : Chain) (x : Triple) (n : ℕ) → recordOk stm ch x n ≡ true ↔ Next stm ch x n
-unfolding recordOk holdsResource
-next-means stm ch x zero = (λ e p i d h. absurd (omega arith), λ S. refl)
-next-means stm All x (suc j) = (λ e p i d h. let z : _≡_ {A = ℕ} 0 1 = cc in absurd (omega arith), λ S. refl)
-next-means stm (By q) x (suc j) = (
-  λ e p i d h. let s : q ≡ p = cc in let k : j ≡ i = omega arith in rw (← s, ← k) (eqb-true (termAt stm q j) (at q x) e),
-  λ S. eq-eqb (termAt stm q j) (at q x) (S q j refl refl),
-)
 
 -- ---- patterns under an assignment
 
@@ -173,7 +143,8 @@ module _ (stm : List ℕ) (ps : List QueryPattern) (fit : AllFit variables ps) w
         ∙ ap (λ (f : ℕ → ℕ). tripleUnder f (nextPattern ps up)) (fun-ext (bound-is up S A))
 
     chains-are : (up : List Level) → Each Step up → Served σ up
-        → Each (λ e up. chainOk (e .chain) (asked stm ps up) ≡ true) up ↔ Each (λ e up. ChainStands (e .chain) (scanUnder ps σ up)) up
+        → Each (λ e up. chainOk (e .chain) (asked stm ps up) ≡ true) up
+        ↔ Each (λ e up. ChainStands (e .chain) (scanUnder ps σ up)) up
     chains-are [] S A = (λ C. tt, λ C. tt)
     chains-are (e ∷ up) S A =
         let k = chains-are up (S .1) (A .1) in
@@ -187,7 +158,11 @@ module _ (stm : List ℕ) (ps : List QueryPattern) (fit : AllFit variables ps) w
         (λ d. decide (boundBy ps up v)
         (λ z. tab-at σ variables v (ltb-true v variables d) ∙ sym (rw z at (bound-is up S A v)))
         (λ z. absurd (omega (arith, rw z at (bound-is up S A v)))))
-        (λ d. absurd (omega (arith, past-end (binds stm ps up) v (omega (arith, binds-length up S, ltb-false v variables d)))))
+        (λ d. absurd (omega (
+          arith,
+          past-end (binds stm ps up) v
+              (omega (arith, binds-length up S, ltb-false v variables d)),
+        )))
 
     steps-of : (up : List Level) → length up ≤ length ps → Each (λ e up. Known3 (rec e)) up → Served σ up → Each Step up
     steps-of [] h K A = tt
@@ -238,7 +213,8 @@ module _ (c : Counters) (m : Tables) (ws : List ℕ) (fit : AllFit variables (pa
     tested-steps up (omega arith) (T .1),
   )
 
-  steps-tested : (up : List Level) → Each (λ e up. e .statement .0 ≤ c .statements) up → Each (λ e up. 0 < e .statement .0) up
+  steps-tested : (up : List Level) → Each (λ e up. e .statement .0 ≤ c .statements) up
+      → Each (λ e up. 0 < e .statement .0) up
       → Each (λ e up. (p : Position) → (0 < at p (recordOn c m ws e)) × (at p (recordOn c m ws e) ≤ c .resources)) up
       → Each (λ e up. chainOk (e .chain) (asked stm ps up) ≡ true) up → Steps up → Each Test up
   steps-tested [] n z k o S = tt
@@ -253,7 +229,8 @@ module _ (c : Counters) (m : Tables) (ws : List ℕ) (fit : AllFit variables (pa
     steps-tested up (n .1) (z .1) (k .1) (o .1) (S .1),
   )
 
-  stands-of : (l : Level) (up : List Level) → PlaceTested (c .resources) (c .statements) stm ps l up → InsideStands c m ws l up
+  stands-of : (l : Level) (up : List Level) → PlaceTested (c .resources) (c .statements) stm ps l up
+      → InsideStands c m ws l up
   stands-of l up P =
       let T = (tested up) .0 (P .entered) in
       let S = tested-steps up (omega (arith, P .room)) T in
@@ -265,7 +242,8 @@ module _ (c : Counters) (m : Tables) (ws : List ℕ) (fit : AllFit variables (pa
         numbers = (P .within, each-map Test (λ e up. e .statement .0 ≤ c .statements) (λ e up U. U .within) up T);
         entered = each-map Test (λ e up. 0 < e .statement .0) (λ e up U. U .positive) up T;
         resources = each-map Test _
-            (λ e up U p. (known-low (c .resources) _ (U .resources) p, known-high (c .resources) _ (U .resources) p)) up T;
+            (λ e up U p. (known-low (c .resources) _ (U .resources) p, known-high (c .resources) _ (U .resources) p))
+            up T;
         assignment = σ;
         matching = A;
         chains = (
@@ -273,10 +251,11 @@ module _ (c : Counters) (m : Tables) (ws : List ℕ) (fit : AllFit variables (pa
           (chains-are stm ps fit σ up S A) .0
               (each-map Test (λ e up. chainOk (e .chain) (asked stm ps up) ≡ true) (λ e up U. U .chain) up T),
         );
-        next = (next-means stm (l .chain) (scanUnder ps σ up) (l .statement .0)) .0 (rw q at (P .next));
+        next = (record-means stm (l .chain) (scanUnder ps σ up) (l .statement .0)) .0 (rw q at (P .next));
       }
 
-  tests-of : (l : Level) (up : List Level) → InsideStands c m ws l up → PlaceTested (c .resources) (c .statements) stm ps l up
+  tests-of : (l : Level) (up : List Level) → InsideStands c m ws l up
+      → PlaceTested (c .resources) (c .statements) stm ps l up
   tests-of l up I =
       let σ = I .assignment in
       let A = I .matching in
@@ -286,10 +265,11 @@ module _ (c : Counters) (m : Tables) (ws : List ℕ) (fit : AllFit variables (pa
       record {
         room = h;
         entered = (tested up) .1
-            (steps-tested up (I .numbers .1) (I .entered) (I .resources) ((chains-are stm ps fit σ up S A) .1 (I .chains .1)) S);
+            (steps-tested up (I .numbers .1) (I .entered) (I .resources)
+            ((chains-are stm ps fit σ up S A) .1 (I .chains .1)) S);
         within = I .numbers .0;
         chain = rw q ((chain-means (l .chain) (scanUnder ps σ up)) .1 (I .chains .0));
-        next = rw q ((next-means stm (l .chain) (scanUnder ps σ up) (l .statement .0)) .1 (I .next));
+        next = rw q ((record-means stm (l .chain) (scanUnder ps σ up) (l .statement .0)) .1 (I .next));
       }
 
   place-means : (q : Place) → placeOk stm ps (c .resources) (c .statements) q ≡ true ↔ PlaceStands c m ws q
@@ -313,12 +293,14 @@ six-when c m ws q b =
     decide (fits c m)
     (λ f. decide (wordsOk (c .resources) ws)
     (λ w. decide (placeOk (m .statements) (patternsOf ws) (c .resources) (c .statements) q)
-    (λ o h. absurd (true≢false (sym h ∙ answer-not 6 (omega arith) (omega arith) (omega arith) (omega arith) c m ws q b (inl o))))
+    (λ o h. absurd (true≢false (sym h
+    ∙ answer-not 6 (omega arith) (omega arith) (omega arith) (omega arith) c m ws q b (inl o))))
     (λ o h. (f, w, o)))
     (λ w. rw (f, w) (λ h. absurd (true≢false (sym h)))))
     (λ f. rw f (λ h. absurd (true≢false (sym h))))
 
-six-of : (c : Counters) (m : Tables) (ws : List ℕ) (q : Place) (b : ℕ) → fits c m ≡ true → wordsOk (c .resources) ws ≡ true
+six-of : (c : Counters) (m : Tables) (ws : List ℕ) (q : Place) (b : ℕ) → fits c m ≡ true
+    → wordsOk (c .resources) ws ≡ true
     → placeOk (m .statements) (patternsOf ws) (c .resources) (c .statements) q ≡ false
     → (queryValues (packed (c .generation) (answerOf c m ws q b))) .refusal ≡ 6
 unfolding answerOf packed

@@ -1,7 +1,6 @@
 -- Every claim of this crate's `specs/` with its proof: a declaration of each type. Assumes nothing.
-use Rattle.graph.specs.Claims.{GraphClaim, WordsClaim, ReadingClaim, NextClaim, KeptClaim, BudgetClaim, SplitClaim}
-use Rattle.graph.specs.Claims.{StaleClaim, RefusalsBare, ReclaimedClaim}
-use Rattle.graph.specs.Claims.{ScanClaim}
+use Rattle.graph.specs.Claims.{GraphClaim, WordsClaim, ReadingClaim, NextClaim, KeptClaim, BudgetClaim}
+use Rattle.graph.specs.Claims.{SplitClaim, StaleClaim, RefusalsBare, ReclaimedClaim, ScanClaim}
 use Rattle.graph.specs.LiveClaims.{LiveCountClaim, QueriesDoNotLook}
 use Rattle.graph.specs.Claims.{WriteClaim, LoadClaim}
 use Rattle.graph.specs.Standing.{PlaceClaim, BadPlaceClaim}

@@ -1,6 +1,6 @@
--- A query does not look at live counts: on tables that differ in them alone its walk goes the same way (`QueriesDoNotLook`). Assumes
--- nothing.
-use mathlib.Core.Path.{_≡_, refl, sym, _∙_}
+-- A query does not look at live counts: on tables that differ in them alone its walk goes the same way
+-- (`QueriesDoNotLook`). Assumes nothing.
+use mathlib.Core.Path.{_≡_, refl, _∙_}
 use mathlib.Core.List.{List, [], _∷_}
 use mathlib.Core.Option.{Option, none, some}
 use Prim.Native.Nat.{ℕ, zero, suc, _+_}
@@ -11,12 +11,12 @@ use Rattle.store.specs.LiveClaims.{SameButLive}
 use Rattle.store.proofs.LiveCounts.{same-fits, same-pickable, same-pick, same-start}
 use Rattle.graph.specs.declared.QueryPattern.{QueryPattern}
 use Rattle.graph.specs.declared.Level.{Level}
-use Rattle.graph.specs.Query.{asked, backtrack, Turn, bad, go, whole, enter, hit, tried}
+use Rattle.graph.specs.Query.{asked, Turn, bad, go, whole, enter, hit, tried}
 use Rattle.graph.specs.Place.{Place, start, inside, finish}
 use Rattle.graph.specs.Words.{Bindings}
 use Rattle.graph.specs.Query.{visit, walk, begun, resume, answerOf, openQueryOf, stale, nextQueryOf}
 use Rattle.graph.specs.LiveClaims.{QueriesDoNotLook}
-use Rattle.graph.proofs.Laws.{walk-ended, walk-bad, walk-go, walk-whole}
+use Rattle.graph.proofs.Laws.{walk-ended, walk-bad, walk-go, walk-whole, walk-turn}
 
 module _ (c : Counters) (m m′ : Tables) (s : SameButLive m m′) (stm : List ℕ) (ps : List QueryPattern) where
   abbrev res : List ℕ
@@ -37,7 +37,8 @@ module _ (c : Counters) (m m′ : Tables) (s : SameButLive m m′) (stm : List �
       let x = asked stm ps up in
       rw (same-pickable c m m′ s x, same-pick c m m′ s x, same-start c m m′ s (pickChain res′ x) x)
 
-  tried-same : (l : Level) (up : List Level) (o : Option Bindings) → tried r t res stm ps l up o ≡ tried r t res′ stm ps l up o
+  tried-same : (l : Level) (up : List Level) (o : Option Bindings)
+      → tried r t res stm ps l up o ≡ tried r t res′ stm ps l up o
   unfolding tried
   tried-same l up none = refl
   tried-same l up (some b) = rw (enter-same (l ∷ up))
@@ -46,25 +47,16 @@ module _ (c : Counters) (m m′ : Tables) (s : SameButLive m m′) (stm : List �
   unfolding visit hit
   visit-same l up = rw (tried-same l up (hit r t res′ stm ps l up))
 
-  walk-same : (b : ℕ) (l : Level) (up : List Level) (v : ℕ) → walk r t res stm ps b l up v ≡ walk r t res′ stm ps b l up v
+  walk-same : (b : ℕ) (l : Level) (up : List Level) (v : ℕ)
+      → walk r t res stm ps b l up v ≡ walk r t res′ stm ps b l up v
   walk-same zero l up v = unfold walk in refl
-  walk-same (suc b) l up v = from (backtrack stm l up) refl (walk-same b)
-    where
-      from : (z : List Level) → backtrack stm l up ≡ z
-          → ((l : Level) (up : List Level) (v : ℕ) → walk r t res stm ps b l up v ≡ walk r t res′ stm ps b l up v)
-          → walk r t res stm ps (suc b) l up v ≡ walk r t res′ stm ps (suc b) l up v
-      from [] e ih = walk-ended r t res stm ps l up v b e ∙ sym (walk-ended r t res′ stm ps l up v b e)
-      from (n ∷ top) e ih = turn (visit r t res′ stm ps n top) refl
-        where
-          turn : (z : Turn) → visit r t res′ stm ps n top ≡ z → walk r t res stm ps (suc b) l up v ≡ walk r t res′ stm ps (suc b) l up v
-          turn bad d =
-              walk-bad r t res stm ps l up v b n top e (visit-same n top ∙ d) ∙ sym (walk-bad r t res′ stm ps l up v b n top e d)
-          turn (go n′ top′) d =
-              walk-go r t res stm ps l up v b n top n′ top′ e (visit-same n top ∙ d) ∙ ih n′ top′ (v + 1)
-              ∙ sym (walk-go r t res′ stm ps l up v b n top n′ top′ e d)
-          turn (whole y n′ top′) d =
-              walk-whole r t res stm ps l up v b n top y n′ top′ e (visit-same n top ∙ d)
-              ∙ sym (walk-whole r t res′ stm ps l up v b n top y n′ top′ e d)
+  walk-same (suc b) l up v =
+      walk-turn r t res′ stm ps l up v (λ a. walk r t res stm ps (suc b) l up v ≡ a) b
+      (λ e. walk-ended r t res stm ps l up v b e)
+      (λ n top e d. walk-bad r t res stm ps l up v b n top e (visit-same n top ∙ d))
+      (λ n top n′ top′ e d.
+      walk-go r t res stm ps l up v b n top n′ top′ e (visit-same n top ∙ d) ∙ walk-same b n′ top′ (v + 1))
+      (λ n top y n′ top′ e d. walk-whole r t res stm ps l up v b n top y n′ top′ e (visit-same n top ∙ d))
 
   begun-same : (b : ℕ) (z : Turn) → begun r t res stm ps b z ≡ begun r t res′ stm ps b z
   unfolding begun

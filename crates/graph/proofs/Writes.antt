@@ -1,5 +1,5 @@
--- On a sound store entering a name and reclaiming leave the graph, asserting adds exactly its triple, retracting takes exactly it away, and
--- a refusal leaves it (`WriteClaim`). Assumes nothing.
+-- On a sound store entering a name and reclaiming leave the graph, asserting adds exactly its triple, retracting takes
+-- exactly it away, and a refusal leaves it (`WriteClaim`). Assumes nothing.
 use mathlib.Core.Path.{_≡_, sym, ap, _∙_}
 use mathlib.Core.Logic.{_≢_, _⊎_, inl, inr}
 use mathlib.Core.Bool.{true, false}
@@ -33,8 +33,9 @@ use Rattle.store.proofs.Held.{entries-length, entries-at, named-names, agreeing
 use Rattle.graph.specs.Meaning.{Term, RdfTriple}
 use Rattle.graph.specs.Graph.{named, graphOf}
 use Rattle.graph.specs.Claims.{graphIn, SameGraph, Entered, Added, Removed, Rebuilt, WriteClaim}
-use Rattle.graph.proofs.Listed.{nameTriple, modelGraph, graph-trans, model-enters, ModelAdded}
-use Rattle.graph.proofs.Listed.{model-asserts, ModelRemoved, model-retracts, ModelRebuilt, model-reclaims}
+use Rattle.graph.proofs.Listed.{nameTriple, modelGraph, graph-trans, model-enters, ModelAdded, not-added}
+use Rattle.graph.proofs.Listed.{model-asserts, ModelRemoved, not-removed, model-retracts, ModelRebuilt}
+use Rattle.graph.proofs.Listed.{model-reclaims}
 
 -- ---- a store that holds plain lists
 
@@ -118,6 +119,9 @@ module _ (c : Counters) (m : Tables) (S : Sound c m) where
   values : (a : Call) → (callStore here a) .1 ≡ (callModel k lists a) .1
   values a = call-agrees k here lists (sound-agrees c m S) a .0
 
+  refusals : (a : Call) → (callModel k lists a) .1 .refusal ≡ (callStore here a) .1 .refusal
+  refusals a = ap (λ (v : Values). v .refusal) (sym (values a))
+
   -- the graph after a call, by the lists
   graph-after : (a : Call) → SameGraph (graphIn ((callStore here a) .0)) (modelGraph ((callModel k lists a) .0))
   graph-after a = held-graph ((callStore here a) .0) ((callModel k lists a) .0) (after a)
@@ -155,7 +159,7 @@ module _ (c : Counters) (m : Tables) (S : Sound c m) where
           held-name _ _ A y a (omega (arith, E .longer)) ∙ E .kept y a (omega arith)
               ∙ sym (held-name here lists before y a b),
         );
-        answered = λ e. let r = E .answered (ap (λ (v : Values). v .refusal) (sym (values (intern w))) ∙ e) in
+        answered = λ e. let r = E .answered (refusals (intern w) ∙ e) in
             let q : (callStore here (intern w)) .1 .number ≡ (callModel k lists (intern w)) .1 .number =
             ap (λ (v : Values). v .number) (values (intern w)) in (
               rw q (r .0),
@@ -194,8 +198,7 @@ module _ (c : Counters) (m : Tables) (S : Sound c m) where
       → Added here ((callStore here a) .0) y ((callStore here a) .1)
   added-as a y M =
       let v = values a in
-      let r : (callModel k lists a) .1 .refusal ≡ (callStore here a) .1 .refusal =
-      ap (λ (v : Values). v .refusal) (sym v) in
+      let r = refusals a in
       record {
         sound = after a .sound;
         refused = λ n. same-after a (M .refused (λ e. n (sym r ∙ e)));
@@ -218,8 +221,7 @@ module _ (c : Counters) (m : Tables) (S : Sound c m) where
       → Removed here ((callStore here a) .0) y ((callStore here a) .1)
   removed-as a y M =
       let v = values a in
-      let r : (callModel k lists a) .1 .refusal ≡ (callStore here a) .1 .refusal =
-      ap (λ (v : Values). v .refusal) (sym v) in
+      let r = refusals a in
       record {
         sound = after a .sound;
         refused = λ n. same-after a (M .refused (λ e. n (sym r ∙ e)));
@@ -234,42 +236,21 @@ module _ (c : Counters) (m : Tables) (S : Sound c m) where
       }
 
   -- unknown numbers are refused, so that their triple does not matter
-  module _ (x : Triple) where
-    refused-added : (y y′ : RdfTriple) (s′ : Model) (v : Values) → v .refusal ≢ 0
-        → ModelAdded lists (sound-tidy c m S) distinct s′ y v
-        → ModelAdded lists (sound-tidy c m S) distinct s′ y′ v
-    refused-added y y′ s′ v h M =
-        record { refused = M .refused; added = λ e. absurd (h e); already = λ e. absurd (h e) }
+  asserted : (x : Triple) → ModelAdded lists (sound-tidy c m S) distinct ((assertModel k lists x) .0) (named m x)
+      ((assertModel k lists x) .1)
+  unfolding assertModel
+  asserted x =
+      decide (known (length (lists .names)) x)
+      (λ e. rw (← triple-here x e) (model-asserts lists (sound-tidy c m S) distinct k x))
+      (λ e. rw e (not-added lists (sound-tidy c m S) distinct (named m x) _ (λ n. omega arith)))
 
-    refused-removed : (y y′ : RdfTriple) (s′ : Model) (v : Values) → v .refusal ≢ 0
-        → ModelRemoved lists (sound-tidy c m S) distinct s′ y v
-        → ModelRemoved lists (sound-tidy c m S) distinct s′ y′ v
-    refused-removed y y′ s′ v h M =
-        record { refused = M .refused; removed = λ e. absurd (h e); absent = λ e. absurd (h e) }
-
-    assert-unknown : known (length (lists .names)) x ≡ false → (assertModel k lists x) .1 .refusal ≢ 0
-    unfolding assertModel
-    assert-unknown e = rw e (λ d. omega arith)
-
-    retract-unknown : known (length (lists .names)) x ≡ false → (retractModel lists x) .1 .refusal ≢ 0
-    unfolding retractModel
-    retract-unknown e = rw e (λ d. omega arith)
-
-    asserted : ModelAdded lists (sound-tidy c m S) distinct ((assertModel k lists x) .0) (named m x)
-        ((assertModel k lists x) .1)
-    asserted =
-        let M = model-asserts lists (sound-tidy c m S) distinct k x in
-        decide (known (length (lists .names)) x)
-        (λ e. rw (← triple-here x e) M)
-        (λ e. refused-added (nameTriple (lists .names) x) (named m x) _ _ (assert-unknown e) M)
-
-    retracted : ModelRemoved lists (sound-tidy c m S) distinct ((retractModel lists x) .0) (named m x)
-        ((retractModel lists x) .1)
-    retracted =
-        let M = model-retracts lists (sound-tidy c m S) distinct x in
-        decide (known (length (lists .names)) x)
-        (λ e. rw (← triple-here x e) M)
-        (λ e. refused-removed (nameTriple (lists .names) x) (named m x) _ _ (retract-unknown e) M)
+  retracted : (x : Triple) → ModelRemoved lists (sound-tidy c m S) distinct ((retractModel lists x) .0) (named m x)
+      ((retractModel lists x) .1)
+  unfolding retractModel
+  retracted x =
+      decide (known (length (lists .names)) x)
+      (λ e. rw (← triple-here x e) (model-retracts lists (sound-tidy c m S) distinct x))
+      (λ e. rw e (not-removed lists (sound-tidy c m S) distinct (named m x) _ (λ n. omega arith)))
 
   asserts : (f : Form) (x : Triple) → Added here ((callStore here (assert f x)) .0) (named m x)
       ((callStore here (assert f x)) .1)

@@ -1,5 +1,5 @@
--- What the tables, a query's words and a solution stand for (paper 01, demand 2): the graph of the live statements, a basic graph pattern
--- over names, a solution mapping to names. Assumes nothing.
+-- What the tables, a query's words and a solution stand for (paper 01, demand 2): the graph of the live statements, a
+-- basic graph pattern over names, a solution mapping to names. Assumes nothing.
 use Rattle.store.specs.Prelude.{_≡_, cond, List, map, Option, none, some, ℕ, zero, suc, _-_, _<_}
 use Rattle.graph.specs.Prelude.{Counters, Triple, QueryPattern}
 use Rattle.store.specs.Tables.{Tables, tripleAt, flagAt}

@@ -1,7 +1,7 @@
--- What a graph and a query mean, to be held beside RDF 1.1 Concepts (3) and SPARQL 1.1 (18.1, 18.3). Names are without the string ending
--- and then told apart by their bytes, so that two of them are two terms of RDF 1.1 (`NumbersAreTerms`, crate `lines`), a language tag as it
--- is written. A blank node in a pattern stands for itself (paper 01). Nothing here speaks of tables, chains, cursors or visits. Assumes
--- nothing.
+-- What a graph and a query mean, to be held beside RDF 1.1 Concepts (3) and SPARQL 1.1 (18.1, 18.3). Names are without
+-- the string ending and then told apart by their bytes, so that two of them are two terms of RDF 1.1
+-- (`NumbersAreTerms`, crate `lines`), a language tag as it is written. A blank node in a pattern stands for itself
+-- (paper 01). Nothing here speaks of tables, chains, cursors or visits. Assumes nothing.
 use Rattle.store.specs.Prelude.{_≡_, _⊎_, _↔_, false, List, List·Memᴰ, Option, some, ℕ}
 use Rattle.graph.specs.Prelude.{Position, Subject, Predicate, Object}
 use Rattle.term.specs.Grammar.{Iri, Blank, Literal}

@@ -1,5 +1,5 @@
--- The order of solutions (paper 01, "A solution is ordered by its statements", "at or after the place"): one statement number a pattern,
--- the first difference decides, higher numbers first. Assumes nothing.
+-- The order of solutions (paper 01, "A solution is ordered by its statements", "at or after the place"): one statement
+-- number a pattern, the first difference decides, higher numbers first. Assumes nothing.
 use Rattle.store.specs.Prelude.{_≡_, _⊎_, Bool, true, _&&_, _||_, List, [], _∷_, List·Memᴰ, ℕ, _<_, eqb, ltb}
 use Rattle.graph.specs.Prelude.{Triple, QueryPattern, Level}
 use Rattle.store.specs.Shared.{same, below, head0, keep}

@@ -1,7 +1,8 @@
--- The words of a query, the paper's question (paper 01, "Open a question"): its limits, its patterns, refusal 8, what is bound to its
--- variables, and a pattern under what is bound. Assumes nothing.
-use Rattle.store.specs.Prelude.{Bool, true, cond, _&&_, _||_, List, [], _∷_, ℕ, _+_, _*_, _-_, length, getD, replicate, eqb, leb, ltb}
-use Rattle.graph.specs.Prelude.{ResourceId, Triple, QueryPattern}
+-- The words of a query, the paper's question (paper 01, "Open a question"): its limits, its patterns, refusal 8, what
+-- is bound to its variables, and a pattern under what is bound. Assumes nothing.
+use Rattle.store.specs.Prelude.{Bool, true, cond, _&&_, _||_, List, [], _∷_, ℕ, _+_, _*_, _-_}
+use Rattle.store.specs.Prelude.{length, getD, replicate, eqb, leb, ltb}
+use Rattle.graph.specs.Prelude.{Position, Subject, Predicate, Object, ResourceId, Triple, QueryPattern}
 use Rattle.store.specs.Shared.{triple}
 
 -- ---- the words of a query
@@ -21,6 +22,12 @@ isVariable w = leb firstVariable w
 
 abbrev pub pattern : ℕ → ℕ → ℕ → QueryPattern
 pattern s p o = record { subject = s; predicate = p; object = o }
+
+-- a pattern's word at a position
+abbrev pub wordAt : Position → QueryPattern → ℕ
+wordAt Subject x = x .subject
+wordAt Predicate x = x .predicate
+wordAt Object x = x .object
 
 -- three words a pattern; what is left over at the end gives none
 unfoldable pub patternsOf : List ℕ → List QueryPattern

@@ -29,8 +29,8 @@ pub struct Solution {
     pub values: [ResourceId; VARIABLES],
 }
 
-// A pattern entered: its chain, and a record on it; of the deepest level the next record to visit, or 0. A cursor's arrays
-// of chains and of records are one array of these.
+// A pattern entered: its chain, and a record on it; of the deepest level the next record to visit, or 0. A cursor's
+// arrays of chains and of records are one array of these.
 pub struct Level {
     pub chain: Chain,
     pub statement: StatementId,
@@ -44,9 +44,9 @@ pub enum Progress {
     End,
 }
 
-// The place of a query: how far it is, how many patterns are entered, the number of reclaims when it was answered, and the chains and
-// records of the patterns entered, the first pattern first. Words past the levels entered are ignored where a cursor is taken, and zero in
-// a cursor that is answered.
+// The place of a query: how far it is, how many patterns are entered, the number of reclaims when it was answered, and
+// the chains and records of the patterns entered, the first pattern first. Words past the levels entered are ignored
+// where a cursor is taken, and zero in a cursor that is answered.
 pub struct QueryCursor {
     pub progress: Progress,
     pub depth: u32,

@@ -1,4 +1,5 @@
--- Loading a line: the line reader's theorem and the graph's, put together; and the names of a store as terms. Assumes nothing.
+-- Loading a line: the line reader's theorem and the graph's, put together; and the names of a store as terms.
+-- Assumes nothing.
 use Prim.Native.Nat.{ℕ}
 use mathlib.Core.Path.{_≡_, refl, sym, ap, _∙_}
 use mathlib.Core.Logic.{_⊎_, inl, inr, _↔_}
@@ -32,7 +33,8 @@ use Rattle.graph.specs.Claims.{SoundStore, canonicalTriple, Loadable}
 use Rattle.graph.proofs.Solve.{triple-ext}
 use Rattle.graph.proofs.Names.{named-at, name-kind, term-low, term-high}
 use Rattle.graph.proofs.Theorems.{live-graph, graph-writes, line-loads}
-use Rattle.lines.specs.Claims.{namesIn, LinesLoad, NumbersAreTerms, StatementsAreTriples, FoundAsTerms, EnteredAsTerms}
+use Rattle.lines.specs.Claims.{namesIn, LinesLoad, NumbersAreTerms, StatementsAreTriples, FoundAsTerms}
+use Rattle.lines.specs.Claims.{EnteredAsTerms}
 
 -- ---- loading a line
 
@@ -45,7 +47,8 @@ subject-short w (inl e) = no-literal w 1 e (λ z. omega arith) (λ z. omega arit
 subject-short w (inr e) = no-literal w 2 e (λ z. omega arith) (λ z. omega arith)
 
 same-triple : (s p o s′ p′ o′ : List ℕ) → s ≡ s′ → p ≡ p′ → o ≡ o′
-    → _≡_ {A = RdfTriple} (record { subject = s; predicate = p; object = o }) (record { subject = s′; predicate = p′; object = o′ })
+    → _≡_ {A = RdfTriple} (record { subject = s; predicate = p; object = o })
+    (record { subject = s′; predicate = p′; object = o′ })
 same-triple s p o s′ p′ o′ a b c = rw (a, b, c)
 
 parts-short : (text : List ℕ) (s p o : Span) → Enterable nameLimit text s p o
@@ -54,7 +57,8 @@ parts-short text s p o e =
     same-triple _ _ _ _ _ _ (subject-short (bytesOf text s) (e .subjectKind))
     (no-literal (bytesOf text p) 1 (e .predicateKind) (λ z. omega arith) (λ z. omega arith)) (e .objectShort)
 
-object-formed : (w : List ℕ) → (kindOf nameLimit w ≡ 1) ⊎ ((kindOf nameLimit w ≡ 2) ⊎ (kindOf nameLimit w ≡ 3)) → wellFormed w ≡ true
+object-formed : (w : List ℕ) → (kindOf nameLimit w ≡ 1) ⊎ ((kindOf nameLimit w ≡ 2) ⊎ (kindOf nameLimit w ≡ 3))
+    → wellFormed w ≡ true
 unfolding wellFormed
 object-formed w (inl e) = lt-ltb 0 (kindOf nameLimit w) (omega arith)
 object-formed w (inr (inl e)) = lt-ltb 0 (kindOf nameLimit w) (omega arith)
@@ -94,14 +98,16 @@ statements-are-triples c m S i j a b h =
     let y = tripleAt (m .statements) j in
     live-graph c m S .once i j a b
     (ap (named m) (triple-ext x y (λ p.
-    numbers-are-terms c m S (at p x) (at p y) (term-low c m S p i (a .0)) (term-high c m S p i (a .0)) (term-low c m S p j (b .0))
-    (term-high c m S p j (b .0)) (ap termOf (sym (named-at m x p)) ∙ (h p ∙ ap termOf (named-at m y p))))))
+    numbers-are-terms c m S (at p x) (at p y) (term-low c m S p i (a .0)) (term-high c m S p i (a .0))
+    (term-low c m S p j (b .0)) (term-high c m S p j (b .0))
+    (ap termOf (sym (named-at m x p)) ∙ (h p ∙ ap termOf (named-at m y p))))))
 
 name-of : (w : List ℕ) → wellFormed w ≡ true → Name (kindOf nameLimit w) w
 unfolding wellFormed
 name-of w e = kinds nameLimit (kindOf nameLimit w) w (ltb-true 0 (kindOf nameLimit w) e) .0 refl .1
 
-terms-of : (v w : List ℕ) → wellFormed v ≡ true → wellFormed w ≡ true → (termOf v ≡ termOf w) ↔ (canonical v ≡ canonical w)
+terms-of : (v w : List ℕ) → wellFormed v ≡ true → wellFormed w ≡ true
+    → (termOf v ≡ termOf w) ↔ (canonical v ≡ canonical w)
 terms-of v w f g = distinct-terms (kindOf nameLimit v) (kindOf nameLimit w) v w (name-of v f) (name-of w g)
 
 pub found-as-terms : FoundAsTerms
@@ -114,7 +120,8 @@ found-as-terms c m S v w y z a b =
     )
 
 -- what is entered is well formed
-entered-formed : (s : Store) → SoundStore s → (w : List ℕ) → (callStore s (intern w)) .1 .refusal ≡ 0 → wellFormed w ≡ true
+entered-formed : (s : Store) → SoundStore s → (w : List ℕ) → (callStore s (intern w)) .1 .refusal ≡ 0
+    → wellFormed w ≡ true
 unfolding callStore internOf
 entered-formed s S w e =
     decide (wellFormed w) (λ f. f)

@@ -1,5 +1,6 @@
 -- What follows from linked tables (`Linked`), for a chain in general: the pick is never refused 9, no live count is
--- above its count, a walk along a chain never meets a damaged record and comes to what taking positions off the chain comes to. Assumes nothing.
+-- above its count, a walk along a chain never meets a damaged record and comes to what taking positions off the chain
+-- comes to. Assumes nothing.
 use mathlib.Core.Path.{_≡_, refl, sym, ap, _∙_}
 use mathlib.Core.Logic.{_≢_}
 use mathlib.Core.Bool.{Bool, true, _&&_, _||_}
@@ -7,7 +8,6 @@ use mathlib.Core.List.{List}
 use mathlib.Core.Option.{some}
 use Prim.Native.Nat.{ℕ, _≤_, _<_}
 use native.Mathlib.Omega.{arith}
-use lib.ListN.{length}
 use lib.Dec.{eqb, leb}
 use borrow.Author.Tests.{eqb-true, eqb-false, eq-eqb, le-leb}
 use Rattle.store.specs.declared.Position.{Position}
@@ -48,7 +48,8 @@ words-term : (stm : List ℕ) (p : Position) (x : Triple) (i : ℕ) → onWords 
 unfolding onChain
 words-term stm p x i e = sym (triple-at stm p i) ∙ eqb-true _ _ e
 
-pub chain-holds-resource : (stm : List ℕ) (ch : Chain) (x : Triple) (i : ℕ) → onWords stm ch x i ≡ true → holdsResource stm ch x i ≡ true
+pub chain-holds-resource : (stm : List ℕ) (ch : Chain) (x : Triple) (i : ℕ) → onWords stm ch x i ≡ true
+    → holdsResource stm ch x i ≡ true
 unfolding holdsResource
 chain-holds-resource stm All x i e = refl
 chain-holds-resource stm (By p) x i e = eq-eqb (termAt stm p i) (at p x) (words-term stm p x i e)
@@ -84,10 +85,6 @@ module _ (r t : ℕ) (res stm : List ℕ) (L : Linked r t res stm) where
   chain-start All x b h = sym (head-all t)
   chain-start (By p) x b h = L .first p (at p x) b (h p) ∙ ap head0 (sym (chain-holding stm p x t))
 
-  pub chain-count : (p : Position) (x : Triple) → 0 < at p x → at p x ≤ r
-      → countAt res p (at p x) ≡ length (below (onWords stm (By p) x) t)
-  chain-count p x b h = L .count p (at p x) b h ∙ ap length (sym (chain-holding stm p x t))
-
   -- a walk with a budget along any chain, from any record on it
   pub walk-linked : (ch : Chain) (x : Triple) (hit : ℕ → Bool) (n b : ℕ) → n ≤ t
       → walk (linkOf stm ch) (visitable r stm ch x) hit b (head0 (below (onWords stm ch x) n))
@@ -105,7 +102,8 @@ module _ (r t : ℕ) (res stm : List ℕ) (L : Linked r t res stm) where
         L .live p (at p x) (known-low r x e p) (known-high r x e p),
         L .count p (at p x) (known-low r x e p) (known-high r x e p),
       )
-      (le-leb _ _ (length-narrower (living stm p (at p x)) (holding stm p (at p x)) t (λ i. living-holding p (at p x) i))))
+      (le-leb _ _ (length-narrower (living stm p (at p x)) (holding stm p (at p x)) t
+      (λ i. living-holding p (at p x) i))))
 
   -- the pick is never refused 9
   pub pickable-linked : (x : Triple) → ((p : Position) → at p x ≤ r) → pickable t res x ≡ true

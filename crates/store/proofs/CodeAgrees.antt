@@ -1,5 +1,5 @@
--- A run of the code is the run of the claims: where a store agrees with plain lists, each contract leaves one store and one reply, those of
--- `callStore`. Assumes nothing.
+-- A run of the code is the run of the claims: where a store agrees with plain lists, each contract leaves one store and
+-- one reply, those of `callStore`. Assumes nothing.
 use mathlib.Core.Path.{_≡_, sym, ap, ap₂, _∙_, subst}
 use mathlib.Core.List.{List, [], _∷_}
 use native.Mathlib.Omega.{arith}
@@ -14,15 +14,15 @@ use Rattle.store.specs.declared.ScanOpened.{ScanOpened}
 use Rattle.store.specs.declared.Scanned.{Scanned}
 use Rattle.store.specs.Shared.{maxReclaims}
 use Rattle.store.specs.Tables.{Tables, after}
-use Rattle.store.specs.Values.{Values, internedValues, assertedValues, retractedValues, openedValues, scannedValues}
-use Rattle.store.specs.Values.{reclaimedValues}
-use Rattle.store.specs.Model.{Model, Capacities, Call, byValue, updating, intern, assert, retract, open′, next, reclaim, freshModel}
-use Rattle.store.specs.Model.{callModel, modelAfter}
+use Rattle.store.specs.Values.{Values, internedValues, assertedValues, retractedValues, openedValues}
+use Rattle.store.specs.Values.{scannedValues, reclaimedValues}
+use Rattle.store.specs.Model.{Model, Capacities, Call, byValue, updating, intern, assert, retract, open′, next}
+use Rattle.store.specs.Model.{reclaim, freshModel, callModel, modelAfter}
 use Rattle.store.specs.Statement.{Updated, countersAfter}
 use Rattle.store.specs.Reclaim.{reclaimOf, ReclaimAnswer}
 use Rattle.store.specs.Soundness.{Sound}
-use Rattle.store.specs.History.{Store, store, freshStore, capacitiesOf, internedCounters, afterReclaim, openedCursors, movedCursors}
-use Rattle.store.specs.History.{callStore, storeReplies, storeAfter}
+use Rattle.store.specs.History.{Store, store, freshStore, capacitiesOf, internedCounters, afterReclaim}
+use Rattle.store.specs.History.{openedCursors, movedCursors, callStore, storeReplies, storeAfter}
 use Rattle.store.specs.Claims.{Holds}
 use Rattle.store.specs.Contracts.{Ran, Run, CodeAgrees}
 use Rattle.store.proofs.Tests.{decide, fits-parts}
@@ -32,12 +32,14 @@ use Rattle.store.proofs.Kept.{Tidy, tidy-call, tidy-history, tidy-fresh
 use Rattle.store.proofs.Held.{agreeing-holds}
 
 -- on a sound store reclaim has one answer
-reclaim-is : (c : Counters) (m m′ : Tables) (a : Reclaimed) → Sound c m → ReclaimAnswer c m m′ a → after m′ a ≡ reclaimOf c m
+reclaim-is : (c : Counters) (m m′ : Tables) (a : Reclaimed) → Sound c m → ReclaimAnswer c m m′ a
+    → after m′ a ≡ reclaimOf c m
 unfolding reclaimOf
 reclaim-is c m m′ a S A =
     decide (ltb (c .generation) maxReclaims)
     (λ e. A .exact S (ltb-true (c .generation) maxReclaims e))
-    (λ e. A .limit (S .capacity) (omega (arith, ltb-false (c .generation) maxReclaims e, (fits-parts c m (S .capacity)) .3))
+    (λ e. A .limit (S .capacity)
+    (omega (arith, ltb-false (c .generation) maxReclaims e, (fits-parts c m (S .capacity)) .3))
     ∙ sym (rw (S .capacity, e)))
 
 module _ (k : Capacities) (s : Store) (l : Model) (R : Agreeing k s l) (D : Tidy l) where
@@ -81,13 +83,15 @@ module _ (k : Capacities) (s : Store) (l : Model) (R : Agreeing k s l) (D : Tidy
         h .3 ∙ ap (λ (z : Tables × Reclaimed). reclaimedValues (z .1)) e,
       )
 
-run-is : (k : Capacities) (s : Store) (l : Model) → Agreeing k s l → Tidy l → (calls : List Call) (t : Store) (vs : List Values)
+run-is : (k : Capacities) (s : Store) (l : Model) → Agreeing k s l → Tidy l
+    → (calls : List Call) (t : Store) (vs : List Values)
     → Run s calls t vs → (t ≡ storeAfter s calls) × (vs ≡ storeReplies s calls)
 unfolding storeAfter storeReplies
 run-is k s l R D [] t vs h = h
 run-is k s l R D (a ∷ calls) t vs h =
     let one = ran-is k s l R D a (h .0) (h .1) (h .3) in
-    let rest = run-is k ((callStore s a) .0) ((callModel k l a) .0) (call-agrees k s l R a .1) (tidy-call l D k a) calls t (h .2)
+    let rest = run-is k ((callStore s a) .0) ((callModel k l a) .0)
+    (call-agrees k s l R a .1) (tidy-call l D k a) calls t (h .2)
     (subst (λ (u : Store). Run u calls t (h .2)) (one .0) (h .4)) in
     (rest .0, h .5 ∙ ap₂ _∷_ (one .1) (rest .1))
 

@@ -2,8 +2,7 @@
 -- length. Assumes nothing.
 use mathlib.Core.Path.{_≡_, refl, sym, ap, _∙_}
 use mathlib.Core.Bool.{Bool, true, false, cond, true≢false}
-use mathlib.Core.List.{[], _∷_, List·Memᴰ, List·Memᴰ·head, List·Memᴰ·tail, List·Memᴰ·not-nil}
-use mathlib.Core.List.{List·Memᴰ·cases-cons}
+use mathlib.Core.List.{[], _∷_, List·Memᴰ, List·Memᴰ·head, List·Memᴰ·tail, List·Memᴰ·not-nil, List·Memᴰ·cases-cons}
 use mathlib.Core.Logic.{_≢_, _⊎_, inl, inr}
 use lib.Dec.{eqb}
 use borrow.Author.Tests.{eqb-true, eqb-false}
@@ -85,9 +84,6 @@ head-unique f (suc n) i h e g =
     (λ q. let ne : i ≢ n = eqb-false i n q in
     rw (g n (omega arith) (omega arith)) (head-unique f n i (omega arith) e (λ j a b. g j a (omega arith))))
 
-pub head-zero : (f : ℕ → Bool) (n : ℕ) → ((i : ℕ) → i < n → f i ≡ false) → head0 (below f n) ≡ 0
-head-zero f n h = ap head0 (below-none f n h)
-
 -- ---- the length
 
 pub length-suc : (f : ℕ → Bool) (n : ℕ)
@@ -107,7 +103,8 @@ length-narrower f g zero h = omega arith
 length-narrower f g (suc n) h =
     decide (f n)
     (λ e. rw (e, h n e) (omega (arith, length-narrower f g n h)))
-    (λ e. rw e (decide (g n) (λ d. rw d (omega (arith, length-narrower f g n h))) (λ d. rw d (length-narrower f g n h))))
+    (λ e. rw e (decide (g n) (λ d. rw d (omega (arith, length-narrower f g n h)))
+    (λ d. rw d (length-narrower f g n h))))
 
 -- a test that changes at one entry, which failed before
 pub length-turn : (f g : ℕ → Bool) (n i : ℕ) → i < n → f i ≡ false → ((j : ℕ) → j ≢ i → g j ≡ f j)

@@ -1,101 +1,51 @@
--- What the store needs of well-formed names: no zero byte, a kind from 1 to 3 by the first byte, at most 255 bytes; and what is left of
--- them without the string ending. Assumes nothing.
+-- What the store needs of well-formed names: no zero byte, a kind from 1 to 3 by the first byte, at most 255 bytes; and
+-- what is left of them without the string ending. Assumes nothing.
 use mathlib.Core.Path.{_≡_, refl, sym, ap, _∙_}
-use mathlib.Core.Bool.{Bool, true, false, not}
-use mathlib.Core.List.{List, [], _∷_}
-use Prim.Native.Nat.{ℕ, zero, suc, _≤_, _<_}
+use mathlib.Core.Bool.{true, false, not}
+use mathlib.Core.List.{List}
+use Prim.Native.Nat.{ℕ, _≤_, _<_}
 use native.Mathlib.Omega.{arith}
 use lib.ListN.{length}
-use lib.Dec.{eqb, leb, ltb}
-use borrow.Author.Tests.{leb-true, ltb-true, not-true}
-use Rattle.term.specs.Bytes.{among, letter, alnum, iriByte, textByte, pairByte, firstByte, labelByte}
-use Rattle.term.specs.Scanner.{stepOf, runOf, wholeOf, firstKindOf, kindOf}
-use Rattle.term.specs.declared.Scan.{Scan}
-use Rattle.term.specs.declared.Scan.the-variants.{Start, IriOpen, Iri, Closed, Under, Colon, Label, Dot, Dots, Text}
-use Rattle.term.specs.declared.Scan.the-variants.{Escape, Quote, At, Tag, Hyphen, Group, Caret, Carets, Bad}
+use lib.Dec.{ltb}
+use borrow.Author.Tests.{ltb-true, not-true}
+use Rattle.term.specs.Scanner.{firstKindOf, kindOf}
+use Rattle.term.specs.Grammar.{nameLimit, Name}
 use Rattle.term.specs.Canonical.{writesString, canonical}
+pub use Rattle.term.specs.Halting.{clean}
+use Rattle.term.proofs.Names.{name-kind, kinds}
+use Rattle.term.proofs.WellFormed.{name-clean, at-most-three}
 use Rattle.term.proofs.Shortened.{canonical-name, kept}
 use Rattle.store.specs.Shared.{wellFormed}
 use Rattle.store.specs.Names.{storable}
-use Rattle.store.proofs.Tests.{decide, and-l, and-r, and-of}
+use Rattle.store.proofs.Tests.{and-l, and-r, and-of}
 
--- no zero byte
-abbrev pub clean : List ℕ → Bool
-clean [] = true
-clean (zero ∷ r) = false
-clean (suc b ∷ r) = clean r
+-- a kind was found
+kind-found : (w : List ℕ) → wellFormed w ≡ true → 0 < kindOf nameLimit w
+unfolding wellFormed
+kind-found w e = ltb-true 0 (kindOf nameLimit w) e
 
--- a zero byte continues no name
-zero-bad : (q : Scan) → stepOf q 0 ≡ Bad
-unfolding stepOf among letter alnum iriByte textByte pairByte firstByte labelByte
-zero-bad Start = refl
-zero-bad IriOpen = refl
-zero-bad Iri = refl
-zero-bad Closed = refl
-zero-bad Under = refl
-zero-bad Colon = refl
-zero-bad Label = refl
-zero-bad Dot = refl
-zero-bad Dots = refl
-zero-bad Text = refl
-zero-bad Escape = refl
-zero-bad Quote = refl
-zero-bad At = refl
-zero-bad Tag = refl
-zero-bad Hyphen = refl
-zero-bad Group = refl
-zero-bad Caret = refl
-zero-bad Carets = refl
-zero-bad Bad = refl
-
-bad-stays : (s : List ℕ) → wholeOf (runOf Bad s) ≡ false
-unfolding stepOf runOf wholeOf
-bad-stays [] = refl
-bad-stays (b ∷ s) = bad-stays s
-
-run-clean : (q : Scan) (s : List ℕ) → wholeOf (runOf q s) ≡ true → clean s ≡ true
-unfolding runOf
-run-clean q [] e = refl
-run-clean q (zero ∷ s) e = let d = bad-stays s in let z = rw (zero-bad q) at e in cc
-run-clean q (suc b ∷ s) e = run-clean (stepOf q (suc b)) s e
-
-record Parts (w : List ℕ) : Type 0 where
-  short : leb (length w) 255 ≡ true
-  whole : wholeOf (runOf Start w) ≡ true
-  kind : 0 < firstKindOf w
-
-parts : (w : List ℕ) → wellFormed w ≡ true → Parts w
-unfolding wellFormed kindOf
-parts w e =
-    decide (leb (length w) 255)
-    (λ a. decide (wholeOf (runOf Start w))
-    (λ b. record { short = a; whole = b; kind = ltb-true 0 (firstKindOf w) (rw (a, b) at e) })
-    (λ b. absurd (omega (arith, ltb-true 0 0 (rw (a, b) at e)))))
-    (λ a. absurd (omega (arith, ltb-true 0 0 (rw a at e))))
+found-not : (w : List ℕ) → wellFormed w ≡ true → kindOf nameLimit w ≡ 0 → ⊥
+found-not w e z = omega (arith, kind-found w e)
 
 pub form-clean : (w : List ℕ) → wellFormed w ≡ true → clean w ≡ true
-form-clean w e = run-clean Start w (parts w e .whole)
+form-clean w e = name-clean nameLimit w (found-not w e)
 
-pub form-short : (w : List ℕ) → wellFormed w ≡ true → length w ≤ 255
-form-short w e = leb-true (length w) 255 (parts w e .short)
+-- the grammar's name, of its kind
+by-grammar : (w : List ℕ) → wellFormed w ≡ true → (length w ≤ nameLimit) × Name (kindOf nameLimit w) w
+by-grammar w e = kinds nameLimit (kindOf nameLimit w) w (kind-found w e) .0 refl
 
-pub form-kind : (w : List ℕ) → wellFormed w ≡ true → 0 < firstKindOf w
-form-kind w e = parts w e .kind
-
-pub kind-high : (w : List ℕ) → firstKindOf w ≤ 3
-unfolding firstKindOf
-kind-high [] = omega arith
-kind-high (b ∷ r) =
-    decide (eqb b 60)
-    (λ e. rw e (omega arith))
-    (λ e. rw e (decide (eqb b 95)
-    (λ d. rw d (omega arith))
-    (λ d. rw d (decide (eqb b 34) (λ f. rw f (omega arith)) (λ f. rw f (omega arith))))))
+pub form-short : (w : List ℕ) → wellFormed w ≡ true → length w ≤ nameLimit
+form-short w e = by-grammar w e .0
 
 -- the kind of a well-formed name is its first byte's
-pub form-kindOf : (w : List ℕ) → wellFormed w ≡ true → kindOf 255 w ≡ firstKindOf w
-unfolding kindOf
-form-kindOf w e = rw (parts w e .short, parts w e .whole)
+pub form-kindOf : (w : List ℕ) → wellFormed w ≡ true → kindOf nameLimit w ≡ firstKindOf w
+form-kindOf w e = sym (name-kind (by-grammar w e .1))
+
+pub form-kind : (w : List ℕ) → wellFormed w ≡ true → 0 < firstKindOf w
+form-kind w e = omega (arith, kind-found w e, form-kindOf w e)
+
+pub form-kind-high : (w : List ℕ) → wellFormed w ≡ true → firstKindOf w ≤ 3
+form-kind-high w e = omega (arith, at-most-three nameLimit w, form-kindOf w e)
 
 -- ---- names without the string ending
 
@@ -111,20 +61,18 @@ storable-plain w e = not-true (writesString w) (and-r (wellFormed w) (not (write
 pub storable-kept : (w : List ℕ) → storable w ≡ true → canonical w ≡ w
 storable-kept w e = kept w (storable-plain w e)
 
-kind-found : (w : List ℕ) → wellFormed w ≡ true → kindOf 255 w ≡ 0 → ⊥
-unfolding wellFormed
-kind-found w e z = omega (arith, ltb-true 0 0 (rw z at e))
-
 -- and what it leaves of a well-formed name is one
 pub canonical-storable : (w : List ℕ) → wellFormed w ≡ true → storable (canonical w) ≡ true
 unfolding storable wellFormed
 canonical-storable w e =
-    let c = canonical-name 255 w (kind-found w e) in
-    and-of (ltb 0 (kindOf 255 (canonical w))) (not (writesString (canonical w))) (ap (ltb 0) (c .kind) ∙ e) (ap not (c .ending))
+    let c = canonical-name nameLimit w (found-not w e) in
+    and-of (ltb 0 (kindOf nameLimit (canonical w))) (not (writesString (canonical w))) (ap (ltb 0) (c .kind) ∙ e)
+    (ap not (c .ending))
 
 pub canonical-formed : (w : List ℕ) → wellFormed w ≡ true → wellFormed (canonical w) ≡ true
 canonical-formed w e = storable-formed (canonical w) (canonical-storable w e)
 
 -- the kind of the name as spelled is the first byte's of what is left
-pub canonical-kind : (w : List ℕ) → wellFormed w ≡ true → kindOf 255 w ≡ firstKindOf (canonical w)
-canonical-kind w e = sym (canonical-name 255 w (kind-found w e) .kind) ∙ form-kindOf (canonical w) (canonical-formed w e)
+pub canonical-kind : (w : List ℕ) → wellFormed w ≡ true → kindOf nameLimit w ≡ firstKindOf (canonical w)
+canonical-kind w e =
+    sym (canonical-name nameLimit w (found-not w e) .kind) ∙ form-kindOf (canonical w) (canonical-formed w e)

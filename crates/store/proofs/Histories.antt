@@ -5,8 +5,8 @@ use mathlib.Core.List.{List, [], _∷_}
 use native.Mathlib.Omega.{arith}
 use Rattle.store.specs.Shared.{below, textBytes}
 use Rattle.store.specs.Tables.{Tables}
-use Rattle.store.specs.Model.{Model, Capacities, byValue, updating, Call, intern, assert, retract, open′, next, reclaim}
-use Rattle.store.specs.Model.{freshModel, callModel, modelReplies, modelAfter}
+use Rattle.store.specs.Model.{Model, Capacities, byValue, updating, Call, intern, assert, retract, open′, next}
+use Rattle.store.specs.Model.{reclaim, freshModel, callModel, modelReplies, modelAfter}
 use Rattle.store.specs.Statement.{assertUpdatingOf, retractUpdatingOf}
 use Rattle.store.specs.Names.{joined}
 use Rattle.store.specs.History.{Store, freshStore, capacitiesOf, callStore, storeReplies, storeAfter}

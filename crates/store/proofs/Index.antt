@@ -11,8 +11,7 @@ use Rattle.store.specs.Dictionary.{rank, bring, insertAt}
 use Rattle.store.specs.Names.{ByteOrdering, less, equal, more, compareBytes, isLess, Indexed}
 use Rattle.store.proofs.Tests.{three}
 use Rattle.store.proofs.Falling.{length-le, Closed, rank-below, rank-above, rank-unique}
-use Rattle.store.proofs.Order.{flip, compare-refl, compare-flip, compare-trans, is-less}
-use Rattle.store.proofs.Order.{less-not-equal}
+use Rattle.store.proofs.Order.{flip, compare-refl, compare-flip, compare-trans, is-less, less-not-equal}
 use Rattle.store.proofs.Pigeonhole.{Hit, Distinct, pigeonhole1}
 
 -- ---- words after an insertion
@@ -42,14 +41,6 @@ bring-up v zero i (x ∷ l) h g = absurd (omega arith)
 bring-up v (suc n) zero (x ∷ l) h g = bring-at x n l (omega arith)
 bring-up v (suc n) (suc i) (x ∷ l) h g = bring-up x n i l (omega arith) (omega arith)
 
-bring-past : (v n i : ℕ) (l : List ℕ) → n < i → word (bring v n l) i ≡ word l i
-unfolding bring
-bring-past v n i [] h = refl
-bring-past v zero zero (x ∷ l) h = absurd (omega arith)
-bring-past v zero (suc i) (x ∷ l) h = refl
-bring-past v (suc n) zero (x ∷ l) h = absurd (omega arith)
-bring-past v (suc n) (suc i) (x ∷ l) h = bring-past x n i l (omega arith)
-
 pub insert-before : (k n v i : ℕ) (l : List ℕ) → i < k → word (insertAt k n v l) i ≡ word l i
 unfolding insertAt
 insert-before zero n v i l h = absurd (omega arith)
@@ -70,14 +61,6 @@ insert-moved zero n v i l h g q = bring-up v n i l (omega arith) (omega arith)
 insert-moved (suc k) n v i [] h g q = absurd (omega arith)
 insert-moved (suc k) n v zero (x ∷ l) h g q = absurd (omega arith)
 insert-moved (suc k) n v (suc i) (x ∷ l) h g q = insert-moved k n v i l (omega arith) (omega arith) (omega arith)
-
--- the words past the one dropped
-pub insert-past : (k n v i : ℕ) (l : List ℕ) → k + n < i → word (insertAt k n v l) i ≡ word l i
-unfolding insertAt
-insert-past zero n v i l h = bring-past v n i l (omega arith)
-insert-past (suc k) n v i [] h = refl
-insert-past (suc k) n v zero (x ∷ l) h = absurd (omega arith)
-insert-past (suc k) n v (suc i) (x ∷ l) h = insert-past k n v i l (omega arith)
 
 -- ---- the rank
 

@@ -10,11 +10,13 @@ use Rattle.store.specs.declared.Counters.{Counters}
 use Rattle.store.specs.declared.Refusal.{Refusal}
 use Rattle.store.specs.declared.IndexPlace.{IndexPlace}
 use Rattle.store.specs.declared.IndexPlace.the-variants.{At, Before, OutOfRange}
+use Rattle.store.specs.declared.Refusal.the-variants.{Capacity, Malformed}
+use Rattle.store.specs.declared.Interned.{Interned}
 use Rattle.store.specs.declared.Interned.the-variants.{Refused as NotInterned}
 use Rattle.store.specs.Tables.{Tables, fits}
 use Rattle.store.specs.Shared.{wellFormed}
 use Rattle.store.specs.Dictionary.{roomFor, withName, internAs, internOf, InternWrites, indexPlaceOf}
-use Rattle.store.proofs.Tests.{decide}
+use Rattle.store.proofs.Tests.{decide, cond-all}
 use Rattle.store.proofs.Words.{grow-length, grow-before, grow-after, getD-sets-before}
 use Rattle.store.proofs.Index.{insert-length}
 
@@ -57,19 +59,18 @@ intern-as-refused c m w (At n k) q = λ e. refl
 intern-as-refused c m w (Before k) q = decide (roomFor c m w) (λ d. rw d (λ e. cc)) (λ d. rw d (λ e. refl))
 intern-as-refused c m w OutOfRange q = λ e. refl
 
-pub intern-writes : (c : Counters) (m : Tables) (w : List ℕ) → InternWrites c m ((internOf c m w) .0)
+-- what holds of a refusal that leaves the tables, and by where the name stands, holds of the call
+pub intern-all : (c : Counters) (m : Tables) (w : List ℕ) (P : Tables × Interned → Type 0)
+    → ((q : Refusal) → P (m, NotInterned q)) → ((x : IndexPlace) → P (internAs c m (canonical w) x))
+    → P (internOf c m w)
 unfolding internOf
-intern-writes c m w =
-    decide (fits c m)
-    (λ a. rw a (decide (wellFormed w) (λ b. rw b (intern-as-writes c m (canonical w) (indexPlaceOf c m (canonical w))))
-    (λ b. rw b (writes-nothing c m))))
-    (λ a. rw a (writes-nothing c m))
+intern-all c m w P refused by =
+    cond-all P (fits c m) _ _
+    (cond-all P (wellFormed w) _ _ (by (indexPlaceOf c m (canonical w))) (refused Malformed))
+    (refused Capacity)
 
 pub intern-refused : (c : Counters) (m : Tables) (w : List ℕ) (q : Refusal) → (internOf c m w) .1 ≡ NotInterned q
     → (internOf c m w) .0 ≡ m
-unfolding internOf
-intern-refused c m w q =
-    decide (fits c m)
-    (λ a. rw a (decide (wellFormed w) (λ b. rw b (intern-as-refused c m (canonical w) (indexPlaceOf c m (canonical w)) q))
-    (λ b. rw b (λ e. refl))))
-    (λ a. rw a (λ e. refl))
+intern-refused c m w =
+    intern-all c m w (λ (z : Tables × Interned). (q : Refusal) → z .1 ≡ NotInterned q → z .0 ≡ m) (λ r q e. refl)
+    (intern-as-refused c m (canonical w))

@@ -1,36 +1,32 @@
 -- What the plain lists keep: known numbers, permitted kinds, no triple twice; so a store that agrees with them is
 -- sound after any list of calls. Assumes nothing.
-use mathlib.Core.Path.{_≡_, refl, _∙_}
+use mathlib.Core.Path.{_≡_, _∙_}
 use mathlib.Core.Logic.{_≢_}
-use mathlib.Core.Bool.{Bool, true, false, _&&_}
+use mathlib.Core.Bool.{Bool, true, false}
 use mathlib.Core.List.{List, [], _∷_, _++_}
-use Prim.Native.Nat.{ℕ, zero, suc, _+_, _-_, _<_}
+use Prim.Native.Nat.{ℕ, _+_, _-_, _<_}
 use native.Mathlib.Omega.{arith}
-use lib.ListN.{length, getD, length-append, List·getD-append}
+use lib.ListN.{length, length-append, List·getD-append}
 use lib.Seq.{getD-append-seam}
-use lib.Dec.{eqb, leb, ltb}
-use Rattle.term.specs.Scanner.{firstKindOf}
 use Rattle.term.specs.Canonical.{canonical}
 use Rattle.store.specs.declared.Position.the-variants.{Subject, Predicate}
 use Rattle.store.specs.declared.Triple.{Triple}
-use Rattle.store.specs.Shared.{at, known, within, same, kindsPermitted, maxReclaims, Entry, wellFormed, nameOf}
-use Rattle.store.specs.Model.{Listing, Model, Capacities, Call, intern, assert, retract, open′, next, reclaim}
-use Rattle.store.specs.Model.{internName, internModel, entry, lookup}
-use Rattle.store.specs.Shared.{textBytes, lookupName}
-use Rattle.store.specs.Model.{mark, put, assertModel, retractEntry, retractModel, openModel, turn, nextModel}
-use Rattle.store.specs.Model.{freshModel, callModel, modelAfter, withNames, withEntries, withListings, noListing, unretracted}
-use Rattle.store.specs.Model.{reclaimed, reclaimModel}
+use Rattle.store.specs.Shared.{at, known, same, kindsPermitted, Entry}
+use Rattle.store.specs.Model.{Listing, Model, Capacities, Call, entry, lookup}
+use Rattle.store.specs.Values.{Values}
+use Rattle.store.specs.Model.{mark, turn, freshModel, callModel, modelAfter, withNames, withEntries, withListings}
+use Rattle.store.specs.Model.{unretracted, reclaimed}
 use Rattle.store.specs.Soundness.{Sound}
 use Rattle.store.specs.History.{Store}
-use Rattle.store.proofs.Tests.{decide, upto, known-low, known-high, known-more, same-self}
+use Rattle.store.proofs.Tests.{upto, known-low, known-high, known-more, same-self}
 use Rattle.store.proofs.Falling.{head-pos}
 use Rattle.store.proofs.Text.{name-old, length-snoc}
 use Rattle.store.proofs.Represented.{Agreeing, fits-agrees, spo-agrees, mark-length, mark-spo}
 use Rattle.store.proofs.Unretracted.{origin, origin-in, origin-reads, origin-rises}
 use Rattle.store.proofs.StatementsAgree.{permitted-agrees}
-
-abbrev pub kindIn : Model → ℕ → ℕ
-kindIn s y = firstKindOf (nameOf (s .names) y)
+pub use Rattle.store.proofs.Changes.{kindIn}
+use Rattle.store.proofs.Changes.{Change, unchanged, newName, newEntry, revivedEntry, retractedEntry, newOpening}
+use Rattle.store.proofs.Changes.{readOpening, reclaimedAll, change}
 
 pub record Tidy (s : Model) : Type 0 where
   pub inside : (i : ℕ) → i < length (s .entries) → known (length (s .names)) ((entry (s .entries) i) .spo) ≡ true
@@ -109,39 +105,19 @@ module _ (s : Model) (D : Tidy s) where
             (D .once (origin l i) (origin l j) (origin-rises l i j h g) (origin-in l j g));
       }
 
+  tidy-changed : {a : Call} {o : Model × Values} → Change s a o → Tidy (o .0)
+  unfolding turn
+  tidy-changed (unchanged a v p) = D
+  tidy-changed (newName w v) = tidy-name (canonical w)
+  tidy-changed (newEntry f x v a b e) = tidy-append x a b e
+  tidy-changed (revivedEntry f x i v) = tidy-mark i false
+  tidy-changed (retractedEntry f x i v) = tidy-mark i true
+  tidy-changed (newOpening x v) = tidy-listings _
+  tidy-changed (readOpening j b) = tidy-listings _
+  tidy-changed reclaimedAll = tidy-reclaimed
+
   pub tidy-call : (k : Capacities) (a : Call) → Tidy ((callModel k s a) .0)
-  unfolding callModel internModel assertModel retractModel openModel nextModel turn reclaimModel
-  tidy-call k (intern w) = decide (wellFormed w) (λ e. rw e (go (lookupName (canonical w) (s .names)))) (λ e. rw e D)
-    where
-      go : (t : ℕ) → Tidy ((internName k s (canonical w) t) .0)
-      go zero = unfold internName in
-          (decide (ltb (length (s .names)) (k .resources) && leb (textBytes (s .names ++ canonical w ∷ [])) (k .text))
-          (λ e. rw e (tidy-name (canonical w))) (λ e. rw e D))
-      go (suc i) = unfold internName in D
-  tidy-call k (assert f x) =
-      decide (known (length (s .names)) x)
-      (λ e. rw e (decide (kindsPermitted (kindIn s) x) (λ d. rw d (go e d (lookup x (s .entries)) refl)) (λ d. rw d D)))
-      (λ e. rw e D)
-    where
-      go : known (length (s .names)) x ≡ true → kindsPermitted (kindIn s) x ≡ true → (t : ℕ) → lookup x (s .entries) ≡ t
-          → Tidy ((put k s x t) .0)
-      go e d zero q = unfold put in (decide (ltb (length (s .entries)) (k .statements))
-          (λ f. rw f (tidy-append x e d q)) (λ f. rw f D))
-      go e d (suc i) q =
-          unfold put in (decide ((entry (s .entries) i) .retracted) (λ f. rw f (tidy-mark i false)) (λ f. rw f D))
-  tidy-call k (retract f x) =
-      decide (known (length (s .names)) x) (λ e. rw e (go (lookup x (s .entries)))) (λ e. rw e D)
-    where
-      go : (t : ℕ) → Tidy ((retractEntry s t) .0)
-      go zero = unfold retractEntry in D
-      go (suc i) =
-          unfold retractEntry in (decide ((entry (s .entries) i) .retracted) (λ f. rw f D) (λ f. rw f (tidy-mark i true)))
-  tidy-call k (open′ x) = decide (within (length (s .names)) x) (λ e. rw e (tidy-listings _)) (λ e. rw e D)
-  tidy-call k (next j b) =
-      decide (eqb ((getD (s .listings) j noListing) .generation) (s .generation))
-      (λ d. rw d (decide (eqb b 0) (λ e. rw e D) (λ e. rw e (tidy-listings _))))
-      (λ d. rw d D)
-  tidy-call k reclaim = decide (ltb (s .generation) maxReclaims) (λ e. rw e tidy-reclaimed) (λ e. rw e D)
+  tidy-call k a = tidy-changed (change k s a)
 
 pub tidy-history : (k : Capacities) (s : Model) → Tidy s → (a : List Call) → Tidy (modelAfter k s a)
 unfolding modelAfter

@@ -1,5 +1,5 @@
--- Limits and what is refused for them: refusal 1 and that it comes first, 13 and 6 of a listing, the refusals of a reclaim, the number of
--- reclaims; and that a reclaim keeps the order. Assumes nothing.
+-- Limits and what is refused for them: refusal 1 and that it comes first, 13 and 6 of a listing, the refusals of a
+-- reclaim, the number of reclaims; and that a reclaim keeps the order. Assumes nothing.
 use mathlib.Core.Path.{_≡_, refl, sym, ap, _∙_}
 use mathlib.Core.Logic.{_≢_, _↔_}
 use mathlib.Core.Bool.{true, false, true≢false}
@@ -8,34 +8,36 @@ use mathlib.Core.Option.{Option, none, some}
 use Prim.Native.Nat.{ℕ, zero, suc, _<_}
 use native.Mathlib.Omega.{arith}
 use lib.Dec.{eqb, leb, ltb}
-use borrow.Author.Tests.{eqb-true, eq-eqb, ne-eqb, lt-ltb, ltb-true, ltb-false, leb-true, le-leb}
+use borrow.Author.Tests.{eqb-true, eqb-false, eq-eqb, ne-eqb, lt-ltb, ltb-true, ltb-false, leb-true, le-leb}
 use Rattle.store.specs.declared.Counters.{Counters}
-use Rattle.store.specs.declared.Position.{Position}
 use Rattle.store.specs.declared.Chain.{Chain}
 use Rattle.store.specs.declared.Chain.the-variants.{All, By}
 use Rattle.store.specs.declared.Triple.{Triple}
 use Rattle.store.specs.declared.ScanCursor.{ScanCursor}
 use Rattle.store.specs.declared.Refusal.{Refusal}
-use Rattle.store.specs.declared.Refusal.the-variants.{Capacity, Damaged, ReclaimLimit}
+use Rattle.store.specs.declared.Refusal.the-variants.{Capacity, Damaged, ReclaimLimit, BadCursor, NoBudget}
+use Rattle.store.specs.declared.Refusal.the-variants.{StaleCursor}
+use Rattle.store.specs.declared.Scanned.{Scanned}
+use Rattle.store.specs.declared.Scanned.the-variants.{Refused as NotScanned}
 use Rattle.store.specs.declared.Reclaimed.{Reclaimed}
 use Rattle.store.specs.declared.Reclaimed.the-variants.{Refused as NotReclaimed}
 use Rattle.store.specs.Tables.{Tables, after, fits, termAt}
 use Rattle.store.specs.Shared.{maxReclaims, Entry, at, within}
 use Rattle.store.specs.Values.{Values, refusalNumber, scannedValues, reclaimedValues}
-use Rattle.store.specs.Model.{intern, assert, retract, open′, next, reclaim, byValue, updating, freshModel, unretracted}
+use Rattle.store.specs.Model.{intern, assert, retract, open′, next, reclaim, byValue, updating, unretracted}
 use Rattle.store.specs.Dictionary.{internOf}
 use Rattle.store.specs.Walk.{Step, found, ended, spent, holdsResource}
 use Rattle.store.specs.Statement.{assertOf, retractOf, assertUpdatingOf, retractUpdatingOf}
 use Rattle.store.specs.Scan.{openOf, chainOk, recordOk, cursorOk, walkFrom, scannedAs, nextOf}
 use Rattle.store.specs.Reclaim.{reclaimOf}
 use Rattle.store.specs.Soundness.{Sound}
-use Rattle.store.specs.History.{freshStore, capacitiesOf, callStore}
-use Rattle.store.specs.RefusalClaims.{FitsMeans, CapacityFirst, StaleRefused, Stands, BadRefused}
+use Rattle.store.specs.History.{freshStore, callStore}
+use Rattle.store.specs.RefusalClaims.{FitsMeans, CapacityFirst, ChainStands, RecordStands, Stands, BadRefused}
+use Rattle.store.specs.RefusalClaims.{StaleRefused, ReclaimRefuses}
 use Rattle.store.specs.ReclaimClaims.{NumberCounts, UnretractedMeans}
-use Rattle.store.specs.RefusalClaims.{ReclaimRefuses}
-use Rattle.store.proofs.Tests.{decide, and-l, and-r, and-of, all3-at, all3-of, within-high, within-of, fits-parts, fits-of}
-use Rattle.store.proofs.Histories.{history-agrees, fresh-agrees}
-use Rattle.store.proofs.Visits.{generation-after}
+use Rattle.store.proofs.Tests.{decide, cond-all, and-l, and-r, and-of, all3-at, all3-of, within-high, within-of}
+use Rattle.store.proofs.Tests.{fits-parts, fits-of}
+use Rattle.store.proofs.Onward.{calls-onward}
 
 -- ---- refusal 1
 
@@ -56,9 +58,7 @@ capacity-first s reclaim e = rw e
 -- ---- the number of reclaims
 
 pub number-counts : NumberCounts
-number-counts m calls =
-    let H = history-agrees (capacitiesOf m) (freshStore m) freshModel (fresh-agrees m) calls in
-    rw (H .0) (omega (arith, H .1 .generation, generation-after (capacitiesOf m) freshModel calls))
+number-counts m calls = omega (arith, calls-onward (freshStore m) calls .0)
 
 -- ---- the entries kept
 
@@ -80,30 +80,33 @@ step-not i a b q (some (found n v r)) h = a (sym h)
 step-not i a b q (some (ended v)) h = a (sym h)
 step-not i a b q (some (spent v r)) h = a (sym h)
 
--- from a cursor of the store's own number
-own-not : (c : Counters) (m : Tables) (q : ScanCursor) (b : ℕ) → eqb (q .generation) (c .generation) ≡ true
-    → (scannedValues (nextOf c m q b)) .refusal ≢ 13
+-- by its tests
+next-cases : (c : Counters) (m : Tables) (q : ScanCursor) (b : ℕ) (P : Scanned → Type 0)
+    → (fits c m ≡ false → P (NotScanned Capacity))
+    → (fits c m ≡ true → q .generation ≢ c .generation → P (NotScanned StaleCursor))
+    → (fits c m ≡ true → q .generation ≡ c .generation → cursorOk c m q ≡ false → P (NotScanned BadCursor))
+    → P (NotScanned NoBudget) → ((z : Option Step) → P (scannedAs q z)) → P (nextOf c m q b)
 unfolding nextOf
-own-not c m q b d =
+next-cases c m q b P one thirteen six seven walked =
     decide (fits c m)
-    (λ a. rw (a, d) (decide (cursorOk c m q)
-    (λ o. rw o (decide (eqb b 0)
-    (λ z. rw z (λ h. absurd (omega (arith, h))))
-    (λ z. rw z (step-not 13 (λ e. omega (arith, e)) (λ e. omega (arith, e)) q (walkFrom c m q b)))))
-    (λ o. rw o (λ h. absurd (omega (arith, h))))))
-    (λ a. rw a (λ h. absurd (omega (arith, h))))
+    (λ a. rw a (decide (eqb (q .generation) (c .generation))
+    (λ d. rw d (decide (cursorOk c m q)
+    (λ o. rw o (cond-all P (eqb b 0) _ _ seven (walked (walkFrom c m q b))))
+    (λ o. rw o (six a (eqb-true (q .generation) (c .generation) d) o))))
+    (λ d. rw d (thirteen a (eqb-false (q .generation) (c .generation) d)))))
+    (λ a. rw a (one a))
+
+abbrev Says : ℕ → Scanned → Type 0
+Says i r = (scannedValues r) .refusal ≡ i
 
 -- by the paper's number
 pub stale-when : (c : Counters) (m : Tables) (q : ScanCursor) (b : ℕ) → (scannedValues (nextOf c m q b)) .refusal ≡ 13
     → (fits c m ≡ true) × (q .generation ≢ c .generation)
-unfolding nextOf
-stale-when c m q b h = (
-  decide (fits c m) (λ a. a) (λ a. absurd (first a h)),
-  λ g. own-not c m q b (eq-eqb (q .generation) (c .generation) g) h,
-)
-  where
-    first : fits c m ≡ false → (scannedValues (nextOf c m q b)) .refusal ≢ 13
-    first a = rw a (λ h. absurd (omega (arith, h)))
+stale-when c m q b =
+    next-cases c m q b (λ r. Says 13 r → (fits c m ≡ true) × (q .generation ≢ c .generation))
+    (λ a h. absurd (omega (arith, h))) (λ a d h. (a, d)) (λ a d o h. absurd (omega (arith, h)))
+    (λ h. absurd (omega (arith, h)))
+    (λ z h. absurd (step-not 13 (λ e. omega (arith, e)) (λ e. omega (arith, e)) q z h))
 
 pub stale-refused : StaleRefused
 unfolding nextOf
@@ -113,65 +116,63 @@ stale-refused c m q b = (
 )
 
 -- what 6 tests, clause by clause
-chain-bound : (ch : Chain) (x : Triple) → chainOk ch x ≡ true → (p : Position) → ch ≡ By p → 0 < at p x
+pub chain-means : (ch : Chain) (x : Triple) → chainOk ch x ≡ true ↔ ChainStands ch x
 unfolding chainOk
-chain-bound ch x e p d = ltb-true 0 (at p x) (rw d at e)
+chain-means All x = (
+  λ e. record {
+    bound = λ p d. let z : _≡_ {A = ℕ} 0 1 = cc in absurd (omega arith);
+    unbound = λ d p. eqb-true (at p x) 0 (all3-at (λ p. eqb (at p x) 0) e p);
+  },
+  λ S. all3-of (λ p. eqb (at p x) 0) (λ p. eq-eqb (at p x) 0 (S .unbound refl p)),
+)
+chain-means (By q) x = (
+  λ e. record {
+    bound = λ p d. let s : q ≡ p = cc in rw (← s) (ltb-true 0 (at q x) e);
+    unbound = λ d p. let z : _≡_ {A = ℕ} 0 1 = cc in absurd (omega arith);
+  },
+  λ S. lt-ltb 0 (at q x) (S .bound q refl),
+)
 
-chain-unbound : (ch : Chain) (x : Triple) → chainOk ch x ≡ true → ch ≡ All → (p : Position) → at p x ≡ 0
-unfolding chainOk
-chain-unbound ch x e d p = eqb-true (at p x) 0 (all3-at (λ p. eqb (at p x) 0) (rw d at e) p)
-
-chain-of : (ch : Chain) (x : Triple) → ((p : Position) → ch ≡ By p → 0 < at p x) → (ch ≡ All → (p : Position) → at p x ≡ 0)
-    → chainOk ch x ≡ true
-unfolding chainOk
-chain-of All x b u = all3-of (λ p. eqb (at p x) 0) (λ p. eq-eqb (at p x) 0 (u refl p))
-chain-of (By p) x b u = lt-ltb 0 (at p x) (b p refl)
-
-record-holds : (stm : List ℕ) (ch : Chain) (x : Triple) (n : ℕ) → recordOk stm ch x n ≡ true → (p : Position) (i : ℕ)
-    → ch ≡ By p → n ≡ suc i → termAt stm p i ≡ at p x
+pub record-means : (stm : List ℕ) (ch : Chain) (x : Triple) (n : ℕ)
+    → recordOk stm ch x n ≡ true ↔ RecordStands stm ch x n
 unfolding recordOk holdsResource
-record-holds stm ch x n e p i d z = eqb-true (termAt stm p i) (at p x) (rw (d, z) at e)
-
-record-of : (stm : List ℕ) (ch : Chain) (x : Triple) (n : ℕ)
-    → ((p : Position) (i : ℕ) → ch ≡ By p → n ≡ suc i → termAt stm p i ≡ at p x) → recordOk stm ch x n ≡ true
-unfolding recordOk holdsResource
-record-of stm ch x zero h = refl
-record-of stm All x (suc i) h = refl
-record-of stm (By p) x (suc i) h = eq-eqb (termAt stm p i) (at p x) (h p i refl refl)
+record-means stm ch x zero = (λ e p i d h. absurd (omega arith), λ S. refl)
+record-means stm All x (suc j) = (λ e p i d h. let z : _≡_ {A = ℕ} 0 1 = cc in absurd (omega arith), λ S. refl)
+record-means stm (By q) x (suc j) = (
+  λ e p i d h.
+      let s : q ≡ p = cc in
+      let k : j ≡ i = omega arith in
+      rw (← s, ← k) (eqb-true (termAt stm q j) (at q x) e),
+  λ S. eq-eqb (termAt stm q j) (at q x) (S q j refl refl),
+)
 
 pub stands-means : (c : Counters) (m : Tables) (q : ScanCursor) → cursorOk c m q ≡ true ↔ Stands c m q
 unfolding cursorOk
-stands-means c m q = (
-  λ e.
-      let f = and-r (within (c .resources) (q .pattern)) _ e in
-      let g = and-r (chainOk (q .chain) (q .pattern)) _ f in
-      let k = and-l (chainOk (q .chain) (q .pattern)) _ f in
-      record {
-        numbers = within-high (c .resources) (q .pattern) (and-l _ _ e);
-        bound = chain-bound (q .chain) (q .pattern) k;
-        unbound = chain-unbound (q .chain) (q .pattern) k;
-        next = leb-true (q .next .0) (c .statements) (and-l _ _ g);
-        holds = record-holds (m .statements) (q .chain) (q .pattern) (q .next .0) (and-r (leb (q .next .0) (c .statements)) _ g);
-      },
-  λ S. and-of _ _ (within-of (c .resources) (q .pattern) (S .numbers))
-      (and-of _ _ (chain-of (q .chain) (q .pattern) (S .bound) (S .unbound))
-      (and-of _ _ (le-leb (q .next .0) (c .statements) (S .next))
-      (record-of (m .statements) (q .chain) (q .pattern) (q .next .0) (S .holds)))),
-)
+stands-means c m q =
+    let chain = chain-means (q .chain) (q .pattern) in
+    let holds = record-means (m .statements) (q .chain) (q .pattern) (q .next .0) in (
+      λ e.
+          let f = and-r (within (c .resources) (q .pattern)) _ e in
+          let g = and-r (chainOk (q .chain) (q .pattern)) _ f in
+          record {
+            numbers = within-high (c .resources) (q .pattern) (and-l _ _ e);
+            chain = chain .0 (and-l (chainOk (q .chain) (q .pattern)) _ f);
+            next = leb-true (q .next .0) (c .statements) (and-l _ _ g);
+            holds = holds .0 (and-r (leb (q .next .0) (c .statements)) _ g);
+          },
+      λ S. and-of _ _ (within-of (c .resources) (q .pattern) (S .numbers))
+          (and-of _ _ (chain .1 (S .chain))
+          (and-of _ _ (le-leb (q .next .0) (c .statements) (S .next)) (holds .1 (S .holds)))),
+    )
 
 pub bad-when : (c : Counters) (m : Tables) (q : ScanCursor) (b : ℕ) → (scannedValues (nextOf c m q b)) .refusal ≡ 6
     → (fits c m ≡ true) × (q .generation ≡ c .generation) × (cursorOk c m q ≡ false)
-unfolding nextOf
 bad-when c m q b =
-    decide (fits c m)
-    (λ a. rw a (decide (eqb (q .generation) (c .generation))
-    (λ d. rw d (decide (cursorOk c m q)
-    (λ o. rw o (decide (eqb b 0)
-    (λ z. rw z (λ h. absurd (omega (arith, h))))
-    (λ z. rw z (λ h. absurd (step-not 6 (λ e. omega (arith, e)) (λ e. omega (arith, e)) q (walkFrom c m q b) h)))))
-    (λ o. rw o (λ h. (refl, eqb-true (q .generation) (c .generation) d, refl)))))
-    (λ d. rw d (λ h. absurd (omega (arith, h))))))
-    (λ a. rw a (λ h. absurd (omega (arith, h))))
+    next-cases c m q b
+    (λ r. Says 6 r → (fits c m ≡ true) × (q .generation ≡ c .generation) × (cursorOk c m q ≡ false))
+    (λ a h. absurd (omega (arith, h))) (λ a d h. absurd (omega (arith, h))) (λ a d o h. (a, d, o))
+    (λ h. absurd (omega (arith, h)))
+    (λ z h. absurd (step-not 6 (λ e. omega (arith, e)) (λ e. omega (arith, e)) q z h))
 
 pub bad-refused : BadRefused
 unfolding nextOf
@@ -213,7 +214,9 @@ reclaim-refuses c m m′ a A = record {
     same r h = ap (λ (z : Tables × Reclaimed). z .0) h
 
     done : Sound c m → c .generation < 65535 → (reclaimedValues a) .refusal ≡ 0
-    done S g = ap (λ (z : Tables × Reclaimed). (reclaimedValues (z .1)) .refusal) (A .exact S g) ∙ reclaim-done c m (S .capacity) g
+    done S g =
+        ap (λ (z : Tables × Reclaimed). (reclaimedValues (z .1)) .refusal) (A .exact S g)
+        ∙ reclaim-done c m (S .capacity) g
 
     done-not : Sound c m → c .generation < 65535 → (reclaimedValues a) .refusal ≡ 9 → ⊥
     done-not S g h = let x : _≡_ {A = ℕ} 0 9 = sym (done S g) ∙ h in omega arith

@@ -1,4 +1,5 @@
--- The chains stay as said: a new statement record, a record revived or retracted, a new resource record. Assumes nothing.
+-- The chains stay as said: a new statement record, a record revived or retracted, a new resource record. Assumes
+-- nothing.
 use mathlib.Core.Path.{_≡_, refl, sym, ap, _∙_}
 use mathlib.Core.Logic.{_≢_}
 use mathlib.Core.Bool.{Bool, true, false, cond, _&&_}
@@ -16,12 +17,23 @@ use Rattle.store.specs.Tables.{off, statementWords, resourceWords, termA
 use Rattle.store.specs.Statement.{appendRecord, linkRecord, tally}
 use Rattle.store.specs.Dictionary.{freshRecord}
 use Rattle.store.specs.Soundness.{holding, living, Linked}
-use Rattle.store.proofs.Tests.{decide, off-lt, upto}
+use Rattle.store.proofs.Tests.{decide, off-lt, upto, upto-one}
 use Rattle.store.proofs.Falling.{below-cong, below-none, head-suc, length-suc, length-turn}
 use Rattle.store.proofs.Words.{append-length, append-term-old, append-next-old, append-flag-old, append-term}
 use Rattle.store.proofs.Words.{append-next, append-flag, linked-length, linked-first, linked-count, flag-term}
-use Rattle.store.proofs.Words.{flag-next, flag-same, flag-other, zero-first, zero-count, grow-length, grow-old}
-use Rattle.store.proofs.Words.{grow-new, linked-live, tally-length, tally-first, tally-count, tally-live, zero-live}
+use Rattle.store.proofs.Words.{flag-next, flag-same, flag-other, zero-links, grow-length, grow-old}
+use Rattle.store.proofs.Words.{grow-new, linked-live, tally-length, tally-first, tally-count, tally-live}
+
+-- the same resources up to n, the same chains there; with the same flags, the same live ones
+pub chain-cong : (stm stm′ : List ℕ) (p : Position) (y n : ℕ) → ((i : ℕ) → i < n → termAt stm′ p i ≡ termAt stm p i)
+    → below (holding stm′ p y) n ≡ below (holding stm p y) n
+unfolding holding
+chain-cong stm stm′ p y n h = below-cong _ _ n (λ i q. ap (λ (z : ℕ). eqb z y) (h i q))
+
+pub live-cong : (stm stm′ : List ℕ) (p : Position) (y n : ℕ) → ((i : ℕ) → i < n → flagAt stm′ i ≡ flagAt stm i)
+    → ((i : ℕ) → i < n → termAt stm′ p i ≡ termAt stm p i) → below (living stm′ p y) n ≡ below (living stm p y) n
+unfolding living holding
+live-cong stm stm′ p y n f h = below-cong _ _ n (λ i q. rw (f i q, h i q))
 
 and-none : (a b : Bool) → b ≡ false → a && b ≡ false
 and-none true b e = e
@@ -38,13 +50,12 @@ module _ (r t : ℕ) (x : Triple) (res stm : List ℕ) (L : Linked r t res stm) 
   stm′ = appendRecord t x res stm
 
   old-chain : (p : Position) (y n : ℕ) → n ≤ t → below (holding stm′ p y) n ≡ below (holding stm p y) n
-  unfolding holding
-  old-chain p y n h = below-cong _ _ n (λ i q. ap (λ (z : ℕ). eqb z y) (append-term-old t x res stm p i (omega arith)))
+  old-chain p y n h = chain-cong stm stm′ p y n (λ i q. append-term-old t x res stm p i (omega arith))
 
   old-live : (p : Position) (y n : ℕ) → n ≤ t → below (living stm′ p y) n ≡ below (living stm p y) n
-  unfolding living holding
   old-live p y n h =
-      below-cong _ _ n (λ i q. rw (append-flag-old t x res stm i (omega arith), append-term-old t x res stm p i (omega arith)))
+      live-cong stm stm′ p y n (λ i q. append-flag-old t x res stm i (omega arith))
+      (λ i q. append-term-old t x res stm p i (omega arith))
 
   room-linked : (p : Position) → resourceWords * at p x ≤ length res
   room-linked p = omega (arith, known p, L .fit-resources)
@@ -83,22 +94,20 @@ module _ (r t : ℕ) (x : Triple) (res stm : List ℕ) (L : Linked r t res stm) 
       old-chain p y t (omega arith),
       L .first p y h q,
     );
-    count = λ p y h q.
-        rw (
-          linked-count t x res pos room-linked p y h,
-          length-suc,
-          last-holds p y,
-          old-chain p y t (omega arith),
-          L .count p y h q,
-        );
-    live = λ p y h q.
-        rw (
-          linked-live t x res pos room-linked p y h,
-          length-suc,
-          last-lives p y,
-          old-live p y t (omega arith),
-          L .live p y h q,
-        );
+    count = λ p y h q. rw (
+      linked-count t x res pos room-linked p y h,
+      length-suc,
+      last-holds p y,
+      old-chain p y t (omega arith),
+      L .count p y h q,
+    );
+    live = λ p y h q. rw (
+      linked-live t x res pos room-linked p y h,
+      length-suc,
+      last-lives p y,
+      old-live p y t (omega arith),
+      L .live p y h q,
+    );
   }
 
 -- a flag set to 0 or 1
@@ -107,8 +116,7 @@ module _ (stm : List ℕ) (i v : ℕ) where
   flagged = set stm (statementWords * i + 6) v
 
   flag-chain : (p : Position) (y n : ℕ) → below (holding flagged p y) n ≡ below (holding stm p y) n
-  unfolding holding
-  flag-chain p y n = below-cong _ _ n (λ j q. ap (λ (z : ℕ). eqb z y) (flag-term stm i v p j))
+  flag-chain p y n = chain-cong stm flagged p y n (λ j q. flag-term stm i v p j)
 
   -- and three live counts moved by f, where that makes them right
   module _ (r t : ℕ) (f : ℕ → ℕ) (x : Triple) (res : List ℕ) (h : i < t) (L : Linked r t res stm)
@@ -132,7 +140,8 @@ module _ (stm : List ℕ) (i v : ℕ) where
           decide (eqb j i)
           (λ e. rw (eqb-true j i e, flag-same stm i v (omega (arith, L .fit-statements))) g)
           (λ e. rw (flag-other stm i v j (eqb-false j i e)) (L .flag j q));
-      next = λ p j q. rw (flag-next stm i v p j, flag-term stm i v p j, flag-chain p (termAt stm p j) j) (L .next p j q);
+      next = λ p j q. rw (flag-next stm i v p j, flag-term stm i v p j, flag-chain p (termAt stm p j) j)
+          (L .next p j q);
       first = λ p y q z. rw (tally-first f x res low-x room-x p y q, flag-chain p y t) (L .first p y q z);
       count = λ p y q z. rw (tally-count f x res low-x room-x p y q, flag-chain p y t) (L .count p y q z);
       live = λ p y q z. tally-live f x res low-x room-x p y q ∙ lives p y q z;
@@ -153,7 +162,8 @@ module _ (r t : ℕ) (x : Triple) (res stm : List ℕ) (i : ℕ) (h : i < t) (L 
   unfolding living
   lives-not w p y e = rw e
 
-  lives-by : (w : List ℕ) (p : Position) (y : ℕ) → flagAt w i ≡ 0 → termAt w p i ≡ at p x → living w p y i ≡ eqb (at p x) y
+  lives-by : (w : List ℕ) (p : Position) (y : ℕ) → flagAt w i ≡ 0 → termAt w p i ≡ at p x
+      → living w p y i ≡ eqb (at p x) y
   unfolding living holding
   lives-by w p y e d = rw (e, d)
 
@@ -162,16 +172,17 @@ module _ (r t : ℕ) (x : Triple) (res stm : List ℕ) (i : ℕ) (h : i < t) (L 
       ≡ cond (eqb (at p x) y) (suc (length (below (living stm p y) t))) (length (below (living stm p y) t))
   one-more-live e p y =
       length-turn (living stm p y) (living (flagged stm i 0) p y) t i h (lives-not stm p y e) (lives-other 0 p y)
-      ∙ ap (λ (b : Bool). cond b (suc (length (below (living stm p y) t))) (length (below (living stm p y) t)))
+      ∙ ap (λ (b : Bool). let n = length (below (living stm p y) t) in cond b (suc n) n)
       (lives-by (flagged stm i 0) p y (set-same 0) (flag-term stm i 0 p i ∙ terms p))
 
   pub one-less-live : flagAt stm i ≡ 0 → (p : Position) (y : ℕ)
       → length (below (living stm p y) t)
-      ≡ cond (eqb (at p x) y) (suc (length (below (living (flagged stm i 1) p y) t))) (length (below (living (flagged stm i 1) p y) t))
+      ≡ cond (eqb (at p x) y) (suc (length (below (living (flagged stm i 1) p y) t)))
+      (length (below (living (flagged stm i 1) p y) t))
   one-less-live e p y =
       length-turn (living (flagged stm i 1) p y) (living stm p y) t i h (lives-not (flagged stm i 1) p y (set-same 1))
       (λ j n. sym (lives-other 1 p y j n))
-      ∙ ap (λ (b : Bool). cond b (suc (length (below (living (flagged stm i 1) p y) t))) (length (below (living (flagged stm i 1) p y) t)))
+      ∙ ap (λ (b : Bool). let n = length (below (living (flagged stm i 1) p y) t) in cond b (suc n) n)
       (lives-by stm p y e (terms p))
 
   pub revived-linked : flagAt stm i ≡ 1 → Linked r t (tally suc x res) (flagged stm i 0)
@@ -207,22 +218,13 @@ module _ (r t : ℕ) (res stm : List ℕ) (L : Linked r t res stm) (room : resou
     high = λ p i q. omega (arith, L .high p i q);
     flag = L .flag;
     next = L .next;
-    first = λ p y h q.
-        decide (eqb y (suc r))
-        (λ e. rw (eqb-true y (suc r) e, grow-new r res o d room (off p) (omega (arith, off-lt p)), nobody p)
-        (zero-first o d p))
-        (λ e. let n : y ≢ suc r = eqb-false y (suc r) e in
-        rw (grow-old r res o d (off p) y (omega (arith, off-lt p)) h (omega arith)) (L .first p y h (omega arith)));
-    count = λ p y h q.
-        decide (eqb y (suc r))
-        (λ e. rw (eqb-true y (suc r) e, grow-new r res o d room (3 + off p) (omega (arith, off-lt p)), nobody p)
-        (zero-count o d p))
-        (λ e. let n : y ≢ suc r = eqb-false y (suc r) e in
-        rw (grow-old r res o d (3 + off p) y (omega (arith, off-lt p)) h (omega arith)) (L .count p y h (omega arith)));
-    live = λ p y h q.
-        decide (eqb y (suc r))
-        (λ e. rw (eqb-true y (suc r) e, grow-new r res o d room (8 + off p) (omega (arith, off-lt p)), nobody-live p)
-        (zero-live o d p))
-        (λ e. let n : y ≢ suc r = eqb-false y (suc r) e in
-        rw (grow-old r res o d (8 + off p) y (omega (arith, off-lt p)) h (omega arith)) (L .live p y h (omega arith)));
+    first = λ p. upto-one _ r
+        (λ y h q. grow-old r res o d (off p) y (omega (arith, off-lt p)) h q ∙ L .first p y h q)
+        (rw (nobody p) (grow-new r res o d room (off p) (omega (arith, off-lt p)) ∙ zero-links o d p .0));
+    count = λ p. upto-one _ r
+        (λ y h q. grow-old r res o d (3 + off p) y (omega (arith, off-lt p)) h q ∙ L .count p y h q)
+        (rw (nobody p) (grow-new r res o d room (3 + off p) (omega (arith, off-lt p)) ∙ zero-links o d p .1));
+    live = λ p. upto-one _ r
+        (λ y h q. grow-old r res o d (8 + off p) y (omega (arith, off-lt p)) h q ∙ L .live p y h q)
+        (rw (nobody-live p) (grow-new r res o d room (8 + off p) (omega (arith, off-lt p)) ∙ zero-links o d p .2));
   }

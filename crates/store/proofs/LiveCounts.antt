@@ -1,5 +1,5 @@
--- The live counts: what the three words after a resource's kind say, what assert and retract refuse for them, and that a listing does
--- not look at them. Assumes nothing.
+-- The live counts: what the three words after a resource's kind say, what assert and retract refuse for them, and that
+-- a listing does not look at them. Assumes nothing.
 use mathlib.Core.Path.{_≡_, refl, ap, _∙_}
 use mathlib.Core.Logic.{_≢_}
 use mathlib.Core.Bool.{true, false, cond, not, _&&_, false≢true}
@@ -61,14 +61,19 @@ unfolding entriesUpTo below liveIn
 live-length stm p y zero h = refl
 live-length stm p y (suc n) h =
     let ih = live-length stm p y n (λ i q. h i (omega arith)) in
-    rw (liveIn-snoc (at p) y (entriesUpTo stm n) (entryAt stm n), counted-is stm p y n (h n (omega arith)), length-suc (living stm p y) n)
+    rw (
+      liveIn-snoc (at p) y (entriesUpTo stm n) (entryAt stm n),
+      counted-is stm p y n (h n (omega arith)),
+      length-suc (living stm p y) n,
+    )
     (decide (living stm p y n) (λ e. rw e (omega arith)) (λ e. rw e (omega arith)))
 
 pub live-counts-shown : LiveCountsShown
 unfolding liveAt
 live-counts-shown c m S y a b =
     let L = S .linked in
-    let said : (p : Position) → liveAt (m .resources) p y ≡ liveIn (at p) y (entriesUpTo (m .statements) (c .statements)) =
+    let said : (p : Position) → liveAt (m .resources) p y
+    ≡ liveIn (at p) y (entriesUpTo (m .statements) (c .statements)) =
     (λ p. L .live p y a b ∙ live-length (m .statements) p y (c .statements) (λ i h. L .flag i h)) in
     record { subject = said Subject; predicate = said Predicate; object = said Object }
 
@@ -78,7 +83,8 @@ module _ (res : List ℕ) (x : Triple) where
   pub countable-at : countable res x ≡ true → (p : Position) → liveAt res p (at p x) ≤ countAt res p (at p x)
   unfolding countable
   countable-at e p =
-      leb-true (liveAt res p (at p x)) (countAt res p (at p x)) (all3-at (λ q. leb (liveAt res q (at q x)) (countAt res q (at q x))) e p)
+      leb-true (liveAt res p (at p x)) (countAt res p (at p x))
+      (all3-at (λ q. leb (liveAt res q (at q x)) (countAt res q (at q x))) e p)
 
   pub counting-at : counting res x ≡ true → (p : Position) → 0 < liveAt res p (at p x)
   unfolding counting
@@ -97,7 +103,8 @@ damaged c m x p h =
     decide (pickable (c .statements) (m .resources) x && countable (m .resources) x)
     (λ e. absurd (omega (
       arith,
-      countable-at (m .resources) x (and-r (pickable (c .statements) (m .resources) x) (countable (m .resources) x) e) p,
+      countable-at (m .resources) x
+          (and-r (pickable (c .statements) (m .resources) x) (countable (m .resources) x) e) p,
     )))
     (λ e. rw e)
 
@@ -116,7 +123,8 @@ unfolding retracting
 live-count-of-zero c m x p i a b f e z =
     let n : flagAt (m .statements) i ≢ 1 = omega arith in
     let r : retractOf c m x ≡ after m (NotRetracted Damaged) =
-    retract-located c m x a b (suc i) f ∙ rw (ne-eqb (flagAt (m .statements) i) 1 n, counting-none (m .resources) x p z) in
+    retract-located c m x a b (suc i) f
+    ∙ rw (ne-eqb (flagAt (m .statements) i) 1 n, counting-none (m .resources) x p z) in
     (ap (λ (z : Tables × Retracted). retractedValues (z .1)) r, ap (λ (z : Tables × Retracted). z .0) r)
 
 -- ---- on any tables: a listing
@@ -134,7 +142,8 @@ module _ (c : Counters) (m m′ : Tables) (s : SameButLive m m′) where
   unfolding firstAt
   same-first p y = s .words y (off p) (omega (arith, off-lt p))
 
-  pub same-pickable : (x : Triple) → pickable (c .statements) (m .resources) x ≡ pickable (c .statements) (m′ .resources) x
+  pub same-pickable : (x : Triple)
+      → pickable (c .statements) (m .resources) x ≡ pickable (c .statements) (m′ .resources) x
   unfolding pickable
   same-pickable x =
       rw (
@@ -149,7 +158,8 @@ module _ (c : Counters) (m m′ : Tables) (s : SameButLive m m′) where
   pub same-pick : (x : Triple) → pickChain (m .resources) x ≡ pickChain (m′ .resources) x
   unfolding pickChain
   same-pick x =
-      pick-cong x (λ q. countAt (m .resources) q (at q x)) (λ q. countAt (m′ .resources) q (at q x)) (λ p h. same-count p (at p x))
+      pick-cong x (λ q. countAt (m .resources) q (at q x)) (λ q. countAt (m′ .resources) q (at q x))
+      (λ p h. same-count p (at p x))
 
   pub same-start : (ch : Chain) (x : Triple)
       → startOf (c .statements) (m .resources) ch x ≡ startOf (c .statements) (m′ .resources) ch x

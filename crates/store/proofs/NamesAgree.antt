@@ -21,7 +21,7 @@ use Rattle.store.specs.Shared.{wellFormed, nameOf, textBytes, lookupName
 use Rattle.store.specs.Tables.{Tables, word, resourceWords, resourceCapacity, textCapacity, offsetAt, kindAt}
 use Rattle.store.specs.Values.{Values, counted, internedValues}
 use Rattle.store.specs.Model.{Model, Capacities, totals, withNames, internName, internModel}
-use Rattle.store.specs.Dictionary.{PlaceWithin, rank, placeAt, indexPlaceOf}
+use Rattle.store.specs.Dictionary.{rank, placeAt, indexPlaceOf}
 use Rattle.store.specs.Names.{storable, compareBytes, equal, isLess, Named, nameAt}
 use Rattle.store.specs.Dictionary.{roomFor, oneNameMore, withName, internAs, internOf}
 use Rattle.store.specs.History.{Store, store, internedCounters}
@@ -33,7 +33,7 @@ use Rattle.store.proofs.Words.{grow-length, grow-old, grow-new}
 use Rattle.store.proofs.Links.{grow-linked}
 use Rattle.store.proofs.Form.{form-clean, storable-formed, canonical-storable}
 use Rattle.store.proofs.Text.{bytes-snoc, name-read, text-grows, name-old, name-new, length-snoc, snoc-all}
-use Rattle.store.proofs.Index.{insert-length, rank-le, at-rank-is, index-grows}
+use Rattle.store.proofs.Index.{insert-length, at-rank-is, index-grows}
 use Rattle.store.proofs.Represented.{Agreeing, Same, same-cond, fits-agrees, totals-agree, standing-grow}
 
 -- ---- a sound dictionary's names, read from the text
@@ -104,15 +104,6 @@ module _ (ns : List (List ℕ)) (c : Counters) (m : Tables) (N : Named ns c m) w
     unfolding indexPlaceOf placeAt
     place-unlisted e = rw (rank-at w, miss-test e)
 
-    -- what a search comes to on a sound dictionary is within the bound
-    pub place-bounded : PlaceWithin (c .resources) (indexPlaceOf c m w)
-    place-bounded = go (lookupName w ns) refl
-      where
-        go : (n : ℕ) → lookupName w ns ≡ n → PlaceWithin (c .resources) (indexPlaceOf c m w)
-        go zero e = rw (place-unlisted e) (rank-le (nameOf ns) (m .index) (c .resources) w)
-        go (suc i) e =
-            rw (place-listed i e) (omega arith, omega (arith, N .size, listed w ns i e .0), listed-at i e .0)
-
 -- ---- one name more
 
 module _ (ns : List (List ℕ)) (c : Counters) (m : Tables) (N : Named ns c m) (w : List ℕ) (wf : storable w ≡ true)
@@ -172,7 +163,8 @@ module _ (k : Capacities) (c : Store) (s : Model) (R : Agreeing k c s) (w : List
     reads = R .reads;
     cursors = R .cursors;
     generation = R .generation;
-    good = λ j. standing-grow (length (s .names)) (length (s .names ++ w ∷ [])) (s .entries) (s .entries) (s .generation) _
+    good = λ j. standing-grow (length (s .names)) (length (s .names ++ w ∷ [])) (s .entries) (s .entries)
+        (s .generation) _
         (omega (arith, length-snoc (s .names) w)) (omega arith) (λ i q. refl) (R .good j);
     room-resources = rw (
       grow-length (n .resources) (m .resources) (n .text) (firstKindOf w),

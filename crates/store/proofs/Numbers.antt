@@ -6,8 +6,9 @@ use Prim.Native.Nat.{ℕ, _<_, _≤_}
 use lib.Dec.{eqb}
 use native.Mathlib.Omega.{arith}
 use borrow.Author.Tests.{ne-eqb}
-use Rattle.store.specs.Prelude.{Refusal, Capacity, Malformed, Full, UnknownNumber, KindNotPermitted, BadCursor, NoBudget, BadQuery}
-use Rattle.store.specs.Prelude.{Damaged, BadLine, ExportSpace, NoTimes, StaleCursor, ReclaimLimit, BadPath, PathSpace, BadGroup}
+use Rattle.store.specs.Prelude.{Refusal, Capacity, Malformed, Full, UnknownNumber, KindNotPermitted, BadCursor}
+use Rattle.store.specs.Prelude.{NoBudget, BadQuery, Damaged, BadLine, ExportSpace, NoTimes, StaleCursor}
+use Rattle.store.specs.Prelude.{ReclaimLimit, BadPath, PathSpace, BadGroup}
 use Rattle.store.specs.Values.{refusalNumber}
 
 pub refusal-range : (e : Refusal) → (1 ≤ refusalNumber e) × (refusalNumber e ≤ 17)

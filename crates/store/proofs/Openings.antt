@@ -4,10 +4,10 @@
 use mathlib.Core.Path.{_≡_, refl, sym, ap, ap₂, _∙_, subst}
 use mathlib.Core.Logic.{_≢_, _↔_, ⊎-elim}
 use mathlib.Core.Bool.{Bool, true, false, not, true≢false}
-use mathlib.Core.List.{List, [], _∷_, _++_, map, List·Memᴰ}
+use mathlib.Core.List.{List, [], _∷_, _++_, List·Memᴰ}
 use Prim.Native.Nat.{ℕ, zero, suc, _+_, _-_, _≤_, _<_}
 use native.Mathlib.Omega.{arith}
-use lib.ListN.{length, drop, length-append}
+use lib.ListN.{length, drop, length-append, length-map}
 use lib.Seq.{getD-append-seam}
 use lib.Dec.{eqb}
 use borrow.Author.Tests.{eq-eqb, ne-eqb, eqb-true, eqb-false}
@@ -20,26 +20,25 @@ use Rattle.store.specs.Model.{Listing, Model, Capacities, Taken, found a
 use Rattle.store.specs.Model.{spent as stopped, open′, next, freshModel, entry, onChain, holders}
 use Rattle.store.specs.Model.{pickModel, listing, cursorOf, noListing, leaving, readRest, takenValues}
 use Rattle.store.specs.Model.{takeFrom, turn, openModel, nextModel, callModel, modelReplies, modelAfter}
-use Rattle.store.specs.History.{freshStore, capacitiesOf}
+use Rattle.store.specs.History.{freshStore, capacitiesOf, callStore}
 use Rattle.store.specs.Claims.{Opening, storeThen, opened, Accepted, openingNumber, chainThen, storeNow, visitsOf}
 use Rattle.store.specs.Claims.{visitsSoFar, restNow, reached, liveNow, nextNow, Latest, Exhausts}
 use Rattle.store.specs.Pins.{Falling}
 use Rattle.store.specs.Claims.{Shortest, unbound, bound, statementsIn, Finds, EndsOrSpends, VisitsAddUp}
-use Rattle.store.specs.Claims.{takenSoFar, reclaimsIn, reclaimsSince, Unreclaimed, NoneIsMissed, ReadsOnWithBudget, StaleAfterReclaim}
+use Rattle.store.specs.Claims.{takenSoFar, reclaimsIn, reclaimsSince, Unreclaimed, NoneIsMissed}
+use Rattle.store.specs.Claims.{ReadsOnWithBudget, StaleAfterReclaim}
 use Rattle.store.proofs.Tests.{decide, off-lt, and-r}
 use Rattle.store.proofs.Falling.{below-falling, below-in, all-pass}
 use Rattle.store.proofs.Picking.{Picked, pick-picks, Bound, pick-bound}
 use Rattle.store.proofs.Represented.{Agreeing, Same}
 use Rattle.store.proofs.Histories.{call-agrees, history-agrees, fresh-agrees}
 use Rattle.store.proofs.Taking.{Outcome, hits, ends, stops, outcome, falling-drop, mem-split}
-use Rattle.store.proofs.Visits.{openingOf, opening-after, visits-add, generation-call, generation-after}
+use Rattle.store.proofs.Visits.{opening-after, visits-add}
+use Rattle.store.proofs.Changes.{openingOf}
+use Rattle.store.proofs.Onward.{calls-onward}
 use Rattle.store.proofs.Held.{agreeing-statements}
 use Rattle.store.proofs.Entries.{Grown, grown-trans, grown-call, grown-history}
 use Rattle.store.proofs.Pins.{agrees-at}
-
-length-map : {A B : Type 0} (f : A → B) (l : List A) → length (map f l) ≡ length l
-length-map f [] = refl
-length-map f (x ∷ l) = ap suc (length-map f l)
 
 -- ---- the plain lists' answers that are not refused
 
@@ -57,14 +56,6 @@ open-values : (s : Model) (x : Triple) → within (length (s .names)) x ≡ true
 unfolding openModel
 open-values s x e = rw e
 
-next-values : (s : Model) (j b : ℕ) → ((nextModel s j b) .1) .refusal ≡ 0
-    → (nextModel s j b) .1 ≡ takenValues (openingOf s j) (takeFrom (s .entries) (openingOf s j) b)
-unfolding nextModel turn
-next-values s j b =
-    decide (eqb ((openingOf s j) .generation) (s .generation))
-    (λ d. rw d (decide (eqb b 0) (λ e. rw e (λ h. absurd (omega (arith, h)))) (λ e. rw e (λ h. refl))))
-    (λ d. rw d (λ h. absurd (omega (arith, h))))
-
 taken-accepted : (g : Listing) (z : Taken) → (takenValues g z) .refusal ≡ 0
 taken-accepted g (took n v r) = refl
 taken-accepted g (emptied v) = refl
@@ -75,14 +66,24 @@ next-stale : (s : Model) (j b : ℕ) → (openingOf s j) .generation ≢ s .gene
 unfolding nextModel
 next-stale s j b h = rw (ne-eqb ((openingOf s j) .generation) (s .generation) h)
 
-next-accepted : (s : Model) (j b : ℕ) → ((nextModel s j b) .1) .refusal ≡ 0
-    → (0 < b) × ((openingOf s j) .generation ≡ s .generation)
-unfolding nextModel
-next-accepted s j b =
+-- what one says that is not
+record Answered (s : Model) (j b : ℕ) : Type 0 where
+  budget : 0 < b
+  number : (openingOf s j) .generation ≡ s .generation
+  values : (nextModel s j b) .1 ≡ takenValues (openingOf s j) (takeFrom (s .entries) (openingOf s j) b)
+
+next-answered : (s : Model) (j b : ℕ) → ((nextModel s j b) .1) .refusal ≡ 0 → Answered s j b
+unfolding nextModel turn
+next-answered s j b h =
     decide (eqb ((openingOf s j) .generation) (s .generation))
-    (λ d. rw d (decide (eqb b 0) (λ e. rw e (λ h. absurd (omega (arith, h))))
-    (λ e h. (omega (arith, eqb-false b 0 e), eqb-true ((openingOf s j) .generation) (s .generation) d))))
-    (λ d. rw d (λ h. absurd (omega (arith, h))))
+    (λ d. decide (eqb b 0)
+    (λ e. absurd (omega (arith, rw (d, e) at h)))
+    (λ e. record {
+      budget = omega (arith, eqb-false b 0 e);
+      number = eqb-true ((openingOf s j) .generation) (s .generation) d;
+      values = rw (d, e);
+    }))
+    (λ d. absurd (omega (arith, rw d at h)))
 
 next-budget : (s : Model) (j b : ℕ) → (0 < b) × ((openingOf s j) .generation ≡ s .generation)
     → ((nextModel s j b) .1) .refusal ≡ 0
@@ -155,7 +156,7 @@ module _ (o : Opening) (acc : Accepted o) where
   j = openingNumber o
 
   j-is : j ≡ length (s0 .listings)
-  j-is = ap length (R0 .cursors) ∙ length-map cursorOf (s0 .listings)
+  j-is = ap length (R0 .cursors) ∙ length-map (s0 .listings) cursorOf
 
   lists-one : s1 .listings ≡ s0 .listings ++ listing (s0 .generation) x (s0 .entries) ∷ []
   unfolding callModel
@@ -165,13 +166,15 @@ module _ (o : Opening) (acc : Accepted o) where
   j-open = rw (lists-one, length-append) (omega (arith, j-is))
 
   at-opening : openingOf s1 j ≡ listing (s0 .generation) x (s0 .entries)
-  at-opening = rw (lists-one, j-is) (getD-append-seam (s0 .listings) (listing (s0 .generation) x (s0 .entries)) [] noListing)
+  at-opening =
+      rw (lists-one, j-is) (getD-append-seam (s0 .listings) (listing (s0 .generation) x (s0 .entries)) [] noListing)
 
   chain-is : chainThen o ≡ (listing (s0 .generation) x (s0 .entries)) .rest
   unfolding callModel
   chain-is =
       ap₂ (λ (c : Chain) (l : List Entry). holders c (o .pattern) l)
-      (ap (λ (v : Values). v .cursor .chain) (opened-same .0 ∙ open-values s0 x inside) ∙ chain-of (s0 .generation) x (s0 .entries))
+      (ap (λ (v : Values). v .cursor .chain) (opened-same .0 ∙ open-values s0 x inside)
+      ∙ chain-of (s0 .generation) x (s0 .entries))
       (agreeing-statements k (storeThen o) s0 R0)
       ∙ sym (rest-of (s0 .generation) (o .pattern) (s0 .entries))
 
@@ -185,11 +188,12 @@ module _ (o : Opening) (acc : Accepted o) where
   reclaims-same : reclaimsSince o ≡ reclaimsIn (o .since) (modelReplies k s1 (o .since))
   reclaims-same = ap (reclaimsIn (o .since)) (history-agrees k ((opened o) .0) s1 R1 (o .since) .0)
 
-  open-generation : s1 .generation ≡ s0 .generation
-  open-generation = omega (arith, generation-call k s0 (open′ x))
+  open-number : (opened o) .0 .counters .generation ≡ (storeThen o) .counters .generation
+  unfolding callStore
+  open-number = refl
 
   number-now : s2 .generation ≡ s0 .generation + reclaimsSince o
-  number-now = omega (arith, generation-after k s1 (o .since), reclaims-same, open-generation)
+  number-now = omega (arith, R0 .generation, R2 .generation, open-number, calls-onward ((opened o) .0) (o .since) .0)
 
   grown-now : Unreclaimed o → Grown (s0 .entries) (s2 .entries)
   grown-now u =
@@ -218,7 +222,7 @@ module _ (o : Opening) (acc : Accepted o) where
   with-budget : (b : ℕ) → (nextNow o b) .refusal ≡ 0 ↔ (0 < b) × Unreclaimed o
   with-budget b =
       rw (next-same b) (
-        λ h. let z = next-accepted s2 j b h in (z .0, omega (arith, z .1, number-then, number-now)),
+        λ h. let z = next-answered s2 j b h in (z .budget, omega (arith, z .number, number-then, number-now)),
         λ h. next-budget s2 j b (h .0, omega (arith, h .1, number-then, number-now)),
       )
 
@@ -230,7 +234,7 @@ module _ (o : Opening) (acc : Accepted o) where
       → nextNow o b ≡ takenValues (openingOf s2 j) (readRest liveAt b (restNow o))
   next-is b h =
       next-same b
-      ∙ next-values s2 j b (sym (ap (λ (v : Values). v .refusal) (next-same b)) ∙ h)
+      ∙ next-answered s2 j b (sym (ap (λ (v : Values). v .refusal) (next-same b)) ∙ h) .values
       ∙ ap (takenValues (openingOf s2 j))
       (ap₂ (λ (l : List Entry) (g : Listing). takeFrom l g b) (sym (agreeing-statements k (storeNow o) s2 R2)) at-now
       ∙ take-from (s0 .generation) (statementsIn (storeNow o)) (o .pattern) (s0 .entries) (restNow o) b)
@@ -298,7 +302,8 @@ module _ (o : Opening) (acc : Accepted o) where
 
   -- ---- no match is missed
 
-  on-chain : Unreclaimed o → (n : ℕ) → 0 < n → n ≤ (storeThen o) .counters .statements → liveNow o n ≡ true → List·Memᴰ n (chainThen o)
+  on-chain : Unreclaimed o → (n : ℕ) → 0 < n → n ≤ (storeThen o) .counters .statements → liveNow o n ≡ true
+      → List·Memᴰ n (chainThen o)
   on-chain u n lo hi e =
       let i = n - 1 in
       let d : suc i ≡ n = omega arith in

@@ -1,5 +1,5 @@
--- The byte order of names (`compareBytes`): reflexive, total, antisymmetric, transitive; equal names are equal lists, and what less means.
--- Assumes nothing.
+-- The byte order of names (`compareBytes`): reflexive, total, antisymmetric, transitive; equal names are equal lists,
+-- and what less means. Assumes nothing.
 use mathlib.Core.Path.{_≡_, refl, sym, ap, ap₂, _∙_}
 use mathlib.Core.Logic.{_≢_, _⊎_, inl, inr, ⊎-elim}
 use mathlib.Core.Bool.{true}

@@ -2,13 +2,14 @@
 -- kinds, falling positions, names and their positions, the pick. Assumes nothing.
 use mathlib.Core.Path.{_≡_, refl, sym, ap, _∙_}
 use mathlib.Core.Logic.{_≢_, ⊎-elim}
-use mathlib.Core.Bool.{Bool, true, false, not, _||_, false≢true}
-use mathlib.Core.List.{List, [], _∷_, List·Memᴰ, List·Memᴰ·head, List·Memᴰ·tail, List·Memᴰ·not-nil, List·Memᴰ·cases-cons, Memᴰ·cast}
+use mathlib.Core.Bool.{true, not, _||_}
+use mathlib.Core.List.{List, [], _∷_, List·Memᴰ, List·Memᴰ·head, List·Memᴰ·tail, List·Memᴰ·not-nil}
+use mathlib.Core.List.{List·Memᴰ·cases-cons, Memᴰ·cast}
 use Prim.Native.Nat.{ℕ, zero, suc, _<_}
 use native.Mathlib.Omega.{arith}
 use lib.ListN.{length, getD}
 use lib.Dec.{eqb}
-use borrow.Author.Tests.{eqb-true, eqb-false, eq-eqb, ne-eqb}
+use borrow.Author.Tests.{eqb-true, eqb-false, eq-eqb, ne-eqb, not-true}
 use Rattle.term.specs.Bytes.{eqBytes}
 use Rattle.term.proofs.Booleans.{eqBytes-is, eqBytes-refl}
 use Rattle.store.specs.declared.Position.{Position}
@@ -49,10 +50,6 @@ agrees-of x t h =
     decide (eqb (at p x) 0)
     (λ e. rw e)
     (λ e. let n : at p x ≢ 0 = eqb-false (at p x) 0 e in rw e (eq-eqb (at p t) (at p x) (h p (omega arith)))))
-
-not-true : (b : Bool) → not b ≡ true → b ≡ false
-not-true true e = absurd (false≢true e)
-not-true false e = refl
 
 pub matches-means : MatchesMeans
 unfolding matches
@@ -123,7 +120,10 @@ module _ (w : List ℕ) (ns : List (List ℕ)) where
 pub lookup-means : LookupMeans
 lookup-means w ns = (
   listed w ns,
-  (λ e m. let p = at-mem w ns m in omega (arith, not-missed w ns (p .0) (p .1) (p .2), e), λ h. none h (lookupName w ns) refl),
+  (
+    λ e m. let p = at-mem w ns m in omega (arith, not-missed w ns (p .0) (p .1) (p .2), e),
+    λ h. none h (lookupName w ns) refl,
+  ),
 )
   where
     none : (List·Memᴰ w ns → ⊥) → (n : ℕ) → lookupName w ns ≡ n → lookupName w ns ≡ 0

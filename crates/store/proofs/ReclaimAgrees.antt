@@ -13,7 +13,8 @@ use Rattle.store.specs.declared.Position.{Position}
 use Rattle.store.specs.declared.Triple.{Triple}
 use Rattle.store.specs.declared.Reclaimed.{Reclaimed}
 use Rattle.store.specs.Shared.{at, maxReclaims, Entry}
-use Rattle.store.specs.Tables.{Tables, word, statementWords, resourceWords, termAt, flagAt, tripleAt, offsetAt, kindAt}
+use Rattle.store.specs.Tables.{Tables, word, statementWords, resourceWords, termAt, flagAt, tripleAt, offsetAt}
+use Rattle.store.specs.Tables.{kindAt}
 use Rattle.store.specs.Values.{Values, counted, reclaimedValues}
 use Rattle.store.specs.Model.{Model, Capacities, entry, unretracted, reclaimed, reclaimModel}
 use Rattle.store.specs.Walk.{entryAt}
@@ -27,7 +28,7 @@ use Rattle.store.proofs.Tests.{decide}
 use Rattle.store.proofs.Words.{triple-at, append-length, append-word-before, append-word-after}
 use Rattle.store.proofs.Words.{append-term, append-flag, linked-length, linked-offset, linked-kind, linked-past}
 use Rattle.store.proofs.Links.{append-linked}
-use Rattle.store.proofs.Represented.{Agreeing, Same, same-cond, fits-agrees, totals-agree}
+use Rattle.store.proofs.Represented.{Agreeing, Same, same-cond, fits-agrees, totals-agree, named-stays}
 use Rattle.store.proofs.StatementsAgree.{entry-of}
 use Rattle.store.proofs.Unretracted.{unretracted-snoc}
 use Rattle.store.proofs.Swept.{unlinked-length, unlinked-past, unlinked-offset, unlinked-kind, unlinked-linked}
@@ -35,7 +36,8 @@ use Rattle.store.proofs.Swept.{blanked-length, blanked-before, same-ent
 use Rattle.store.proofs.Held.{entries-length, entries-at, agreeing-statements}
 
 -- the same entries, the same list
-entries-cong : (a b : List ℕ) (n : ℕ) → ((i : ℕ) → i < n → entryAt a i ≡ entryAt b i) → entriesUpTo a n ≡ entriesUpTo b n
+entries-cong : (a b : List ℕ) (n : ℕ) → ((i : ℕ) → i < n → entryAt a i ≡ entryAt b i)
+    → entriesUpTo a n ≡ entriesUpTo b n
 unfolding entriesUpTo
 entries-cong a b zero h = refl
 entries-cong a b (suc n) h = rw (entries-cong a b n (λ i q. h i (omega arith)), h n (omega arith))
@@ -101,15 +103,19 @@ module _ (r t : ℕ) (res stm : List ℕ) (L : Linked r t res stm) where
     pub room-next : statementWords * suc (z .count) ≤ length (z .statements)
     room-next = omega (arith, S .few, S .same-statements, L .fit-statements)
 
+    -- the entries kept, by its mark
+    one-entry : (b : Bool) → (entryAt stm n) .retracted ≡ b → unretracted (entriesUpTo stm (suc n))
+        ≡ cond b (unretracted (entriesUpTo stm n)) (unretracted (entriesUpTo stm n) ++ entryAt stm n ∷ [])
+    unfolding entriesUpTo
+    one-entry b e = unretracted-snoc (entriesUpTo stm n) (entryAt stm n) ∙ rw e
+
     -- a retracted one
     passed : flagAt stm n ≡ 1 → Sweeping r (suc n) res stm z
     unfolding entriesUpTo
     passed e = record {
       few = omega (arith, S .few);
       linked = S .linked;
-      holds = S .holds ∙ sym (unretracted-snoc (entriesUpTo stm n) (entryAt stm n)
-          ∙ ap (λ (b : Bool). cond b (unretracted (entriesUpTo stm n)) (unretracted (entriesUpTo stm n) ++ entryAt stm n ∷ []))
-          (marked e));
+      holds = S .holds ∙ sym (one-entry true (marked e));
       later = λ k q. S .later k (omega arith);
       same-resources = S .same-resources;
       same-statements = S .same-statements;
@@ -142,9 +148,7 @@ module _ (r t : ℕ) (res stm : List ℕ) (L : Linked r t res stm) where
       linked = append-linked r (z .count) x (z .resources) (z .statements) (S .linked) room-next x-low x-high;
       holds = ap₂ (λ (l : List Entry) (a : Entry). l ++ a ∷ [])
           (entries-cong stm′ (z .statements) (z .count) old-entry ∙ S .holds) (new-entry e)
-          ∙ sym (unretracted-snoc (entriesUpTo stm n) (entryAt stm n)
-          ∙ ap (λ (b : Bool). cond b (unretracted (entriesUpTo stm n)) (unretracted (entriesUpTo stm n) ++ entryAt stm n ∷ []))
-          (unmarked e));
+          ∙ sym (one-entry false (unmarked e));
       later = λ k q.
           append-word-after (z .count) x (z .resources) (z .statements) k (omega (arith, S .few))
           ∙ S .later k (omega arith);
@@ -205,15 +209,7 @@ module _ (k : Capacities) (c : Store) (s : Model) (R : Agreeing k c s) where
   reclaimed-agrees g =
       let S = swept-all in
       record {
-        named = record {
-          size = R .named .size;
-          bytes = R .named .bytes;
-          spelled = R .named .spelled;
-          well = R .named .well;
-          offsets = λ y l q. S .offsets y l ∙ R .named .offsets y l q;
-          kinds = λ y l q. S .kinds y l ∙ R .named .kinds y l q;
-          index = R .named .index;
-        };
+        named = named-stays (s .names) n m (z .count) (suc (n .generation)) _ _ (S .offsets) (S .kinds) (R .named);
         size = sym (entries-length blank (z .count)) ∙ ap length entries-now;
         linked = same-linked (z .count) (z .statements) blank
             (blanked-before (z .count) (n .statements) (z .statements)) (n .resources) (z .resources)

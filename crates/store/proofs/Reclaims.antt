@@ -2,12 +2,12 @@
 -- was refused 3. Assumes nothing.
 use mathlib.Core.Path.{_≡_, refl, sym, ap, _∙_, subst}
 use mathlib.Core.Logic.{_≢_, _↔_}
-use mathlib.Core.Bool.{Bool, true, false, _&&_, true≢false}
+use mathlib.Core.Bool.{Bool, true, false, true≢false}
 use mathlib.Core.List.{List, [], _∷_, _++_}
 use Prim.Native.Nat.{ℕ, zero, suc, _≤_, _<_}
 use native.Mathlib.Omega.{arith}
-use lib.ListN.{length, getD}
-use lib.Dec.{eqb, leb, ltb}
+use lib.ListN.{length}
+use lib.Dec.{eqb, ltb}
 use borrow.Author.Tests.{eqb-false, lt-ltb, ltb-true, ltb-false}
 use Rattle.term.specs.Scanner.{firstKindOf}
 use Rattle.term.specs.Canonical.{canonical}
@@ -15,14 +15,11 @@ use Rattle.store.specs.declared.Counters.{Counters}
 use Rattle.store.specs.declared.Position.{Position}
 use Rattle.store.specs.declared.Position.the-variants.{Subject, Predicate}
 use Rattle.store.specs.declared.Triple.{Triple}
-use Rattle.store.specs.Shared.{at, known, within, same, kindsPermitted, head0, maxReclaims, Entry, wellFormed, nameOf, textBytes}
+use Rattle.store.specs.Shared.{at, known, same, kindsPermitted, head0, maxReclaims, Entry, nameOf}
 use Rattle.store.specs.Tables.{Tables, flagAt}
 use Rattle.store.specs.Values.{Values}
-use Rattle.store.specs.Model.{Model, Capacities, Form, Call, intern, assert, retract, open′, next, reclaim}
-use Rattle.store.specs.Model.{freshModel, internName, internModel, entry}
-use Rattle.store.specs.Shared.{lookupName}
-use Rattle.store.specs.Model.{lookup, put, assertModel, retractEntry, retractModel, openModel, turn, noListing, nextModel}
-use Rattle.store.specs.Model.{unretracted, reclaimed, reclaimModel, callModel, modelAfter}
+use Rattle.store.specs.Model.{Model, Capacities, Form, Call, assert, reclaim, freshModel, entry, lookup, put}
+use Rattle.store.specs.Model.{assertModel, turn, unretracted, reclaimed, reclaimModel, callModel, modelAfter}
 use Rattle.store.specs.Walk.{entryAt}
 use Rattle.store.specs.Soundness.{holding, living, Sound}
 use Rattle.store.specs.Reclaim.{sweptOf, reclaimedTables, reclaimedCounters, reclaimOf}
@@ -37,8 +34,11 @@ use Rattle.store.proofs.Represented.{Agreeing}
 use Rattle.store.proofs.Unretracted.{origin, origin-in, origin-reads, unretracted-live, unretracted-fewer}
 use Rattle.store.proofs.Swept.{blanked-length, blanked-in, blanked-after}
 use Rattle.store.proofs.ReclaimAgrees.{swept-all}
-use Rattle.store.proofs.Kept.{kindIn, Tidy, absent, tidy-call, tidy-history, tidy-fresh}
-use Rattle.store.proofs.Held.{entries-length, entries-at, agreeing-holds, agreeing-statements, sound-agrees, sound-tidy}
+use Rattle.store.proofs.Changes.{kindIn, Change, unchanged, newName, newEntry, revivedEntry, retractedEntry}
+use Rattle.store.proofs.Changes.{newOpening, readOpening, reclaimedAll, change}
+use Rattle.store.proofs.Kept.{Tidy, absent, tidy-call, tidy-history, tidy-fresh}
+use Rattle.store.proofs.Held.{entries-length, entries-at, agreeing-holds, agreeing-statements, sound-agrees}
+use Rattle.store.proofs.Held.{sound-tidy}
 use Rattle.store.proofs.Histories.{call-agrees, history-agrees, fresh-agrees}
 use Rattle.store.proofs.Entries.{Grown, grown-history}
 
@@ -234,59 +234,21 @@ wider-trans a b c W U = record {
 wider-more : (ns : List (List ℕ)) (w : List ℕ) → Wider ns (ns ++ w ∷ [])
 wider-more ns w = record { longer = omega (arith, length-snoc ns w); keeps = λ y h q. name-old ns w y h q }
 
-module _ (k : Capacities) (s : Model) where
-  put-names : (x : Triple) (n : ℕ) → ((put k s x n) .0) .names ≡ s .names
-  unfolding put
-  put-names x zero = decide (ltb (length (s .entries)) (k .statements)) (λ e. rw e) (λ e. rw e)
-  put-names x (suc i) = decide ((entry (s .entries) i) .retracted) (λ e. rw e) (λ e. rw e)
-
-  assert-names : (x : Triple) → ((assertModel k s x) .0) .names ≡ s .names
-  unfolding assertModel
-  assert-names x =
-      decide (known (length (s .names)) x)
-      (λ e. rw e (decide (kindsPermitted (kindIn s) x) (λ d. rw d (put-names x (lookup x (s .entries)))) (λ d. rw d)))
-      (λ e. rw e)
-
-  retract-entry-names : (n : ℕ) → ((retractEntry s n) .0) .names ≡ s .names
-  unfolding retractEntry
-  retract-entry-names zero = refl
-  retract-entry-names (suc i) = decide ((entry (s .entries) i) .retracted) (λ e. rw e) (λ e. rw e)
-
-  retract-names : (x : Triple) → ((retractModel s x) .0) .names ≡ s .names
-  unfolding retractModel
-  retract-names x =
-      decide (known (length (s .names)) x) (λ e. rw e (retract-entry-names (lookup x (s .entries)))) (λ e. rw e)
-
-  intern-wider : (w : List ℕ) → Wider (s .names) (((internModel k s w) .0) .names)
-  unfolding internModel
-  intern-wider w =
-      decide (wellFormed w) (λ e. rw e (go (lookupName (canonical w) (s .names)))) (λ e. rw e (wider-same (s .names)))
-    where
-      go : (n : ℕ) → Wider (s .names) (((internName k s (canonical w) n) .0) .names)
-      go zero =
-          unfold internName in
-          (decide (ltb (length (s .names)) (k .resources) && leb (textBytes (s .names ++ canonical w ∷ [])) (k .text))
-          (λ e. rw e (wider-more (s .names) (canonical w))) (λ e. rw e (wider-same (s .names))))
-      go (suc i) = unfold internName in (wider-same (s .names))
-
-  wider-call : (a : Call) → Wider (s .names) (((callModel k s a) .0) .names)
-  unfolding callModel openModel nextModel turn reclaimModel
-  wider-call (intern w) = intern-wider w
-  wider-call (assert f x) = rw (assert-names x) (wider-same (s .names))
-  wider-call (retract f x) = rw (retract-names x) (wider-same (s .names))
-  wider-call (open′ x) =
-      decide (within (length (s .names)) x) (λ e. rw e (wider-same (s .names))) (λ e. rw e (wider-same (s .names)))
-  wider-call (next j b) =
-      decide (eqb ((getD (s .listings) j noListing) .generation) (s .generation))
-      (λ d. rw d (decide (eqb b 0) (λ e. rw e (wider-same (s .names))) (λ e. rw e (wider-same (s .names)))))
-      (λ d. rw d (wider-same (s .names)))
-  wider-call reclaim =
-      decide (ltb (s .generation) maxReclaims) (λ e. rw e (wider-same (s .names))) (λ e. rw e (wider-same (s .names)))
+wider-changed : {s : Model} {a : Call} {o : Model × Values} → Change s a o → Wider (s .names) ((o .0) .names)
+unfolding turn
+wider-changed {s} (unchanged a v p) = wider-same (s .names)
+wider-changed {s} (newName w v) = wider-more (s .names) (canonical w)
+wider-changed {s} (newEntry f x v a b e) = wider-same (s .names)
+wider-changed {s} (revivedEntry f x i v) = wider-same (s .names)
+wider-changed {s} (retractedEntry f x i v) = wider-same (s .names)
+wider-changed {s} (newOpening x v) = wider-same (s .names)
+wider-changed {s} (readOpening j b) = wider-same (s .names)
+wider-changed {s} reclaimedAll = wider-same (s .names)
 
 wider-history : (k : Capacities) (s : Model) (a : List Call) → Wider (s .names) ((modelAfter k s a) .names)
 unfolding modelAfter
 wider-history k s [] = wider-same (s .names)
-wider-history k s (a ∷ r) = wider-trans _ _ _ (wider-call k s a) (wider-history k ((callModel k s a) .0) r)
+wider-history k s (a ∷ r) = wider-trans _ _ _ (wider-changed (change k s a)) (wider-history k ((callModel k s a) .0) r)
 
 wider-permitted : (ns ns′ : List (List ℕ)) → Wider ns ns′ → (x : Triple) → known (length ns) x ≡ true
     → kindsPermitted (λ y. firstKindOf (nameOf ns′ y)) x ≡ kindsPermitted (λ y. firstKindOf (nameOf ns y)) x
@@ -306,7 +268,8 @@ reclaim-answered k s =
     decide (ltb (s .generation) maxReclaims) (λ e. rw e (λ h. refl)) (λ e. rw e (λ h. absurd (omega (arith, h))))
 
 -- a triple that no entry has is in none of those kept
-absent-kept : (x : Triple) (l : List Entry) → ((i : ℕ) → i < length l → (entry l i) .spo ≢ x) → lookup x (unretracted l) ≡ 0
+absent-kept : (x : Triple) (l : List Entry) → ((i : ℕ) → i < length l → (entry l i) .spo ≢ x)
+    → lookup x (unretracted l) ≡ 0
 absent-kept x l h =
     lookup-none x (unretracted l) (λ i q. rw (origin-reads l i q) (h (origin l i) (origin-in l i q)))
 
@@ -409,7 +372,8 @@ module _ (m : Tables) (before : List Call) (f g : Form) (x : Triple) (between : 
   R2 : Agreeing kk c2 s2
   R2 = history-agrees kk c1 first R1 between .1
 
-  module _ (none : reclaimsIn between (storeReplies c1 between) ≡ 0) (acc : ((callStore c2 reclaim) .1) .refusal ≡ 0) where
+  module _ (none : reclaimsIn between (storeReplies c1 between) ≡ 0)
+      (acc : ((callStore c2 reclaim) .1) .refusal ≡ 0) where
     G : Grown (first .entries) (s2 .entries)
     G =
         grown-history kk first between
@@ -456,7 +420,8 @@ module _ (m : Tables) (before : List Call) (f g : Form) (x : Triple) (between : 
         full-now,
       ),
       λ h. ap (λ (v : Values). v .status) again
-          ∙ new-if-room kk (reclaimed s2) x still-known still-permitted missing-now (omega (arith, left-now, full-now, h)),
+          ∙ new-if-room kk (reclaimed s2) x still-known still-permitted missing-now
+          (omega (arith, left-now, full-now, h)),
     )
 
 pub room-again : RoomAgain

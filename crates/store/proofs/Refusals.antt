@@ -27,7 +27,8 @@ use Rattle.store.specs.Statement.{assertOf, retractOf, countersAfter, as
 use Rattle.store.specs.Scan.{openOf, nextOf}
 use Rattle.store.specs.Dictionary.{internOf}
 use Rattle.store.specs.Reclaim.{reclaimOf}
-use Rattle.store.specs.History.{Store, store, afterReclaim, internedCounters, openedCursors, movedCursors, callStore}
+use Rattle.store.specs.History.{Store, store, afterReclaim, internedCounters, openedCursors, movedCursors}
+use Rattle.store.specs.History.{callStore}
 use Rattle.store.specs.RefusalClaims.{RefusalsChangeNothing, RefusalsAreBare}
 use Rattle.store.proofs.Interning.{intern-refused}
 use Rattle.store.proofs.Cases.{assert-refused, retract-refused, reclaim-refused}

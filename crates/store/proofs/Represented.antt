@@ -18,7 +18,8 @@ use Rattle.store.specs.declared.Chain.{Chain}
 use Rattle.store.specs.declared.Chain.the-variants.{All, By}
 use Rattle.store.specs.declared.Triple.{Triple}
 use Rattle.store.specs.Shared.{at, known, same, below, head0, maxReclaims, Entry, textBytes}
-use Rattle.store.specs.Tables.{Tables, fits, resourceCapacity, statementCapacity, textCapacity, termAt, flagAt, tripleAt}
+use Rattle.store.specs.Tables.{Tables, tables, offsetAt, kindAt, fits, resourceCapacity, statementCapacity}
+use Rattle.store.specs.Tables.{textCapacity, termAt, flagAt, tripleAt}
 use Rattle.store.specs.Values.{Values}
 use Rattle.store.specs.Model.{Listing, Model, Capacities, entry, lookup, mark, onChain, holders}
 use Rattle.store.specs.Model.{pickModel, cursorOf, noListing, totals, readRest}
@@ -73,6 +74,21 @@ pub record Agreeing (k : Capacities) (c : Store) (s : Model) : Type 0 where
 abbrev counts : ℕ → ℕ → ℕ → ℕ → Counters
 counts r t b g = record { resources = r; statements = t; text = b; generation = g }
 
+-- the names stay where offsets and kinds do, whatever the statements are
+pub named-stays : (ns : List (List ℕ)) (c : Counters) (m : Tables) (t g : ℕ) (res stm : List ℕ)
+    → ((y : ℕ) → 0 < y → offsetAt res y ≡ offsetAt (m .resources) y)
+    → ((y : ℕ) → 0 < y → kindAt res y ≡ kindAt (m .resources) y) → Named ns c m
+    → Named ns (counts (c .resources) t (c .text) g) (tables res stm (m .index) (m .text))
+named-stays ns c m t g res stm o k N = record {
+  size = N .size;
+  bytes = N .bytes;
+  spelled = N .spelled;
+  well = N .well;
+  offsets = λ y h q. o y h ∙ N .offsets y h q;
+  kinds = λ y h q. k y h ∙ N .kinds y h q;
+  index = N .index;
+}
+
 -- two answers agree, and the states that they leave
 abbrev pub Same : Capacities → Store × Values → Model × Values → Type 0
 Same k a b = (a .1 ≡ b .1) × Agreeing k (a .0) (b .0)
@@ -113,7 +129,8 @@ module _ (k : Capacities) (c : Store) (s : Model) (R : Agreeing k c s) where
 
   pub fits-agrees : fits (c .counters) (c .tables) ≡ true
   fits-agrees =
-      fits-of (c .counters) (c .tables) (rw (← R .room-resources) (R .in-resources)) (rw (← R .room-statements) (R .in-statements))
+      fits-of (c .counters) (c .tables) (rw (← R .room-resources) (R .in-resources))
+      (rw (← R .room-statements) (R .in-statements))
       (rw (← R .room-text) (R .in-text)) (R .in-generation)
 
   pub totals-agree : c .counters ≡ totals s
@@ -166,7 +183,8 @@ module _ (k : Capacities) (c : Store) (s : Model) (R : Agreeing k c s) where
       → locate (c .counters) (c .tables) x ≡ some (lookup x (s .entries))
   locate-agrees x e =
       let h = known-high r x e in
-      located (c .counters) (c .tables) x _ (pickable-linked _ _ _ _ (R .linked) x h) (countable-linked _ _ _ _ (R .linked) x e)
+      located (c .counters) (c .tables) x _ (pickable-linked _ _ _ _ (R .linked) x h)
+      (countable-linked _ _ _ _ (R .linked) x e)
       (seek-takes x h)
       ∙ ap some
       (found-as (readRest (λ i. same x (tripleAt stm i)) t (below (onWords stm (pickChain res x) x) t))

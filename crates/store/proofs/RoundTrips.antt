@@ -161,7 +161,8 @@ module _ (c : Counters) (m : Tables) (S : Sound c m) where
       → nameOf ns (y .0) ≡ canonical w → findOf c m w ≡ Number y
   find-canonical w y f a b e =
       let s : suc (y .0 - 1) ≡ y .0 = omega arith in
-      find-listed w (y .0 - 1) f (rw (← e) (lookup-name (y .0) a b) ∙ sym s) ∙ ap (λ (n : ℕ). Number (record { 0 = n })) s
+      find-listed w (y .0 - 1) f (rw (← e) (lookup-name (y .0) a b) ∙ sym s)
+      ∙ ap (λ (n : ℕ). Number (record { 0 = n })) s
 
   pub find-name : (y : ResourceId) → 0 < y .0 → y .0 ≤ c .resources → findOf c m (nameOf ns (y .0)) ≡ Number y
   find-name y a b = find-canonical (nameOf ns (y .0)) y (name-formed (y .0) a b) a b (sym (name-kept (y .0) a b))
@@ -246,4 +247,8 @@ round-trips c m S = record {
 
 pub spellings-agree : SpellingsAgree
 unfolding findOf internOf internModel
-spellings-agree v w f g e = record { found = λ c m. rw (f, g, e); entered = λ c m. rw (f, g, e); listed = λ k s. rw (f, g, e) }
+spellings-agree v w f g e = record {
+  found = λ c m. rw (f, g, e);
+  entered = λ c m. rw (f, g, e);
+  listed = λ k s. rw (f, g, e);
+}

@@ -4,9 +4,7 @@ use mathlib.Core.Path.{_≡_, refl}
 use mathlib.Core.List.{List, [], _∷_, _++_, map}
 use Prim.Native.Nat.{ℕ, _*_}
 use lib.ListN.{replicate, set, take}
-use Rattle.term.specs.Scanner.{kindOf, firstKindOf, runOf, stepOf, wholeOf}
-use Rattle.term.specs.Canonical.{stringEnding, writesString, canonical}
-use Rattle.term.specs.Bytes.{among, letter, alnum, iriByte, textByte, pairByte, firstByte, labelByte, eqBytes}
+use Rattle.term.specs.Canonical.{stringEnding}
 use Rattle.store.specs.declared.Triple.{Triple}
 use Rattle.store.specs.declared.Chain.{Chain}
 use Rattle.store.specs.declared.Chain.the-variants.{All, By}
@@ -15,24 +13,15 @@ use Rattle.store.specs.declared.Counters.{Counters}
 use Rattle.store.specs.declared.ScanCursor.{ScanCursor}
 use Rattle.store.specs.declared.Refusal.the-variants.{Malformed}
 use Rattle.store.specs.declared.Lookup.the-variants.{Number as Found, Absent, Refused as NotFound}
-use Rattle.store.specs.Shared.{triple, known, within, same, agrees, kindsPermitted, below, wellFormed, nameOf, textBytes, matches}
-use Rattle.store.specs.Tables.{Tables, tables, fits, termAt, nextAt, flagAt, tripleAt, firstAt, countAt, offsetAt}
-use Rattle.store.specs.Tables.{kindAt, liveAt, resourceWords}
+use Rattle.store.specs.Shared.{triple}
+use Rattle.store.specs.Tables.{Tables, tables, nextAt, resourceWords}
 use Rattle.store.specs.Values.{Values, refusedWith, numbered, counted, placed, stepped}
 use Rattle.store.specs.Model.{Call, intern, assert, retract, open′, next, reclaim, byValue, updating, freshModel}
-use Rattle.store.specs.Model.{internName, internModel}
-use Rattle.store.specs.Shared.{better, lookupName, pick}
-use Rattle.store.specs.Model.{lookup, mark, put, assertModel, retractEntry, retractModel, onChain}
-use Rattle.store.specs.Model.{holders, Model, unretracted, reclaimModel}
-use Rattle.store.specs.Reclaim.{unlinked, sweepOne, sweep, blanked, sweptOf, reclaimOf}
-use Rattle.store.specs.Model.{pickModel, listing, openModel, readRest, takeFrom, turn, nextModel, callModel, modelReplies}
-use Rattle.store.specs.Walk.{entryAt, pickChain, pickable, startOf, linkOf, holdsResource, visitable, walk}
-use Rattle.store.specs.Statement.{seek, countable, locate, tallyAt, tally, appendRecord, linkFirst, linkRecord, kindsOk, asserting}
-use Rattle.store.specs.Statement.{assertOf, counting, retracting, retractOf, assertUpdatingOf, retractUpdatingOf}
-use Rattle.store.specs.Scan.{cursorIn, openOf, chainOk, recordOk, cursorOk, walkFrom, nextOf}
-use Rattle.store.specs.Dictionary.{rank, placeAt, indexPlaceOf, roomFor, bring, insertAt, findOf, internAs, internOf}
-use Rattle.store.specs.Names.{compareBytes, nameAt, namesUpTo}
-use Rattle.store.specs.History.{Store, store, freshStore, capacitiesOf, callStore, storeReplies, storeAfter}
+use Rattle.store.specs.Model.{Model, modelReplies}
+use Rattle.store.specs.Scan.{cursorIn}
+use Rattle.store.specs.Dictionary.{findOf}
+use Rattle.store.specs.History.{Store, store, freshStore, capacitiesOf, storeReplies, storeAfter}
+use Rattle.store.proofs.Opened.{list-definitions, table-definitions}
 
 -- ---- histories: each call beside its answer
 
@@ -207,9 +196,9 @@ until-reclaim = (intern ia, counted 0 1 (tot 1 0 4))
     ∷ (reclaim, counted 0 0 (tot-in 1 3 2 12))
     ∷ []
 
--- The listing is refused 13, with no budget too; the statement refused 3 is new; the retracted one is forgotten and there
--- is no room for it; the others are numbered from 1. A listing of the second generation counts its visits on what is
--- left. A reclaim with nothing to drop counts too. A next that names no opening is of no generation but 0.
+-- The listing is refused 13, with no budget too; the statement refused 3 is new; the retracted one is forgotten and
+-- there is no room for it; the others are numbered from 1. A listing of the second generation counts its visits on what
+-- is left. A reclaim with nothing to drop counts too. A next that names no opening is of no generation but 0.
 since-reclaim : History
 since-reclaim = (next 0 1, refusedWith 13)
     ∷ (next 0 0, refusedWith 13)
@@ -272,7 +261,9 @@ nextsOf m h i =
 
 -- the paper's lines loaded
 loading : List Call
-loading = intern r21 ∷ intern trips ∷ intern b4 ∷ assert byValue (triple 1 2 3) ∷ intern b7 ∷ assert byValue (triple 1 2 4) ∷ []
+loading =
+    intern r21 ∷ intern trips ∷ intern b4 ∷ assert byValue (triple 1 2 3) ∷ intern b7
+    ∷ assert byValue (triple 1 2 4) ∷ []
 
 -- the records of the four resources, all their words, after the lines and further calls
 abbrev recordsAfter : List Call → List ℕ
@@ -286,44 +277,33 @@ rr a b c d e f o s p q rest = a ∷ b ∷ c ∷ d ∷ e ∷ f ∷ o ∷ 1 ∷ s 
 abbrev changed : ℕ → ℕ → Store
 changed i v =
     let s = storeAfter (freshStore wide) (callsIn single) in
-    store (s .counters) (tables (set (s .tables .resources) i v) (s .tables .statements) (s .tables .index) (s .tables .text)) []
+    store (s .counters)
+    (tables (set (s .tables .resources) i v) (s .tables .statements) (s .tables .index) (s .tables .text)) []
 
 abbrev one : Triple
 one = triple 1 2 1
 
 lists-run : Lists wide paper × Lists narrow tight × Lists few short × Lists scant label × Lists void none-at-all
-unfolding r21 trips b4 b7 litA longA ia ib ic ip empty paper tight short label none-at-all writesString
-    canonical kindOf firstKindOf runOf stepOf wholeOf
-    among letter alnum iriByte textByte pairByte firstByte labelByte known within same agrees kindsPermitted below wellFormed
-    eqBytes lookupName nameOf textBytes internName internModel matches lookup mark put assertModel retractEntry retractModel
-    onChain holders better pick pickModel listing openModel readRest takeFrom turn nextModel callModel modelReplies
+unfolding r21 trips b4 b7 litA longA ia ib ic ip empty paper tight short label none-at-all list-definitions
 lists-run = (refl, refl, refl, refl, refl)
 
 stores-run : Stores wide paper × Stores narrow tight × Stores few short × Stores scant label × Stores void none-at-all
     × (nextsOf wide paper 1 ≡ 1 ∷ 1 ∷ 0 ∷ [])
-unfolding r21 trips b4 b7 litA longA ia ib ic ip empty paper tight short label none-at-all writesString
-    canonical kindOf firstKindOf runOf stepOf wholeOf
-    among letter alnum iriByte textByte pairByte firstByte labelByte known within same agrees kindsPermitted below wellFormed
-    eqBytes matches better pick fits termAt nextAt flagAt tripleAt firstAt countAt offsetAt kindAt liveAt entryAt pickChain
-    pickable startOf linkOf holdsResource visitable walk seek countable locate tallyAt tally counting appendRecord linkFirst linkRecord
-    kindsOk asserting assertOf retracting retractOf assertUpdatingOf retractUpdatingOf openOf chainOk recordOk cursorOk walkFrom nextOf
-    compareBytes
-    nameAt rank placeAt indexPlaceOf roomFor bring insertAt internAs internOf callStore storeReplies storeAfter
+unfolding r21 trips b4 b7 litA longA ia ib ic ip empty paper tight short label none-at-all table-definitions
 stores-run = (refl, refl, refl, refl, refl, refl)
 
--- Find in the store that holds "A" alone: in either spelling, a name that is not there, and the string ending by itself.
+-- Find in the store that holds "A" alone: in either spelling, a name that is not there, and the string ending by
+-- itself.
 abbrev held : Store
 held = storeAfter (freshStore scant) (callsIn label)
 
 finds-run : map (findOf (held .counters) (held .tables)) (litA ∷ longA ∷ empty ∷ stringEnding ∷ [])
     ≡ Found (record { 0 = 1 }) ∷ Found (record { 0 = 1 }) ∷ Absent ∷ NotFound Malformed ∷ []
-unfolding litA longA empty label writesString canonical kindOf firstKindOf runOf stepOf wholeOf among letter alnum iriByte
-    textByte pairByte firstByte labelByte below wellFormed eqBytes fits offsetAt compareBytes nameAt namesUpTo lookupName rank placeAt
-    indexPlaceOf findOf roomFor bring insertAt internAs internOf callStore storeAfter
+unfolding litA longA empty label table-definitions
 finds-run = refl
 
--- the words after the reclaim: two records, one of zeros, the table's end as it was; links, counts and live counts anew,
--- offsets and kinds and what is past them as they were
+-- the words after the reclaim: two records, one of zeros, the table's end as it was; links, counts and live counts
+-- anew, offsets and kinds and what is past them as they were
 abbrev wordsAfter : Tables → History → List ℕ × List ℕ
 wordsAfter m h = let s = storeAfter (freshStore m) (callsIn h) in (s .tables .resources, s .tables .statements)
 
@@ -344,11 +324,7 @@ lists-after g = record { names = []; entries = []; listings = []; generation = g
 reclaim-lists-run : Lists narrow (until-reclaim ++ since-reclaim)
     × (modelReplies (capacitiesOf wide) (lists-after 65534) (reclaim ∷ reclaim ∷ [])
     ≡ counted 0 0 (tot-in 65535 0 0 0) ∷ refusedWith 14 ∷ [])
-unfolding ia ib ic ip until-reclaim since-reclaim writesString canonical kindOf firstKindOf runOf stepOf wholeOf
-    among letter alnum iriByte textByte pairByte firstByte labelByte known within same agrees kindsPermitted below wellFormed
-    eqBytes lookupName nameOf textBytes internName internModel matches lookup mark put assertModel retractEntry retractModel
-    onChain holders better pick pickModel listing openModel readRest takeFrom turn nextModel unretracted reclaimModel
-    callModel modelReplies
+unfolding ia ib ic ip until-reclaim since-reclaim list-definitions
 reclaim-lists-run = (refl, refl)
 
 -- 65,534 reclaims, the last one, one past it; a number above it is refusal 1 in every call
@@ -357,18 +333,12 @@ reclaim-stores-run : Stores narrow (until-reclaim ++ since-reclaim) × (wordsAft
     ≡ counted 0 0 (tot-in 65535 0 0 0) ∷ refusedWith 14 ∷ [])
     × (storeReplies (after-reclaims 65536) (reclaim ∷ open′ (triple 0 0 0) ∷ intern ia ∷ [])
     ≡ refusedWith 1 ∷ refusedWith 1 ∷ refusedWith 1 ∷ [])
-unfolding ia ib ic ip until-reclaim since-reclaim writesString canonical kindOf firstKindOf runOf stepOf wholeOf
-    among letter alnum iriByte textByte pairByte firstByte labelByte known within same agrees kindsPermitted below wellFormed
-    eqBytes matches better pick fits termAt nextAt flagAt tripleAt firstAt countAt offsetAt kindAt liveAt entryAt
-    pickChain pickable startOf linkOf holdsResource visitable walk seek countable locate tallyAt tally counting appendRecord
-    linkFirst linkRecord kindsOk asserting assertOf retracting retractOf assertUpdatingOf retractUpdatingOf openOf chainOk
-    recordOk cursorOk walkFrom nextOf compareBytes nameAt rank placeAt indexPlaceOf roomFor bring insertAt internAs internOf
-    unlinked sweepOne sweep blanked sweptOf reclaimOf callStore storeReplies storeAfter
+unfolding ia ib ic ip until-reclaim since-reclaim table-definitions
 reclaim-stores-run = (refl, refl, refl, refl)
 
--- Live counts: after the paper's lines, once statement 1 is retracted, and once it is revived. A live count above its count, here the
--- predicate's, is refused 9 by assert and retract, also where the triple is already there, and not by a listing; a live count of 0, here
--- the object's, is refused 9 by retract alone.
+-- Live counts: after the paper's lines, once statement 1 is retracted, and once it is revived. A live count above its
+-- count, here the predicate's, is refused 9 by assert and retract, also where the triple is already there, and not by a
+-- listing; a live count of 0, here the object's, is refused 9 by retract alone.
 live-run : (recordsAfter []
     ≡ rr 2 0 0 2 0 0 0 2 0 0 (rr 0 2 0 0 2 0 7 0 2 0 (rr 0 0 1 0 0 1 17 0 0 1 (rr 0 0 2 0 0 1 23 0 0 1 []))))
     × (recordsAfter (retract updating (triple 1 2 3) ∷ [])
@@ -378,17 +348,12 @@ live-run : (recordsAfter []
     ≡ refusedWith 9 ∷ refusedWith 9 ∷ placed (cursorAt (triple 0 2 0) (By Predicate) 1) ∷ [])
     × (storeReplies (changed 10 0) (assert updating one ∷ retract byValue one ∷ [])
     ≡ counted 2 1 (tot 2 1 8) ∷ refusedWith 9 ∷ [])
-unfolding r21 trips b4 b7 loading ia ip single writesString canonical kindOf firstKindOf runOf stepOf wholeOf
-    among letter alnum iriByte textByte pairByte firstByte labelByte known within same agrees kindsPermitted below wellFormed
-    eqBytes matches better pick fits termAt nextAt flagAt tripleAt firstAt countAt offsetAt kindAt liveAt entryAt
-    pickChain pickable startOf linkOf holdsResource visitable walk seek countable locate tallyAt tally counting appendRecord
-    linkFirst linkRecord kindsOk asserting assertOf retracting retractOf assertUpdatingOf retractUpdatingOf openOf chainOk
-    recordOk cursorOk walkFrom nextOf compareBytes nameAt rank placeAt indexPlaceOf roomFor bring insertAt internAs internOf
-    callStore storeReplies storeAfter
+unfolding r21 trips b4 b7 loading ia ip single table-definitions
 live-run = (refl, refl, refl, refl, refl)
 
--- Refusal 6 after the one statement, a cursor for each clause: a number above R, a chain that is not bound, none where one is bound, a next
--- above T, a record without the resource, this one without a budget too. One that stands is read on; 13 comes before 6.
+-- Refusal 6 after the one statement, a cursor for each clause: a number above R, a chain that is not bound, none where
+-- one is bound, a next above T, a record without the resource, this one without a budget too. One that stands is read
+-- on; 13 comes before 6.
 abbrev reading : List ScanCursor → Store
 reading qs = let s = storeAfter (freshStore wide) (callsIn single) in store (s .counters) (s .tables) qs
 
@@ -398,10 +363,5 @@ bad-run : storeReplies (reading (cursorAt (triple 3 0 0) (By Subject) 0 ∷ curs
     (next 0 1 ∷ next 1 1 ∷ next 2 1 ∷ next 3 1 ∷ next 4 1 ∷ next 4 0 ∷ next 5 1 ∷ next 6 1 ∷ [])
     ≡ refusedWith 6 ∷ refusedWith 6 ∷ refusedWith 6 ∷ refusedWith 6 ∷ refusedWith 6 ∷ refusedWith 6
     ∷ stepped 1 1 1 (cursorAt (triple 0 2 0) (By Predicate) 0) ∷ refusedWith 13 ∷ []
-unfolding ia ip single writesString canonical kindOf firstKindOf runOf stepOf wholeOf
-    among letter alnum iriByte textByte pairByte firstByte labelByte known within same agrees kindsPermitted below wellFormed
-    eqBytes matches better pick fits termAt nextAt flagAt tripleAt firstAt countAt offsetAt kindAt liveAt entryAt
-    pickChain pickable startOf linkOf holdsResource visitable walk seek countable locate tallyAt tally appendRecord
-    linkFirst linkRecord kindsOk asserting assertOf chainOk recordOk cursorOk walkFrom nextOf compareBytes nameAt rank placeAt
-    indexPlaceOf roomFor bring insertAt internAs internOf callStore storeReplies storeAfter
+unfolding ia ip single table-definitions
 bad-run = refl

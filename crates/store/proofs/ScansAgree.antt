@@ -19,8 +19,8 @@ use Rattle.store.specs.Shared.{at, within, below, head0, matches}
 use Rattle.store.specs.Tables.{Tables}
 use Rattle.store.specs.Values.{Values, noCursor, placed, openedValues, scannedValues}
 use Rattle.store.specs.Model.{Listing, Model, Capacities, Taken, found as took, ended as emptied}
-use Rattle.store.specs.Model.{spent as stopped, entry, holders, pickModel, listing, cursorOf}
-use Rattle.store.specs.Model.{withListings, openModel, noListing, leaving, restOf, takenValues, takeFrom, turn, nextModel}
+use Rattle.store.specs.Model.{spent as stopped, entry, holders, pickModel, listing, cursorOf, withListings}
+use Rattle.store.specs.Model.{openModel, noListing, leaving, restOf, takenValues, takeFrom, turn, nextModel}
 use Rattle.store.specs.Walk.{entryAt, pickChain, startOf}
 use Rattle.store.specs.Scan.{cursorIn, openOf, recordOk, cursorOk, walkFrom, scannedAs, nextOf}
 use Rattle.store.specs.History.{Store, store, openedCursors, movedCursors}
@@ -28,7 +28,8 @@ use Rattle.store.proofs.Tests.{and-of, within-high, within-of}
 use Rattle.store.proofs.Falling.{head-le, head-passes}
 use Rattle.store.proofs.Walks.{asStep, Part, rest-chain, take-cong}
 use Rattle.store.proofs.Picking.{pick-ok}
-use Rattle.store.proofs.Chains.{onWords, pickChain-bound, chain-holds-resource, chain-start, walk-linked, pickable-linked}
+use Rattle.store.proofs.Chains.{onWords, pickChain-bound, chain-holds-resource, chain-start, walk-linked}
+use Rattle.store.proofs.Chains.{pickable-linked}
 use Rattle.store.proofs.Represented.{onList, Good, Agreeing, Same, same-cond, fits-agrees, chain-agrees}
 use Rattle.store.proofs.Represented.{holders-agree, pick-agrees, Standing, standing-none}
 
@@ -112,7 +113,8 @@ module _ (k : Capacities) (c : Store) (s : Model) (R : Agreeing k c s) where
   first x = cursorIn (n .generation) x (pickChain (m .resources) x)
       (startOf (n .statements) (m .resources) (pickChain (m .resources) x) x)
 
-  first-agrees : (x : Triple) → ((p : Position) → at p x ≤ n .resources) → first x ≡ cursorOf (listing (s .generation) x (s .entries))
+  first-agrees : (x : Triple) → ((p : Position) → at p x ≤ n .resources)
+      → first x ≡ cursorOf (listing (s .generation) x (s .entries))
   unfolding listing
   first-agrees x h =
       rw (
@@ -206,7 +208,8 @@ module _ (k : Capacities) (c : Store) (s : Model) (R : Agreeing k c s) where
           rest-is = rw (G .rest-is) (h .2);
         }
 
-    turn-agrees : g .generation ≤ s .generation → (j b : ℕ) → Same k (scanned c j (scannedAs (cursorOf g) (walkFrom n m (cursorOf g) b))) (turn s j g
+    turn-agrees : g .generation ≤ s .generation → (j b : ℕ)
+        → Same k (scanned c j (scannedAs (cursorOf g) (walkFrom n m (cursorOf g) b))) (turn s j g
         (takeFrom (s .entries) g b))
     unfolding turn
     turn-agrees le j b =

@@ -26,7 +26,6 @@ use Rattle.store.specs.Model.{put, assertModel, retractEntry, retractMod
 use Rattle.store.specs.Walk.{entryAt}
 use Rattle.store.specs.Statement.{tally, withFlag, counting, appended, kindsOk, oneStatementMore}
 use Rattle.store.specs.Statement.{madeRetracted, asserting, assertOf, retracting, retractOf, countersAfter}
-use Rattle.store.specs.Names.{Named}
 use Rattle.store.specs.Soundness.{Linked}
 use Rattle.store.specs.History.{Store, store}
 use Rattle.store.proofs.Tests.{decide, upto, and-of, all3-of, known-low, known-high}
@@ -34,10 +33,10 @@ use Rattle.store.proofs.Words.{triple-of, triple-same, append-length, a
 use Rattle.store.proofs.Words.{append-term, append-flag, linked-length, linked-offset, linked-kind, flag-term}
 use Rattle.store.proofs.Words.{flag-same, flag-other, triple-at, tally-length, tally-offset, tally-kind}
 use Rattle.store.proofs.Links.{append-linked, one-less-live, revived-linked, retracted-linked}
-use Rattle.store.proofs.Form.{form-kind, kind-high, storable-formed}
+use Rattle.store.proofs.Form.{form-kind, form-kind-high, storable-formed}
 use Rattle.store.proofs.Represented.{Agreeing, Same, same-cond, fits-agrees, totals-agree, mark-agrees}
 use Rattle.store.proofs.Represented.{lookup-le, locate-agrees, mark-length, mark-same, mark-other, mark-spo}
-use Rattle.store.proofs.Represented.{standing-grow, found-holds}
+use Rattle.store.proofs.Represented.{standing-grow, found-holds, named-stays}
 
 -- an entry by its words
 pub entry-of : (stm : List ℕ) (i : ℕ) (x : Triple) (b : Bool) → ((p : Position) → termAt stm p i ≡ at p x)
@@ -87,28 +86,23 @@ module _ (k : Capacities) (c : Store) (s : Model) (R : Agreeing k c s) where
 
   flag-agrees : (f : ℕ → ℕ) (x : Triple) (i v : ℕ) (b : Bool) → i < n .statements → eqb v 1 ≡ b
       → known (n .resources) x ≡ true
-      → Linked (n .resources) (n .statements) (tally f x (m .resources)) (set (m .statements) (statementWords * i + 6) v)
+      → Linked (n .resources) (n .statements) (tally f x (m .resources))
+      (set (m .statements) (statementWords * i + 6) v)
       → Agreeing k (store n (withFlag f v m x i) (c .cursors)) (withEntries s (mark (s .entries) i b))
   flag-agrees f x i v b h e kn L =
       let pos = known-low (n .resources) x kn in
       let room : (p : Position) → resourceWords * at p x ≤ length (m .resources) =
       (λ p. omega (arith, known-high (n .resources) x kn p, R .linked .fit-resources)) in
       record {
-        named = record {
-          size = R .named .size;
-          bytes = R .named .bytes;
-          spelled = R .named .spelled;
-          well = R .named .well;
-          offsets = λ y l q. tally-offset f x (m .resources) pos room y l ∙ R .named .offsets y l q;
-          kinds = λ y l q. tally-kind f x (m .resources) pos room y l ∙ R .named .kinds y l q;
-          index = R .named .index;
-        };
+        named = named-stays (s .names) n m (n .statements) (n .generation) _ _
+            (tally-offset f x (m .resources) pos room) (tally-kind f x (m .resources) pos room) (R .named);
         size = R .size ∙ sym (mark-length (s .entries) i b);
         linked = L;
         reads = λ j q. flag-entry i j v b h e q;
         cursors = R .cursors;
         generation = R .generation;
-        good = λ j. standing-grow (length (s .names)) (length (s .names)) (s .entries) (mark (s .entries) i b) (s .generation) _ (omega arith)
+        good = λ j. standing-grow (length (s .names)) (length (s .names)) (s .entries)
+            (mark (s .entries) i b) (s .generation) _ (omega arith)
             (omega (arith, mark-length (s .entries) i b)) (λ j q. mark-spo (s .entries) i j b q) (R .good j);
         room-resources = rw (tally-length f x (m .resources)) (R .room-resources);
         room-statements = rw length-set (R .room-statements);
@@ -129,25 +123,14 @@ module _ (k : Capacities) (c : Store) (s : Model) (R : Agreeing k c s) where
     room-at : (p : Position) → resourceWords * at p x ≤ length (m .resources)
     room-at p = omega (arith, known-high (n .resources) x e p, R .linked .fit-resources)
 
-    names-stay : Named (s .names) (oneStatementMore n) (appended (n .statements) m x)
-    names-stay = record {
-      size = R .named .size;
-      bytes = R .named .bytes;
-      spelled = R .named .spelled;
-      well = R .named .well;
-      offsets = λ y h q. linked-offset (n .statements) x (m .resources) (known-low (n .resources) x e) room-at y h
-          ∙ R .named .offsets y h q;
-      kinds = λ y h q. linked-kind (n .statements) x (m .resources) (known-low (n .resources) x e) room-at y h
-          ∙ R .named .kinds y h q;
-      index = R .named .index;
-    }
-
     append-agrees : suc (n .statements) ≤ statementCapacity m
         → statementWords * suc (n .statements) ≤ length (m .statements)
         → Agreeing k (store (oneStatementMore n) (appended (n .statements) m x) (c .cursors))
         (withEntries s (s .entries ++ record { spo = x; retracted = false } ∷ []))
     append-agrees i h = record {
-      named = names-stay;
+      named = named-stays (s .names) n m (suc (n .statements)) (n .generation) _ _
+          (linked-offset (n .statements) x (m .resources) (known-low (n .resources) x e) room-at)
+          (linked-kind (n .statements) x (m .resources) (known-low (n .resources) x e) room-at) (R .named);
       size = rw length-append (omega (arith, R .size));
       linked = append-linked (n .resources) (n .statements) x (m .resources) (m .statements) (R .linked) h
           (known-low (n .resources) x e) (known-high (n .resources) x e);
@@ -182,7 +165,8 @@ module _ (k : Capacities) (c : Store) (s : Model) (R : Agreeing k c s) where
         (totals (withEntries s (s .entries ++ record { spo = x; retracted = false } ∷ [])))
     new-values z = ap₂ (counted 1) (z .size) (totals-agree k _ _ z)
 
-    put-agrees : (i : ℕ) → i ≤ n .statements → lookup x (s .entries) ≡ i → Same k (asserted c (asserting n m x i)) (put k s x i)
+    put-agrees : (i : ℕ) → i ≤ n .statements → lookup x (s .entries) ≡ i
+        → Same k (asserted c (asserting n m x i)) (put k s x i)
     unfolding asserting put
     put-agrees zero g z =
         same-cond k (asserted c) (ltb (n .statements) (statementCapacity m)) _ _ _ _ _
@@ -220,7 +204,8 @@ module _ (k : Capacities) (c : Store) (s : Model) (R : Agreeing k c s) where
         (omega arith)))
 
     retract-entry-live : Same k
-        (retracted′ c (cond (counting (m .resources) x) (madeRetracted m x i, WasLive (record { 0 = suc i })) (m, NotRetracted Damaged)))
+        (retracted′ c (cond (counting (m .resources) x) (madeRetracted m x i, WasLive (record { 0 = suc i }))
+        (m, NotRetracted Damaged)))
         (withEntries s (mark (s .entries) i true), numbered (suc i))
     retract-entry-live =
         rw counting-agrees (
@@ -230,7 +215,8 @@ module _ (k : Capacities) (c : Store) (s : Model) (R : Agreeing k c s) where
               (found-holds k c s R x i z) is-live),
         )
 
-  retract-entry-agrees : (x : Triple) → known (n .resources) x ≡ true → (i : ℕ) → i ≤ n .statements → lookup x (s .entries) ≡ i
+  retract-entry-agrees : (x : Triple) → known (n .resources) x ≡ true → (i : ℕ) → i ≤ n .statements
+      → lookup x (s .entries) ≡ i
       → Same k (retracted′ c (retracting m x i)) (retractEntry s i)
   unfolding retracting retractEntry
   retract-entry-agrees x e zero g z = (refl, R)
@@ -248,11 +234,11 @@ module _ (k : Capacities) (c : Store) (s : Model) (R : Agreeing k c s) where
       let hi = known-high (n .resources) x e p in
       let kind = R .named .kinds (at p x) lo hi in
       let i : at p x - 1 < length (s .names) = omega (arith, R .named .size) in
+      let w = getD (s .names) (at p x - 1) [] in
+      let f = storable-formed w (R .named .well (at p x - 1) i) in
       and-of _ _
-      (lt-ltb 0 (kindAt (m .resources) (at p x)) (rw kind
-      (form-kind (getD (s .names) (at p x - 1) [])
-      (storable-formed (getD (s .names) (at p x - 1) []) (R .named .well (at p x - 1) i)))))
-      (le-leb (kindAt (m .resources) (at p x)) 3 (rw kind (kind-high (getD (s .names) (at p x - 1) [])))))
+      (lt-ltb 0 (kindAt (m .resources) (at p x)) (rw kind (form-kind w f)))
+      (le-leb (kindAt (m .resources) (at p x)) 3 (rw kind (form-kind-high w f))))
 
   pub permitted-agrees : (x : Triple) → known (n .resources) x ≡ true
       → kindsPermitted (kindAt (m .resources)) x ≡ kindsPermitted (λ y. firstKindOf (nameOf (s .names) y)) x
@@ -274,7 +260,8 @@ module _ (k : Capacities) (c : Store) (s : Model) (R : Agreeing k c s) where
       (ap (λ (z : ℕ). known z x) (R .named .size))
       (λ e. rw (kinds-ok-agrees x e)
       (same-cond k (asserted c) (kindsPermitted (kindAt (m .resources)) x) _ _ _ _ _ (permitted-agrees x e)
-      (λ d. rw (assertOf, locate-agrees k c s R x e) (put-agrees x e (lookup x (s .entries)) (lookup-le k c s R x) refl))
+      (λ d. rw (assertOf, locate-agrees k c s R x e)
+      (put-agrees x e (lookup x (s .entries)) (lookup-le k c s R x) refl))
       (λ d. (refl, R))))
       (λ e. (refl, R)))
 
@@ -284,5 +271,6 @@ module _ (k : Capacities) (c : Store) (s : Model) (R : Agreeing k c s) where
       rw (fits-agrees k c s R)
       (same-cond k (retracted′ c) (known (n .resources) x) (known (length (s .names)) x) _ _ _ _
       (ap (λ (z : ℕ). known z x) (R .named .size))
-      (λ e. rw (retractOf, locate-agrees k c s R x e) (retract-entry-agrees x e (lookup x (s .entries)) (lookup-le k c s R x) refl))
+      (λ e. rw (retractOf, locate-agrees k c s R x e)
+      (retract-entry-agrees x e (lookup x (s .entries)) (lookup-le k c s R x) refl))
       (λ e. (refl, R)))

@@ -1,4 +1,5 @@
--- Laws for code that reclaims: what linked tables give at each step of the sweep, and reclaim's whole answer for each way out. Assumes nothing.
+-- Laws for code that reclaims: what linked tables give at each step of the sweep, and reclaim's whole answer for each
+-- way out. Assumes nothing.
 use mathlib.Core.Path.{_≡_, refl, sym, _∙_}
 use mathlib.Core.Bool.{true, false, true≢false}
 use mathlib.Core.List.{List}

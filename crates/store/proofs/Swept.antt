@@ -1,6 +1,6 @@
 -- Words of the tables in a reclaim: links and counts cleared, the words of records given up set to 0, every other word
 -- kept; chains that hold on a table's first words hold on any table with these words. Assumes nothing.
-use mathlib.Core.Path.{_≡_, refl, ap, _∙_}
+use mathlib.Core.Path.{_≡_, refl, _∙_}
 use mathlib.Core.Logic.{_≢_}
 use mathlib.Core.List.{List, [], _∷_}
 use Prim.Native.Nat.{ℕ, zero, suc, _+_, _-_, _*_, _≤_, _<_}
@@ -11,14 +11,14 @@ use lib.Dec.{eqb}
 use borrow.Author.Tests.{eqb-true, eqb-false}
 use Rattle.store.specs.declared.Position.{Position}
 use Rattle.store.specs.Shared.{below}
-use Rattle.store.specs.Tables.{word, off, statementWords, resourceWords, termAt, nextAt, flagAt}
+use Rattle.store.specs.Tables.{word, off, statementWords, resourceWords, termAt}
 use Rattle.store.specs.Tables.{firstAt, countAt, offsetAt, kindAt, liveAt}
 use Rattle.store.specs.Soundness.{holding, living, Linked}
 use Rattle.store.specs.Walk.{entryAt}
 use Rattle.store.specs.Reclaim.{unlinked, blanked}
 use Rattle.store.proofs.Tests.{decide, three, off-lt}
-use Rattle.store.proofs.Falling.{below-cong}
-use Rattle.store.proofs.Words.{getD-sets-before, getD-sets-after, getD-sets-in}
+use Rattle.store.proofs.Words.{getD-sets-before, getD-sets-after, getD-sets-in, same-term, same-next, same-flag}
+use Rattle.store.proofs.Links.{chain-cong, live-cong}
 use Rattle.store.proofs.StatementsAgree.{entry-same}
 
 -- ---- links and counts cleared
@@ -64,7 +64,8 @@ module _ (res : List ℕ) where
       ∙ getD-sets-after six (unlinked r res) (resourceWords * r) k 0 (omega arith)
 
   -- its six links and counts, its three live counts
-  one-low : (r k : ℕ) → resourceWords * suc r ≤ length res → k < 6 → word (unlinked (suc r) res) (resourceWords * r + k) ≡ 0
+  one-low : (r k : ℕ) → resourceWords * suc r ≤ length res → k < 6
+      → word (unlinked (suc r) res) (resourceWords * r + k) ≡ 0
   unfolding unlinked
   one-low r k h g =
       getD-sets-before triplet (half r) (resourceWords * r + 8) (resourceWords * r + k) 0 (omega arith)
@@ -72,11 +73,12 @@ module _ (res : List ℕ) where
       ∙ getD-replicate 6 k 0 0 g
 
   one-high : (r k : ℕ) → resourceWords * suc r ≤ length res → k < 3
-      → word (unlinked (suc r) res) (resourceWords * r + 8 + k) ≡ 0
+      → word (unlinked (suc r) res) (resourceWords * r + (8 + k)) ≡ 0
   unfolding unlinked
   one-high r k h g =
-      getD-sets-in triplet (half r) (resourceWords * r + 8) k 0 (omega (arith, half-length r)) g
-      ∙ getD-replicate 3 k 0 0 g
+      let e : resourceWords * r + (8 + k) ≡ resourceWords * r + 8 + k = omega arith in
+      rw e (getD-sets-in triplet (half r) (resourceWords * r + 8) k 0 (omega (arith, half-length r)) g
+      ∙ getD-replicate 3 k 0 0 g)
 
   -- ---- r records
 
@@ -102,23 +104,18 @@ module _ (res : List ℕ) where
   unfolding kindAt
   unlinked-kind r y h = unlinked-tail r 7 y (omega arith) (omega arith) h
 
-  unlinked-low : (r k y : ℕ) → resourceWords * r ≤ length res → k < 6 → 0 < y → y ≤ r
+  -- a word that is cleared in one record is 0 in each
+  unlinked-zero : (k : ℕ) → k < resourceWords
+      → ((r : ℕ) → resourceWords * suc r ≤ length res → word (unlinked (suc r) res) (resourceWords * r + k) ≡ 0)
+      → (r y : ℕ) → resourceWords * r ≤ length res → 0 < y → y ≤ r
       → word (unlinked r res) (resourceWords * (y - 1) + k) ≡ 0
-  unlinked-low zero k y fit g h q = absurd (omega arith)
-  unlinked-low (suc r) k y fit g h q =
+  unlinked-zero k l one zero y fit h q = absurd (omega arith)
+  unlinked-zero k l one (suc r) y fit h q =
       decide (eqb (y - 1) r)
-      (λ e. rw (eqb-true (y - 1) r e) (one-low r k fit g))
+      (λ e. rw (eqb-true (y - 1) r e) (one r fit))
       (λ e. let n : y - 1 ≢ r = eqb-false (y - 1) r e in
-      one-before r (resourceWords * (y - 1) + k) (omega arith) ∙ unlinked-low r k y (omega arith) g h (omega arith))
-
-  unlinked-high : (r k y : ℕ) → resourceWords * r ≤ length res → k < 3 → 0 < y → y ≤ r
-      → word (unlinked r res) (resourceWords * (y - 1) + 8 + k) ≡ 0
-  unlinked-high zero k y fit g h q = absurd (omega arith)
-  unlinked-high (suc r) k y fit g h q =
-      decide (eqb (y - 1) r)
-      (λ e. rw (eqb-true (y - 1) r e) (one-high r k fit g))
-      (λ e. let n : y - 1 ≢ r = eqb-false (y - 1) r e in
-      one-before r (resourceWords * (y - 1) + 8 + k) (omega arith) ∙ unlinked-high r k y (omega arith) g h (omega arith))
+      one-before r (resourceWords * (y - 1) + k) (omega arith)
+      ∙ unlinked-zero k l one r y (omega arith) h (omega arith))
 
   -- no statement is linked
   pub unlinked-linked : (r : ℕ) (stm : List ℕ) → resourceWords * r ≤ length res → Linked r 0 (unlinked r res) stm
@@ -130,11 +127,12 @@ module _ (res : List ℕ) where
     high = λ p i h. absurd (omega arith);
     flag = λ i h. absurd (omega arith);
     next = λ p i h. absurd (omega arith);
-    first = λ p y h q. unlinked-low r (off p) y fit (omega (arith, off-lt p)) h q;
-    count = λ p y h q. unlinked-low r (3 + off p) y fit (omega (arith, off-lt p)) h q;
-    live = λ p y h q.
-        let e : resourceWords * (y - 1) + (8 + off p) ≡ resourceWords * (y - 1) + 8 + off p = omega arith in
-        rw e (unlinked-high r (off p) y fit (off-lt p) h q);
+    first = λ p y h q. unlinked-zero (off p) (omega (arith, off-lt p))
+        (λ j f. one-low j (off p) f (omega (arith, off-lt p))) r y fit h q;
+    count = λ p y h q. unlinked-zero (3 + off p) (omega (arith, off-lt p))
+        (λ j f. one-low j (3 + off p) f (omega (arith, off-lt p))) r y fit h q;
+    live = λ p y h q. unlinked-zero (8 + off p) (omega (arith, off-lt p))
+        (λ j f. one-high j (off p) f (off-lt p)) r y fit h q;
   }
 
 -- ---- the words of records given up
@@ -167,37 +165,30 @@ module _ (t n : ℕ) (stm : List ℕ) where
 -- ---- the same first words, the same statements and chains
 
 module _ (t : ℕ) (stm stm′ : List ℕ) (same : (k : ℕ) → k < statementWords * t → word stm′ k ≡ word stm k) where
-  same-term : (p : Position) (i : ℕ) → i < t → termAt stm′ p i ≡ termAt stm p i
-  unfolding termAt
-  same-term p i h = same (statementWords * i + off p) (omega (arith, off-lt p))
-
-  same-next : (p : Position) (i : ℕ) → i < t → nextAt stm′ p i ≡ nextAt stm p i
-  unfolding nextAt
-  same-next p i h = same (statementWords * i + (3 + off p)) (omega (arith, off-lt p))
-
-  same-flag : (i : ℕ) → i < t → flagAt stm′ i ≡ flagAt stm i
-  unfolding flagAt
-  same-flag i h = same (statementWords * i + 6) (omega arith)
-
   pub same-entry : (i : ℕ) → i < t → entryAt stm′ i ≡ entryAt stm i
-  same-entry i h = entry-same stm stm′ i (λ p. same-term p i h) (same-flag i h)
+  same-entry i h = entry-same stm stm′ i (λ p. same-term t stm stm′ same p i h) (same-flag t stm stm′ same i h)
 
   same-chain : (p : Position) (y n : ℕ) → n ≤ t → below (holding stm′ p y) n ≡ below (holding stm p y) n
-  unfolding holding
-  same-chain p y n h = below-cong _ _ n (λ i q. ap (λ (z : ℕ). eqb z y) (same-term p i (omega arith)))
+  same-chain p y n h = chain-cong stm stm′ p y n (λ i q. same-term t stm stm′ same p i (omega arith))
 
   same-live : (p : Position) (y n : ℕ) → n ≤ t → below (living stm′ p y) n ≡ below (living stm p y) n
-  unfolding living holding
-  same-live p y n h = below-cong _ _ n (λ i q. rw (same-flag i (omega arith), same-term p i (omega arith)))
+  same-live p y n h =
+      live-cong stm stm′ p y n (λ i q. same-flag t stm stm′ same i (omega arith))
+      (λ i q. same-term t stm stm′ same p i (omega arith))
 
   pub same-linked : (r : ℕ) (res : List ℕ) → length stm′ ≡ length stm → Linked r t res stm → Linked r t res stm′
   same-linked r res len L = record {
     fit-resources = L .fit-resources;
     fit-statements = rw len (L .fit-statements);
-    low = λ p i h. rw (same-term p i h) (L .low p i h);
-    high = λ p i h. rw (same-term p i h) (L .high p i h);
-    flag = λ i h. rw (same-flag i h) (L .flag i h);
-    next = λ p i h. rw (same-next p i h, same-term p i h, same-chain p (termAt stm p i) i (omega arith)) (L .next p i h);
+    low = λ p i h. rw (same-term t stm stm′ same p i h) (L .low p i h);
+    high = λ p i h. rw (same-term t stm stm′ same p i h) (L .high p i h);
+    flag = λ i h. rw (same-flag t stm stm′ same i h) (L .flag i h);
+    next = λ p i h. rw (
+      same-next t stm stm′ same p i h,
+      same-term t stm stm′ same p i h,
+      same-chain p (termAt stm p i) i (omega arith),
+    )
+        (L .next p i h);
     first = λ p y h q. rw (same-chain p y t (omega arith)) (L .first p y h q);
     count = λ p y h q. rw (same-chain p y t (omega arith)) (L .count p y h q);
     live = λ p y h q. rw (same-live p y t (omega arith)) (L .live p y h q);

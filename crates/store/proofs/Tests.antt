@@ -27,10 +27,6 @@ three {P = P} x y a b c = go (ltb x y) (ltb y x) refl refl
     go false true e d = c (ltb-true y x d)
     go false false e d = b (omega (arith, ltb-false x y e, ltb-false y x d))
 
-pub and-assoc : (a b c : Bool) → (a && b) && c ≡ a && (b && c)
-and-assoc true b c = refl
-and-assoc false b c = refl
-
 pub cond-all : {A : Type 0} (P : A → Type 0) (b : Bool) (x y : A) → P x → P y → P (cond b x y)
 cond-all P true x y h g = h
 cond-all P false x y h g = g
@@ -73,9 +69,6 @@ all3-at f e Object = and-r (f Predicate) (f Object) (and-r (f Subject) (f Predic
 
 pub all3-of : (f : Position → Bool) → ((p : Position) → f p ≡ true) → all3 f ≡ true
 all3-of f h = rw (h Subject, h Predicate, h Object)
-
-pub all3-same : (f g : Position → Bool) → ((p : Position) → f p ≡ g p) → all3 f ≡ all3 g
-all3-same f g h = rw (h Subject, h Predicate, h Object)
 
 -- ---- a triple's numbers in range
 
@@ -131,7 +124,8 @@ range-in n x e = (ltb-true 0 x (and-l _ _ e), leb-true x n (and-r (ltb 0 x) _ e)
 
 module _ (c : Counters) (m : Tables) where
   pub fits-parts : fits c m ≡ true
-      → (c .resources ≤ resourceCapacity m) × (c .statements ≤ statementCapacity m) × (c .text ≤ textCapacity m) × (c .generation ≤ maxReclaims)
+      → (c .resources ≤ resourceCapacity m) × (c .statements ≤ statementCapacity m) × (c .text ≤ textCapacity m)
+      × (c .generation ≤ maxReclaims)
   unfolding fits
   fits-parts e =
       let f = and-r (leb (c .resources) (resourceCapacity m)) _ e in

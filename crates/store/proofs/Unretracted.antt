@@ -72,7 +72,8 @@ origin-in (e ∷ l) i =
     after-live d (suc i) ih h = rw (origin-later e l i d) (omega (arith, ih i (omega arith)))
 
 -- it is the same
-pub origin-reads : (l : List Entry) (i : ℕ) → i < length (unretracted l) → entry (unretracted l) i ≡ entry l (origin l i)
+pub origin-reads : (l : List Entry) (i : ℕ) → i < length (unretracted l)
+    → entry (unretracted l) i ≡ entry l (origin l i)
 origin-reads [] i = unfold unretracted in (λ h. absurd (omega arith))
 origin-reads (e ∷ l) i =
     decide (e .retracted)
@@ -104,7 +105,8 @@ origin-rises (e ∷ l) i j h =
 
 -- ---- what is kept is live, and something retracted makes them fewer
 
-pub unretracted-live : (l : List Entry) (i : ℕ) → i < length (unretracted l) → (entry (unretracted l) i) .retracted ≡ false
+pub unretracted-live : (l : List Entry) (i : ℕ) → i < length (unretracted l)
+    → (entry (unretracted l) i) .retracted ≡ false
 unretracted-live [] i = unfold unretracted in (λ h. absurd (omega arith))
 unretracted-live (e ∷ l) i =
     decide (e .retracted)

@@ -59,6 +59,21 @@ pub triple-of : (stm : List ℕ) (i : ℕ) (x : Triple) → ((p : Position) → 
 unfolding tripleAt
 triple-of stm i x h = rw (h Subject, h Predicate, h Object)
 
+-- ---- the same first words, the same statements
+
+module _ (t : ℕ) (stm stm′ : List ℕ) (same : (k : ℕ) → k < statementWords * t → word stm′ k ≡ word stm k) where
+  pub same-term : (p : Position) (i : ℕ) → i < t → termAt stm′ p i ≡ termAt stm p i
+  unfolding termAt
+  same-term p i h = same (statementWords * i + off p) (omega (arith, off-lt p))
+
+  pub same-next : (p : Position) (i : ℕ) → i < t → nextAt stm′ p i ≡ nextAt stm p i
+  unfolding nextAt
+  same-next p i h = same (statementWords * i + (3 + off p)) (omega (arith, off-lt p))
+
+  pub same-flag : (i : ℕ) → i < t → flagAt stm′ i ≡ flagAt stm i
+  unfolding flagAt
+  same-flag i h = same (statementWords * i + 6) (omega arith)
+
 -- ---- a new statement record in entry t
 
 module _ (t : ℕ) (x : Triple) (res stm : List ℕ) where
@@ -74,23 +89,18 @@ module _ (t : ℕ) (x : Triple) (res stm : List ℕ) where
   unfolding appendRecord
   append-word-after k h = getD-sets-after (recordWords x res) stm (statementWords * t) k 0 (omega arith)
 
-  append-old : (i k : ℕ) → i < t → k < statementWords → word (appendRecord t x res stm) (statementWords * i + k) ≡ word stm (statementWords * i + k)
-  append-old i k h q = append-word-before (statementWords * i + k) (omega arith)
-
   pub append-term-old : (p : Position) (i : ℕ) → i < t → termAt (appendRecord t x res stm) p i ≡ termAt stm p i
-  unfolding termAt
-  append-term-old p i h = append-old i (off p) h (omega (arith, off-lt p))
+  append-term-old = same-term t stm (appendRecord t x res stm) append-word-before
 
   pub append-next-old : (p : Position) (i : ℕ) → i < t → nextAt (appendRecord t x res stm) p i ≡ nextAt stm p i
-  unfolding nextAt
-  append-next-old p i h = append-old i (3 + off p) h (omega (arith, off-lt p))
+  append-next-old = same-next t stm (appendRecord t x res stm) append-word-before
 
   pub append-flag-old : (i : ℕ) → i < t → flagAt (appendRecord t x res stm) i ≡ flagAt stm i
-  unfolding flagAt
-  append-flag-old i h = append-old i 6 h (omega arith)
+  append-flag-old = same-flag t stm (appendRecord t x res stm) append-word-before
 
   module _ (room : statementWords * suc t ≤ length stm) where
-    append-new : (k : ℕ) → k < statementWords → word (appendRecord t x res stm) (statementWords * t + k) ≡ word (recordWords x res) k
+    append-new : (k : ℕ) → k < statementWords
+        → word (appendRecord t x res stm) (statementWords * t + k) ≡ word (recordWords x res) k
     unfolding appendRecord
     append-new k h = getD-sets-in (recordWords x res) stm (statementWords * t) k 0 (omega arith) (omega arith)
 
@@ -110,6 +120,67 @@ module _ (t : ℕ) (x : Triple) (res stm : List ℕ) where
     unfolding flagAt
     append-flag = append-new 6 (omega arith)
 
+-- ---- a change at one position of a resource, then at the three positions of a triple
+
+-- At the position q of the resource y the step makes the word that `read` reads `new` of what it was; wherever else
+-- `read` reads, the word stays.
+record Moves (step : Position → ℕ → List ℕ → List ℕ) (read : List ℕ → Position → ℕ → ℕ) (new : ℕ → ℕ) : Type 0 where
+  len : (q : Position) (y : ℕ) (res : List ℕ) → length (step q y res) ≡ length res
+  same : (q : Position) (y : ℕ) (res : List ℕ) → 0 < y → resourceWords * y ≤ length res
+      → read (step q y res) q y ≡ new (read res q y)
+  apart : (q : Position) (y : ℕ) (res : List ℕ) (p : Position) (z : ℕ) → 0 < y → 0 < z
+      → resourceWords * (z - 1) + off p ≢ resourceWords * (y - 1) + off q
+      → read (step q y res) p z ≡ read res p z
+
+module _ (step : Position → ℕ → List ℕ → List ℕ) (read : List ℕ → Position → ℕ → ℕ) (new : ℕ → ℕ)
+    (M : Moves step read new) where
+  -- another position
+  moves-other : (q : Position) (y : ℕ) (res : List ℕ) (p : Position) (z : ℕ) → 0 < y → 0 < z → off p ≢ off q
+      → read (step q y res) p z ≡ read res p z
+  moves-other q y res p z a h n = M .apart q y res p z a h (omega (arith, off-lt p, off-lt q))
+
+  moves-at : (q : Position) (y : ℕ) (res : List ℕ) → 0 < y → resourceWords * y ≤ length res → (z : ℕ) → 0 < z
+      → read (step q y res) q z ≡ cond (eqb y z) (new (read res q z)) (read res q z)
+  moves-at q y res a room z h =
+      decide (eqb y z)
+      (λ e. rw (e, ← eqb-true y z e) (M .same q y res a room))
+      (λ e. let n : y ≢ z = eqb-false y z e in rw e (M .apart q y res q z a h (omega arith)))
+
+  module _ (x : Triple) (res : List ℕ) (pos : (p : Position) → 0 < at p x)
+      (room : (p : Position) → resourceWords * at p x ≤ length res) where
+    abbrev one : List ℕ
+    one = step Subject (x .subject .0) res
+
+    abbrev two : List ℕ
+    two = step Predicate (x .predicate .0) one
+
+    room-one : (p : Position) → resourceWords * at p x ≤ length one
+    room-one p = rw (M .len Subject (x .subject .0) res) (room p)
+
+    room-two : (p : Position) → resourceWords * at p x ≤ length two
+    room-two p = rw (M .len Predicate (x .predicate .0) one) (room-one p)
+
+    moves-each : (p : Position) (y : ℕ) → 0 < y
+        → read (step Object (x .object .0) two) p y ≡ cond (eqb (at p x) y) (new (read res p y)) (read res p y)
+    moves-each Subject y h =
+        rw (
+          moves-other Object (x .object .0) two Subject y (pos Object) h (omega arith),
+          moves-other Predicate (x .predicate .0) one Subject y (pos Predicate) h (omega arith),
+          moves-at Subject (x .subject .0) res (pos Subject) (room Subject) y h,
+        )
+    moves-each Predicate y h =
+        rw (
+          moves-other Object (x .object .0) two Predicate y (pos Object) h (omega arith),
+          moves-at Predicate (x .predicate .0) one (pos Predicate) (room-one Predicate) y h,
+          moves-other Subject (x .subject .0) res Predicate y (pos Subject) h (omega arith),
+        )
+    moves-each Object y h =
+        rw (
+          moves-at Object (x .object .0) two (pos Object) (room-two Object) y h,
+          moves-other Predicate (x .predicate .0) one Object y (pos Predicate) h (omega arith),
+          moves-other Subject (x .subject .0) res Object y (pos Subject) h (omega arith),
+        )
+
 -- ---- the resource table after a link at one position of the resource y
 
 module _ (q : Position) (t y : ℕ) (res : List ℕ) where
@@ -118,91 +189,65 @@ module _ (q : Position) (t y : ℕ) (res : List ℕ) where
   link-length = simp length-set
 
   -- any word but the three
-  pub link-skip : (k : ℕ) → k ≢ resourceWords * (y - 1) + off q → k ≢ resourceWords * (y - 1) + (3 + off q)
+  link-skip : (k : ℕ) → k ≢ resourceWords * (y - 1) + off q → k ≢ resourceWords * (y - 1) + (3 + off q)
       → k ≢ resourceWords * (y - 1) + (8 + off q)
       → word (linkFirst q t y res) k ≡ word res k
   unfolding linkFirst
   link-skip k h g l = rw (getD-set-other, getD-set-other, getD-set-other)
 
-module _ (q : Position) (t y : ℕ) (res : List ℕ) (pos : 0 < y) (room : resourceWords * y ≤ length res) where
-  pub link-first-same : firstAt (linkFirst q t y res) q y ≡ suc t
+module _ (t : ℕ) where
+  abbrev linkAt : Position → ℕ → List ℕ → List ℕ
+  linkAt q y res = linkFirst q t y res
+
+  link-firsts : Moves linkAt firstAt (λ n. suc t)
   unfolding linkFirst firstAt
-  link-first-same =
-      let a : resourceWords * (y - 1) + off q < length res = omega (arith, off-lt q) in
-      let n : resourceWords * (y - 1) + off q ≢ resourceWords * (y - 1) + (3 + off q) = omega arith in
-      let l : resourceWords * (y - 1) + off q ≢ resourceWords * (y - 1) + (8 + off q) = omega arith in
-      rw (getD-set-other, getD-set-other, getD-set-same)
+  link-firsts = record {
+    len = λ q y res. link-length q t y res;
+    same = λ q y res a room.
+        let i : resourceWords * (y - 1) + off q < length res = omega (arith, off-lt q) in
+        let n : resourceWords * (y - 1) + off q ≢ resourceWords * (y - 1) + (3 + off q) = omega arith in
+        let l : resourceWords * (y - 1) + off q ≢ resourceWords * (y - 1) + (8 + off q) = omega arith in
+        rw (getD-set-other, getD-set-other, getD-set-same);
+    apart = λ q y res p z a h n.
+        link-skip q t y res _ n (omega (arith, off-lt p, off-lt q)) (omega (arith, off-lt p, off-lt q));
+  }
 
-  pub link-count-same : countAt (linkFirst q t y res) q y ≡ suc (countAt res q y)
+  link-counts : Moves linkAt countAt suc
   unfolding linkFirst countAt
-  link-count-same =
-      let a : resourceWords * (y - 1) + (3 + off q) < length (set res (resourceWords * (y - 1) + off q) (suc t)) =
-      rw length-set (omega (arith, off-lt q)) in
-      let l : resourceWords * (y - 1) + (3 + off q) ≢ resourceWords * (y - 1) + (8 + off q) = omega arith in
-      rw (getD-set-other, getD-set-same)
+  link-counts = record {
+    len = λ q y res. link-length q t y res;
+    same = λ q y res a room.
+        let i : resourceWords * (y - 1) + (3 + off q) < length (set res (resourceWords * (y - 1) + off q) (suc t)) =
+        rw length-set (omega (arith, off-lt q)) in
+        let l : resourceWords * (y - 1) + (3 + off q) ≢ resourceWords * (y - 1) + (8 + off q) = omega arith in
+        rw (getD-set-other, getD-set-same);
+    apart = λ q y res p z a h n.
+        link-skip q t y res _ (omega (arith, off-lt p, off-lt q)) (omega (arith, off-lt p, off-lt q))
+        (omega (arith, off-lt p, off-lt q));
+  }
 
-  pub link-live-same : liveAt (linkFirst q t y res) q y ≡ suc (liveAt res q y)
+  link-lives : Moves linkAt liveAt suc
   unfolding linkFirst liveAt
-  link-live-same =
-      let a : resourceWords * (y - 1) + (8 + off q)
-      < length (set (set res (resourceWords * (y - 1) + off q) (suc t)) (resourceWords * (y - 1) + (3 + off q))
-      (suc (countAt res q y))) = rw (length-set, length-set) (omega (arith, off-lt q)) in
-      rw getD-set-same
+  link-lives = record {
+    len = λ q y res. link-length q t y res;
+    same = λ q y res a room.
+        let i : resourceWords * (y - 1) + (8 + off q)
+        < length (set (set res (resourceWords * (y - 1) + off q) (suc t)) (resourceWords * (y - 1) + (3 + off q))
+        (suc (countAt res q y))) = rw (length-set, length-set) (omega (arith, off-lt q)) in
+        rw getD-set-same;
+    apart = λ q y res p z a h n.
+        link-skip q t y res _ (omega (arith, off-lt p, off-lt q)) (omega (arith, off-lt p, off-lt q))
+        (omega (arith, off-lt p, off-lt q));
+  }
 
-  -- another resource
-  link-first-else : (z : ℕ) → 0 < z → y ≢ z → firstAt (linkFirst q t y res) q z ≡ firstAt res q z
-  unfolding firstAt
-  link-first-else z h n =
-      link-skip q t y res _ (omega (arith, off-lt q)) (omega (arith, off-lt q)) (omega (arith, off-lt q))
+-- for code: a link leaves what another position asks
+module _ (q : Position) (t y : ℕ) (res : List ℕ) (pos : 0 < y) (room : resourceWords * y ≤ length res)
+    (p : Position) (z : ℕ) (h : 0 < z) (n : off p ≢ off q) where
+  pub link-count-other : countAt (linkFirst q t y res) p z ≡ countAt res p z
+  link-count-other = moves-other _ _ _ (link-counts t) q y res p z pos h n
 
-  link-count-else : (z : ℕ) → 0 < z → y ≢ z → countAt (linkFirst q t y res) q z ≡ countAt res q z
-  unfolding countAt
-  link-count-else z h n =
-      link-skip q t y res _ (omega (arith, off-lt q)) (omega (arith, off-lt q)) (omega (arith, off-lt q))
-
-  link-live-else : (z : ℕ) → 0 < z → y ≢ z → liveAt (linkFirst q t y res) q z ≡ liveAt res q z
-  unfolding liveAt
-  link-live-else z h n =
-      link-skip q t y res _ (omega (arith, off-lt q)) (omega (arith, off-lt q)) (omega (arith, off-lt q))
-
-  -- another position
-  pub link-first-other : (p : Position) (z : ℕ) → 0 < z → off p ≢ off q
-      → firstAt (linkFirst q t y res) p z ≡ firstAt res p z
-  unfolding firstAt
-  link-first-other p z h n =
-      link-skip q t y res _ (omega (arith, off-lt q, off-lt p)) (omega (arith, off-lt q, off-lt p))
-      (omega (arith, off-lt q, off-lt p))
-
-  pub link-count-other : (p : Position) (z : ℕ) → 0 < z → off p ≢ off q
-      → countAt (linkFirst q t y res) p z ≡ countAt res p z
-  unfolding countAt
-  link-count-other p z h n =
-      link-skip q t y res _ (omega (arith, off-lt q, off-lt p)) (omega (arith, off-lt q, off-lt p))
-      (omega (arith, off-lt q, off-lt p))
-
-  pub link-live-other : (p : Position) (z : ℕ) → 0 < z → off p ≢ off q
-      → liveAt (linkFirst q t y res) p z ≡ liveAt res p z
-  unfolding liveAt
-  link-live-other p z h n =
-      link-skip q t y res _ (omega (arith, off-lt q, off-lt p)) (omega (arith, off-lt q, off-lt p))
-      (omega (arith, off-lt q, off-lt p))
-
-  pub link-first : (z : ℕ) → 0 < z → firstAt (linkFirst q t y res) q z ≡ cond (eqb y z) (suc t) (firstAt res q z)
-  link-first z h =
-      decide (eqb y z) (λ e. rw (e, ← eqb-true y z e) link-first-same)
-      (λ e. rw e (link-first-else z h (eqb-false y z e)))
-
-  pub link-count : (z : ℕ) → 0 < z → countAt (linkFirst q t y res) q z
-      ≡ cond (eqb y z) (suc (countAt res q z)) (countAt res q z)
-  link-count z h =
-      decide (eqb y z) (λ e. rw (e, ← eqb-true y z e) link-count-same)
-      (λ e. rw e (link-count-else z h (eqb-false y z e)))
-
-  pub link-live : (z : ℕ) → 0 < z → liveAt (linkFirst q t y res) q z
-      ≡ cond (eqb y z) (suc (liveAt res q z)) (liveAt res q z)
-  link-live z h =
-      decide (eqb y z) (λ e. rw (e, ← eqb-true y z e) link-live-same)
-      (λ e. rw e (link-live-else z h (eqb-false y z e)))
+  pub link-live-other : liveAt (linkFirst q t y res) p z ≡ liveAt res p z
+  link-live-other = moves-other _ _ _ (link-lives t) q y res p z pos h n
 
 -- ---- the resource table after a new statement record's three links
 
@@ -213,115 +258,49 @@ module _ (t : ℕ) (x : Triple) (res : List ℕ) where
       link-length Object t (x .object .0) _ ∙ link-length Predicate t (x .predicate .0) _
       ∙ link-length Subject t (x .subject .0) res
 
+  -- any word but the nine
+  linked-skip : (k : ℕ) → ((p : Position) → (k ≢ resourceWords * (at p x - 1) + off p)
+      × (k ≢ resourceWords * (at p x - 1) + (3 + off p)) × (k ≢ resourceWords * (at p x - 1) + (8 + off p)))
+      → word (linkRecord t x res) k ≡ word res k
+  unfolding linkRecord
+  linked-skip k h =
+      link-skip Object t (x .object .0) _ k (h Object .0) (h Object .1) (h Object .2)
+      ∙ link-skip Predicate t (x .predicate .0) _ k (h Predicate .0) (h Predicate .1) (h Predicate .2)
+      ∙ link-skip Subject t (x .subject .0) res k (h Subject .0) (h Subject .1) (h Subject .2)
+
 module _ (t : ℕ) (x : Triple) (res : List ℕ) (pos : (p : Position) → 0 < at p x)
     (room : (p : Position) → resourceWords * at p x ≤ length res) where
-  abbrev one : List ℕ
-  one = linkFirst Subject t (x .subject .0) res
-
-  abbrev two : List ℕ
-  two = linkFirst Predicate t (x .predicate .0) one
-
-  room-one : (p : Position) → resourceWords * at p x ≤ length one
-  room-one p = rw (link-length Subject t (x .subject .0) res) (room p)
-
-  room-two : (p : Position) → resourceWords * at p x ≤ length two
-  room-two p = rw (link-length Predicate t (x .predicate .0) one) (room-one p)
-
   pub linked-first : (p : Position) (y : ℕ) → 0 < y
       → firstAt (linkRecord t x res) p y ≡ cond (eqb (at p x) y) (suc t) (firstAt res p y)
   unfolding linkRecord
-  linked-first Subject y h =
-      rw (
-        link-first-other Object t (x .object .0) two (pos Object) (room-two Object) Subject y h (omega arith),
-        link-first-other Predicate t (x .predicate .0) one (pos Predicate) (room-one Predicate) Subject y h
-            (omega arith),
-        link-first Subject t (x .subject .0) res (pos Subject) (room Subject) y h,
-      )
-  linked-first Predicate y h =
-      rw (
-        link-first-other Object t (x .object .0) two (pos Object) (room-two Object) Predicate y h (omega arith),
-        link-first Predicate t (x .predicate .0) one (pos Predicate) (room-one Predicate) y h,
-        link-first-other Subject t (x .subject .0) res (pos Subject) (room Subject) Predicate y h (omega arith),
-      )
-  linked-first Object y h =
-      rw (
-        link-first Object t (x .object .0) two (pos Object) (room-two Object) y h,
-        link-first-other Predicate t (x .predicate .0) one (pos Predicate) (room-one Predicate) Object y h
-            (omega arith),
-        link-first-other Subject t (x .subject .0) res (pos Subject) (room Subject) Object y h (omega arith),
-      )
+  linked-first = moves-each _ _ _ (link-firsts t) x res pos room
 
   pub linked-count : (p : Position) (y : ℕ) → 0 < y
       → countAt (linkRecord t x res) p y ≡ cond (eqb (at p x) y) (suc (countAt res p y)) (countAt res p y)
   unfolding linkRecord
-  linked-count Subject y h =
-      rw (
-        link-count-other Object t (x .object .0) two (pos Object) (room-two Object) Subject y h (omega arith),
-        link-count-other Predicate t (x .predicate .0) one (pos Predicate) (room-one Predicate) Subject y h
-            (omega arith),
-        link-count Subject t (x .subject .0) res (pos Subject) (room Subject) y h,
-      )
-  linked-count Predicate y h =
-      rw (
-        link-count-other Object t (x .object .0) two (pos Object) (room-two Object) Predicate y h (omega arith),
-        link-count Predicate t (x .predicate .0) one (pos Predicate) (room-one Predicate) y h,
-        link-count-other Subject t (x .subject .0) res (pos Subject) (room Subject) Predicate y h (omega arith),
-      )
-  linked-count Object y h =
-      rw (
-        link-count Object t (x .object .0) two (pos Object) (room-two Object) y h,
-        link-count-other Predicate t (x .predicate .0) one (pos Predicate) (room-one Predicate) Object y h
-            (omega arith),
-        link-count-other Subject t (x .subject .0) res (pos Subject) (room Subject) Object y h (omega arith),
-      )
+  linked-count = moves-each _ _ _ (link-counts t) x res pos room
 
   pub linked-live : (p : Position) (y : ℕ) → 0 < y
       → liveAt (linkRecord t x res) p y ≡ cond (eqb (at p x) y) (suc (liveAt res p y)) (liveAt res p y)
   unfolding linkRecord
-  linked-live Subject y h =
-      rw (
-        link-live-other Object t (x .object .0) two (pos Object) (room-two Object) Subject y h (omega arith),
-        link-live-other Predicate t (x .predicate .0) one (pos Predicate) (room-one Predicate) Subject y h
-            (omega arith),
-        link-live Subject t (x .subject .0) res (pos Subject) (room Subject) y h,
-      )
-  linked-live Predicate y h =
-      rw (
-        link-live-other Object t (x .object .0) two (pos Object) (room-two Object) Predicate y h (omega arith),
-        link-live Predicate t (x .predicate .0) one (pos Predicate) (room-one Predicate) y h,
-        link-live-other Subject t (x .subject .0) res (pos Subject) (room Subject) Predicate y h (omega arith),
-      )
-  linked-live Object y h =
-      rw (
-        link-live Object t (x .object .0) two (pos Object) (room-two Object) y h,
-        link-live-other Predicate t (x .predicate .0) one (pos Predicate) (room-one Predicate) Object y h
-            (omega arith),
-        link-live-other Subject t (x .subject .0) res (pos Subject) (room Subject) Object y h (omega arith),
-      )
+  linked-live = moves-each _ _ _ (link-lives t) x res pos room
 
   -- offset and kind stay
   linked-tail : (k y : ℕ) → 6 ≤ k → k < 8 → 0 < y
       → word (linkRecord t x res) (resourceWords * (y - 1) + k) ≡ word res (resourceWords * (y - 1) + k)
-  unfolding linkRecord
   linked-tail k y a b h =
-      link-skip Object t (x .object .0) two (resourceWords * (y - 1) + k) (omega (arith, pos Object))
-      (omega (arith, pos Object)) (omega (arith, pos Object))
-      ∙ link-skip Predicate t (x .predicate .0) one (resourceWords * (y - 1) + k) (omega (arith, pos Predicate))
-      (omega (arith, pos Predicate)) (omega (arith, pos Predicate))
-      ∙ link-skip Subject t (x .subject .0) res (resourceWords * (y - 1) + k) (omega (arith, pos Subject))
-      (omega (arith, pos Subject)) (omega (arith, pos Subject))
+      linked-skip t x res (resourceWords * (y - 1) + k)
+      (λ p. (omega (arith, pos p, off-lt p), omega (arith, pos p, off-lt p), omega (arith, pos p, off-lt p)))
 
   -- words past the resources that are in range
   pub linked-past : (r : ℕ) → ((p : Position) → at p x ≤ r) → (k : ℕ) → resourceWords * r ≤ k
       → word (linkRecord t x res) k ≡ word res k
-  unfolding linkRecord
   linked-past r high k h =
-      link-skip Object t (x .object .0) two k (omega (arith, pos Object, high Object)) (omega (arith, pos Object, high Object))
-      (omega (arith, pos Object, high Object))
-      ∙ link-skip Predicate t (x .predicate .0) one k (omega (arith, pos Predicate, high Predicate))
-      (omega (arith, pos Predicate, high Predicate)) (omega (arith, pos Predicate, high Predicate))
-      ∙ link-skip Subject t (x .subject .0) res k (omega (arith, pos Subject, high Subject))
-      (omega (arith, pos Subject, high Subject)) (omega (arith, pos Subject, high Subject))
+      linked-skip t x res k (λ p. (
+        omega (arith, pos p, high p, off-lt p),
+        omega (arith, pos p, high p, off-lt p),
+        omega (arith, pos p, high p, off-lt p),
+      ))
 
   pub linked-offset : (y : ℕ) → 0 < y → offsetAt (linkRecord t x res) y ≡ offsetAt res y
   unfolding offsetAt
@@ -338,104 +317,62 @@ module _ (f : ℕ → ℕ) (q : Position) (y : ℕ) (res : List ℕ) where
   unfolding tallyAt
   tallyAt-length = simp length-set
 
-  pub tallyAt-skip : (k : ℕ) → k ≢ resourceWords * (y - 1) + (8 + off q) → word (tallyAt f q y res) k ≡ word res k
+  tallyAt-skip : (k : ℕ) → k ≢ resourceWords * (y - 1) + (8 + off q) → word (tallyAt f q y res) k ≡ word res k
   unfolding tallyAt
   tallyAt-skip k h = rw getD-set-other
 
-module _ (f : ℕ → ℕ) (q : Position) (y : ℕ) (res : List ℕ) (pos : 0 < y) (room : resourceWords * y ≤ length res) where
-  tallyAt-same : liveAt (tallyAt f q y res) q y ≡ f (liveAt res q y)
-  unfolding tallyAt liveAt
-  tallyAt-same = getD-set-same res (resourceWords * (y - 1) + (8 + off q)) _ 0 (omega (arith, off-lt q))
+tally-lives : (f : ℕ → ℕ) → Moves (tallyAt f) liveAt f
+unfolding tallyAt liveAt
+tally-lives f = record {
+  len = tallyAt-length f;
+  same = λ q y res a room.
+      getD-set-same res (resourceWords * (y - 1) + (8 + off q)) _ 0 (omega (arith, off-lt q));
+  apart = λ q y res p z a h n. tallyAt-skip f q y res _ (omega (arith, off-lt p, off-lt q));
+}
 
-  tallyAt-else : (z : ℕ) → 0 < z → y ≢ z → liveAt (tallyAt f q y res) q z ≡ liveAt res q z
-  unfolding liveAt
-  tallyAt-else z h n = tallyAt-skip f q y res _ (omega (arith, off-lt q))
-
-  pub tallyAt-other : (p : Position) (z : ℕ) → 0 < z → off p ≢ off q → liveAt (tallyAt f q y res) p z ≡ liveAt res p z
-  unfolding liveAt
-  tallyAt-other p z h n = tallyAt-skip f q y res _ (omega (arith, off-lt q, off-lt p))
-
-  pub tallyAt-live : (z : ℕ) → 0 < z → liveAt (tallyAt f q y res) q z
-      ≡ cond (eqb y z) (f (liveAt res q z)) (liveAt res q z)
-  tallyAt-live z h =
-      decide (eqb y z) (λ e. rw (e, ← eqb-true y z e) tallyAt-same)
-      (λ e. rw e (tallyAt-else z h (eqb-false y z e)))
+-- for code: a change of one live count leaves another position's
+pub tallyAt-other : (f : ℕ → ℕ) (q : Position) (y : ℕ) (res : List ℕ) → 0 < y → resourceWords * y ≤ length res
+    → (p : Position) (z : ℕ) → 0 < z → off p ≢ off q → liveAt (tallyAt f q y res) p z ≡ liveAt res p z
+tallyAt-other f q y res pos room p z h n = moves-other _ _ _ (tally-lives f) q y res p z pos h n
 
 module _ (f : ℕ → ℕ) (x : Triple) (res : List ℕ) where
-  abbrev tally-one : List ℕ
-  tally-one = tallyAt f Subject (x .subject .0) res
-
-  abbrev tally-two : List ℕ
-  tally-two = tallyAt f Predicate (x .predicate .0) tally-one
-
   pub tally-length : length (tally f x res) ≡ length res
   unfolding tally
   tally-length =
-      tallyAt-length f Object (x .object .0) tally-two ∙ tallyAt-length f Predicate (x .predicate .0) tally-one
+      tallyAt-length f Object (x .object .0) _ ∙ tallyAt-length f Predicate (x .predicate .0) _
       ∙ tallyAt-length f Subject (x .subject .0) res
-
-  -- the first eight words of a record stay
-  tally-skip : (k y : ℕ) → k < 8 → ((p : Position) → 0 < at p x) → 0 < y
-      → word (tally f x res) (resourceWords * (y - 1) + k) ≡ word res (resourceWords * (y - 1) + k)
-  unfolding tally
-  tally-skip k y b pos h =
-      tallyAt-skip f Object (x .object .0) tally-two (resourceWords * (y - 1) + k) (omega (arith, pos Object))
-      ∙ tallyAt-skip f Predicate (x .predicate .0) tally-one (resourceWords * (y - 1) + k) (omega (arith, pos Predicate))
-      ∙ tallyAt-skip f Subject (x .subject .0) res (resourceWords * (y - 1) + k) (omega (arith, pos Subject))
 
 module _ (f : ℕ → ℕ) (x : Triple) (res : List ℕ) (pos : (p : Position) → 0 < at p x)
     (room : (p : Position) → resourceWords * at p x ≤ length res) where
-  abbrev after-one : List ℕ
-  after-one = tally-one f x res
-
-  abbrev after-two : List ℕ
-  after-two = tally-two f x res
-
-  room-after-one : (p : Position) → resourceWords * at p x ≤ length after-one
-  room-after-one p = rw (tallyAt-length f Subject (x .subject .0) res) (room p)
-
-  room-after-two : (p : Position) → resourceWords * at p x ≤ length after-two
-  room-after-two p = rw (tallyAt-length f Predicate (x .predicate .0) after-one) (room-after-one p)
-
   pub tally-live : (p : Position) (y : ℕ) → 0 < y
       → liveAt (tally f x res) p y ≡ cond (eqb (at p x) y) (f (liveAt res p y)) (liveAt res p y)
   unfolding tally
-  tally-live Subject y h =
-      rw (
-        tallyAt-other f Object (x .object .0) after-two (pos Object) (room-after-two Object) Subject y h (omega arith),
-        tallyAt-other f Predicate (x .predicate .0) after-one (pos Predicate) (room-after-one Predicate) Subject y h
-            (omega arith),
-        tallyAt-live f Subject (x .subject .0) res (pos Subject) (room Subject) y h,
-      )
-  tally-live Predicate y h =
-      rw (
-        tallyAt-other f Object (x .object .0) after-two (pos Object) (room-after-two Object) Predicate y h (omega arith),
-        tallyAt-live f Predicate (x .predicate .0) after-one (pos Predicate) (room-after-one Predicate) y h,
-        tallyAt-other f Subject (x .subject .0) res (pos Subject) (room Subject) Predicate y h (omega arith),
-      )
-  tally-live Object y h =
-      rw (
-        tallyAt-live f Object (x .object .0) after-two (pos Object) (room-after-two Object) y h,
-        tallyAt-other f Predicate (x .predicate .0) after-one (pos Predicate) (room-after-one Predicate) Object y h
-            (omega arith),
-        tallyAt-other f Subject (x .subject .0) res (pos Subject) (room Subject) Object y h (omega arith),
-      )
+  tally-live = moves-each _ _ _ (tally-lives f) x res pos room
+
+  -- the first eight words of a record stay
+  tally-skip : (k y : ℕ) → k < 8 → 0 < y
+      → word (tally f x res) (resourceWords * (y - 1) + k) ≡ word res (resourceWords * (y - 1) + k)
+  unfolding tally
+  tally-skip k y b h =
+      tallyAt-skip f Object (x .object .0) _ (resourceWords * (y - 1) + k) (omega (arith, pos Object))
+      ∙ tallyAt-skip f Predicate (x .predicate .0) _ (resourceWords * (y - 1) + k) (omega (arith, pos Predicate))
+      ∙ tallyAt-skip f Subject (x .subject .0) res (resourceWords * (y - 1) + k) (omega (arith, pos Subject))
 
   pub tally-first : (p : Position) (y : ℕ) → 0 < y → firstAt (tally f x res) p y ≡ firstAt res p y
   unfolding firstAt
-  tally-first p y h = tally-skip f x res (off p) y (omega (arith, off-lt p)) pos h
+  tally-first p y h = tally-skip (off p) y (omega (arith, off-lt p)) h
 
   pub tally-count : (p : Position) (y : ℕ) → 0 < y → countAt (tally f x res) p y ≡ countAt res p y
   unfolding countAt
-  tally-count p y h = tally-skip f x res (3 + off p) y (omega (arith, off-lt p)) pos h
+  tally-count p y h = tally-skip (3 + off p) y (omega (arith, off-lt p)) h
 
   pub tally-offset : (y : ℕ) → 0 < y → offsetAt (tally f x res) y ≡ offsetAt res y
   unfolding offsetAt
-  tally-offset y h = tally-skip f x res 6 y (omega arith) pos h
+  tally-offset y h = tally-skip 6 y (omega arith) h
 
   pub tally-kind : (y : ℕ) → 0 < y → kindAt (tally f x res) y ≡ kindAt res y
   unfolding kindAt
-  tally-kind y h = tally-skip f x res 7 y (omega arith) pos h
+  tally-kind y h = tally-skip 7 y (omega arith) h
 
 -- ---- the flag of entry i
 
@@ -464,20 +401,13 @@ module _ (stm : List ℕ) (i v : ℕ) where
 
 -- ---- a new resource record: zeros, an offset and a kind, zeros
 
-pub zero-first : (o d : ℕ) (p : Position) → word (freshRecord o d) (off p) ≡ 0
-zero-first o d Subject = refl
-zero-first o d Predicate = refl
-zero-first o d Object = refl
-
-pub zero-count : (o d : ℕ) (p : Position) → word (freshRecord o d) (3 + off p) ≡ 0
-zero-count o d Subject = refl
-zero-count o d Predicate = refl
-zero-count o d Object = refl
-
-pub zero-live : (o d : ℕ) (p : Position) → word (freshRecord o d) (8 + off p) ≡ 0
-zero-live o d Subject = refl
-zero-live o d Predicate = refl
-zero-live o d Object = refl
+-- no first, no count and no live count
+pub zero-links : (o d : ℕ) (p : Position)
+    → (word (freshRecord o d) (off p) ≡ 0) × (word (freshRecord o d) (3 + off p) ≡ 0)
+    × (word (freshRecord o d) (8 + off p) ≡ 0)
+zero-links o d Subject = (refl, refl, refl)
+zero-links o d Predicate = (refl, refl, refl)
+zero-links o d Object = (refl, refl, refl)
 
 module _ (r : ℕ) (res : List ℕ) (o d : ℕ) where
   abbrev grown : List ℕ

@@ -1,8 +1,9 @@
--- Find and enter a name (paper 01; 02, notes 5 and 7): what they answer and write on a sound dictionary, and the bound that holds on any
--- tables after refusals 1 and 2. Assumes nothing.
-use Rattle.store.specs.Prelude.{_≡_, _⊎_, Bool, true, false, cond, _&&_, List, [], _∷_, _++_, ℕ, zero, suc, _+_, _*_, _-_, _≤_, _<_}
-use Rattle.store.specs.Prelude.{length, sets, leb, ltb, Counters, Refusal, Capacity, Malformed, Full, Damaged, IndexPlace, At}
-use Rattle.store.specs.Prelude.{Before, OutOfRange, Lookup, Number, Absent, NotFound, Interned, Id, NotInterned}
+-- Find and enter a name (paper 01; 02, notes 5 and 7): what they answer and write on a sound dictionary, and the bound
+-- that holds on any tables after refusals 1 and 2. Assumes nothing.
+use Rattle.store.specs.Prelude.{_≡_, _⊎_, Bool, true, false, cond, _&&_, List, [], _∷_, _++_, ℕ, zero, suc, _+_}
+use Rattle.store.specs.Prelude.{_*_, _-_, _≤_, _<_, length, sets, leb, ltb, Counters, Refusal, Capacity}
+use Rattle.store.specs.Prelude.{Malformed, Full, Damaged, IndexPlace, At, Before, OutOfRange, Lookup, Number}
+use Rattle.store.specs.Prelude.{Absent, NotFound, Interned, Id, NotInterned}
 use Rattle.term.specs.Bytes.{eqBytes}
 use Rattle.term.specs.Scanner.{firstKindOf}
 use Rattle.term.specs.Canonical.{canonical}
@@ -17,7 +18,8 @@ abbrev pub foundAt : ℕ → Lookup
 foundAt zero = Absent
 foundAt (suc n) = Number (record { 0 = suc n })
 
--- Find on a sound dictionary: 1; 2, by the name as spelled; by the name without the string ending, its position among the names 1 .. R, or absent
+-- Find on a sound dictionary: 1; 2, by the name as spelled; by the name without the string ending, its position among
+-- the names 1 .. R, or absent
 unfoldable pub findOf : Counters → Tables → List ℕ → Lookup
 findOf c m w =
     unless (fits c m) (NotFound Capacity)
@@ -41,7 +43,8 @@ rank name idx r w = length (below (λ i. isLess (compareBytes (name (word idx i)
 -- the entry at the rank has these bytes, or the name is absent and belongs there
 unfoldable pub placeAt : Counters → Tables → List ℕ → ℕ → IndexPlace
 placeAt c m w k =
-    cond (ltb k (c .resources) && eqBytes (nameAt m (word (m .index) k)) w) (At (record { 0 = word (m .index) k }) k) (Before k)
+    cond (ltb k (c .resources) && eqBytes (nameAt m (word (m .index) k)) w)
+    (At (record { 0 = word (m .index) k }) k) (Before k)
 
 unfoldable pub indexPlaceOf : Counters → Tables → List ℕ → IndexPlace
 indexPlaceOf c m w = placeAt c m w (rank (nameAt m) (m .index) (c .resources) w)
@@ -99,8 +102,8 @@ internAs c m w (Before k) =
     (withName c m w k, Id (record { 0 = suc (c .resources) }) (oneNameMore c w))
 internAs c m w OutOfRange = (m, NotInterned Damaged)
 
--- Enter on a sound dictionary: 1; 2, by the name as spelled; by the name without the string ending, already there; 3; new. On any tables
--- `InternAnswer` says what holds.
+-- Enter on a sound dictionary: 1; 2, by the name as spelled; by the name without the string ending, already there; 3;
+-- new. On any tables `InternAnswer` says what holds.
 unfoldable pub internOf : Counters → Tables → List ℕ → Tables × Interned
 internOf c m w =
     unless (fits c m) (m, NotInterned Capacity)
@@ -117,8 +120,8 @@ pub record InternWrites (c : Counters) (m m′ : Tables) : Type 0 where
   pub high-resources : (i : ℕ) → resourceWords * suc (c .resources) ≤ i → word (m′ .resources) i ≡ word (m .resources) i
   pub low-text : (i : ℕ) → i < c .text → word (m′ .text) i ≡ word (m .text) i
 
--- what holds of intern's answer and the tables after it: exact on a sound dictionary; on any tables exact in 1 and 2, then within the
--- bound; a refusal writes nothing
+-- what holds of intern's answer and the tables after it: exact on a sound dictionary; on any tables exact in 1 and 2,
+-- then within the bound; a refusal writes nothing
 pub record InternAnswer (c : Counters) (m m′ : Tables) (w : List ℕ) (a : Interned) : Type 0 where
   pub capacity : fits c m ≡ false → after m′ a ≡ after m (NotInterned Capacity)
   pub malformed : fits c m ≡ true → wellFormed w ≡ false → after m′ a ≡ after m (NotInterned Malformed)

@@ -1,17 +1,18 @@
--- The plain lists (paper 01, "The plain lists"; 02, notes 6 and 7): what a reader has to believe of demand 3. Two lists under the same
--- capacities, of names and of triples with a mark, what is left of each opening, and the number of reclaims. Nothing here speaks of
--- tables, links or counts. Assumes nothing.
-use Rattle.store.specs.Prelude.{Bool, true, false, cond, _&&_, List, [], _∷_, _++_, ℕ, zero, suc, length, getD, set, eqb, leb, ltb}
-use Rattle.store.specs.Prelude.{Chain, All, By, Counters, Triple, ScanCursor}
+-- The plain lists (paper 01, "The plain lists"; 02, notes 6 and 7): what a reader has to believe of demand 3. Two lists
+-- under the same capacities, of names and of triples with a mark, what is left of each opening, and the number of
+-- reclaims. Nothing here speaks of tables, links or counts. Assumes nothing.
+use Rattle.store.specs.Prelude.{Bool, true, false, cond, _&&_, List, [], _∷_, _++_, ℕ, zero, suc, length, getD}
+use Rattle.store.specs.Prelude.{set, eqb, leb, ltb, Chain, All, By, Counters, Triple, ScanCursor}
 use Rattle.term.specs.Scanner.{firstKindOf}
 use Rattle.term.specs.Canonical.{canonical}
-use Rattle.store.specs.Shared.{maxReclaims, unless, at, known, within, same, kindsPermitted, Entry, matches, pick, wellFormed}
-use Rattle.store.specs.Shared.{nameOf, textBytes, lookupName, below, head0, prev}
+use Rattle.store.specs.Shared.{maxReclaims, unless, at, known, within, same, kindsPermitted, Entry, matches, pick}
+use Rattle.store.specs.Shared.{wellFormed, nameOf, textBytes, lookupName, below, head0, prev}
 use Rattle.store.specs.Values.{Values, noTriple, refusedWith, numbered, counted, placed, stepped}
 
 -- ---- the lists
 
--- an opening: the pattern, the position picked, the positions in the list not yet taken, highest first; the number of reclaims then
+-- an opening: the pattern, the position picked, the positions in the list not yet taken, highest first; the number of
+-- reclaims then
 pub record Listing : Type 0 where
   pub pattern : Triple
   pub chain : Chain
@@ -68,7 +69,8 @@ internName k s w zero =
     (lastName (withNames s (s .names ++ w ∷ [])))
 internName k s w (suc i) = (s, counted 0 (suc i) (totals s))
 
--- Enter: 2, by the name as spelled; then by the name without the string ending: its position if it is listed; 3; else it is appended
+-- Enter: 2, by the name as spelled; then by the name without the string ending: its position if it is listed; 3; else
+-- it is appended
 unfoldable pub internModel : Capacities → Model → List ℕ → Model × Values
 internModel k s w =
     unless (wellFormed w) (s, refusedWith 2)
@@ -102,7 +104,8 @@ put k s x (suc i) =
     (withEntries s (mark (s .entries) i false), counted 3 (suc i) (totals s))
     (s, counted 2 (suc i) (totals s))
 
--- Assert: 4; 5 by first bytes; a listed triple goes live, "already" or "revived" by its old mark; 3; else appended live, "new"
+-- Assert: 4; 5 by first bytes; a listed triple goes live, "already" or "revived" by its old mark; 3; else appended
+-- live, "new"
 unfoldable pub assertModel : Capacities → Model → Triple → Model × Values
 assertModel k s x =
     unless (known (length (s .names)) x) (s, refusedWith 4)
@@ -112,7 +115,8 @@ assertModel k s x =
 unfoldable pub retractEntry : Model → ℕ → Model × Values
 retractEntry s zero = (s, numbered 0)
 retractEntry s (suc i) =
-    cond ((entry (s .entries) i) .retracted) (s, numbered 0) (withEntries s (mark (s .entries) i true), numbered (suc i))
+    cond ((entry (s .entries) i) .retracted) (s, numbered 0)
+    (withEntries s (mark (s .entries) i true), numbered (suc i))
 
 -- Retract: 4; a live triple is retracted; otherwise 0
 unfoldable pub retractModel : Model → Triple → Model × Values
@@ -140,7 +144,12 @@ listing n x l = record { pattern = x; chain = pickModel x l; rest = holders (pic
 
 -- a place: the pattern, the position picked, the rest's first or 0, the number of reclaims
 abbrev pub cursorOf : Listing → ScanCursor
-cursorOf g = record { pattern = g .pattern; chain = g .chain; next = record { 0 = head0 (g .rest) }; generation = g .generation }
+cursorOf g = record {
+  pattern = g .pattern;
+  chain = g .chain;
+  next = record { 0 = head0 (g .rest) };
+  generation = g .generation;
+}
 
 abbrev pub withListings : Model → List Listing → Model
 withListings s g = record { names = s .names; entries = s .entries; listings = g; generation = s .generation }
@@ -193,8 +202,8 @@ takeFrom l g b = readRest (λ i. matches (g .pattern) (entry l i)) b (g .rest)
 unfoldable pub turn : Model → ℕ → Listing → Taken → Model × Values
 turn s j g r = (withListings s (set (s .listings) j (leaving g (restOf r))), takenValues g r)
 
--- Next of opening j, counted from 0 among those not refused: 13 if a reclaim came since; 7; found, ended or spent. A j that names none is
--- a listing with nothing left, opened before any reclaim.
+-- Next of opening j, counted from 0 among those not refused: 13 if a reclaim came since; 7; found, ended or spent. A j
+-- that names none is a listing with nothing left, opened before any reclaim.
 unfoldable pub nextModel : Model → ℕ → ℕ → Model × Values
 nextModel s j b =
     let g = getD (s .listings) j noListing in
@@ -211,7 +220,12 @@ unretracted (e ∷ l) = cond (e .retracted) (unretracted l) (e ∷ unretracted l
 
 -- the retracted entries forgotten, one reclaim more; the listings are kept and can't go on
 abbrev pub reclaimed : Model → Model
-reclaimed s = record { names = s .names; entries = unretracted (s .entries); listings = s .listings; generation = suc (s .generation) }
+reclaimed s = record {
+  names = s .names;
+  entries = unretracted (s .entries);
+  listings = s .listings;
+  generation = suc (s .generation);
+}
 
 -- Reclaim: 14 past the maximum
 unfoldable pub reclaimModel : Model → Model × Values

@@ -1,7 +1,7 @@
--- Names in the tables (paper 01, "Sound means"; 02, note 7): their byte order, the names of a sound dictionary, and the names read from the
--- text. Assumes nothing.
-use Rattle.store.specs.Prelude.{_≡_, Bool, true, false, cond, not, _&&_, List, [], _∷_, _++_, ℕ, zero, suc, _-_, _≤_, _<_, length}
-use Rattle.store.specs.Prelude.{getD, take, drop, ltb, Counters}
+-- Names in the tables (paper 01, "Sound means"; 02, note 7): their byte order, the names of a sound dictionary, and the
+-- names read from the text. Assumes nothing.
+use Rattle.store.specs.Prelude.{_≡_, Bool, true, false, cond, not, _&&_, List, [], _∷_, _++_, ℕ, zero, suc, _-_}
+use Rattle.store.specs.Prelude.{_≤_, _<_, length, getD, take, drop, ltb, Counters}
 use Rattle.term.specs.Scanner.{firstKindOf}
 use Rattle.term.specs.Canonical.{writesString}
 use Rattle.store.specs.Shared.{wellFormed, nameOf, textBytes}
@@ -41,8 +41,8 @@ pub record Indexed (name : ℕ → List ℕ) (idx : List ℕ) (r : ℕ) : Type 0
 unfoldable pub storable : List ℕ → Bool
 storable w = wellFormed w && not (writesString w)
 
--- the names of a dictionary: R of them, well formed and without the string ending, B bytes long with their zeros, at the offsets and of the
--- kinds the records say
+-- the names of a dictionary: R of them, well formed and without the string ending, B bytes long with their zeros, at
+-- the offsets and of the kinds the records say
 pub record Named (ns : List (List ℕ)) (c : Counters) (m : Tables) : Type 0 where
   pub size : c .resources ≡ length ns
   pub bytes : c .text ≡ textBytes ns

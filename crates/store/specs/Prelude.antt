@@ -1,4 +1,5 @@
--- What definitions and claims are written with: the library's names and this crate's types, passed on by one module. Defines nothing.
+-- What definitions and claims are written with: the library's names and this crate's types, passed on by one module.
+-- Defines nothing.
 pub use mathlib.Core.Bool.{Bool, true, false, cond, _&&_, not, _||_}
 pub use mathlib.Core.List.{List, [], _∷_, _++_, map, List·Memᴰ}
 pub use mathlib.Core.Logic.{_↔_, _⊎_, _≢_}
@@ -26,12 +27,14 @@ pub use Rattle.store.specs.declared.Position.the-variants.{Subject, Pred
 pub use Rattle.store.specs.declared.Reclaimed.{Reclaimed}
 pub use Rattle.store.specs.declared.Reclaimed.the-variants.{Done, Refused as NotReclaimed}
 pub use Rattle.store.specs.declared.Refusal.{Refusal}
-pub use Rattle.store.specs.declared.Refusal.the-variants.{Capacity, Malformed, Full, Damaged, UnknownNumber, ReclaimLimit, BadCursor}
-pub use Rattle.store.specs.declared.Refusal.the-variants.{NoBudget, StaleCursor, KindNotPermitted, BadQuery, BadLine, ExportSpace, NoTimes}
-pub use Rattle.store.specs.declared.Refusal.the-variants.{BadPath, PathSpace, BadGroup}
+pub use Rattle.store.specs.declared.Refusal.the-variants.{Capacity, Malformed, Full, Damaged, UnknownNumber}
+pub use Rattle.store.specs.declared.Refusal.the-variants.{ReclaimLimit, BadCursor, NoBudget, StaleCursor}
+pub use Rattle.store.specs.declared.Refusal.the-variants.{KindNotPermitted, BadQuery, BadLine, ExportSpace}
+pub use Rattle.store.specs.declared.Refusal.the-variants.{NoTimes, BadPath, PathSpace, BadGroup}
 pub use Rattle.store.specs.declared.ResourceId.{ResourceId}
 pub use Rattle.store.specs.declared.Retracted.{Retracted}
-pub use Rattle.store.specs.declared.Retracted.the-variants.{Refused as NotRetracted, Number as WasLive, Absent as NotLive}
+pub use Rattle.store.specs.declared.Retracted.the-variants.{Refused as NotRetracted, Number as WasLive}
+pub use Rattle.store.specs.declared.Retracted.the-variants.{Absent as NotLive}
 pub use Rattle.store.specs.declared.ScanCursor.{ScanCursor}
 pub use Rattle.store.specs.declared.ScanOpened.{ScanOpened}
 pub use Rattle.store.specs.declared.ScanOpened.the-variants.{Cursor, Refused as NotOpened}

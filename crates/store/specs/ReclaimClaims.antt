@@ -1,5 +1,6 @@
 -- What is claimed of reclaim (paper 02, note 6), as types. Assumes nothing.
-use Rattle.store.specs.Prelude.{_≡_, _↔_, true, cond, List, [], _∷_, _++_, ℕ, suc, _*_, _≤_, _<_, length, Counters, Position, Triple}
+use Rattle.store.specs.Prelude.{_≡_, _↔_, true, cond, List, [], _∷_, _++_, ℕ, suc, _*_, _≤_, _<_, length}
+use Rattle.store.specs.Prelude.{Counters, Position, Triple}
 use Rattle.store.specs.Shared.{maxReclaims, Entry}
 use Rattle.store.specs.Tables.{Tables, word, statementWords, resourceWords, countAt, offsetAt, kindAt, liveAt}
 use Rattle.store.specs.Model.{Form, Call, assert, reclaim, entry, unretracted}
@@ -16,8 +17,8 @@ abbrev pub NumberCounts : Type 0
 NumberCounts = (m : Tables) (calls : List Call)
     → (storeAt m calls) .counters .generation ≡ reclaimsIn calls (storeReplies (freshStore m) calls)
 
--- The entries that are not retracted are kept in their order: one entry is kept or not, and two lists one after the other are kept one
--- after the other.
+-- The entries that are not retracted are kept in their order: one entry is kept or not, and two lists one after the
+-- other are kept one after the other.
 abbrev pub UnretractedMeans : Type 0
 UnretractedMeans = ((e : Entry) → unretracted (e ∷ []) ≡ cond (e .retracted) [] (e ∷ []))
     × ((l r : List Entry) → unretracted (l ++ r) ≡ unretracted l ++ unretracted r)

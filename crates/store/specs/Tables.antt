@@ -1,13 +1,15 @@
--- The tables and counters (paper 01, "Tables and counters"; 02, notes 5 and 6): widths and offsets of the records, their words at a position
--- in general, capacities, refusal 1. Total on any words: a word past a table's end is 0. Assumes nothing.
+-- The tables and counters (paper 01, "Tables and counters"; 02, notes 5 and 6): widths and offsets of the records,
+-- their words at a position in general, capacities, refusal 1. Total on any words: a word past a table's end is 0.
+-- Assumes nothing.
 use denote.Ref.{RefT, now}
-use Rattle.store.specs.Prelude.{Bool, _&&_, List, ℕ, _+_, _*_, _-_, _/_, min, length, getD, leb, Counters, Position, Subject}
-use Rattle.store.specs.Prelude.{Predicate, Object, Triple}
+use Rattle.store.specs.Prelude.{Bool, _&&_, List, ℕ, _+_, _*_, _-_, _/_, min, length, getD, leb, Counters}
+use Rattle.store.specs.Prelude.{Position, Subject, Predicate, Object, Triple}
 use Rattle.store.specs.Shared.{triple, maxResources, maxStatements, maxText, maxReclaims}
 
 -- ---- widths, each named once
 
--- a resource record: first statement as subject, predicate, object; count as each; text offset; kind; live count as each
+-- a resource record: first statement as subject, predicate, object; count as each; text offset; kind; live count as
+-- each
 abbrev pub resourceWords : ℕ
 resourceWords = 11
 
@@ -57,8 +59,8 @@ flagAt stm i = word stm (statementWords * i + 6)
 unfoldable pub tripleAt : List ℕ → ℕ → Triple
 tripleAt stm i = triple (termAt stm Subject i) (termAt stm Predicate i) (termAt stm Object i)
 
--- the resource y: its first statement at a position, how many hold it there, its name's offset in the text, its kind, how many live
--- ones hold it there
+-- the resource y: its first statement at a position, how many hold it there, its name's offset in the text, its kind,
+-- how many live ones hold it there
 unfoldable pub firstAt : List ℕ → Position → ℕ → ℕ
 firstAt res p y = word res (resourceWords * (y - 1) + off p)
 
@@ -89,4 +91,5 @@ textCapacity m = min (length (m .text)) maxText
 unfoldable pub fits : Counters → Tables → Bool
 fits c m =
     leb (c .resources) (resourceCapacity m)
-    && (leb (c .statements) (statementCapacity m) && (leb (c .text) (textCapacity m) && leb (c .generation) maxReclaims))
+    && (leb (c .statements) (statementCapacity m)
+    && (leb (c .text) (textCapacity m) && leb (c .generation) maxReclaims))

@@ -1,7 +1,8 @@
 // The store's types: numbers, counters, refusals, one reply for each operation, the cursor of a pattern scan.
 //
-// Every operation of the store takes the counters by value and the four lent tables; what it answers is said by the definitions in
-// `specs/`, which `specs/Values.antt` ties to the paper's numbers: the refusal's number, and zeros beside it.
+// Every operation of the store takes the counters by value and the four lent tables; what it answers is said by the
+// definitions in `specs/`, which `specs/Values.antt` ties to the paper's numbers: the refusal's number, and zeros
+// beside it.
 ghost use mathlib.Core.Path.{_≡_};
 ghost use Rattle.store.specs.Shared.{freshCounters};
 ghost use Rattle.store.specs.Values.{refusalNumber};
@@ -12,7 +13,8 @@ pub struct ResourceId(pub u32);
 // A statement's number, from 1; 0 is null. It is never a resource's number.
 pub struct StatementId(pub u32);
 
-// How much of the lent tables is in use: resources R, statements T, text bytes B. The generation is the number of reclaims so far.
+// How much of the lent tables is in use: resources R, statements T, text bytes B. The generation is the number of
+// reclaims so far.
 pub struct Counters {
     pub resources: u32,
     pub statements: u32,
@@ -64,8 +66,8 @@ pub struct Triple {
     pub object: ResourceId,
 }
 
-// Where a pattern scan stands (the paper's place of a listing): the pattern, the chain picked at the opening, the next record or 0, the
-// number of reclaims at the opening.
+// Where a pattern scan stands (the paper's place of a listing): the pattern, the chain picked at the opening, the next
+// record or 0, the number of reclaims at the opening.
 pub struct ScanCursor {
     pub pattern: Triple,
     pub chain: Chain,
@@ -78,8 +80,8 @@ pub const IRI: u32 = 1;
 
 pub const LITERAL: u32 = 3;
 
-// Why an operation refuses; `specs/Values.antt` gives the paper's number of each. No operation answers 11, 12 or 15 to 17 yet: they are
-// those of the paper's notes 1, 2, 9 and 12.
+// Why an operation refuses; `specs/Values.antt` gives the paper's number of each. No operation answers 11, 12 or 15 to
+// 17 yet: they are those of the paper's notes 1, 2, 9 and 12.
 pub enum Refusal {
     // 1: a counter exceeds its capacity.
     Capacity,
@@ -154,7 +156,8 @@ pub enum NameRead {
     Refused(Refusal),
 }
 
-// Where a name stands in the index: under its number at a position, before a position, or the search met a damaged word.
+// Where a name stands in the index: under its number at a position, before a position, or the search met a damaged
+// word.
 pub enum IndexPlace {
     At(ResourceId, u32),
     Before(u32),
