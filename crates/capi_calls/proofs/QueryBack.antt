@@ -1,5 +1,5 @@
--- A query cursor that is written is read back as it was, its words tell one, and the words past it stay; every cursor that is answered
--- fills the slots. Assumes nothing.
+-- A query cursor that is written is read back as it was, its words tell one, and the words past it stay; every cursor
+-- that is answered fills the slots. Assumes nothing.
 use mathlib.Core.Path.{_≡_, refl, sym, ap, ap₂, _∙_}
 use mathlib.Core.Bool.{true, cond}
 use mathlib.Core.List.{List, [], _∷_, _++_}
@@ -25,8 +25,10 @@ use Rattle.graph.specs.Values.{queryValues}
 use Rattle.graph.proofs.Laws.{written-length}
 use Rattle.integrity.proofs.Ranges.{all-of}
 use Rattle.capi_calls.specs.Words.{chainWord}
-use Rattle.capi_calls.specs.QueryWords.{queryCursorWords, queryReplyWords, progressOf, progressWord, levelsFrom, levelAt}
-use Rattle.capi_calls.specs.QueryWords.{queryCursorOf, chainSpelt, slotsOf, spelt, misspelt, nextQueryFrom, levelWords}
+use Rattle.capi_calls.specs.QueryWords.{queryCursorWords, queryReplyWords, progressOf, progressWord, levelsFrom}
+use Rattle.capi_calls.specs.QueryWords.{levelAt}
+use Rattle.capi_calls.specs.QueryWords.{queryCursorOf, chainSpelt, slotsOf, spelt, misspelt, nextQueryFrom}
+use Rattle.capi_calls.specs.QueryWords.{levelWords}
 use Rattle.capi_calls.specs.QueryWords.{numbersFrom, withQueryCursor}
 use Rattle.capi_calls.specs.QueryCalls.{QueryCursorsKept, QueryCursorsFull, QueryRepliesKept}
 use Rattle.capi_calls.proofs.ReadBack.{chains-read-back}

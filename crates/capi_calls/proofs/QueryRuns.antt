@@ -1,5 +1,6 @@
--- Closed runs of what words tell a query's cursor, which of them are refused, and what is written: whole slices compared. Slots past
--- the second, and numbers past the second, are as many as the limits of `graph` say. Assumes nothing.
+-- Closed runs of what words tell a query's cursor, which of them are refused, and what is written: whole slices
+-- compared. Slots past the second, and numbers past the second, are as many as the limits of `graph` say. Assumes
+-- nothing.
 use mathlib.Core.Path.{_≡_, refl}
 use mathlib.Core.Bool.{true, false}
 use mathlib.Core.List.{List, [], _∷_, _++_}
@@ -15,10 +16,12 @@ use Rattle.graph.specs.declared.Progress.the-variants.{Within}
 use Rattle.graph.specs.Query.{bindWord, match, recordAt, past, levelRetracted}
 use Rattle.graph.specs.Place.{level, noLevel, levelsOf, insideOf, placeAs, written, cursorAt}
 use Rattle.graph.specs.Words.{patternsOf, wordOk, allOk, wordsOk, valueOf, under, maxPatterns, variables}
-use Rattle.graph.specs.Query.{intact, anyRetracted, pruned, backtrack, remains, nextPattern, binds, asked, enteredOk, placeOk, enter, hit}
+use Rattle.graph.specs.Query.{intact, anyRetracted, pruned, backtrack, remains, nextPattern, binds, asked, enteredOk}
+use Rattle.graph.specs.Query.{placeOk, enter, hit}
 use Rattle.graph.specs.Query.{tried, visit, walk, begun, resume, answerOf, openQueryOf, packed, stale, nextQueryOf}
 use Rattle.capi_calls.specs.Words.{beside, ifShort, ifAnyShort}
-use Rattle.capi_calls.specs.QueryWords.{queryCursorWords, queryReplyWords, queryCursorOf, levelsFrom, spelt, nextQueryFrom}
+use Rattle.capi_calls.specs.QueryWords.{queryCursorWords, queryReplyWords, queryCursorOf, levelsFrom, spelt}
+use Rattle.capi_calls.specs.QueryWords.{nextQueryFrom}
 use Rattle.capi_calls.specs.QueryWords.{levelWords, numbersFrom}
 use Rattle.capi_calls.specs.QueryCalls.{queryOpenCall, queryNextCall}
 
@@ -30,7 +33,8 @@ v n = 2147483648 + n
 abbrev resource : ℕ → ℕ → ℕ → ℕ → ℕ → ℕ → List ℕ → List ℕ
 resource a b c d e f rest = a ∷ b ∷ c ∷ d ∷ e ∷ f ∷ 0 ∷ 1 ∷ 99 ∷ 99 ∷ 99 ∷ rest
 
--- 1 = (1,2,3), 2 = (1,2,4), as the loading program's example leaves them, after g reclaims; after five. No text is needed.
+-- 1 = (1,2,3), 2 = (1,2,4), as the loading program's example leaves them, after g reclaims; after five. No text is
+-- needed.
 abbrev countersIn : ℕ → List ℕ
 countersIn g = 4 ∷ 2 ∷ 0 ∷ g ∷ 77 ∷ []
 
@@ -122,8 +126,8 @@ abbrev shortReply : List ℕ
 shortReply = replicate (queryReplyWords - 1) 9
 
 pub record Calling : Type 0 where
-  -- open writes the start and the number of reclaims, zeros in each slot; no query is refused 8, and a short cursor stays as it
-  -- was
+  -- open writes the start and the number of reclaims, zeros in each slot; no query is refused 8, and a short cursor
+  -- stays as it was
   pub opens : opened about (cursorIn 9 9 9 9 9 9 9 9) ≡ (0, cursor 0 0 0 0 0 0 0)
   pub open-no-query : opened (1 ∷ 0 ∷ 1 ∷ []) (cursor 9 9 9 9 9 9 9) ≡ (8, cursor 9 9 9 9 9 9 9)
   pub open-short : opened about (shortCursor 9) ≡ (100, shortCursor 9)
@@ -140,7 +144,8 @@ pub record Calling : Type 0 where
   pub chain-word : next about (cursor 1 1 4 1 0 0 0) 0 ≡ refusal 6 (cursor 1 1 4 1 0 0 0)
   pub levels : next about (cursor 1 (suc maxPatterns) 1 1 1 1 1) 0 ≡ refusal 6 (cursor 1 (suc maxPatterns) 1 1 1 1 1)
   pub no-budget : next about (cursor 1 1 1 1 4 4 4) 0 ≡ refusal 7 (cursor 1 1 1 1 4 4 4)
-  -- a cursor of another number of reclaims, at the start and at the end too: 13, before 6 in each of its ways, and before 7
+  -- a cursor of another number of reclaims, at the start and at the end too: 13, before 6 in each of its ways, and
+  -- before 7
   pub stale-within : next about (cursorIn 4 1 1 1 1 0 0 0) 5 ≡ refusal 13 (cursorIn 4 1 1 1 1 0 0 0)
   pub stale-start : next about (cursorIn 6 0 0 0 0 0 0 0) 5 ≡ refusal 13 (cursorIn 6 0 0 0 0 0 0 0)
   pub stale-end : next about (cursorIn 4 2 0 0 0 0 0 0) 5 ≡ refusal 13 (cursorIn 4 2 0 0 0 0 0 0)

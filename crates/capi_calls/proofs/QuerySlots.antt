@@ -1,5 +1,5 @@
--- In the cursor that an answered call over queries writes, the slots past the levels entered are 0, and at the start and at the end none
--- are entered. Assumes nothing.
+-- In the cursor that an answered call over queries writes, the slots past the levels entered are 0, and at the start
+-- and at the end none are entered. Assumes nothing.
 use mathlib.Core.Path.{_≡_, refl, ap, _∙_}
 use mathlib.Core.Logic.{_≢_}
 use mathlib.Core.Bool.{Bool, true, false, cond}
@@ -21,10 +21,13 @@ use Rattle.graph.specs.Query.{Answer, refused, found, ended, spent, packed, ans
 use Rattle.graph.specs.Place.{noLevel, startCursor, Place, start, inside, finish, cursorAt, placeOf}
 use Rattle.graph.specs.Words.{maxPatterns, wordsOk}
 use Rattle.graph.proofs.Laws.{written-past}
-use Rattle.capi_calls.specs.Words.{counterWords, tooShort, countersOf, chainWord, done, beside, ifShort, ifAnyShort}
-use Rattle.capi_calls.specs.QueryWords.{queryCursorWords, queryReplyWords, progressWord, queryCursorOf, spelt, misspelt}
+use Rattle.capi_calls.specs.Words.{counterWords, tooShort, countersOf, chainWord, done, beside, ifShort}
+use Rattle.capi_calls.specs.Words.{ifAnyShort}
+use Rattle.capi_calls.specs.QueryWords.{queryCursorWords, queryReplyWords, progressWord, queryCursorOf, spelt}
+use Rattle.capi_calls.specs.QueryWords.{misspelt}
 use Rattle.capi_calls.specs.QueryWords.{nextQueryFrom, levelWords, withQueryCursor}
-use Rattle.capi_calls.specs.QueryCalls.{queryOpenCall, queryNextCall, SlotsBlank, OpenedSlotsBlank, AnsweredSlotsBlank}
+use Rattle.capi_calls.specs.QueryCalls.{queryOpenCall, queryNextCall, SlotsBlank, OpenedSlotsBlank}
+use Rattle.capi_calls.specs.QueryCalls.{AnsweredSlotsBlank}
 use Rattle.capi_calls.proofs.QueryBack.{levels-size}
 
 -- ---- the cursor as a value

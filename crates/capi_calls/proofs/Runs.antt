@@ -1,6 +1,6 @@
--- Closed runs of the calls on a store of two names, <a> and <b>, after three reclaims, each computed to its result and the words
--- after it. They pin the order of the words, which stands on both sides of the contracts, and of the refusals. Every lent slice has a
--- word more than is named, and keeps it. Assumes nothing.
+-- Closed runs of the calls on a store of two names, <a> and <b>, after three reclaims, each computed to its result and
+-- the words after it. They pin the order of the words, which stands on both sides of the contracts, and of the
+-- refusals. Every lent slice has a word more than is named, and keeps it. Assumes nothing.
 use mathlib.Core.Path.{_≡_, refl}
 use mathlib.Core.List.{List, [], _∷_}
 use Prim.Native.Nat.{ℕ, _-_}
@@ -8,16 +8,15 @@ use Rattle.store.specs.declared.Interned.the-variants.{Number as Id}
 use Rattle.store.specs.declared.Lookup.the-variants.{Number}
 use Rattle.store.specs.declared.Reclaimed.the-variants.{Refused as NotReclaimed}
 use Rattle.store.specs.declared.Refusal.the-variants.{Capacity, Damaged}
-use Rattle.store.specs.Shared.{triple, known, within, same, agrees, kindsPermitted, below, matches, pick, better}
-use Rattle.store.specs.Tables.{Tables, tables, fits, termAt, nextAt, flagAt, tripleAt, firstAt, countAt, offsetAt, kindAt, liveAt}
-use Rattle.store.specs.Walk.{entryAt, pickChain, pickable, startOf, linkOf, holdsResource, visitable, walk}
-use Rattle.store.specs.Statement.{seek, countable, locate, tallyAt, tally, counting, appendRecord, linkFirst, linkRecord, kindsOk}
-use Rattle.store.specs.Statement.{asserting, assertOf, retracting, retractOf}
-use Rattle.store.specs.Scan.{openOf, chainOk, recordOk, cursorOk, walkFrom, nextOf}
-use Rattle.store.specs.Reclaim.{unlinked, sweepOne, sweep, blanked, sweptOf, reclaimOf}
+use Rattle.store.specs.Shared.{triple}
+use Rattle.store.specs.Tables.{Tables, tables}
+use Rattle.store.specs.Reclaim.{reclaimOf}
 use Rattle.store.specs.Reading.{inRange, statementOf, zeroFrom, nameSpanOf}
-use Rattle.capi_calls.specs.Words.{countersOf, ifShort, ifAnyShort, done, beside, wrote, changed, misread, nextFrom}
-use Rattle.capi_calls.specs.Calls.{findAs, enterAs, nameCall, statementCall, retractCall, openCall, nextCall, assertCall}
+use Rattle.store.proofs.Opened.{table-definitions}
+use Rattle.capi_calls.specs.Words.{countersOf, ifShort, ifAnyShort, done, beside, wrote, changed, misread}
+use Rattle.capi_calls.specs.Words.{nextFrom}
+use Rattle.capi_calls.specs.Calls.{findAs, enterAs, nameCall, statementCall, retractCall, openCall, nextCall}
+use Rattle.capi_calls.specs.Calls.{assertCall}
 use Rattle.capi_calls.specs.Calls.{reclaimAs}
 
 -- ---- the store before <a> <b> <a> . and after it; its two statement records hold anything
@@ -114,7 +113,8 @@ pub record Calling : Type 0 where
   pub enters : enterAs (counters 1) (5 ∷ 66 ∷ [])
       (Id (record { 0 = 3 }) (record { resources = 3; statements = 1; text = 12; generation = 3 }))
       ≡ beside 0 (3 ∷ 1 ∷ 12 ∷ 3 ∷ 77 ∷ []) (3 ∷ 66 ∷ [])
-  -- a scan: opened at the subject's chain; found, ended past a retracted statement, at its end, no budget, a chain word above 3
+  -- a scan: opened at the subject's chain; found, ended past a retracted statement, at its end, no budget, a chain word
+  -- above 3
   pub opens : openCall (counters 1) (holding 0) (triple 1 0 0) (cursorIn 5 5 5 5 5 5) ≡ done 0 (1 ∷ 0 ∷ 0 ∷ 1 ∷ 1 ∷ 3 ∷ 88 ∷ [])
   pub nexts : nextIn 3 0 (cursor 1 0 0 1 1) 5
       ∷ nextIn 3 1 (cursor 1 0 0 1 1) 5
@@ -128,8 +128,8 @@ pub record Calling : Type 0 where
       ∷ refusal 7 (cursor 1 0 0 1 1)
       ∷ refusal 6 (cursor 1 0 0 4 1)
       ∷ []
-  -- Another number of reclaims is 13: at a cursor that was good, at the end, before a chain that is none and a chain word above 3,
-  -- each with no budget; more reclaims than the maximum are 1 before all of these.
+  -- Another number of reclaims is 13: at a cursor that was good, at the end, before a chain that is none and a chain
+  -- word above 3, each with no budget; more reclaims than the maximum are 1 before all of these.
   pub stale-nexts : nextIn 3 0 (cursorIn 2 1 0 0 1 1) 5
       ∷ nextIn 0 0 (cursorIn 1 1 0 0 1 0) 5
       ∷ nextIn 3 0 (cursorIn 4 1 0 0 2 1) 0
@@ -168,11 +168,8 @@ pub record Calling : Type 0 where
       ≡ done 9 (counters 1) ∷ done 100 (2 ∷ 1 ∷ 8 ∷ []) ∷ []
 
 calls : Calling
-unfolding assertCall retractCall statementCall nameCall findAs enterAs openCall nextCall reclaimAs ifShort ifAnyShort misread nextFrom
-    asserting assertOf retracting retractOf statementOf nameSpanOf openOf nextOf reclaimOf fits known within inRange same agrees matches
-    kindsPermitted kindsOk below pick better pickChain pickable startOf linkOf holdsResource visitable entryAt walk walkFrom chainOk
-    recordOk cursorOk seek countable counting locate tallyAt tally appendRecord linkFirst linkRecord unlinked sweepOne sweep blanked
-    sweptOf zeroFrom termAt nextAt flagAt tripleAt firstAt countAt offsetAt kindAt liveAt
+unfolding table-definitions inRange zeroFrom statementOf nameSpanOf assertCall retractCall statementCall nameCall findAs enterAs
+    openCall nextCall reclaimAs ifShort ifAnyShort misread nextFrom
 calls = record {
   asserts = refl;
   retracts = refl;

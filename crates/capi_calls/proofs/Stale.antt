@@ -1,4 +1,5 @@
--- The number of reclaims in the words that C lends: 13 by it alone, before every 6, and one more after a reclaim. Assumes nothing.
+-- The number of reclaims in the words that C lends: 13 by it alone, before every 6, and one more after a reclaim.
+-- Assumes nothing.
 use mathlib.Core.Path.{_≡_, refl, sym, ap, _∙_}
 use mathlib.Core.Logic.{_≢_, _↔_}
 use mathlib.Core.Bool.{true, true≢false}
@@ -25,7 +26,8 @@ use Rattle.graph.proofs.Theorems as graph-claims
 use Rattle.capi_calls.specs.Words.{counterWords, cursorWords, scanReplyWords, ifAnyShort, countersOf, cursorFrom}
 use Rattle.capi_calls.specs.Words.{misread, nextFrom, reclaimedAs}
 use Rattle.capi_calls.specs.Calls.{nextCall, reclaimAs}
-use Rattle.capi_calls.specs.QueryWords.{queryCursorWords, queryReplyWords, queryCursorOf, spelt, misspelt, nextQueryFrom}
+use Rattle.capi_calls.specs.QueryWords.{queryCursorWords, queryReplyWords, queryCursorOf, spelt, misspelt}
+use Rattle.capi_calls.specs.QueryWords.{nextQueryFrom}
 use Rattle.capi_calls.specs.QueryCalls.{queryNextCall}
 use Rattle.capi_calls.specs.Claims.{StaleWords, StaleQueryWords, Reclaims, AnsweredReclaim}
 use Rattle.capi_calls.proofs.ReadBack.{counters-read-back}

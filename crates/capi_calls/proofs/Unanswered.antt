@@ -1,5 +1,5 @@
--- A call that is not answered leaves counters, cursor and tables as they were, and zeros in its reply, or the reply too where it is
--- lent too little. Assumes nothing.
+-- A call that is not answered leaves counters, cursor and tables as they were, and zeros in its reply, or the reply too
+-- where it is lent too little. Assumes nothing.
 use mathlib.Core.Path.{_≡_, refl, ap, _∙_}
 use mathlib.Core.Logic.{_≢_}
 use mathlib.Core.Bool.{Bool, true, false, cond}
@@ -45,16 +45,20 @@ use Rattle.store.proofs.Limits.{reclaim-refuses}
 use Rattle.store.proofs.Numbers.{refuses, not-beyond}
 use Rattle.capi_calls.proofs.Runs as runs
 use Rattle.capi_calls.specs.Words.{tooShort, counterWords, cursorWords, numberReplyWords, nameReplyWords}
-use Rattle.capi_calls.specs.Words.{statementReplyWords, assertReplyWords, scanReplyWords, countersOf, ifShort, ifAnyShort}
-use Rattle.capi_calls.specs.Words.{longEnough, numberAs, nameAs, statementAs, lookupAnswer, nameAnswer, statementAnswer}
+use Rattle.capi_calls.specs.Words.{statementReplyWords, assertReplyWords, scanReplyWords, countersOf, ifShort}
+use Rattle.capi_calls.specs.Words.{ifAnyShort}
+use Rattle.capi_calls.specs.Words.{longEnough, numberAs, nameAs, statementAs, lookupAnswer, nameAnswer}
+use Rattle.capi_calls.specs.Words.{statementAnswer}
 use Rattle.capi_calls.specs.Words.{retractAs, openedAs, scannedAs, assertAs, enteredAs, reclaimedAs, nextFrom}
 use Rattle.capi_calls.specs.Calls.{findAs, nameCall, statementCall, retractCall, openCall, nextCall, assertCall}
 use Rattle.capi_calls.specs.Calls.{enterAs, reclaimAs}
 use Rattle.capi_calls.specs.Claims.{bare, bareTables, bareBeside, bareStore, kept, Unanswered, UnansweredFind}
-use Rattle.capi_calls.specs.Claims.{UnansweredName, UnansweredStatement, UnansweredRetract, UnansweredAssert, UnansweredEnter}
+use Rattle.capi_calls.specs.Claims.{UnansweredName, UnansweredStatement, UnansweredRetract, UnansweredAssert}
+use Rattle.capi_calls.specs.Claims.{UnansweredEnter}
 use Rattle.capi_calls.specs.Claims.{UnansweredReclaim, UnansweredOpen, UnansweredNext, UnansweredQueryOpen}
 use Rattle.capi_calls.specs.Claims.{UnansweredQueryNext}
-use Rattle.capi_calls.specs.QueryWords.{queryCursorWords, queryReplyWords, queryCursorOf, spelt, misspelt, nextQueryFrom}
+use Rattle.capi_calls.specs.QueryWords.{queryCursorWords, queryReplyWords, queryCursorOf, spelt, misspelt}
+use Rattle.capi_calls.specs.QueryWords.{nextQueryFrom}
 use Rattle.capi_calls.specs.QueryWords.{numbersFrom}
 use Rattle.capi_calls.specs.QueryCalls.{queryOpenedAs, queryOpenCall, queryAnsweredAs, queryNextCall}
 use Rattle.term.proofs.Names.{never}

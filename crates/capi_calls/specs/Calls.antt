@@ -1,5 +1,5 @@
--- What each function for C gives back and writes, from the definitions of the operation it stands for: the result and the lent
--- slices after the call. Too short a slice gives 100 and all slices as they were. Assumes nothing.
+-- What each function for C gives back and writes, from the definitions of the operation it stands for: the result and
+-- the lent slices after the call. Too short a slice gives 100 and all slices as they were. Assumes nothing.
 use mathlib.Core.Path.{_≡_}
 use mathlib.Core.Bool.{Bool, true, false, cond}
 use mathlib.Core.Logic.{_↔_}
@@ -21,11 +21,14 @@ use Rattle.store.specs.Soundness.{Sound}
 use Rattle.store.specs.Reading.{nameSpanOf, statementOf}
 use Rattle.store.specs.Dictionary.{FindAnswer, InternAnswer}
 use Rattle.store.specs.Reclaim.{ReclaimAnswer}
-use Rattle.capi_calls.specs.Words.{counterWords, cursorWords, tooShort, ifShort, ifAnyShort, longEnough, countersOf}
+use Rattle.capi_calls.specs.Words.{counterWords, cursorWords, tooShort, ifShort, ifAnyShort, longEnough}
+use Rattle.capi_calls.specs.Words.{countersOf}
 use Rattle.capi_calls.specs.Words.{numberReplyWords, nameReplyWords, statementReplyWords, assertReplyWords}
 use Rattle.capi_calls.specs.Words.{scanReplyWords, lineWords, done, beside, wrote, changed}
-use Rattle.capi_calls.specs.Words.{kindAnswer, checkAnswer, lookupAnswer, nameAnswer, statementAnswer, readAnswer, nextFrom}
-use Rattle.capi_calls.specs.Words.{numberAs, nameAs, statementAs, lineAs, openedAs, scannedAs, retractAs, assertAs}
+use Rattle.capi_calls.specs.Words.{kindAnswer, checkAnswer, lookupAnswer, nameAnswer, statementAnswer, readAnswer}
+use Rattle.capi_calls.specs.Words.{nextFrom}
+use Rattle.capi_calls.specs.Words.{numberAs, nameAs, statementAs, lineAs, openedAs, scannedAs, retractAs}
+use Rattle.capi_calls.specs.Words.{assertAs}
 use Rattle.capi_calls.specs.Words.{enteredAs, reclaimedAs}
 
 -- `lt_name_kind`: the name, the reply

@@ -1,8 +1,8 @@
--- What a caller relies on, as statements. Reading back what was written gives it back, and the words past those named are kept. A
--- call that is not answered leaves counters, cursor and tables as they were, and its reply's words are 0; one that is lent too
--- little leaves the reply too. The definitions of `Words`, `Calls` and `QueryCalls` stand on both sides of the contracts, so these
--- say of them what they come to. Declared in `proofs/ReadBack.antt`, `proofs/Unanswered.antt` and `proofs/Stale.antt`. Assumes
--- nothing.
+-- What a caller relies on, as statements. Reading back what was written gives it back, and the words past those named
+-- are kept. A call that is not answered leaves counters, cursor and tables as they were, and its reply's words are 0;
+-- one that is lent too little leaves the reply too. The definitions of `Words`, `Calls` and `QueryCalls` stand on both
+-- sides of the contracts, so these say of them what they come to. Declared in `proofs/ReadBack.antt`,
+-- `proofs/Unanswered.antt` and `proofs/Stale.antt`. Assumes nothing.
 use mathlib.Core.Path.{_≡_}
 use mathlib.Core.Logic.{_≢_, _↔_}
 use mathlib.Core.Bool.{true, cond}
@@ -20,8 +20,10 @@ use Rattle.store.specs.Shared.{maxReclaims}
 use Rattle.store.specs.Soundness.{Sound}
 use Rattle.store.specs.Reclaim.{reclaimOf}
 use Rattle.graph.specs.Words.{wordsOk}
-use Rattle.capi_calls.specs.Words.{counterWords, cursorWords, tooShort, countersOf, withCounters, cursorFrom, withCursor}
-use Rattle.capi_calls.specs.Words.{numberReplyWords, nameReplyWords, statementReplyWords, assertReplyWords, scanReplyWords}
+use Rattle.capi_calls.specs.Words.{counterWords, cursorWords, tooShort, countersOf, withCounters, cursorFrom}
+use Rattle.capi_calls.specs.Words.{withCursor}
+use Rattle.capi_calls.specs.Words.{numberReplyWords, nameReplyWords, statementReplyWords, assertReplyWords}
+use Rattle.capi_calls.specs.Words.{scanReplyWords}
 use Rattle.capi_calls.specs.Words.{chainOf, chainWord, done, beside, wrote, changed}
 use Rattle.capi_calls.specs.Calls.{FindCall, nameCall, statementCall, retractCall, openCall, nextCall, assertCall}
 use Rattle.capi_calls.specs.Calls.{EnterCall, ReclaimCall}
@@ -124,8 +126,8 @@ UnansweredQueryNext = (cw : List ℕ) (m : Tables) (ws q : List ℕ) (b : ℕ) (
 
 -- ---- the number of reclaims
 
--- `lt_scan_next` is refused 13 exactly where 1 is not refused and the cursor's sixth word is not the counters' fourth, whatever its
--- other words hold.
+-- `lt_scan_next` is refused 13 exactly where 1 is not refused and the cursor's sixth word is not the counters' fourth,
+-- whatever its other words hold.
 abbrev pub StaleWords : Type 0
 StaleWords = (cw : List ℕ) (m : Tables) (q : List ℕ) (b : ℕ) (w : List ℕ)
     → counterWords ≤ length cw → cursorWords ≤ length q → scanReplyWords ≤ length w

@@ -1,6 +1,6 @@
--- What the two functions for C over queries give back and write: the result and the lent slices after the call. Too short a slice
--- gives 100 and all slices as they were; beside a refusal the cursor stays as it was. Then what a caller may rely on: a cursor that
--- is written is one that can be handed back, with zeros past its levels. Assumes nothing.
+-- What the two functions for C over queries give back and write: the result and the lent slices after the call. Too
+-- short a slice gives 100 and all slices as they were; beside a refusal the cursor stays as it was. Then what a caller
+-- may rely on: a cursor that is written is one that can be handed back, with zeros past its levels. Assumes nothing.
 use mathlib.Core.Path.{_≡_}
 use mathlib.Core.Logic.{_≢_}
 use mathlib.Core.Bool.{true}
@@ -65,8 +65,8 @@ QueryRepliesKept = (w : List ℕ) (a : QueryAnswer) → queryReplyWords ≤ leng
 
 -- ---- what an answered call writes past the levels
 
--- In a cursor's words the slots from the levels entered on are 0. At the start and at the end no levels are entered, so all slots are
--- 0.
+-- In a cursor's words the slots from the levels entered on are 0. At the start and at the end no levels are entered, so
+-- all slots are 0.
 pub record SlotsBlank (q : List ℕ) : Type 0 where
   pub chain-blank : (i : ℕ) → word q 1 ≤ i → i < maxPatterns → word q (3 + 2 * i) ≡ 0
   pub record-blank : (i : ℕ) → word q 1 ≤ i → i < maxPatterns → word q (4 + 2 * i) ≡ 0

@@ -1,5 +1,5 @@
--- The words that C lends and what they mean: how many each reply has, the result of a call, counters as words, a reply's words
--- written from its first on. Assumes nothing.
+-- The words that C lends and what they mean: how many each reply has, the result of a call, counters as words, a
+-- reply's words written from its first on. Assumes nothing.
 use mathlib.Core.Bool.{Bool, true, false, cond}
 use mathlib.Core.List.{List}
 use Prim.Native.Nat.{ℕ, _-_}
@@ -47,8 +47,8 @@ counterWords = 4
 abbrev pub cursorWords : ℕ
 cursorWords = 6
 
--- the words of replies: a number alone; a name's start and size; a statement and its flag; what asserting did and a number; what a
--- scan did, a number and visits; a line
+-- the words of replies: a number alone; a name's start and size; a statement and its flag; what asserting did and a
+-- number; what a scan did, a number and visits; a line
 abbrev pub numberReplyWords : ℕ
 numberReplyWords = 1
 

@@ -1,15 +1,17 @@
-// What the functions for C are lent and give back: how many words counters, cursors and replies have, and a reply as numbers.
+// What the functions for C are lent and give back: how many words counters, cursors and replies have, and a reply as
+// numbers.
 //
-// `specs/Words.antt` and `specs/QueryWords.antt` say what the words tell, `specs/Calls.antt` and `specs/QueryCalls.antt` what each
-// function answers and leaves, `specs/Claims.antt` what a caller relies on. There is no code here.
+// `specs/Words.antt` and `specs/QueryWords.antt` say what the words tell, `specs/Calls.antt` and
+// `specs/QueryCalls.antt` what each function answers and leaves, `specs/Claims.antt` what a caller relies on. There is
+// no code here.
 use graph::MAX_PATTERNS;
 use graph::VARIABLES;
 
 // The words of the lent counters: R, T, B, the reclaims so far.
 pub const COUNTER_WORDS: usize = 4;
 
-// The words of a lent cursor: subject, predicate, object, chain (0 none, 1 subject, 2 predicate, 3 object), next, the number of
-// reclaims.
+// The words of a lent cursor: subject, predicate, object, chain (0 none, 1 subject, 2 predicate, 3 object), next, the
+// number of reclaims.
 pub const CURSOR_WORDS: usize = 6;
 
 // The words of a lent query cursor: place, levels, the number of reclaims, then chain and record of each level.
@@ -78,7 +80,8 @@ pub struct Part {
     pub size: u64,
 }
 
-// What a line is, the position after it, and its three parts; beside a refusal the first part starts at the refusal's offset.
+// What a line is, the position after it, and its three parts; beside a refusal the first part starts at the refusal's
+// offset.
 pub struct LineReply {
     pub result: u32,
     pub what: u64,

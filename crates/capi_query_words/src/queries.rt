@@ -1,10 +1,10 @@
 // A query's cursor and its reply as words.
 //
-// A cursor's words are its progress (0 start, 1 within, 2 end), the levels entered, the number of reclaims, then chain and record of
-// each of `MAX_PATTERNS` levels, zeros past those entered. A first word above 2, or the chain of an entered level above 3, tells no
-// cursor and is refused 6, or 13 where the third word is not the store's; slots past the levels entered are ignored, and so are all
-// slots at the start and at the end. A reply's words are its status (1 found, 2 ended, 3 spent), the visits, and the number of each of
-// the `VARIABLES` variables, 0 for one not used.
+// A cursor's words are its progress (0 start, 1 within, 2 end), the levels entered, the number of reclaims, then chain
+// and record of each of `MAX_PATTERNS` levels, zeros past those entered. A first word above 2, or the chain of an
+// entered level above 3, tells no cursor and is refused 6, or 13 where the third word is not the store's; slots past
+// the levels entered are ignored, and so are all slots at the start and at the end. A reply's words are its status (1
+// found, 2 ended, 3 spent), the visits, and the number of each of the `VARIABLES` variables, 0 for one not used.
 use capi_words::words::chain_of;
 use capi_words::words::chain_word;
 use graph::Level;
@@ -54,8 +54,8 @@ fn progress_word(progress: Progress) -> u32
     }
 }
 
-// The levels in a cursor's slots. A chain's word above 3 reads as none: it stands in a slot that is ignored, or `spelt` has refused
-// it.
+// The levels in a cursor's slots. A chain's word above 3 reads as none: it stands in a slot that is ignored, or `spelt`
+// has refused it.
 fn levels_of(words: &[u32]) -> [Level; MAX_PATTERNS]
     requires { ⌜ queryCursorWords ≤ length (now words) ⌝ }
     ensures { λ r. ⌜ r ≡ levelsFrom (now (words .entry)) 3 maxPatterns ⌝ }

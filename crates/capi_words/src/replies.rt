@@ -25,7 +25,8 @@ use store::refusal_number;
 ghost use mathlib.Core.Path.{_≡_};
 ghost use Rattle.store.specs.Values.{scannedValues, assertedValues, internedValues, noCursor};
 ghost use Rattle.capi_calls.specs.Words.{numbered, kindAnswer, checkAnswer, lookupAnswer, retractAnswer, enterAnswer};
-ghost use Rattle.capi_calls.specs.Words.{nameAnswer, statementAnswer, assertAnswer, scannedAnswer, assertedWith, scannedWith};
+ghost use Rattle.capi_calls.specs.Words.{nameAnswer, statementAnswer, assertAnswer, scannedAnswer, assertedWith};
+ghost use Rattle.capi_calls.specs.Words.{scannedWith};
 ghost use Rattle.capi_calls.specs.Words.{sizeOf, part, noParts, readAnswer};
 
 // A result and a number.

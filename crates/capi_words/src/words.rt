@@ -1,4 +1,5 @@
-// Counters, triples and cursors as the words that C lends, read and written, and next of a pattern scan from a cursor's words.
+// Counters, triples and cursors as the words that C lends, read and written, and next of a pattern scan from a cursor's
+// words.
 use store::Chain;
 use store::Counters;
 use store::Position;

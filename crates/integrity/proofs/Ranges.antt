@@ -1,6 +1,6 @@
--- Tests and sums over a range: each number's test, and what code that tests in a row or in a loop answers; no term falls
--- short where the sums are the same; entries that each hold one number of 1..r, counted for each number, add up. Assumes
--- nothing.
+-- Tests and sums over a range: each number's test, and what code that tests in a row or in a loop answers; no term
+-- falls short where the sums are the same; entries that each hold one number of 1..r, counted for each number, add up.
+-- Assumes nothing.
 use mathlib.Core.Path.{_≡_, refl, sym, ap, ap₂, _∙_}
 use mathlib.Core.Logic.{_≢_}
 use mathlib.Core.Bool.{Bool, true, false, cond, not, _&&_}

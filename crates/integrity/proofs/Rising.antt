@@ -1,5 +1,5 @@
--- The index by the cheap test: entries in 1..R whose neighbours' names rise are entries that rise throughout; and the other way.
--- Assumes nothing.
+-- The index by the cheap test: entries in 1..R whose neighbours' names rise are entries that rise throughout; and the
+-- other way. Assumes nothing.
 use mathlib.Core.Path.{_≡_, sym, ap, _∙_}
 use mathlib.Core.Bool.{true, _&&_}
 use mathlib.Core.List.{List}

@@ -1,4 +1,5 @@
--- What the passes over the text and the index meet byte by byte: the ways out of their loops, and a turn. Assumes nothing.
+-- What the passes over the text and the index meet byte by byte: the ways out of their loops, and a turn. Assumes
+-- nothing.
 use mathlib.Core.Path.{_≡_, refl, ap, _∙_}
 use mathlib.Core.Bool.{Bool, true, false, not, _&&_}
 use mathlib.Core.List.{List, [], _∷_}

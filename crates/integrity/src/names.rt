@@ -1,5 +1,5 @@
-// The pass over the used text: each name from where the one before was closed to the next zero byte, with its resource's
-// record.
+// The pass over the used text: each name from where the one before was closed to the next zero byte, with its
+// resource's record.
 use store::ResourceId;
 ghost use mathlib.Core.Path.{_≡_};
 ghost use Prim.Native.Nat.{_+_, _≤_};
@@ -8,8 +8,8 @@ ghost use Rattle.table.specs.Held.{ResourceHeld};
 ghost use Rattle.integrity.specs.Held.{ResourcesHeld};
 ghost use Rattle.integrity.specs.Names.{nameFrom, nameOk, namesOk};
 
-// Whether the name from `from` to `end` is closed, well formed and without the string ending, and resource y has its offset
-// and kind.
+// Whether the name from `from` to `end` is closed, well formed and without the string ending, and resource y has its
+// offset and kind.
 fn name_ok(resources: &[u32], used: &[u8], y: ResourceId, from: usize, end: usize) -> bool
     requires { ⌜ ResourceHeld (now resources) (y .0) ⌝ }
     requires { ⌜ (end ≡ from + length (nameFrom (now used) from)) × (end ≤ length (now used)) ⌝ }

@@ -19,7 +19,8 @@ use Rattle.graph.specs.declared.QueryAnswer.{QueryAnswer}
 use Rattle.graph.specs.Query.{refused, packed, openQueryOf, nextQueryOf}
 use Rattle.graph.specs.Values.{openingRefusal, stepRefusal}
 use Rattle.capi_calls.specs.Words.{counterWords, countersOf, done, beside}
-use Rattle.capi_calls.specs.QueryWords.{queryCursorWords, queryReplyWords, queryCursorOf, spelt, misspelt, nextQueryFrom}
+use Rattle.capi_calls.specs.QueryWords.{queryCursorWords, queryReplyWords, queryCursorOf, spelt, misspelt}
+use Rattle.capi_calls.specs.QueryWords.{nextQueryFrom}
 use Rattle.capi_calls.specs.QueryWords.{withQueryCursor, withQueryAnswer}
 use Rattle.capi_calls.specs.QueryCalls.{queryOpenCall, queryNextCall}
 use Rattle.lemontiller.proofs.Lengths.{room, any-room}

@@ -28,12 +28,16 @@ use Rattle.store.specs.Values.{refusalNumber, scannedValues, assertedValues, in
 use Rattle.capi_calls.specs.declared.NumberReply.{NumberReply}
 use Rattle.capi_calls.specs.declared.AssertReply.{AssertReply}
 use Rattle.capi_calls.specs.declared.ScanReply.{ScanReply}
-use Rattle.capi_calls.specs.Words.{tooShort, counterWords, cursorWords, numberReplyWords, assertReplyWords, scanReplyWords}
-use Rattle.capi_calls.specs.Words.{countersOf, withCounters, withCursor, withNumber, withAssert, withScan, done, beside, wrote}
+use Rattle.capi_calls.specs.Words.{tooShort, counterWords, cursorWords, numberReplyWords, assertReplyWords}
+use Rattle.capi_calls.specs.Words.{scanReplyWords}
+use Rattle.capi_calls.specs.Words.{countersOf, withCounters, withCursor, withNumber, withAssert, withScan, done, beside}
+use Rattle.capi_calls.specs.Words.{wrote}
 use Rattle.capi_calls.specs.Words.{changed, nextFrom, retractAnswer, scannedAnswer, assertAnswer, enterAnswer}
-use Rattle.capi_calls.specs.Calls.{retractCall, openCall, nextCall, assertCall, enterAs, EnterCall, reclaimAs, ReclaimCall}
+use Rattle.capi_calls.specs.Calls.{retractCall, openCall, nextCall, assertCall, enterAs, EnterCall, reclaimAs}
+use Rattle.capi_calls.specs.Calls.{ReclaimCall}
 use Rattle.store.proofs.Numbers.{refuses}
-use Rattle.lemontiller.proofs.Lengths.{short-counters, short-reply, room, no-counters, no-reply, some-room, any-room}
+use Rattle.lemontiller.proofs.Lengths.{short-counters, short-reply, room, no-counters, no-reply, some-room}
+use Rattle.lemontiller.proofs.Lengths.{any-room}
 
 -- ---- on the triple or pattern y, which the code holds as x, with the counters c
 

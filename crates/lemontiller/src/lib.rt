@@ -1,10 +1,11 @@
 // The store for C: every public operation under a plain name, on numbers and slices.
 //
-// A slice is a pointer and a length in elements. A store function begins with five of them: counters (R, T, B, the reclaims so far),
-// resources, statements, index (words of 32 bits) and text (bytes). What a function gives back is 0 where it answers, the paper's refusal
-// number, or 100 where a lent counters, cursor or reply slice is too short; then nothing is written. Beside a refusal the reply's words
-// are 0. Words past those that a reply names keep their values. The contracts are equations with the definitions in
-// `specs/Calls.antt` of `capi_calls`, or records there where an operation's contract is one.
+// A slice is a pointer and a length in elements. A store function begins with five of them: counters (R, T, B, the
+// reclaims so far), resources, statements, index (words of 32 bits) and text (bytes). What a function gives back is 0
+// where it answers, the paper's refusal number, or 100 where a lent counters, cursor or reply slice is too short; then
+// nothing is written. Beside a refusal the reply's words are 0. Words past those that a reply names keep their values.
+// The contracts are equations with the definitions in `specs/Calls.antt` of `capi_calls`, or records there where an
+// operation's contract is one.
 use capi_calls::ASSERT_REPLY_WORDS;
 use capi_calls::COUNTER_WORDS;
 use capi_calls::CURSOR_WORDS;
