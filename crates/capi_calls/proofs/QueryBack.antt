@@ -1,5 +1,5 @@
--- A query cursor that is written is read back as it was, its words tell one, and the words past it stay; every cursor that is answered
--- fills the slots. Assumes nothing.
+-- A query cursor that is written is read back as it was, its words tell one, and the words past it stay; every cursor
+-- that is answered fills the slots. Assumes nothing.
 use mathlib.Core.Path.{_≡_, refl, sym, ap, ap₂, _∙_}
 use mathlib.Core.Bool.{true, cond}
 use mathlib.Core.List.{List, [], _∷_, _++_}
@@ -24,9 +24,12 @@ use Rattle.graph.specs.Query.{Answer, refused, found, ended, spent, packed, ans
 use Rattle.graph.specs.Values.{queryValues}
 use Rattle.graph.proofs.Laws.{written-length}
 use Rattle.integrity.proofs.Ranges.{all-of}
-use Rattle.capi_calls.specs.Words.{chainOf, chainWord}
-use Rattle.capi_calls.specs.QueryWords.{queryCursorWords, queryReplyWords, progressOf, progressWord, levelsFrom, queryCursorOf, chainSpelt}
-use Rattle.capi_calls.specs.QueryWords.{slotsOf, spelt, misspelt, nextQueryFrom, levelWords, numbersFrom, withQueryCursor}
+use Rattle.capi_calls.specs.Words.{chainWord}
+use Rattle.capi_calls.specs.QueryWords.{queryCursorWords, queryReplyWords, progressOf, progressWord, levelsFrom}
+use Rattle.capi_calls.specs.QueryWords.{levelAt}
+use Rattle.capi_calls.specs.QueryWords.{queryCursorOf, chainSpelt, slotsOf, spelt, misspelt, nextQueryFrom}
+use Rattle.capi_calls.specs.QueryWords.{levelWords}
+use Rattle.capi_calls.specs.QueryWords.{numbersFrom, withQueryCursor}
 use Rattle.capi_calls.specs.QueryCalls.{QueryCursorsKept, QueryCursorsFull, QueryRepliesKept}
 use Rattle.capi_calls.proofs.ReadBack.{chains-read-back}
 
@@ -62,7 +65,7 @@ kept vs w n e h = ap (λ (z : List ℕ). drop n z) (in-front vs w n e h) ∙ dro
 levels-on : (x : ℕ) (xs : List ℕ) (k n : ℕ) → levelsFrom (x ∷ xs) (suc k) n ≡ levelsFrom xs k n
 unfolding levelsFrom
 levels-on x xs k zero = refl
-levels-on x xs k (suc n) = ap (λ (z : List Level). level (chainOf (word xs k)) (word xs (suc k)) ∷ z) (levels-on x xs (suc (suc k)) n)
+levels-on x xs k (suc n) = ap (λ (z : List Level). levelAt xs k ∷ z) (levels-on x xs (suc (suc k)) n)
 
 levels-back : (ls : List Level) (rest : List ℕ) (i n : ℕ) → i + n ≤ length ls
     → levelsFrom (levelWords ls i n ++ rest) 0 n ≡ take n (drop i ls)
@@ -117,8 +120,13 @@ query-cursors-kept w q h k =
     ∙ levels-on (q .depth) (q .generation ∷ xs ++ rest) 1 maxPatterns ∙ levels-on (q .generation) (xs ++ rest) 0 maxPatterns
     ∙ levels-back (q .levels) rest 0 maxPatterns (omega arith) ∙ take-all maxPatterns (q .levels) (omega arith) in
     record {
-      same = ap queryCursorOf e ∙ ap₂ (λ (p : Progress) (z : List Level). cursor p (q .depth) (q .generation) z) (progress-back (q .progress)) up;
-      spelt-again = ap spelt e ∙ spelt-as (q .progress) (q .depth) (q .generation) (xs ++ rest) (λ i. chains-low (q .levels) rest 0 maxPatterns i);
+      same =
+          ap queryCursorOf e
+          ∙ ap₂ (λ (p : Progress) (z : List Level). cursor p (q .depth) (q .generation) z) (progress-back (q .progress)) up;
+      spelt-again =
+          ap spelt e
+          ∙ spelt-as (q .progress) (q .depth) (q .generation) (xs ++ rest)
+          (λ i. chains-low (q .levels) rest 0 maxPatterns i);
       rest-kept = kept vs w queryCursorWords size h;
     }
 
@@ -142,7 +150,8 @@ query-cursors-full c m ws w b =
     let none = answer-full 0 (refused (misspelt (eqb (q .generation) (c .generation)) ((openQueryOf c m ws) .opening))) in
     let told = answer-full (c .generation) (cond (stale c m ws q) (refused StaleCursor) (answerOf c m ws (placeOf q) b)) in
     let full : QueryOpened → Type 0 = λ o. length (o .cursor .levels) ≡ maxPatterns in (
-      cond-all full (fits c m) _ _ (cond-all full (wordsOk (c .resources) ws) _ _ (written-length []) (written-length [])) (written-length []),
+      cond-all full (fits c m) _ _
+          (cond-all full (wordsOk (c .resources) ws) _ _ (written-length []) (written-length [])) (written-length []),
       decide (spelt w) (λ e. rw e told) (λ e. rw e none),
     )
 

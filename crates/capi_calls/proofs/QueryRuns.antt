@@ -1,4 +1,6 @@
--- Closed runs of what words tell a query's cursor, which of them are refused, and what is written: whole slices compared. Assumes nothing.
+-- Closed runs of what words tell a query's cursor, which of them are refused, and what is written: whole slices
+-- compared. Slots past the second, and numbers past the second, are as many as the limits of `graph` say. Assumes
+-- nothing.
 use mathlib.Core.Path.{_≡_, refl}
 use mathlib.Core.Bool.{true, false}
 use mathlib.Core.List.{List, [], _∷_, _++_}
@@ -14,10 +16,13 @@ use Rattle.graph.specs.declared.Progress.the-variants.{Within}
 use Rattle.graph.specs.Query.{bindWord, match, recordAt, past, levelRetracted}
 use Rattle.graph.specs.Place.{level, noLevel, levelsOf, insideOf, placeAs, written, cursorAt}
 use Rattle.graph.specs.Words.{patternsOf, wordOk, allOk, wordsOk, valueOf, under, maxPatterns, variables}
-use Rattle.graph.specs.Query.{intact, anyRetracted, pruned, backtrack, remains, nextPattern, binds, asked, enteredOk, placeOk, enter, hit}
+use Rattle.graph.specs.Query.{intact, anyRetracted, pruned, backtrack, remains, nextPattern, binds, asked, enteredOk}
+use Rattle.graph.specs.Query.{placeOk, enter, hit}
 use Rattle.graph.specs.Query.{tried, visit, walk, begun, resume, answerOf, openQueryOf, packed, stale, nextQueryOf}
-use Rattle.capi_calls.specs.Words.{ifShort}
-use Rattle.capi_calls.specs.QueryWords.{queryCursorWords, queryReplyWords, queryCursorOf, levelsFrom, spelt, nextQueryFrom, levelWords, numbersFrom}
+use Rattle.capi_calls.specs.Words.{beside, ifShort, ifAnyShort}
+use Rattle.capi_calls.specs.QueryWords.{queryCursorWords, queryReplyWords, queryCursorOf, levelsFrom, spelt}
+use Rattle.capi_calls.specs.QueryWords.{nextQueryFrom}
+use Rattle.capi_calls.specs.QueryWords.{levelWords, numbersFrom}
 use Rattle.capi_calls.specs.QueryCalls.{queryOpenCall, queryNextCall}
 
 -- the word of variable n
@@ -28,7 +33,8 @@ v n = 2147483648 + n
 abbrev resource : ℕ → ℕ → ℕ → ℕ → ℕ → ℕ → List ℕ → List ℕ
 resource a b c d e f rest = a ∷ b ∷ c ∷ d ∷ e ∷ f ∷ 0 ∷ 1 ∷ 99 ∷ 99 ∷ 99 ∷ rest
 
--- 1 = (1,2,3), 2 = (1,2,4), as the loading program's example leaves them, after g reclaims; after five. No text is needed.
+-- 1 = (1,2,3), 2 = (1,2,4), as the loading program's example leaves them, after g reclaims; after five. No text is
+-- needed.
 abbrev countersIn : ℕ → List ℕ
 countersIn g = 4 ∷ 2 ∷ 0 ∷ g ∷ 77 ∷ []
 
@@ -102,34 +108,44 @@ spellings =
 abbrev opened : List ℕ → List ℕ → ℕ × List ℕ
 opened ws q = queryOpenCall counters two ws q
 
-abbrev next : List ℕ → List ℕ → ℕ → ℕ × (List ℕ × List ℕ)
-next ws q b = queryNextCall counters two ws q b blank
+-- with these counters; with the store's
+abbrev nextWith : List ℕ → List ℕ → List ℕ → ℕ → ℕ × (List ℕ × List ℕ)
+nextWith cw ws q b = queryNextCall cw two ws q b blank
 
-abbrev says : ℕ → List ℕ → List ℕ → ℕ × (List ℕ × List ℕ)
-says r q w = (r, (q, w))
+abbrev next : List ℕ → List ℕ → ℕ → ℕ × (List ℕ × List ℕ)
+next ws q b = nextWith counters ws q b
 
 abbrev refusal : ℕ → List ℕ → ℕ × (List ℕ × List ℕ)
-refusal r q = says r q (reply 0 0 0 0)
+refusal r q = beside r q (reply 0 0 0 0)
+
+-- a cursor of one word less; the same with the reply
+abbrev shortCursor : ℕ → List ℕ
+shortCursor x = replicate (queryCursorWords - 1) x
+
+abbrev shortReply : List ℕ
+shortReply = replicate (queryReplyWords - 1) 9
 
 pub record Calling : Type 0 where
-  -- open writes the start and the number of reclaims, zeros in each slot; no query is refused 8, and a short cursor stays as it was
+  -- open writes the start and the number of reclaims, zeros in each slot; no query is refused 8, and a short cursor
+  -- stays as it was
   pub opens : opened about (cursorIn 9 9 9 9 9 9 9 9) ≡ (0, cursor 0 0 0 0 0 0 0)
   pub open-no-query : opened (1 ∷ 0 ∷ 1 ∷ []) (cursor 9 9 9 9 9 9 9) ≡ (8, cursor 9 9 9 9 9 9 9)
-  pub open-short : opened about (replicate (queryCursorWords - 1) 9) ≡ (100, replicate (queryCursorWords - 1) 9)
+  pub open-short : opened about (shortCursor 9) ≡ (100, shortCursor 9)
   -- the newest first, then on along the subject's chain, spent, ended
-  pub first : next about (cursor 0 9 9 9 9 9 9) 1 ≡ says 0 (cursor 1 1 1 1 0 0 0) (reply 1 1 2 4)
-  pub within-none : next about (cursor 1 0 9 9 9 9 9) 1 ≡ says 0 (cursor 1 1 1 1 0 0 0) (reply 1 1 2 4)
-  pub second : next about (cursor 1 1 1 1 9 9 9) 5 ≡ says 0 (cursor 1 1 1 0 0 0 0) (reply 1 1 2 3)
-  pub over : next about (cursor 1 1 1 0 0 0 0) 5 ≡ says 0 (cursor 2 0 0 0 0 0 0) (reply 2 0 0 0)
-  pub at-end : next about (cursor 2 9 9 9 9 9 9) 5 ≡ says 0 (cursor 2 0 0 0 0 0 0) (reply 2 0 0 0)
-  pub spent : next (1 ∷ v 0 ∷ 3 ∷ []) (cursor 1 1 1 2 9 9 9) 1 ≡ says 0 (cursor 1 1 1 1 0 0 0) (reply 3 1 0 0)
+  pub first : next about (cursor 0 9 9 9 9 9 9) 1 ≡ beside 0 (cursor 1 1 1 1 0 0 0) (reply 1 1 2 4)
+  pub within-none : next about (cursor 1 0 9 9 9 9 9) 1 ≡ beside 0 (cursor 1 1 1 1 0 0 0) (reply 1 1 2 4)
+  pub second : next about (cursor 1 1 1 1 9 9 9) 5 ≡ beside 0 (cursor 1 1 1 0 0 0 0) (reply 1 1 2 3)
+  pub over : next about (cursor 1 1 1 0 0 0 0) 5 ≡ beside 0 (cursor 2 0 0 0 0 0 0) (reply 2 0 0 0)
+  pub at-end : next about (cursor 2 9 9 9 9 9 9) 5 ≡ beside 0 (cursor 2 0 0 0 0 0 0) (reply 2 0 0 0)
+  pub spent : next (1 ∷ v 0 ∷ 3 ∷ []) (cursor 1 1 1 2 9 9 9) 1 ≡ beside 0 (cursor 1 1 1 1 0 0 0) (reply 3 1 0 0)
   -- 8 before 6, 6 before 7
   pub no-query : next (1 ∷ 0 ∷ 1 ∷ []) (cursor 3 0 0 0 0 0 0) 0 ≡ refusal 8 (cursor 3 0 0 0 0 0 0)
   pub first-word : next about (cursor 3 0 0 0 0 0 0) 0 ≡ refusal 6 (cursor 3 0 0 0 0 0 0)
   pub chain-word : next about (cursor 1 1 4 1 0 0 0) 0 ≡ refusal 6 (cursor 1 1 4 1 0 0 0)
   pub levels : next about (cursor 1 (suc maxPatterns) 1 1 1 1 1) 0 ≡ refusal 6 (cursor 1 (suc maxPatterns) 1 1 1 1 1)
   pub no-budget : next about (cursor 1 1 1 1 4 4 4) 0 ≡ refusal 7 (cursor 1 1 1 1 4 4 4)
-  -- a cursor of another number of reclaims, at the start and at the end too: 13, before 6 in each of its ways, and before 7
+  -- a cursor of another number of reclaims, at the start and at the end too: 13, before 6 in each of its ways, and
+  -- before 7
   pub stale-within : next about (cursorIn 4 1 1 1 1 0 0 0) 5 ≡ refusal 13 (cursorIn 4 1 1 1 1 0 0 0)
   pub stale-start : next about (cursorIn 6 0 0 0 0 0 0 0) 5 ≡ refusal 13 (cursorIn 6 0 0 0 0 0 0 0)
   pub stale-end : next about (cursorIn 4 2 0 0 0 0 0 0) 5 ≡ refusal 13 (cursorIn 4 2 0 0 0 0 0 0)
@@ -140,24 +156,23 @@ pub record Calling : Type 0 where
   pub stale-no-query : next (1 ∷ 0 ∷ 1 ∷ []) (cursorIn 4 0 0 0 0 0 0 0) 0 ≡ refusal 8 (cursorIn 4 0 0 0 0 0 0 0)
   pub stale-neither : next (1 ∷ 0 ∷ 1 ∷ []) (cursorIn 4 3 0 0 0 0 0 0) 0 ≡ refusal 8 (cursorIn 4 3 0 0 0 0 0 0)
   -- zeros are the start of a store never reclaimed, and of no other
-  pub zeros-start : queryNextCall (countersIn 0) two about (cursorIn 0 0 0 0 0 0 0 0) 1 blank ≡ says 0 (cursorIn 0 1 1 1 1 0 0 0) (reply 1 1 2 4)
-  pub zeros-stale : queryNextCall (countersIn 1) two about (cursorIn 0 0 0 0 0 0 0 0) 1 blank ≡ refusal 13 (cursorIn 0 0 0 0 0 0 0 0)
+  pub zeros-start : nextWith (countersIn 0) about (cursorIn 0 0 0 0 0 0 0 0) 1
+      ≡ beside 0 (cursorIn 0 1 1 1 1 0 0 0) (reply 1 1 2 4)
+  pub zeros-stale : nextWith (countersIn 1) about (cursorIn 0 0 0 0 0 0 0 0) 1 ≡ refusal 13 (cursorIn 0 0 0 0 0 0 0 0)
   -- counters, cursor, reply
-  pub no-counters : queryNextCall (4 ∷ 2 ∷ 0 ∷ []) two about [] 1 [] ≡ says 100 [] []
-  pub no-cursor : queryNextCall counters two about (replicate (queryCursorWords - 1) 0) 1 [] ≡ says 100 (replicate (queryCursorWords - 1) 0) []
-  pub no-reply : queryNextCall counters two about (replicate queryCursorWords 0) 1 (replicate (queryReplyWords - 1) 9)
-      ≡ says 100 (replicate queryCursorWords 0) (replicate (queryReplyWords - 1) 9)
+  pub no-counters : queryNextCall (4 ∷ 2 ∷ 0 ∷ []) two about [] 1 [] ≡ beside 100 [] []
+  pub no-cursor : queryNextCall counters two about (shortCursor 0) 1 [] ≡ beside 100 (shortCursor 0) []
+  pub no-reply : queryNextCall counters two about (0 ∷ shortCursor 0) 1 shortReply ≡ beside 100 (0 ∷ shortCursor 0) shortReply
   -- counters above what the tables hold, or above the most reclaims, are refused 1, before all else
-  pub no-room : queryNextCall (5 ∷ 2 ∷ 0 ∷ 5 ∷ []) two (1 ∷ []) (cursorIn 4 3 0 0 0 0 0 0) 0 blank ≡ refusal 1 (cursorIn 4 3 0 0 0 0 0 0)
-  pub many-reclaims : queryNextCall (countersIn 65536) two about (cursorIn 4 0 0 0 0 0 0 0) 0 blank ≡ refusal 1 (cursorIn 4 0 0 0 0 0 0 0)
+  pub no-room : nextWith (5 ∷ 2 ∷ 0 ∷ 5 ∷ []) (1 ∷ []) (cursorIn 4 3 0 0 0 0 0 0) 0 ≡ refusal 1 (cursorIn 4 3 0 0 0 0 0 0)
+  pub many-reclaims : nextWith (countersIn 65536) about (cursorIn 4 0 0 0 0 0 0 0) 0 ≡ refusal 1 (cursorIn 4 0 0 0 0 0 0 0)
 
 calls : Calling
-unfolding queryOpenCall queryNextCall ifShort nextQueryFrom spelt allBelow levelsFrom levelWords numbersFrom wordOk allOk wordsOk patternsOf
-    valueOf under bindWord match recordAt past levelRetracted intact anyRetracted pruned backtrack remains nextPattern binds asked
-    enteredOk placeOk
-    enter hit tried visit walk begun resume answerOf levelsOf insideOf placeAs written cursorAt openQueryOf packed stale nextQueryOf known
-    better pick termAt nextAt flagAt tripleAt firstAt countAt linkOf startOf holdsResource visitable pickChain pickable chainOk recordOk
-    fits
+unfolding queryOpenCall queryNextCall ifShort ifAnyShort nextQueryFrom spelt allBelow levelsFrom levelWords numbersFrom wordOk allOk
+    wordsOk patternsOf valueOf under bindWord match recordAt past levelRetracted intact anyRetracted pruned backtrack remains
+    nextPattern binds asked enteredOk placeOk enter hit tried visit walk begun resume answerOf levelsOf insideOf placeAs written
+    cursorAt openQueryOf packed stale nextQueryOf known better pick termAt nextAt flagAt tripleAt firstAt countAt linkOf startOf
+    holdsResource visitable pickChain pickable chainOk recordOk fits
 calls =
     record {
       opens = refl;

@@ -1,5 +1,5 @@
--- In the cursor that an answered call over queries writes, the slots past the levels entered are 0, and at the start and at the end none
--- are entered. Assumes nothing.
+-- In the cursor that an answered call over queries writes, the slots past the levels entered are 0, and at the start
+-- and at the end none are entered. Assumes nothing.
 use mathlib.Core.Path.{_≡_, refl, ap, _∙_}
 use mathlib.Core.Logic.{_≢_}
 use mathlib.Core.Bool.{Bool, true, false, cond}
@@ -21,10 +21,13 @@ use Rattle.graph.specs.Query.{Answer, refused, found, ended, spent, packed, ans
 use Rattle.graph.specs.Place.{noLevel, startCursor, Place, start, inside, finish, cursorAt, placeOf}
 use Rattle.graph.specs.Words.{maxPatterns, wordsOk}
 use Rattle.graph.proofs.Laws.{written-past}
-use Rattle.capi_calls.specs.Words.{counterWords, tooShort, countersOf, chainWord, done, ifShort}
-use Rattle.capi_calls.specs.QueryWords.{queryCursorWords, queryReplyWords, progressWord, queryCursorOf, spelt, misspelt, nextQueryFrom}
-use Rattle.capi_calls.specs.QueryWords.{levelWords, withQueryCursor}
-use Rattle.capi_calls.specs.QueryCalls.{queryOpenCall, queryNextCall, SlotsBlank, OpenedSlotsBlank, AnsweredSlotsBlank}
+use Rattle.capi_calls.specs.Words.{counterWords, tooShort, countersOf, chainWord, done, beside, ifShort}
+use Rattle.capi_calls.specs.Words.{ifAnyShort}
+use Rattle.capi_calls.specs.QueryWords.{queryCursorWords, queryReplyWords, progressWord, queryCursorOf, spelt}
+use Rattle.capi_calls.specs.QueryWords.{misspelt}
+use Rattle.capi_calls.specs.QueryWords.{nextQueryFrom, levelWords, withQueryCursor}
+use Rattle.capi_calls.specs.QueryCalls.{queryOpenCall, queryNextCall, SlotsBlank, OpenedSlotsBlank}
+use Rattle.capi_calls.specs.QueryCalls.{AnsweredSlotsBlank}
 use Rattle.capi_calls.proofs.QueryBack.{levels-size}
 
 -- ---- the cursor as a value
@@ -53,7 +56,8 @@ opened-clear : (c : Counters) (m : Tables) (ws : List ℕ) → Clear ((openQuery
 unfolding openQueryOf
 opened-clear c m ws =
     let clear : QueryOpened → Type 0 = λ o. Clear (o .cursor) in
-    cond-all clear (fits c m) _ _ (cond-all clear (wordsOk (c .resources) ws) _ _ (start-clear (c .generation)) (start-clear 0)) (start-clear 0)
+    cond-all clear (fits c m) _ _
+    (cond-all clear (wordsOk (c .resources) ws) _ _ (start-clear (c .generation)) (start-clear 0)) (start-clear 0)
 
 next-clear : (c : Counters) (m : Tables) (ws q : List ℕ) (b : ℕ) → Clear ((nextQueryFrom c m ws q b) .cursor)
 unfolding nextQueryFrom nextQueryOf
@@ -122,11 +126,11 @@ opened-slots-blank cw m ws w =
     rw e (words-blank w (a .cursor) (ltb-false (length w) queryCursorWords f) (opened-clear (countersOf cw) m ws))))
 
 pub answered-slots-blank : AnsweredSlotsBlank
-unfolding queryNextCall
+unfolding queryNextCall ifAnyShort
 answered-slots-blank cw m ws q b w =
     let P : ℕ × (List ℕ × List ℕ) → Type 0 = λ z. z .0 ≡ 0 → SlotsBlank (z .1 .0) in
     let a = nextQueryFrom (countersOf cw) m ws q b in
-    let short : P (tooShort, (q, w)) = λ e. absurd (omega arith) in
+    let short : P (beside tooShort q w) = λ e. absurd (omega arith) in
     each P (ltb (length cw) counterWords) short (λ _.
     each P (ltb (length q) queryCursorWords) short (λ f.
     each P (ltb (length w) queryReplyWords) short (λ _ e.

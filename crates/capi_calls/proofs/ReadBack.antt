@@ -11,7 +11,8 @@ use Rattle.store.specs.Tables.{word}
 use Rattle.capi_calls.specs.Words.{chainWord}
 use Rattle.capi_calls.proofs.Runs as runs
 use Rattle.capi_calls.proofs.QueryRuns as query-runs
-use Rattle.capi_calls.specs.Claims.{CountersReadBack, CountersKeepTheRest, ChainsReadBack, CursorsReadBack, CursorsKeepTheRest}
+use Rattle.capi_calls.specs.Claims.{CountersReadBack, CountersKeepTheRest, ChainsReadBack, CursorsReadBack}
+use Rattle.capi_calls.specs.Claims.{CursorsKeepTheRest}
 
 past : (w : List ℕ) (i k v : ℕ) → i < k → word (set w i v) k ≡ word w k
 past w i k v h = getD-set-other w i k v 0 (omega arith)

@@ -1,20 +1,20 @@
--- Closed runs of the calls with "A" in both spellings, without and with the string ending, on a store that has room for this name alone.
--- Assumes nothing.
+-- Closed runs of the calls with "A" in both spellings, without and with the string ending, on a store that has room for
+-- this name alone. Assumes nothing.
 use mathlib.Core.Path.{_≡_, refl}
 use mathlib.Core.List.{List, [], _∷_, _++_}
 use Prim.Native.Nat.{ℕ}
 use lib.ListN.{replicate}
-use Rattle.term.specs.Bytes.{among, iriByte, textByte, pairByte, firstByte, labelByte, letter, alnum, eqBytes}
-use Rattle.term.specs.Scanner.{stepOf, runOf, wholeOf, isBad, firstKindOf, kindOf}
-use Rattle.term.specs.Canonical.{stringEnding, writesString, canonical}
-use Rattle.store.specs.Shared.{below, wellFormed, lookupName}
-use Rattle.store.specs.Tables.{Tables, tables, resourceWords, fits, offsetAt}
-use Rattle.store.specs.Dictionary.{rank, placeAt, indexPlaceOf, findOf, roomFor, bring, insertAt, internAs, internOf}
-use Rattle.store.specs.Names.{compareBytes, nameAt, namesUpTo}
+use Rattle.term.specs.Scanner.{isBad}
+use Rattle.term.specs.Canonical.{stringEnding}
+use Rattle.store.specs.Tables.{Tables, tables, resourceWords}
+use Rattle.store.specs.Dictionary.{findOf, internOf}
+use Rattle.store.proofs.Opened.{shared-definitions, table-definitions}
 use Rattle.ntriples.specs.Grammar.{white, commentByte}
-use Rattle.ntriples.specs.Reader.{kindAllowed, isDot, opens, dotted, afterOf, enterOf, gapOf, goesOnOf, leaveOf, advanceOf, stateOf}
+use Rattle.ntriples.specs.Reader.{kindAllowed, isDot, opens, dotted, afterOf, enterOf, gapOf, goesOnOf, leaveOf}
+use Rattle.ntriples.specs.Reader.{advanceOf, stateOf}
 use Rattle.ntriples.specs.Reader.{endOf, lineOf}
-use Rattle.ntriples.specs.Reader.{untilLf, hasLf, dropCr, firstLineOf, takenOf, answerOf, readSpelled, shortLine, readOf}
+use Rattle.ntriples.specs.Reader.{untilLf, hasLf, dropCr, firstLineOf, takenOf, answerOf, readSpelled, shortLine}
+use Rattle.ntriples.specs.Reader.{readOf}
 use Rattle.capi_calls.specs.Words.{ifShort, done, countersOf}
 use Rattle.capi_calls.specs.Calls.{kindCall, findAs, enterAs, lineCall}
 
@@ -48,27 +48,24 @@ abbrev entered : Tables × (ℕ × (List ℕ × List ℕ))
 entered = (holding, (0, (one, 1 ∷ 66 ∷ [])))
 
 -- the kind, by the name as spelled
-kinds-either : kindCall plainA (5 ∷ 66 ∷ []) ∷ kindCall longA (5 ∷ 66 ∷ []) ∷ [] ≡ done 0 (3 ∷ 66 ∷ []) ∷ done 0 (3 ∷ 66 ∷ []) ∷ []
-unfolding among iriByte textByte pairByte firstByte labelByte letter alnum stepOf runOf wholeOf firstKindOf kindOf kindCall
+kinds-either : kindCall plainA (5 ∷ 66 ∷ []) ∷ kindCall longA (5 ∷ 66 ∷ []) ∷ []
+    ≡ done 0 (3 ∷ 66 ∷ []) ∷ done 0 (3 ∷ 66 ∷ []) ∷ []
+unfolding shared-definitions kindCall
 kinds-either = refl
 
 finds-either : finds plainA ∷ finds longA ∷ [] ≡ done 0 (1 ∷ 66 ∷ []) ∷ done 0 (1 ∷ 66 ∷ []) ∷ []
-unfolding among iriByte textByte pairByte firstByte labelByte letter alnum eqBytes stepOf runOf wholeOf firstKindOf kindOf writesString
-    canonical below fits offsetAt wellFormed nameAt namesUpTo lookupName findOf ifShort findAs
+unfolding table-definitions ifShort findAs
 finds-either = refl
 
 -- the first time and again, in each order of the spellings
 enters-either : enters none empty plainA ∷ enters none empty longA ∷ enters one holding plainA ∷ enters one holding longA ∷ []
     ≡ entered ∷ entered ∷ entered ∷ entered ∷ []
-unfolding among iriByte textByte pairByte firstByte labelByte letter alnum eqBytes stepOf runOf wholeOf firstKindOf kindOf writesString
-    canonical below fits offsetAt wellFormed compareBytes nameAt rank placeAt indexPlaceOf roomFor bring insertAt internAs internOf
-    ifShort enterAs
+unfolding table-definitions ifShort enterAs
 enters-either = refl
 
 -- <a><b>, then "A" with the ending, and the dot at once: the object has three bytes, and the line ends at byte 53
 reads-line : lineCall (60 ∷ 97 ∷ 62 ∷ 60 ∷ 98 ∷ 62 ∷ (longA ++ 46 ∷ [])) 0 (replicate 9 5)
     ≡ done 0 (2 ∷ 53 ∷ 0 ∷ 3 ∷ 3 ∷ 3 ∷ 6 ∷ 3 ∷ 5 ∷ [])
-unfolding readOf readSpelled shortLine eqBytes writesString canonical answerOf firstLineOf takenOf untilLf hasLf
-    dropCr lineOf stateOf endOf advanceOf leaveOf goesOnOf gapOf enterOf afterOf dotted opens isDot isBad kindAllowed
-    commentByte white stepOf wholeOf firstKindOf among iriByte textByte pairByte firstByte labelByte letter alnum lineCall
+unfolding shared-definitions readOf readSpelled shortLine answerOf firstLineOf takenOf untilLf hasLf dropCr lineOf stateOf endOf
+    advanceOf leaveOf goesOnOf gapOf enterOf afterOf dotted opens isDot isBad kindAllowed commentByte white lineCall
 reads-line = refl

@@ -1,4 +1,5 @@
--- The number of reclaims in the words that C lends: 13 by it alone, before every 6, and one more after a reclaim. Assumes nothing.
+-- The number of reclaims in the words that C lends: 13 by it alone, before every 6, and one more after a reclaim.
+-- Assumes nothing.
 use mathlib.Core.Path.{_≡_, refl, sym, ap, _∙_}
 use mathlib.Core.Logic.{_≢_, _↔_}
 use mathlib.Core.Bool.{true, true≢false}
@@ -22,9 +23,11 @@ use Rattle.graph.specs.Query.{openQueryOf, packed}
 use Rattle.graph.specs.Words.{wordsOk}
 use Rattle.graph.specs.Values.{queryValues}
 use Rattle.graph.proofs.Theorems as graph-claims
-use Rattle.capi_calls.specs.Words.{counterWords, cursorWords, countersOf, cursorFrom, misread, nextFrom, reclaimedAs}
+use Rattle.capi_calls.specs.Words.{counterWords, cursorWords, scanReplyWords, ifAnyShort, countersOf, cursorFrom}
+use Rattle.capi_calls.specs.Words.{misread, nextFrom, reclaimedAs}
 use Rattle.capi_calls.specs.Calls.{nextCall, reclaimAs}
-use Rattle.capi_calls.specs.QueryWords.{queryCursorWords, queryReplyWords, queryCursorOf, spelt, misspelt, nextQueryFrom}
+use Rattle.capi_calls.specs.QueryWords.{queryCursorWords, queryReplyWords, queryCursorOf, spelt, misspelt}
+use Rattle.capi_calls.specs.QueryWords.{nextQueryFrom}
 use Rattle.capi_calls.specs.QueryCalls.{queryNextCall}
 use Rattle.capi_calls.specs.Claims.{StaleWords, StaleQueryWords, Reclaims, AnsweredReclaim}
 use Rattle.capi_calls.proofs.ReadBack.{counters-read-back}
@@ -54,9 +57,10 @@ next-stale c m w b =
     (λ e. rw e (misread-stale c m w))
 
 pub stale-words : StaleWords
-unfolding nextCall
+unfolding nextCall ifAnyShort
 stale-words cw m q b w h g k =
-    rw (le-ltb (length cw) counterWords h, le-ltb (length q) cursorWords g, le-ltb (length w) 3 k) (next-stale (countersOf cw) m q b)
+    rw (le-ltb (length cw) counterWords h, le-ltb (length q) cursorWords g, le-ltb (length w) scanReplyWords k)
+    (next-stale (countersOf cw) m q b)
 
 -- ---- a query's words
 
@@ -81,15 +85,16 @@ query-stale c m ws w b =
     decide (spelt w) (λ e. rw e (graph-claims.stale-refused c m ws (queryCursorOf w) b)) (λ e. rw e (misspelt-stale c m ws w))
 
 pub stale-query-words : StaleQueryWords
-unfolding queryNextCall
+unfolding queryNextCall ifAnyShort
 stale-query-words cw m ws q b w h g k =
     rw (le-ltb (length cw) counterWords h, le-ltb (length q) queryCursorWords g, le-ltb (length w) queryReplyWords k)
     (query-stale (countersOf cw) m ws q b)
 
 -- ---- a reclaim that is answered
 
-answered : (cw : List ℕ) (m m′ : Tables) (z : ℕ × List ℕ) (a : Reclaimed) → 4 ≤ length cw → fits (countersOf cw) m ≡ true
-    → word cw 3 < maxReclaims → z ≡ reclaimedAs cw a → after m′ a ≡ reclaimOf (countersOf cw) m → Reclaims cw m m′ z
+answered : (cw : List ℕ) (m m′ : Tables) (z : ℕ × List ℕ) (a : Reclaimed) → counterWords ≤ length cw
+    → fits (countersOf cw) m ≡ true → word cw 3 < maxReclaims → z ≡ reclaimedAs cw a
+    → after m′ a ≡ reclaimOf (countersOf cw) m → Reclaims cw m m′ z
 answered cw m m′ z (NotReclaimed e) h f g d x =
     absurd (true≢false (sym (eq-eqb (refusalNumber e) 0
     (ap (λ (y : Tables × Reclaimed). (reclaimedValues (y .1)) .refusal) x ∙ reclaim-done (countersOf cw) m f g)) ∙ refuses e))

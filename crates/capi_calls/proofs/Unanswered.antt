@@ -1,5 +1,5 @@
--- A call that is not answered leaves counters, cursor and tables as they were, and zeros in its reply, or the reply too where it is lent
--- too little. Assumes nothing.
+-- A call that is not answered leaves counters, cursor and tables as they were, and zeros in its reply, or the reply too
+-- where it is lent too little. Assumes nothing.
 use mathlib.Core.Path.{_≡_, refl, ap, _∙_}
 use mathlib.Core.Logic.{_≢_}
 use mathlib.Core.Bool.{Bool, true, false, cond}
@@ -39,18 +39,27 @@ use Rattle.graph.specs.Query.{Answer, refused, found, ended, spent, packed, ans
 use Rattle.graph.specs.Place.{placeOf}
 use Rattle.graph.specs.Values.{queryOpenedValues}
 use native.Mathlib.Omega.{arith}
-use borrow.Author.Tests.{ne-eqb, ltb-true, ltb-false}
+use borrow.Author.Tests.{ltb-true, ltb-false, ne-eqb}
 use Rattle.store.proofs.Cases.{assert-refused, retract-refused}
 use Rattle.store.proofs.Limits.{reclaim-refuses}
 use Rattle.store.proofs.Numbers.{refuses, not-beyond}
 use Rattle.capi_calls.proofs.Runs as runs
-use Rattle.capi_calls.specs.Words.{tooShort, counterWords, cursorWords, countersOf, ifShort, longEnough, done, wrote, one, two, four}
-use Rattle.capi_calls.specs.Words.{lookupAnswer, nameAnswer, statementAnswer, retractAs, openedAs, scannedAs, assertAs, enteredAs}
-use Rattle.capi_calls.specs.Words.{reclaimedAs, nextFrom}
-use Rattle.capi_calls.specs.Calls.{findAs, nameCall, statementCall, retractCall, openCall, nextCall, assertCall, enterAs, reclaimAs}
-use Rattle.capi_calls.specs.Claims.{bare, bareBeside, bareStore, UnansweredFind, UnansweredName, UnansweredStatement, UnansweredRetract, UnansweredAssert, UnansweredEnter, UnansweredReclaim, UnansweredOpen, UnansweredNext}
-use Rattle.capi_calls.specs.Claims.{UnansweredQueryOpen, UnansweredQueryNext}
-use Rattle.capi_calls.specs.QueryWords.{queryCursorWords, queryReplyWords, queryCursorOf, spelt, misspelt, nextQueryFrom, numbersFrom}
+use Rattle.capi_calls.specs.Words.{tooShort, counterWords, cursorWords, numberReplyWords, nameReplyWords}
+use Rattle.capi_calls.specs.Words.{statementReplyWords, assertReplyWords, scanReplyWords, countersOf, ifShort}
+use Rattle.capi_calls.specs.Words.{ifAnyShort}
+use Rattle.capi_calls.specs.Words.{longEnough, numberAs, nameAs, statementAs, lookupAnswer, nameAnswer}
+use Rattle.capi_calls.specs.Words.{statementAnswer}
+use Rattle.capi_calls.specs.Words.{retractAs, openedAs, scannedAs, assertAs, enteredAs, reclaimedAs, nextFrom}
+use Rattle.capi_calls.specs.Calls.{findAs, nameCall, statementCall, retractCall, openCall, nextCall, assertCall}
+use Rattle.capi_calls.specs.Calls.{enterAs, reclaimAs}
+use Rattle.capi_calls.specs.Claims.{bare, bareTables, bareBeside, bareStore, kept, Unanswered, UnansweredFind}
+use Rattle.capi_calls.specs.Claims.{UnansweredName, UnansweredStatement, UnansweredRetract, UnansweredAssert}
+use Rattle.capi_calls.specs.Claims.{UnansweredEnter}
+use Rattle.capi_calls.specs.Claims.{UnansweredReclaim, UnansweredOpen, UnansweredNext, UnansweredQueryOpen}
+use Rattle.capi_calls.specs.Claims.{UnansweredQueryNext}
+use Rattle.capi_calls.specs.QueryWords.{queryCursorWords, queryReplyWords, queryCursorOf, spelt, misspelt}
+use Rattle.capi_calls.specs.QueryWords.{nextQueryFrom}
+use Rattle.capi_calls.specs.QueryWords.{numbersFrom}
 use Rattle.capi_calls.specs.QueryCalls.{queryOpenedAs, queryOpenCall, queryAnsweredAs, queryNextCall}
 use Rattle.term.proofs.Names.{never}
 
@@ -63,9 +72,20 @@ both : {A : Type 0} (P : A → Type 0) (b : Bool) {s a : A} → P s → P a → 
 both P true p q = p
 both P false p q = q
 
-either : {A : Type 0} (P : A → Type 0) (cw : List ℕ) (n : ℕ) (w : List ℕ) {s a : A} → P s → P a → P (ifShort cw n w s a)
-unfolding ifShort
-either P cw n w p q = both P (ltb (length cw) counterWords) p (both P (ltb (length w) n) p q)
+-- a call that is lent too little is left as b says, and so is one that is not answered
+module _ {A : Type 0} (b : ℕ → ℕ × A) (cw w : List ℕ) (n : ℕ) {s a : ℕ × A} (e : s ≡ b (s .0)) (u : Unanswered a b) where
+  or-short : Unanswered (ifShort cw n w s a) b
+  unfolding ifShort
+  or-short =
+      let P : ℕ × A → Type 0 = λ z. Unanswered z b in
+      both P (ltb (length cw) counterWords) (λ _. e) (both P (ltb (length w) n) (λ _. e) u)
+
+  or-any-short : (k : ℕ) (q : List ℕ) → Unanswered (ifAnyShort cw k q n w s a) b
+  unfolding ifAnyShort
+  or-any-short k q =
+      let P : ℕ × A → Type 0 = λ z. Unanswered z b in
+      both P (ltb (length cw) counterWords) (λ _. e)
+      (both P (ltb (length q) k) (λ _. e) (both P (ltb (length w) n) (λ _. e) u))
 
 -- with room it is the answer
 inside : {A : Type 0} (b d : Bool) (s a : A) → cond b false (cond d false true) ≡ true → cond b s (cond d s a) ≡ a
@@ -79,43 +99,40 @@ long-enough-is cw n w s a e = inside (ltb (length cw) counterWords) (ltb (length
 
 -- ---- replies alone
 
-found-bare : (w : List ℕ) (a : Lookup) → (one w (lookupAnswer a)) .0 ≢ 0 → one w (lookupAnswer a) ≡ bare 1 w ((one w (lookupAnswer a)) .0)
+found-bare : (w : List ℕ) (a : Lookup) → Unanswered (numberAs w (lookupAnswer a)) (bare numberReplyWords w)
 found-bare w (Number n) h = absurd (h refl)
 found-bare w Absent h = absurd (h refl)
 found-bare w (NotFound e) h = rw (not-short e)
 
-named-bare : (w : List ℕ) (a : NameRead) → (two w (nameAnswer a)) .0 ≢ 0 → two w (nameAnswer a) ≡ bare 2 w ((two w (nameAnswer a)) .0)
+named-bare : (w : List ℕ) (a : NameRead) → Unanswered (nameAs w (nameAnswer a)) (bare nameReplyWords w)
 named-bare w (Span a n) h = absurd (h refl)
 named-bare w (NotNamed e) h = rw (not-short e)
 
-read-bare : (w : List ℕ) (a : StatementRead) → (four w (statementAnswer a)) .0 ≢ 0
-    → four w (statementAnswer a) ≡ bare 4 w ((four w (statementAnswer a)) .0)
+read-bare : (w : List ℕ) (a : StatementRead) → Unanswered (statementAs w (statementAnswer a)) (bare statementReplyWords w)
 read-bare w (Is x f) h = absurd (h refl)
 read-bare w (NotRead e) h = rw (not-short e)
 
 pub unanswered-find : UnansweredFind
 unfolding findAs
-unanswered-find cw m name w z f h =
-    let g : z .0 ≢ 0 → z ≡ bare 1 w (z .0) =
-    rw (f .told) (either (λ (y : ℕ × List ℕ). y .0 ≢ 0 → y ≡ bare 1 w (y .0)) cw 1 w (λ _. refl) (found-bare w (f .found))) in
-    g h
+unanswered-find cw m name w z f =
+    rw (f .told) (or-short (bare numberReplyWords w) cw w numberReplyWords refl (found-bare w (f .found)))
 
 pub unanswered-name : UnansweredName
 unfolding nameCall
 unanswered-name cw m n w =
-    either (λ (z : ℕ × List ℕ). z .0 ≢ 0 → z ≡ bare 2 w (z .0)) cw 2 w (λ _. refl)
+    or-short (bare nameReplyWords w) cw w nameReplyWords refl
     (named-bare w (nameSpanOf (countersOf cw) m (record { 0 = n })))
 
 pub unanswered-statement : UnansweredStatement
 unfolding statementCall
 unanswered-statement cw m n w =
-    either (λ (z : ℕ × List ℕ). z .0 ≢ 0 → z ≡ bare 4 w (z .0)) cw 4 w (λ _. refl)
+    or-short (bare statementReplyWords w) cw w statementReplyWords refl
     (read-bare w (statementOf (countersOf cw) m (record { 0 = n })))
 
 -- ---- tables and counters
 
 retracted-bare : (w : List ℕ) (m m′ : Tables) (a : Retracted) → ((e : Refusal) → a ≡ NotRetracted e → m′ ≡ m)
-    → (retractAs w (after m′ a)) .0 ≢ 0 → retractAs w (after m′ a) ≡ wrote ((retractAs w (after m′ a)) .0) m ((bare 1 w ((retractAs w (after m′ a)) .0)) .1)
+    → Unanswered (retractAs w (after m′ a)) (bareTables numberReplyWords m w)
 retracted-bare w m m′ (WasLive n) quiet h = absurd (h refl)
 retracted-bare w m m′ NotLive quiet h = absurd (h refl)
 retracted-bare w m m′ (NotRetracted e) quiet h = rw (not-short e, quiet e refl)
@@ -124,11 +141,11 @@ pub unanswered-retract : UnansweredRetract
 unfolding retractCall
 unanswered-retract cw m x w =
     let z = retractOf (countersOf cw) m x in
-    either (λ (z : ℕ × (Tables × List ℕ)). z .0 ≢ 0 → z ≡ wrote (z .0) m ((bare 1 w (z .0)) .1)) cw 1 w (λ _. refl)
+    or-short (bareTables numberReplyWords m w) cw w numberReplyWords refl
     (retracted-bare w m (z .0) (z .1) (retract-refused (countersOf cw) m x))
 
 asserted-bare : (cw w : List ℕ) (m m′ : Tables) (a : Asserted) → ((e : Refusal) → a ≡ NotAsserted e → m′ ≡ m)
-    → (assertAs cw w (after m′ a)) .0 ≢ 0 → assertAs cw w (after m′ a) ≡ bareStore 2 cw m w ((assertAs cw w (after m′ a)) .0)
+    → Unanswered (assertAs cw w (after m′ a)) (bareStore assertReplyWords cw m w)
 asserted-bare cw w m m′ (New n d) quiet h = absurd (h refl)
 asserted-bare cw w m m′ (Already n d) quiet h = absurd (h refl)
 asserted-bare cw w m m′ (Revived n d) quiet h = absurd (h refl)
@@ -138,14 +155,15 @@ pub unanswered-assert : UnansweredAssert
 unfolding assertCall
 unanswered-assert cw m x w =
     let z = assertOf (countersOf cw) m x in
-    either (λ (z : ℕ × (List ℕ × (Tables × List ℕ))). z .0 ≢ 0 → z ≡ bareStore 2 cw m w (z .0)) cw 2 w (λ _. refl)
+    or-short (bareStore assertReplyWords cw m w) cw w assertReplyWords refl
     (asserted-bare cw w m (z .0) (z .1) (assert-refused (countersOf cw) m x))
 
-entered-bare : (cw w : List ℕ) (a : Interned) → (enteredAs cw w a) .0 ≢ 0 → enteredAs cw w a ≡ bareBeside 1 cw w ((enteredAs cw w a) .0)
+entered-bare : (cw w : List ℕ) (a : Interned) → Unanswered (enteredAs cw w a) (bareBeside numberReplyWords cw w)
 entered-bare cw w (Id n d) h = absurd (h refl)
 entered-bare cw w (NotInterned e) h = rw (not-short e, refuses e)
 
-entered-kept : (cw w : List ℕ) (m m′ : Tables) (a : Interned) → ((e : Refusal) → a ≡ NotInterned e → m′ ≡ m) → (enteredAs cw w a) .0 ≢ 0 → m′ ≡ m
+entered-kept : (cw w : List ℕ) (m m′ : Tables) (a : Interned) → ((e : Refusal) → a ≡ NotInterned e → m′ ≡ m)
+    → (enteredAs cw w a) .0 ≢ 0 → m′ ≡ m
 entered-kept cw w m m′ (Id n d) quiet h = absurd (h refl)
 entered-kept cw w m m′ (NotInterned e) quiet h = quiet e refl
 
@@ -153,17 +171,17 @@ pub unanswered-enter : UnansweredEnter
 unfolding enterAs
 unanswered-enter cw m m′ name w z f h =
     let a = f .entered in
-    let g : z .0 ≢ 0 → z ≡ bareBeside 1 cw w (z .0) =
-    rw (f .told)
-    (either (λ (y : ℕ × (List ℕ × List ℕ)). y .0 ≢ 0 → y ≡ bareBeside 1 cw w (y .0)) cw 1 w (λ _. refl) (entered-bare cw w a)) in (
+    let b = bareBeside numberReplyWords cw w in
+    let g : Unanswered z b = rw (f .told) (or-short b cw w numberReplyWords refl (entered-bare cw w a)) in (
       g h,
-      decide (longEnough cw 1 w)
-          (λ r. let k : z ≡ enteredAs cw w a = f .told ∙ long-enough-is cw 1 w (bareBeside 1 cw w tooShort) (enteredAs cw w a) r in
+      decide (longEnough cw numberReplyWords w)
+          (λ r. let k : z ≡ enteredAs cw w a =
+          f .told ∙ long-enough-is cw numberReplyWords w (b tooShort) (enteredAs cw w a) r in
           entered-kept cw w m m′ a ((f .exact r) .refused) (λ e. h (ap (λ (y : ℕ × (List ℕ × List ℕ)). y .0) k ∙ e)))
           (f .kept),
     )
 
-reclaimed-bare : (cw : List ℕ) (a : Reclaimed) → (reclaimedAs cw a) .0 ≢ 0 → reclaimedAs cw a ≡ done ((reclaimedAs cw a) .0) cw
+reclaimed-bare : (cw : List ℕ) (a : Reclaimed) → Unanswered (reclaimedAs cw a) (kept cw)
 reclaimed-bare cw (Done d) h = absurd (h refl)
 reclaimed-bare cw (NotReclaimed e) h = rw (refuses e)
 
@@ -172,8 +190,8 @@ unfolding reclaimAs
 unanswered-reclaim cw m m′ z f h =
     let a = f .reclaimed in
     let short = ltb (length cw) counterWords in
-    let g : z .0 ≢ 0 → z ≡ done (z .0) cw =
-    rw (f .told) (both (λ (y : ℕ × List ℕ). y .0 ≢ 0 → y ≡ done (y .0) cw) short (λ _. refl) (reclaimed-bare cw a)) in (
+    let g : Unanswered z (kept cw) =
+    rw (f .told) (both (λ (y : ℕ × List ℕ). Unanswered y (kept cw)) short (λ _. refl) (reclaimed-bare cw a)) in (
       g h,
       decide short
           (λ r. f .kept (ltb-true (length cw) counterWords r))
@@ -184,16 +202,15 @@ unanswered-reclaim cw m m′ z f h =
 
 -- ---- cursors
 
-opened-bare : (q : List ℕ) (a : ScanOpened) → (openedAs q a) .0 ≢ 0 → openedAs q a ≡ done ((openedAs q a) .0) q
+opened-bare : (q : List ℕ) (a : ScanOpened) → Unanswered (openedAs q a) (kept q)
 opened-bare q (Cursor k) h = absurd (h refl)
 opened-bare q (NotOpened e) h = rw (refuses e)
 
 pub unanswered-open : UnansweredOpen
 unfolding openCall
-unanswered-open cw m x q =
-    either (λ (z : ℕ × List ℕ). z .0 ≢ 0 → z ≡ done (z .0) q) cw cursorWords q (λ _. refl) (opened-bare q (openOf (countersOf cw) m x))
+unanswered-open cw m x q = or-short (kept q) cw q cursorWords refl (opened-bare q (openOf (countersOf cw) m x))
 
-scanned-bare : (q w : List ℕ) (a : Scanned) → (scannedAs q w a) .0 ≢ 0 → scannedAs q w a ≡ bareBeside 3 q w ((scannedAs q w a) .0)
+scanned-bare : (q w : List ℕ) (a : Scanned) → Unanswered (scannedAs q w a) (bareBeside scanReplyWords q w)
 scanned-bare q w (Found n v k) h = absurd (h refl)
 scanned-bare q w (Ended v k) h = absurd (h refl)
 scanned-bare q w (Spent v k) h = absurd (h refl)
@@ -202,25 +219,22 @@ scanned-bare q w (NotScanned e) h = rw (not-short e, refuses e)
 pub unanswered-next : UnansweredNext
 unfolding nextCall
 unanswered-next cw m q b w =
-    let P : ℕ × (List ℕ × List ℕ) → Type 0 = λ z. z .0 ≢ 0 → z ≡ bareBeside 3 q w (z .0) in
-    both P (ltb (length cw) counterWords) (λ _. refl)
-    (both P (ltb (length q) cursorWords) (λ _. refl)
-    (both P (ltb (length w) 3) (λ _. refl) (scanned-bare q w (nextFrom (countersOf cw) m q b))))
+    or-any-short (bareBeside scanReplyWords q w) cw w scanReplyWords refl
+    (scanned-bare q w (nextFrom (countersOf cw) m q b)) cursorWords q
 
 -- ---- queries
 
-query-opened-bare : (q : List ℕ) (a : QueryOpened) → (queryOpenedAs q a) .0 ≢ 0 → queryOpenedAs q a ≡ done ((queryOpenedAs q a) .0) q
+query-opened-bare : (q : List ℕ) (a : QueryOpened) → Unanswered (queryOpenedAs q a) (kept q)
 query-opened-bare q a h = rw (ne-eqb ((queryOpenedValues a) .refusal) 0 h)
 
 pub unanswered-query-open : UnansweredQueryOpen
 unfolding queryOpenCall
 unanswered-query-open cw m ws q =
-    either (λ (z : ℕ × List ℕ). z .0 ≢ 0 → z ≡ done (z .0) q) cw queryCursorWords q (λ _. refl)
-    (query-opened-bare q (openQueryOf (countersOf cw) m ws))
+    or-short (kept q) cw q queryCursorWords refl (query-opened-bare q (openQueryOf (countersOf cw) m ws))
 
 -- a refusal has no status, no visits and nothing bound
-query-bare : (q w : List ℕ) (g : ℕ) (a : Answer) → (queryAnsweredAs q w (packed g a)) .0 ≢ 0
-    → queryAnsweredAs q w (packed g a) ≡ bareBeside queryReplyWords q w ((queryAnsweredAs q w (packed g a)) .0)
+query-bare : (q w : List ℕ) (g : ℕ) (a : Answer)
+    → Unanswered (queryAnsweredAs q w (packed g a)) (bareBeside queryReplyWords q w)
 unfolding packed numbersFrom
 query-bare q w g (refused e) h = rw (not-short e, refuses e)
 query-bare q w g (found b v p) h = absurd (h refl)
@@ -228,14 +242,12 @@ query-bare q w g (ended v) h = absurd (h refl)
 query-bare q w g (spent v p) h = absurd (h refl)
 
 query-answered-bare : (cw : List ℕ) (m : Tables) (ws q : List ℕ) (b : ℕ) (w : List ℕ)
-    → (queryAnsweredAs q w (nextQueryFrom (countersOf cw) m ws q b)) .0 ≢ 0
-    → queryAnsweredAs q w (nextQueryFrom (countersOf cw) m ws q b)
-    ≡ bareBeside queryReplyWords q w ((queryAnsweredAs q w (nextQueryFrom (countersOf cw) m ws q b)) .0)
+    → Unanswered (queryAnsweredAs q w (nextQueryFrom (countersOf cw) m ws q b)) (bareBeside queryReplyWords q w)
 unfolding nextQueryFrom nextQueryOf
 query-answered-bare cw m ws q b w =
     let c = countersOf cw in
     let p = queryCursorOf q in
-    both (λ (a : QueryAnswer). (queryAnsweredAs q w a) .0 ≢ 0 → queryAnsweredAs q w a ≡ bareBeside queryReplyWords q w ((queryAnsweredAs q w a) .0))
+    both (λ (a : QueryAnswer). Unanswered (queryAnsweredAs q w a) (bareBeside queryReplyWords q w))
     (spelt q)
     (query-bare q w (c .generation) (cond (stale c m ws p) (refused StaleCursor) (answerOf c m ws (placeOf p) b)))
     (query-bare q w 0 (refused (misspelt (eqb (p .generation) (c .generation)) ((openQueryOf c m ws) .opening))))
@@ -243,7 +255,4 @@ query-answered-bare cw m ws q b w =
 pub unanswered-query-next : UnansweredQueryNext
 unfolding queryNextCall
 unanswered-query-next cw m ws q b w =
-    let P : ℕ × (List ℕ × List ℕ) → Type 0 = λ z. z .0 ≢ 0 → z ≡ bareBeside queryReplyWords q w (z .0) in
-    both P (ltb (length cw) counterWords) (λ _. refl)
-    (both P (ltb (length q) queryCursorWords) (λ _. refl)
-    (both P (ltb (length w) queryReplyWords) (λ _. refl) (query-answered-bare cw m ws q b w)))
+    or-any-short (bareBeside queryReplyWords q w) cw w queryReplyWords refl (query-answered-bare cw m ws q b w) queryCursorWords q

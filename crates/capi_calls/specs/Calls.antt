@@ -1,5 +1,5 @@
--- What each function for C gives back and writes, from the definitions of the operation it stands for: the result and the lent slices
--- after the call. Too short a slice gives 100 and all slices as they were. Assumes nothing.
+-- What each function for C gives back and writes, from the definitions of the operation it stands for: the result and
+-- the lent slices after the call. Too short a slice gives 100 and all slices as they were. Assumes nothing.
 use mathlib.Core.Path.{_≡_}
 use mathlib.Core.Bool.{Bool, true, false, cond}
 use mathlib.Core.Logic.{_↔_}
@@ -21,49 +21,60 @@ use Rattle.store.specs.Soundness.{Sound}
 use Rattle.store.specs.Reading.{nameSpanOf, statementOf}
 use Rattle.store.specs.Dictionary.{FindAnswer, InternAnswer}
 use Rattle.store.specs.Reclaim.{ReclaimAnswer}
-use Rattle.capi_calls.specs.Words.{reclaimedAs}
-use Rattle.capi_calls.specs.Words.{tooShort, countersOf, kindAnswer, checkAnswer, lookupAnswer, nameAnswer, statementAnswer, done}
-use Rattle.capi_calls.specs.Words.{one, two, four, ifShort, longEnough, wrote, retractAs, openedAs, lineAs, readAnswer, cursorWords}
-use Rattle.capi_calls.specs.Words.{counterWords, nextFrom, scannedAs, assertAs, enteredAs}
+use Rattle.capi_calls.specs.Words.{counterWords, cursorWords, tooShort, ifShort, ifAnyShort, longEnough}
+use Rattle.capi_calls.specs.Words.{countersOf}
+use Rattle.capi_calls.specs.Words.{numberReplyWords, nameReplyWords, statementReplyWords, assertReplyWords}
+use Rattle.capi_calls.specs.Words.{scanReplyWords, lineWords, done, beside, wrote, changed}
+use Rattle.capi_calls.specs.Words.{kindAnswer, checkAnswer, lookupAnswer, nameAnswer, statementAnswer, readAnswer}
+use Rattle.capi_calls.specs.Words.{nextFrom}
+use Rattle.capi_calls.specs.Words.{numberAs, nameAs, statementAs, lineAs, openedAs, scannedAs, retractAs}
+use Rattle.capi_calls.specs.Words.{assertAs}
+use Rattle.capi_calls.specs.Words.{enteredAs, reclaimedAs}
 
 -- `lt_name_kind`: the name, the reply
 unfoldable pub kindCall : List ℕ → List ℕ → ℕ × List ℕ
-kindCall name w = cond (ltb (length w) 1) (done tooShort w) (one w (kindAnswer (kindOf nameLimit name)))
+kindCall name w =
+    cond (ltb (length w) numberReplyWords) (done tooShort w) (numberAs w (kindAnswer (kindOf nameLimit name)))
 
 -- `lt_check`: 1 in the reply exactly if the store is sound
 unfoldable pub checkAs : List ℕ → List ℕ → Bool → ℕ × List ℕ
-checkAs cw w b = ifShort cw 1 w (done tooShort w) (one w (checkAnswer b))
+checkAs cw w b = ifShort cw numberReplyWords w (done tooShort w) (numberAs w (checkAnswer b))
 
 pub record CheckCall (cw : List ℕ) (m : Tables) (w : List ℕ) (z : ℕ × List ℕ) : Type 0 where
   pub sound : Bool
   pub told : z ≡ checkAs cw w sound
-  pub exact : longEnough cw 1 w ≡ true → (sound ≡ true) ↔ Sound (countersOf cw) m
+  pub exact : longEnough cw numberReplyWords w ≡ true → (sound ≡ true) ↔ Sound (countersOf cw) m
 
 -- `lt_find`: the reply tells what find answers
 unfoldable pub findAs : List ℕ → List ℕ → Lookup → ℕ × List ℕ
-findAs cw w a = ifShort cw 1 w (done tooShort w) (one w (lookupAnswer a))
+findAs cw w a = ifShort cw numberReplyWords w (done tooShort w) (numberAs w (lookupAnswer a))
 
 pub record FindCall (cw : List ℕ) (m : Tables) (name w : List ℕ) (z : ℕ × List ℕ) : Type 0 where
   pub found : Lookup
   pub told : z ≡ findAs cw w found
-  pub exact : longEnough cw 1 w ≡ true → FindAnswer (countersOf cw) m name found
+  pub exact : longEnough cw numberReplyWords w ≡ true → FindAnswer (countersOf cw) m name found
 
 -- `lt_name`: the resource's number
 unfoldable pub nameCall : List ℕ → Tables → ℕ → List ℕ → ℕ × List ℕ
-nameCall cw m n w = ifShort cw 2 w (done tooShort w) (two w (nameAnswer (nameSpanOf (countersOf cw) m (record { 0 = n }))))
+nameCall cw m n w =
+    ifShort cw nameReplyWords w (done tooShort w) (nameAs w (nameAnswer (nameSpanOf (countersOf cw) m (record { 0 = n }))))
 
 -- `lt_statement`: the statement's number
 unfoldable pub statementCall : List ℕ → Tables → ℕ → List ℕ → ℕ × List ℕ
-statementCall cw m n w = ifShort cw 4 w (done tooShort w) (four w (statementAnswer (statementOf (countersOf cw) m (record { 0 = n }))))
+statementCall cw m n w =
+    ifShort cw statementReplyWords w (done tooShort w)
+    (statementAs w (statementAnswer (statementOf (countersOf cw) m (record { 0 = n }))))
 
 -- `lt_read_line`: the text, the position, the reply
 unfoldable pub lineCall : List ℕ → ℕ → List ℕ → ℕ × List ℕ
 lineCall text at w =
-    cond (ltb (length w) 8) (done tooShort w) (lineAs w (readAnswer ((readOf nameLimit text at) .line) ((readOf nameLimit text at) .next)))
+    let z = readOf nameLimit text at in
+    cond (ltb (length w) lineWords) (done tooShort w) (lineAs w (readAnswer (z .line) (z .next)))
 
 -- `lt_retract`: the triple
 unfoldable pub retractCall : List ℕ → Tables → Triple → List ℕ → ℕ × (Tables × List ℕ)
-retractCall cw m x w = ifShort cw 1 w (wrote tooShort m w) (retractAs w (retractOf (countersOf cw) m x))
+retractCall cw m x w =
+    ifShort cw numberReplyWords w (wrote tooShort m w) (retractAs w (retractOf (countersOf cw) m x))
 
 -- `lt_scan_open`: the pattern, the cursor
 unfoldable pub openCall : List ℕ → Tables → Triple → List ℕ → ℕ × List ℕ
@@ -72,24 +83,22 @@ openCall cw m x w = ifShort cw cursorWords w (done tooShort w) (openedAs w (open
 -- `lt_scan_next`: the cursor, the budget, the reply; the cursor and the reply after it
 unfoldable pub nextCall : List ℕ → Tables → List ℕ → ℕ → List ℕ → ℕ × (List ℕ × List ℕ)
 nextCall cw m q b w =
-    cond (ltb (length cw) counterWords) (tooShort, (q, w))
-    (cond (ltb (length q) cursorWords) (tooShort, (q, w))
-    (cond (ltb (length w) 3) (tooShort, (q, w))
-    (scannedAs q w (nextFrom (countersOf cw) m q b))))
+    ifAnyShort cw cursorWords q scanReplyWords w (beside tooShort q w) (scannedAs q w (nextFrom (countersOf cw) m q b))
 
 -- `lt_assert`: the triple; counters, tables and reply after it
 unfoldable pub assertCall : List ℕ → Tables → Triple → List ℕ → ℕ × (List ℕ × (Tables × List ℕ))
-assertCall cw m x w = ifShort cw 2 w (tooShort, (cw, (m, w))) (assertAs cw w (assertOf (countersOf cw) m x))
+assertCall cw m x w =
+    ifShort cw assertReplyWords w (changed tooShort cw m w) (assertAs cw w (assertOf (countersOf cw) m x))
 
 -- `lt_enter`: m′ are the tables after it; counters and reply tell what intern answers
 unfoldable pub enterAs : List ℕ → List ℕ → Interned → ℕ × (List ℕ × List ℕ)
-enterAs cw w a = ifShort cw 1 w (tooShort, (cw, w)) (enteredAs cw w a)
+enterAs cw w a = ifShort cw numberReplyWords w (beside tooShort cw w) (enteredAs cw w a)
 
 pub record EnterCall (cw : List ℕ) (m m′ : Tables) (name w : List ℕ) (z : ℕ × (List ℕ × List ℕ)) : Type 0 where
   pub entered : Interned
   pub told : z ≡ enterAs cw w entered
-  pub exact : longEnough cw 1 w ≡ true → InternAnswer (countersOf cw) m m′ name entered
-  pub kept : longEnough cw 1 w ≡ false → m′ ≡ m
+  pub exact : longEnough cw numberReplyWords w ≡ true → InternAnswer (countersOf cw) m m′ name entered
+  pub kept : longEnough cw numberReplyWords w ≡ false → m′ ≡ m
 
 -- `lt_reclaim`: m′ are the tables after it; the counters tell what reclaim answers
 unfoldable pub reclaimAs : List ℕ → Reclaimed → ℕ × List ℕ

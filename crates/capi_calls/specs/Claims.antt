@@ -1,7 +1,8 @@
--- What a caller relies on, as statements. Reading back what was written gives it back, and the words past those named are kept. A call
--- that is not answered leaves counters, cursor and tables as they were, and its reply's words are 0; one that is lent too little leaves
--- the reply too. The definitions of `Words`, `Calls` and `QueryCalls` stand on both sides of the contracts, so these say of them what they come to.
--- Declared in `proofs/ReadBack.antt` and `proofs/Unanswered.antt`. Assumes nothing.
+-- What a caller relies on, as statements. Reading back what was written gives it back, and the words past those named
+-- are kept. A call that is not answered leaves counters, cursor and tables as they were, and its reply's words are 0;
+-- one that is lent too little leaves the reply too. The definitions of `Words`, `Calls` and `QueryCalls` stand on both
+-- sides of the contracts, so these say of them what they come to. Declared in `proofs/ReadBack.antt`,
+-- `proofs/Unanswered.antt` and `proofs/Stale.antt`. Assumes nothing.
 use mathlib.Core.Path.{_≡_}
 use mathlib.Core.Logic.{_≢_, _↔_}
 use mathlib.Core.Bool.{true, cond}
@@ -15,12 +16,17 @@ use Rattle.store.specs.declared.ScanCursor.{ScanCursor}
 use Rattle.store.specs.declared.Triple.{Triple}
 use Rattle.store.specs.declared.Reclaimed.the-variants.{Done}
 use Rattle.store.specs.Tables.{Tables, word, fits, after}
+use Rattle.store.specs.Shared.{maxReclaims}
 use Rattle.store.specs.Soundness.{Sound}
 use Rattle.store.specs.Reclaim.{reclaimOf}
 use Rattle.graph.specs.Words.{wordsOk}
-use Rattle.capi_calls.specs.Words.{counterWords, cursorWords, tooShort, countersOf, withCounters, cursorFrom, withCursor}
-use Rattle.capi_calls.specs.Words.{chainOf, chainWord, done, wrote}
-use Rattle.capi_calls.specs.Calls.{FindCall, nameCall, statementCall, retractCall, openCall, nextCall, assertCall, EnterCall, ReclaimCall}
+use Rattle.capi_calls.specs.Words.{counterWords, cursorWords, tooShort, countersOf, withCounters, cursorFrom}
+use Rattle.capi_calls.specs.Words.{withCursor}
+use Rattle.capi_calls.specs.Words.{numberReplyWords, nameReplyWords, statementReplyWords, assertReplyWords}
+use Rattle.capi_calls.specs.Words.{scanReplyWords}
+use Rattle.capi_calls.specs.Words.{chainOf, chainWord, done, beside, wrote, changed}
+use Rattle.capi_calls.specs.Calls.{FindCall, nameCall, statementCall, retractCall, openCall, nextCall, assertCall}
+use Rattle.capi_calls.specs.Calls.{EnterCall, ReclaimCall}
 use Rattle.capi_calls.specs.QueryWords.{queryCursorWords, queryReplyWords}
 use Rattle.capi_calls.specs.QueryCalls.{queryOpenCall, queryNextCall}
 
@@ -51,73 +57,86 @@ abbrev pub blank : ℕ → List ℕ → List ℕ
 blank zero w = w
 blank (suc n) w = set (blank n w) n 0
 
+abbrev pub bareWords : ℕ → List ℕ → ℕ → List ℕ
+bareWords n w r = cond (eqb r tooShort) w (blank n w)
+
 abbrev pub bare : ℕ → List ℕ → ℕ → ℕ × List ℕ
-bare n w r = done r (cond (eqb r tooShort) w (blank n w))
+bare n w r = done r (bareWords n w r)
+
+-- a call z that is not answered is as b says
+abbrev pub Unanswered : {A : Type 0} → ℕ × A → (ℕ → ℕ × A) → Type 0
+Unanswered z b = z .0 ≢ 0 → z ≡ b (z .0)
 
 abbrev pub UnansweredFind : Type 0
-UnansweredFind = (cw : List ℕ) (m : Tables) (name w : List ℕ) (z : ℕ × List ℕ) → FindCall cw m name w z → z .0 ≢ 0 → z ≡ bare 1 w (z .0)
+UnansweredFind = (cw : List ℕ) (m : Tables) (name w : List ℕ) (z : ℕ × List ℕ)
+    → FindCall cw m name w z → Unanswered z (bare numberReplyWords w)
 
 abbrev pub UnansweredName : Type 0
-UnansweredName = (cw : List ℕ) (m : Tables) (n : ℕ) (w : List ℕ) → (nameCall cw m n w) .0 ≢ 0
-    → nameCall cw m n w ≡ bare 2 w ((nameCall cw m n w) .0)
+UnansweredName = (cw : List ℕ) (m : Tables) (n : ℕ) (w : List ℕ) → Unanswered (nameCall cw m n w) (bare nameReplyWords w)
 
 abbrev pub UnansweredStatement : Type 0
-UnansweredStatement = (cw : List ℕ) (m : Tables) (n : ℕ) (w : List ℕ) → (statementCall cw m n w) .0 ≢ 0
-    → statementCall cw m n w ≡ bare 4 w ((statementCall cw m n w) .0)
+UnansweredStatement = (cw : List ℕ) (m : Tables) (n : ℕ) (w : List ℕ)
+    → Unanswered (statementCall cw m n w) (bare statementReplyWords w)
 
--- the tables too
+-- the tables as they were too
+abbrev pub bareTables : ℕ → Tables → List ℕ → ℕ → ℕ × (Tables × List ℕ)
+bareTables n m w r = wrote r m (bareWords n w r)
+
 abbrev pub UnansweredRetract : Type 0
-UnansweredRetract = (cw : List ℕ) (m : Tables) (x : Triple) (w : List ℕ) → (retractCall cw m x w) .0 ≢ 0
-    → retractCall cw m x w ≡ wrote ((retractCall cw m x w) .0) m ((bare 1 w ((retractCall cw m x w) .0)) .1)
+UnansweredRetract = (cw : List ℕ) (m : Tables) (x : Triple) (w : List ℕ)
+    → Unanswered (retractCall cw m x w) (bareTables numberReplyWords m w)
 
 -- and counters or a cursor q as they were; the counters and the tables too
 abbrev pub bareBeside : ℕ → List ℕ → List ℕ → ℕ → ℕ × (List ℕ × List ℕ)
-bareBeside n q w r = (r, (q, (bare n w r) .1))
+bareBeside n q w r = beside r q (bareWords n w r)
 
 abbrev pub bareStore : ℕ → List ℕ → Tables → List ℕ → ℕ → ℕ × (List ℕ × (Tables × List ℕ))
-bareStore n cw m w r = (r, (cw, (m, (bare n w r) .1)))
+bareStore n cw m w r = changed r cw m (bareWords n w r)
 
 abbrev pub UnansweredAssert : Type 0
-UnansweredAssert = (cw : List ℕ) (m : Tables) (x : Triple) (w : List ℕ) → (assertCall cw m x w) .0 ≢ 0
-    → assertCall cw m x w ≡ bareStore 2 cw m w ((assertCall cw m x w) .0)
+UnansweredAssert = (cw : List ℕ) (m : Tables) (x : Triple) (w : List ℕ)
+    → Unanswered (assertCall cw m x w) (bareStore assertReplyWords cw m w)
 
 abbrev pub UnansweredEnter : Type 0
-UnansweredEnter = (cw : List ℕ) (m m′ : Tables) (name w : List ℕ) (z : ℕ × (List ℕ × List ℕ)) → EnterCall cw m m′ name w z → z .0 ≢ 0
-    → (z ≡ bareBeside 1 cw w (z .0)) × (m′ ≡ m)
+UnansweredEnter = (cw : List ℕ) (m m′ : Tables) (name w : List ℕ) (z : ℕ × (List ℕ × List ℕ)) → EnterCall cw m m′ name w z
+    → z .0 ≢ 0 → (z ≡ bareBeside numberReplyWords cw w (z .0)) × (m′ ≡ m)
 
 -- the counters and the tables as they were
 abbrev pub UnansweredReclaim : Type 0
 UnansweredReclaim = (cw : List ℕ) (m m′ : Tables) (z : ℕ × List ℕ) → ReclaimCall cw m m′ z → z .0 ≢ 0
     → (z ≡ done (z .0) cw) × (m′ ≡ m)
 
+-- the cursor as it was
+abbrev pub kept : List ℕ → ℕ → ℕ × List ℕ
+kept q r = done r q
+
 abbrev pub UnansweredOpen : Type 0
-UnansweredOpen = (cw : List ℕ) (m : Tables) (x : Triple) (q : List ℕ) → (openCall cw m x q) .0 ≢ 0
-    → openCall cw m x q ≡ done ((openCall cw m x q) .0) q
+UnansweredOpen = (cw : List ℕ) (m : Tables) (x : Triple) (q : List ℕ) → Unanswered (openCall cw m x q) (kept q)
 
 abbrev pub UnansweredNext : Type 0
-UnansweredNext = (cw : List ℕ) (m : Tables) (q : List ℕ) (b : ℕ) (w : List ℕ) → (nextCall cw m q b w) .0 ≢ 0
-    → nextCall cw m q b w ≡ bareBeside 3 q w ((nextCall cw m q b w) .0)
+UnansweredNext = (cw : List ℕ) (m : Tables) (q : List ℕ) (b : ℕ) (w : List ℕ)
+    → Unanswered (nextCall cw m q b w) (bareBeside scanReplyWords q w)
 
 abbrev pub UnansweredQueryOpen : Type 0
-UnansweredQueryOpen = (cw : List ℕ) (m : Tables) (ws q : List ℕ) → (queryOpenCall cw m ws q) .0 ≢ 0
-    → queryOpenCall cw m ws q ≡ done ((queryOpenCall cw m ws q) .0) q
+UnansweredQueryOpen = (cw : List ℕ) (m : Tables) (ws q : List ℕ) → Unanswered (queryOpenCall cw m ws q) (kept q)
 
 abbrev pub UnansweredQueryNext : Type 0
-UnansweredQueryNext = (cw : List ℕ) (m : Tables) (ws q : List ℕ) (b : ℕ) (w : List ℕ) → (queryNextCall cw m ws q b w) .0 ≢ 0
-    → queryNextCall cw m ws q b w ≡ bareBeside queryReplyWords q w ((queryNextCall cw m ws q b w) .0)
+UnansweredQueryNext = (cw : List ℕ) (m : Tables) (ws q : List ℕ) (b : ℕ) (w : List ℕ)
+    → Unanswered (queryNextCall cw m ws q b w) (bareBeside queryReplyWords q w)
 
 -- ---- the number of reclaims
 
--- `lt_scan_next` is refused 13 exactly where 1 is not refused and the cursor's sixth word is not the counters' fourth, whatever its other
--- words hold.
+-- `lt_scan_next` is refused 13 exactly where 1 is not refused and the cursor's sixth word is not the counters' fourth,
+-- whatever its other words hold.
 abbrev pub StaleWords : Type 0
-StaleWords = (cw : List ℕ) (m : Tables) (q : List ℕ) (b : ℕ) (w : List ℕ) → 4 ≤ length cw → 6 ≤ length q → 3 ≤ length w
+StaleWords = (cw : List ℕ) (m : Tables) (q : List ℕ) (b : ℕ) (w : List ℕ)
+    → counterWords ≤ length cw → cursorWords ≤ length q → scanReplyWords ≤ length w
     → (nextCall cw m q b w) .0 ≡ 13 ↔ (fits (countersOf cw) m ≡ true) × (word q 5 ≢ word cw 3)
 
 -- So is `lt_query_next` where 1 and 8 are not refused, by the third word.
 abbrev pub StaleQueryWords : Type 0
-StaleQueryWords = (cw : List ℕ) (m : Tables) (ws q : List ℕ) (b : ℕ) (w : List ℕ) → 4 ≤ length cw → queryCursorWords ≤ length q
-    → queryReplyWords ≤ length w → (queryNextCall cw m ws q b w) .0 ≡ 13
+StaleQueryWords = (cw : List ℕ) (m : Tables) (ws q : List ℕ) (b : ℕ) (w : List ℕ)
+    → counterWords ≤ length cw → queryCursorWords ≤ length q → queryReplyWords ≤ length w → (queryNextCall cw m ws q b w) .0 ≡ 13
     ↔ (fits (countersOf cw) m ≡ true) × (wordsOk (word cw 0) ws ≡ true) × (word q 2 ≢ word cw 3)
 
 -- `lt_reclaim` on a sound store below the maximum: the counters' words tell the answer, the fourth one more.
@@ -127,5 +146,5 @@ pub record Reclaims (cw : List ℕ) (m m′ : Tables) (z : ℕ × List ℕ) : Ty
   pub number : word (z .1) 3 ≡ suc (word cw 3)
 
 abbrev pub AnsweredReclaim : Type 0
-AnsweredReclaim = (cw : List ℕ) (m m′ : Tables) (z : ℕ × List ℕ) → ReclaimCall cw m m′ z → 4 ≤ length cw → Sound (countersOf cw) m
-    → word cw 3 < 65535 → Reclaims cw m m′ z
+AnsweredReclaim = (cw : List ℕ) (m m′ : Tables) (z : ℕ × List ℕ) → ReclaimCall cw m m′ z → counterWords ≤ length cw
+    → Sound (countersOf cw) m → word cw 3 < maxReclaims → Reclaims cw m m′ z

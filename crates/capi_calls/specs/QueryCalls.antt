@@ -1,13 +1,12 @@
--- What the two functions for C over queries give back and write: the result and the lent slices after the call. Too short a slice gives
--- 100 and all slices as they were; beside a refusal the cursor stays as it was. Then what a caller may rely on: a cursor that is written
--- is one that can be handed back, with zeros past its levels. Assumes nothing.
+-- What the two functions for C over queries give back and write: the result and the lent slices after the call. Too
+-- short a slice gives 100 and all slices as they were; beside a refusal the cursor stays as it was. Then what a caller
+-- may rely on: a cursor that is written is one that can be handed back, with zeros past its levels. Assumes nothing.
 use mathlib.Core.Path.{_≡_}
 use mathlib.Core.Logic.{_≢_}
-use mathlib.Core.Bool.{true, cond}
+use mathlib.Core.Bool.{true}
 use mathlib.Core.List.{List}
 use Prim.Native.Nat.{ℕ, _+_, _*_, _≤_, _<_}
 use lib.ListN.{length, drop}
-use lib.Dec.{eqb, ltb}
 use Rattle.store.specs.declared.Counters.{Counters}
 use Rattle.store.specs.Tables.{Tables, word}
 use Rattle.graph.specs.declared.QueryCursor.{QueryCursor}
@@ -16,31 +15,30 @@ use Rattle.graph.specs.declared.QueryAnswer.{QueryAnswer}
 use Rattle.graph.specs.Query.{openQueryOf}
 use Rattle.graph.specs.Words.{maxPatterns}
 use Rattle.graph.specs.Values.{queryOpenedValues, queryValues}
-use Rattle.capi_calls.specs.Words.{counterWords, countersOf, tooShort, done, ifShort}
-use Rattle.capi_calls.specs.QueryWords.{queryCursorWords, queryReplyWords, queryCursorOf, spelt, nextQueryFrom, withQueryCursor, withQueryAnswer}
+use Rattle.capi_calls.specs.Words.{countersOf, tooShort, done, beside, ifShort, ifAnyShort, ifAnswered}
+use Rattle.capi_calls.specs.QueryWords.{queryCursorWords, queryReplyWords, queryCursorOf, spelt, nextQueryFrom}
+use Rattle.capi_calls.specs.QueryWords.{withQueryCursor, withQueryAnswer}
 
 abbrev pub queryOpenedAs : List ℕ → QueryOpened → ℕ × List ℕ
 queryOpenedAs w a =
-    done ((queryOpenedValues a) .refusal)
-    (cond (eqb ((queryOpenedValues a) .refusal) 0) (withQueryCursor w ((queryOpenedValues a) .cursor)) w)
+    let z = queryOpenedValues a in
+    done (z .refusal) (ifAnswered (z .refusal) (withQueryCursor w (z .cursor)) w)
 
 -- `lt_query_open`: the words, the cursor
 unfoldable pub queryOpenCall : List ℕ → Tables → List ℕ → List ℕ → ℕ × List ℕ
-queryOpenCall cw m ws w = ifShort cw queryCursorWords w (done tooShort w) (queryOpenedAs w (openQueryOf (countersOf cw) m ws))
+queryOpenCall cw m ws w =
+    ifShort cw queryCursorWords w (done tooShort w) (queryOpenedAs w (openQueryOf (countersOf cw) m ws))
 
 abbrev pub queryAnsweredAs : List ℕ → List ℕ → QueryAnswer → ℕ × (List ℕ × List ℕ)
-queryAnsweredAs q w a = (
-  (queryValues a) .refusal,
-  (cond (eqb ((queryValues a) .refusal) 0) (withQueryCursor q ((queryValues a) .cursor)) q, withQueryAnswer w a),
-)
+queryAnsweredAs q w a =
+    let z = queryValues a in
+    beside (z .refusal) (ifAnswered (z .refusal) (withQueryCursor q (z .cursor)) q) (withQueryAnswer w a)
 
 -- `lt_query_next`: the words, the cursor, the budget, the reply; the cursor and the reply after it
 unfoldable pub queryNextCall : List ℕ → Tables → List ℕ → List ℕ → ℕ → List ℕ → ℕ × (List ℕ × List ℕ)
 queryNextCall cw m ws q b w =
-    cond (ltb (length cw) counterWords) (tooShort, (q, w))
-    (cond (ltb (length q) queryCursorWords) (tooShort, (q, w))
-    (cond (ltb (length w) queryReplyWords) (tooShort, (q, w))
-    (queryAnsweredAs q w (nextQueryFrom (countersOf cw) m ws q b))))
+    ifAnyShort cw queryCursorWords q queryReplyWords w (beside tooShort q w)
+    (queryAnsweredAs q w (nextQueryFrom (countersOf cw) m ws q b))
 
 -- ---- what is written can be handed back
 
@@ -52,7 +50,8 @@ pub record QueryCursorKept (w : List ℕ) (q : QueryCursor) : Type 0 where
   pub rest-kept : drop queryCursorWords (withQueryCursor w q) ≡ drop queryCursorWords w
 
 abbrev pub QueryCursorsKept : Type 0
-QueryCursorsKept = (w : List ℕ) (q : QueryCursor) → queryCursorWords ≤ length w → length (q .levels) ≡ maxPatterns → QueryCursorKept w q
+QueryCursorsKept = (w : List ℕ) (q : QueryCursor)
+    → queryCursorWords ≤ length w → length (q .levels) ≡ maxPatterns → QueryCursorKept w q
 
 -- every cursor that is answered has a level for each slot, so the above holds of it
 abbrev pub QueryCursorsFull : Type 0
@@ -66,7 +65,8 @@ QueryRepliesKept = (w : List ℕ) (a : QueryAnswer) → queryReplyWords ≤ leng
 
 -- ---- what an answered call writes past the levels
 
--- In a cursor's words the slots from the levels entered on are 0. At the start and at the end no levels are entered, so all slots are 0.
+-- In a cursor's words the slots from the levels entered on are 0. At the start and at the end no levels are entered, so
+-- all slots are 0.
 pub record SlotsBlank (q : List ℕ) : Type 0 where
   pub chain-blank : (i : ℕ) → word q 1 ≤ i → i < maxPatterns → word q (3 + 2 * i) ≡ 0
   pub record-blank : (i : ℕ) → word q 1 ≤ i → i < maxPatterns → word q (4 + 2 * i) ≡ 0

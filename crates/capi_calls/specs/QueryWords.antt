@@ -1,6 +1,7 @@
--- The words of a query's cursor and of its reply: how many they are, what they tell, and how they are written. A cursor is its progress
--- (0 start, 1 within, 2 end), the levels entered, the number of reclaims, then chain and record of each of `maxPatterns` levels. A reply is
--- its status, the visits, then the number of each of the `variables` variables. Assumes nothing.
+-- The words of a query's cursor and of its reply: how many they are, what they tell, and how they are written. A cursor
+-- is its progress (0 start, 1 within, 2 end), the levels entered, the number of reclaims, then chain and record of each
+-- of `maxPatterns` levels. A reply is its status, the visits, then the number of each of the `variables` variables.
+-- Assumes nothing.
 use mathlib.Core.Bool.{Bool, true, false, cond}
 use mathlib.Core.List.{List, [], _∷_}
 use Prim.Native.Nat.{ℕ, zero, suc, _+_, _*_}
@@ -66,8 +67,8 @@ chainSpelt w i = leb (word w (3 + 2 * i)) 3
 abbrev pub slotsOf : ℕ → ℕ
 slotsOf d = cond (leb d maxPatterns) d maxPatterns
 
--- A first word of at most 2 and, within, chains of at most 3 at the levels entered. Slots past them are ignored, and so are all slots at
--- the start and at the end.
+-- A first word of at most 2 and, within, chains of at most 3 at the levels entered. Slots past them are ignored, and so
+-- are all slots at the start and at the end.
 unfoldable pub spelt : List ℕ → Bool
 spelt w = cond (leb (word w 0) 2) (cond (eqb (word w 0) 1) (allBelow (chainSpelt w) (slotsOf (word w 1))) true) false
 

@@ -39,14 +39,15 @@ unfolding filled levelsFrom
 filled-all w = refl
 
 -- within, the chains decide
-pub spelt-within : (w : List ℕ) {d : ℕ} {r : Bool} → word w 0 ≡ 1 → d ≡ slotsOf (word w 1) → r ≡ allBelow (chainSpelt w) d → r ≡ spelt w
+pub spelt-within : (w : List ℕ) {d : ℕ} {r : Bool} → word w 0 ≡ 1 → d ≡ slotsOf (word w 1) → r ≡ allBelow (chainSpelt w) d
+    → r ≡ spelt w
 unfolding spelt
 spelt-within w {d} {r} e ed er = er ∙ ap (allBelow (chainSpelt w)) ed ∙ rw e
 
 -- ---- writing
 
-pub levels-more : (w : List ℕ) (ls : List Level) (i : ℕ) (k n : ℕ) → i < maxPatterns → k ≡ chainWord ((getD ls i noLevel) .chain)
-    → n ≡ (getD ls i noLevel) .statement .0
+pub levels-more : (w : List ℕ) (ls : List Level) (i : ℕ) (k n : ℕ) → i < maxPatterns
+    → k ≡ chainWord ((getD ls i noLevel) .chain) → n ≡ (getD ls i noLevel) .statement .0
     → sets w (3 + 2 * i) (levelWords ls i (maxPatterns - i))
     ≡ sets (set (set w (3 + 2 * i) k) (4 + 2 * i) n) (3 + 2 * (i + 1)) (levelWords ls (i + 1) (maxPatterns - (i + 1)))
 unfolding levelWords
@@ -57,7 +58,8 @@ levels-more w ls i k n h e f =
     let g : i + 1 ≡ suc i = omega arith in
     rw (a, levelWords, b, d, g, e, f)
 
-pub levels-over : (w : List ℕ) (ls : List Level) (i : ℕ) → maxPatterns ≤ i → sets w (3 + 2 * i) (levelWords ls i (maxPatterns - i)) ≡ w
+pub levels-over : (w : List ℕ) (ls : List Level) (i : ℕ) → maxPatterns ≤ i
+    → sets w (3 + 2 * i) (levelWords ls i (maxPatterns - i)) ≡ w
 unfolding levelWords
 levels-over w ls i h = let a : maxPatterns - i ≡ 0 = omega arith in rw (a, levelWords)
 
@@ -71,6 +73,7 @@ numbers-more w b v h =
     let g : v + 1 ≡ suc v = omega arith in
     rw (a, numbersFrom, d, g)
 
-pub numbers-over : (w : List ℕ) (b : Bindings) (v : ℕ) → variables ≤ v → sets w (2 + v) (numbersFrom b v (variables - v)) ≡ w
+pub numbers-over : (w : List ℕ) (b : Bindings) (v : ℕ) → variables ≤ v
+    → sets w (2 + v) (numbersFrom b v (variables - v)) ≡ w
 unfolding numbersFrom
 numbers-over w b v h = let a : variables - v ≡ 0 = omega arith in rw (a, numbersFrom)

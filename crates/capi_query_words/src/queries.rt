@@ -1,12 +1,12 @@
 // A query's cursor and its reply as words.
 //
-// A cursor's words are its progress (0 start, 1 within, 2 end), the levels entered, the number of reclaims, then chain and record of each
-// of `MAX_PATTERNS` levels, zeros past those entered. A first word above 2, or the chain of an entered level above 3, tells no cursor and
-// is refused 6, or 13 where the third word is not the store's; slots past the levels entered are ignored, and so are all slots at the
-// start and at the end. A reply's words are its status (1 found, 2 ended, 3 spent), the visits, and the number of each of the `VARIABLES`
-// variables, 0 for one not used.
-use capi_words::replies::chain_of;
-use capi_words::replies::chain_word;
+// A cursor's words are its progress (0 start, 1 within, 2 end), the levels entered, the number of reclaims, then chain
+// and record of each of `MAX_PATTERNS` levels, zeros past those entered. A first word above 2, or the chain of an
+// entered level above 3, tells no cursor and is refused 6, or 13 where the third word is not the store's; slots past
+// the levels entered are ignored, and so are all slots at the start and at the end. A reply's words are its status (1
+// found, 2 ended, 3 spent), the visits, and the number of each of the `VARIABLES` variables, 0 for one not used.
+use capi_words::words::chain_of;
+use capi_words::words::chain_word;
 use graph::Level;
 use graph::MAX_PATTERNS;
 use graph::Progress;
@@ -27,8 +27,9 @@ ghost use lib.Seq.{sets};
 ghost use Rattle.graph.specs.Words.{maxPatterns, variables};
 ghost use Rattle.graph.specs.Values.{openingRefusal, stepRefusal, stepStatus};
 ghost use Rattle.store.specs.Shared.{allBelow};
-ghost use Rattle.capi_calls.specs.QueryWords.{queryCursorWords, queryReplyWords, progressOf, progressWord, levelsFrom, queryCursorOf};
-ghost use Rattle.capi_calls.specs.QueryWords.{chainSpelt, slotsOf, spelt, levelWords, withQueryCursor, numbersFrom, withQueryAnswer};
+ghost use Rattle.capi_calls.specs.QueryWords.{queryCursorWords, queryReplyWords, progressOf, progressWord, levelsFrom};
+ghost use Rattle.capi_calls.specs.QueryWords.{queryCursorOf, chainSpelt, slotsOf, spelt, levelWords, withQueryCursor};
+ghost use Rattle.capi_calls.specs.QueryWords.{numbersFrom, withQueryAnswer};
 
 // How far a reading is, from a cursor's first word of at most 2.
 fn progress_of(k: u32) -> Progress
@@ -53,7 +54,8 @@ fn progress_word(progress: Progress) -> u32
     }
 }
 
-// The levels in a cursor's slots. A chain's word above 3 reads as none: it stands in a slot that is ignored, or `spelt` has refused it.
+// The levels in a cursor's slots. A chain's word above 3 reads as none: it stands in a slot that is ignored, or `spelt`
+// has refused it.
 fn levels_of(words: &[u32]) -> [Level; MAX_PATTERNS]
     requires { ⌜ queryCursorWords ≤ length (now words) ⌝ }
     ensures { λ r. ⌜ r ≡ levelsFrom (now (words .entry)) 3 maxPatterns ⌝ }
@@ -61,6 +63,7 @@ fn levels_of(words: &[u32]) -> [Level; MAX_PATTERNS]
     let none = level(Chain::All, StatementId(0));
     let mut out = [none; MAX_PATTERNS];
     let mut i: usize = 0;
+    // The first i levels are read, the others are none.
     while i < MAX_PATTERNS {
         let chain = chain_of(words[3 + 2 * i]);
         let word = words[4 + 2 * i];
@@ -103,6 +106,7 @@ fn chains_spelt(words: &[u32], d: usize) -> bool
     ensures { λ r. ⌜ r ≡ allBelow (chainSpelt (now (words .entry))) d ⌝ }
 {
     let mut i: usize = 0;
+    // The chains in the first i slots are at most 3.
     while i < d {
         if words[3 + 2 * i] > 3 {
             return false;
@@ -133,6 +137,7 @@ fn put_levels(words: &mut [u32], levels: [Level; MAX_PATTERNS])
     ensures { λ _. ⌜ now (words .exit) ≡ sets (now (words .entry)) 3 (levelWords levels 0 maxPatterns) ⌝ }
 {
     let mut i: usize = 0;
+    // The first i slots are written: writing the levels from i on leaves what writing all of them would.
     while i < MAX_PATTERNS {
         let l = levels[i];
         let chain = l.chain;
@@ -163,6 +168,7 @@ fn put_solution(reply: &mut [u32], s: Solution)
     ensures { λ _. ⌜ now (reply .exit) ≡ sets (now (reply .entry)) 2 (numbersFrom (s .values) 0 variables) ⌝ }
 {
     let mut v: usize = 0;
+    // The numbers of the first v variables are written: writing those from v on leaves what writing all of them would.
     while v < VARIABLES {
         let y = s.values[v];
         reply[2 + v] = y.0;

@@ -1,6 +1,11 @@
 // Each operation's reply as numbers: the refusal's number or 0, and the words that the reply names, 0 beside a refusal.
-use capi_calls::Answer;
-use capi_calls::LineAnswer;
+use capi_calls::AssertReply;
+use capi_calls::LineReply;
+use capi_calls::NameReply;
+use capi_calls::NumberReply;
+use capi_calls::Part;
+use capi_calls::ScanReply;
+use capi_calls::StatementReply;
 use ntriples::Line;
 use ntriples::Span;
 use store::Asserted;
@@ -9,7 +14,6 @@ use store::Counters;
 use store::Interned;
 use store::Lookup;
 use store::NameRead;
-use store::Position;
 use store::ResourceId;
 use store::Retracted;
 use store::ScanCursor;
@@ -20,195 +24,170 @@ use store::Triple;
 use store::refusal_number;
 ghost use mathlib.Core.Path.{_≡_};
 ghost use Rattle.store.specs.Values.{scannedValues, assertedValues, internedValues, noCursor};
-ghost use Rattle.store.specs.declared.Chain.the-variants.{By};
-ghost use Rattle.capi_calls.specs.Words.{answer, kindAnswer, checkAnswer, lookupAnswer, nameAnswer, statementAnswer, retractAnswer, scannedAnswer, assertAnswer, enterAnswer, chainOf, chainWord, sizeOf, lineAnswer, readAnswer};
+ghost use Rattle.capi_calls.specs.Words.{numbered, kindAnswer, checkAnswer, lookupAnswer, retractAnswer, enterAnswer};
+ghost use Rattle.capi_calls.specs.Words.{nameAnswer, statementAnswer, assertAnswer, scannedAnswer, assertedWith};
+ghost use Rattle.capi_calls.specs.Words.{scannedWith};
+ghost use Rattle.capi_calls.specs.Words.{sizeOf, part, noParts, readAnswer};
 
-// A result and two words.
-fn words(result: u32, first: u32, second: u32) -> Answer
-    ensures { λ r. ⌜ r ≡ answer result first second 0 0 ⌝ }
+// A result and a number.
+fn number(result: u32, n: u32) -> NumberReply
+    ensures { λ r. ⌜ r ≡ numbered result n ⌝ }
 {
-    Answer {
+    NumberReply {
         result: result,
-        first: first,
-        second: second,
-        third: 0,
-        fourth: 0,
+        number: n,
     }
 }
 
-pub fn kind_answer(kind: u32) -> Answer
+pub fn kind_answer(kind: u32) -> NumberReply
     ensures { λ r. ⌜ r ≡ kindAnswer kind ⌝ }
 {
     if kind == 0 {
-        return words(2, 0, 0);
+        return number(2, 0);
     }
-    words(0, kind, 0)
+    number(0, kind)
 }
 
-pub fn check_answer(sound: bool) -> Answer
+pub fn check_answer(sound: bool) -> NumberReply
     ensures { λ r. ⌜ r ≡ checkAnswer sound ⌝ }
 {
     if sound {
-        return words(0, 1, 0);
+        return number(0, 1);
     }
-    words(0, 0, 0)
+    number(0, 0)
 }
 
-pub fn lookup_answer(a: Lookup) -> Answer
+pub fn lookup_answer(a: Lookup) -> NumberReply
     ensures { λ r. ⌜ r ≡ lookupAnswer a ⌝ }
 {
     match a {
-        Lookup::Number(n) => words(0, n.0, 0),
-        Lookup::Absent => words(0, 0, 0),
-        Lookup::Refused(e) => words(refusal_number(e), 0, 0),
+        Lookup::Number(n) => number(0, n.0),
+        Lookup::Absent => number(0, 0),
+        Lookup::Refused(e) => number(refusal_number(e), 0),
     }
 }
 
-pub fn name_answer(a: NameRead) -> Answer
-    ensures { λ r. ⌜ r ≡ nameAnswer a ⌝ }
-{
-    match a {
-        NameRead::Span(start, size) => words(0, start, size),
-        NameRead::Refused(e) => words(refusal_number(e), 0, 0),
-    }
-}
-
-pub fn statement_answer(a: StatementRead) -> Answer
-    ensures { λ r. ⌜ r ≡ statementAnswer a ⌝ }
-{
-    match a {
-        StatementRead::Is(x, flag) => Answer {
-            result: 0,
-            first: x.subject.0,
-            second: x.predicate.0,
-            third: x.object.0,
-            fourth: flag,
-        },
-        StatementRead::Refused(e) => words(refusal_number(e), 0, 0),
-    }
-}
-
-pub fn retract_answer(a: Retracted) -> Answer
+pub fn retract_answer(a: Retracted) -> NumberReply
     ensures { λ r. ⌜ r ≡ retractAnswer a ⌝ }
 {
     match a {
-        Retracted::Number(n) => words(0, n.0, 0),
-        Retracted::Absent => words(0, 0, 0),
-        Retracted::Refused(e) => words(refusal_number(e), 0, 0),
+        Retracted::Number(n) => number(0, n.0),
+        Retracted::Absent => number(0, 0),
+        Retracted::Refused(e) => number(refusal_number(e), 0),
     }
 }
 
-// 1 to 3: which position's chain.
-fn position_word(p: Position) -> u32
-    ensures { λ r. ⌜ r ≡ chainWord (By p) ⌝ }
+pub fn enter_answer(a: Interned) -> NumberReply
+    ensures { λ r. ⌜ r ≡ enterAnswer a ⌝ }
 {
-    match p {
-        Position::Subject => 1,
-        Position::Predicate => 2,
-        Position::Object => 3,
+    match a {
+        Interned::Number(n, _) => number(0, n.0),
+        Interned::Refused(e) => number(refusal_number(e), 0),
     }
 }
 
-// A cursor's word for its chain: 0 none, 1 subject, 2 predicate, 3 object.
-pub fn chain_word(chain: Chain) -> u32
-    ensures { λ r. ⌜ r ≡ chainWord chain ⌝ }
+// The counters from now on.
+pub fn interned_counters(a: Interned) -> Counters
+    ensures { λ r. ⌜ r ≡ (internedValues a) .counters ⌝ }
 {
-    match chain {
-        Chain::All => 0,
-        Chain::By(p) => position_word(p),
+    match a {
+        Interned::Number(_, c) => c,
+        Interned::Refused(_) => Counters::fresh(),
     }
 }
 
-// How many bytes a part has.
-fn size(p: Span) -> u64
-    ensures { λ r. ⌜ r ≡ sizeOf p ⌝ }
+pub fn name_answer(a: NameRead) -> NameReply
+    ensures { λ r. ⌜ r ≡ nameAnswer a ⌝ }
 {
-    if p.end < p.start {
-        return 0;
+    match a {
+        NameRead::Span(start, size) => NameReply {
+            result: 0,
+            start: start,
+            size: size,
+        },
+        NameRead::Refused(e) => NameReply {
+            result: refusal_number(e),
+            start: 0,
+            size: 0,
+        },
     }
-    (p.end - p.start) as u64
 }
 
-// The words of a line with no parts; `first` is a refusal's offset.
-fn no_parts(result: u32, what: u64, next: usize, first: usize) -> LineAnswer
-    ensures { λ r. ⌜ r ≡ lineAnswer result what next first ⌝ }
+pub fn statement_answer(a: StatementRead) -> StatementReply
+    ensures { λ r. ⌜ r ≡ statementAnswer a ⌝ }
 {
-    LineAnswer {
+    match a {
+        StatementRead::Is(x, flag) => StatementReply {
+            result: 0,
+            subject: x.subject.0,
+            predicate: x.predicate.0,
+            object: x.object.0,
+            flag: flag,
+        },
+        StatementRead::Refused(e) => StatementReply {
+            result: refusal_number(e),
+            subject: 0,
+            predicate: 0,
+            object: 0,
+            flag: 0,
+        },
+    }
+}
+
+// What asserting did, and the statement.
+fn asserted(result: u32, status: u32, number: u32) -> AssertReply
+    ensures { λ r. ⌜ r ≡ assertedWith result status number ⌝ }
+{
+    AssertReply {
         result: result,
-        what: what,
-        next: next as u64,
-        first: first as u64,
-        second: 0,
-        third: 0,
-        fourth: 0,
-        fifth: 0,
-        sixth: 0,
+        status: status,
+        number: number,
     }
 }
 
-pub fn line_answer(line: Line, next: usize) -> LineAnswer
-    ensures { λ r. ⌜ r ≡ readAnswer line next ⌝ }
+pub fn assert_answer(a: Asserted) -> AssertReply
+    ensures { λ r. ⌜ r ≡ assertAnswer a ⌝ }
 {
-    match line {
-        Line::End => no_parts(0, 0, next, 0),
-        Line::Nothing => no_parts(0, 1, next, 0),
-        Line::Refused(offset) => no_parts(10, 0, next, offset),
-        Line::Triple(s, p, o) => {
-            let s_size = size(s);
-            let p_size = size(p);
-            let o_size = size(o);
-            LineAnswer {
-                result: 0,
-                what: 2,
-                next: next as u64,
-                first: s.start as u64,
-                second: s_size,
-                third: p.start as u64,
-                fourth: p_size,
-                fifth: o.start as u64,
-                sixth: o_size,
-            }
-        }
+    match a {
+        Asserted::New(n, _) => asserted(0, 1, n.0),
+        Asserted::Already(n, _) => asserted(0, 2, n.0),
+        Asserted::Revived(n, _) => asserted(0, 3, n.0),
+        Asserted::Refused(e) => asserted(refusal_number(e), 0, 0),
     }
 }
 
-// The chain of a cursor's word.
-pub fn chain_of(k: u32) -> Chain
-    ensures { λ r. ⌜ r ≡ chainOf k ⌝ }
+// The counters from now on.
+pub fn asserted_counters(a: Asserted) -> Counters
+    ensures { λ r. ⌜ r ≡ (assertedValues a) .counters ⌝ }
 {
-    if k == 1 {
-        return Chain::By(Position::Subject);
+    match a {
+        Asserted::New(_, c) => c,
+        Asserted::Already(_, c) => c,
+        Asserted::Revived(_, c) => c,
+        Asserted::Refused(_) => Counters::fresh(),
     }
-    if k == 2 {
-        return Chain::By(Position::Predicate);
-    }
-    if k == 3 {
-        return Chain::By(Position::Object);
-    }
-    Chain::All
 }
 
-// A result and three words.
-fn three(result: u32, first: u32, second: u32, third: u32) -> Answer
-    ensures { λ r. ⌜ r ≡ answer result first second third 0 ⌝ }
+// What a next call of a scan did, the statement, and the visits made.
+fn scanned(result: u32, status: u32, number: u32, visits: u32) -> ScanReply
+    ensures { λ r. ⌜ r ≡ scannedWith result status number visits ⌝ }
 {
-    Answer {
+    ScanReply {
         result: result,
-        first: first,
-        second: second,
-        third: third,
-        fourth: 0,
+        status: status,
+        number: number,
+        visits: visits,
     }
 }
 
-pub fn scanned_answer(a: Scanned) -> Answer
+pub fn scanned_answer(a: Scanned) -> ScanReply
     ensures { λ r. ⌜ r ≡ scannedAnswer a ⌝ }
 {
     match a {
-        Scanned::Found(n, visits, _) => three(0, 1, n.0, visits),
-        Scanned::Ended(visits, _) => three(0, 2, 0, visits),
-        Scanned::Spent(visits, _) => three(0, 3, 0, visits),
-        Scanned::Refused(e) => three(refusal_number(e), 0, 0, 0),
+        Scanned::Found(n, visits, _) => scanned(0, 1, n.0, visits),
+        Scanned::Ended(visits, _) => scanned(0, 2, 0, visits),
+        Scanned::Spent(visits, _) => scanned(0, 3, 0, visits),
+        Scanned::Refused(e) => scanned(refusal_number(e), 0, 0, 0),
     }
 }
 
@@ -241,44 +220,57 @@ pub fn scanned_cursor(a: Scanned) -> ScanCursor
     }
 }
 
-pub fn assert_answer(a: Asserted) -> Answer
-    ensures { λ r. ⌜ r ≡ assertAnswer a ⌝ }
+// How many bytes a part has.
+fn size(p: Span) -> u64
+    ensures { λ r. ⌜ r ≡ sizeOf p ⌝ }
 {
-    match a {
-        Asserted::New(n, _) => words(0, 1, n.0),
-        Asserted::Already(n, _) => words(0, 2, n.0),
-        Asserted::Revived(n, _) => words(0, 3, n.0),
-        Asserted::Refused(e) => words(refusal_number(e), 0, 0),
+    if p.end < p.start {
+        return 0;
+    }
+    (p.end - p.start) as u64
+}
+
+// A part of a line, by its span.
+fn part(p: Span) -> Part
+    ensures { λ r. ⌜ r ≡ part (p .start) (sizeOf p) ⌝ }
+{
+    Part {
+        start: p.start as u64,
+        size: size(p),
     }
 }
 
-// The counters from now on.
-pub fn asserted_counters(a: Asserted) -> Counters
-    ensures { λ r. ⌜ r ≡ (assertedValues a) .counters ⌝ }
+// The reply of a line with no parts, which beside a refusal names its offset.
+fn no_parts(result: u32, what: u64, next: usize, offset: usize) -> LineReply
+    ensures { λ r. ⌜ r ≡ noParts result what next offset ⌝ }
 {
-    match a {
-        Asserted::New(_, c) => c,
-        Asserted::Already(_, c) => c,
-        Asserted::Revived(_, c) => c,
-        Asserted::Refused(_) => Counters::fresh(),
+    LineReply {
+        result: result,
+        what: what,
+        next: next as u64,
+        subject: Part {
+            start: offset as u64,
+            size: 0,
+        },
+        predicate: Part { start: 0, size: 0 },
+        object: Part { start: 0, size: 0 },
     }
 }
 
-pub fn enter_answer(a: Interned) -> Answer
-    ensures { λ r. ⌜ r ≡ enterAnswer a ⌝ }
+pub fn line_answer(line: Line, next: usize) -> LineReply
+    ensures { λ r. ⌜ r ≡ readAnswer line next ⌝ }
 {
-    match a {
-        Interned::Number(n, _) => words(0, n.0, 0),
-        Interned::Refused(e) => words(refusal_number(e), 0, 0),
-    }
-}
-
-// The counters from now on.
-pub fn interned_counters(a: Interned) -> Counters
-    ensures { λ r. ⌜ r ≡ (internedValues a) .counters ⌝ }
-{
-    match a {
-        Interned::Number(_, c) => c,
-        Interned::Refused(_) => Counters::fresh(),
+    match line {
+        Line::End => no_parts(0, 0, next, 0),
+        Line::Nothing => no_parts(0, 1, next, 0),
+        Line::Refused(offset) => no_parts(10, 0, next, offset),
+        Line::Triple(s, p, o) => LineReply {
+            result: 0,
+            what: 2,
+            next: next as u64,
+            subject: part(s),
+            predicate: part(p),
+            object: part(o),
+        },
     }
 }

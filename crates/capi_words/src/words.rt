@@ -1,7 +1,8 @@
-// Counters, triples and cursors as the words that C lends, read and written, and next of a pattern scan from a cursor's words.
-use crate::replies::chain_of;
-use crate::replies::chain_word;
+// Counters, triples and cursors as the words that C lends, read and written, and next of a pattern scan from a cursor's
+// words.
+use store::Chain;
 use store::Counters;
+use store::Position;
 use store::Refusal;
 use store::ResourceId;
 use store::ScanCursor;
@@ -13,7 +14,9 @@ ghost use Prim.Native.Nat.{_≤_};
 ghost use lib.ListN.{length};
 ghost use Rattle.store.specs.Tables.{lent};
 ghost use Rattle.store.specs.Shared.{triple};
-ghost use Rattle.capi_calls.specs.Words.{counterWords, cursorWords, countersOf, withCounters, cursorFrom, withCursor, nextFrom};
+ghost use Rattle.store.specs.declared.Chain.the-variants.{By};
+ghost use Rattle.capi_calls.specs.Words.{counterWords, cursorWords, countersOf, withCounters};
+ghost use Rattle.capi_calls.specs.Words.{chainOf, chainWord, cursorFrom, withCursor, nextFrom};
 
 // Three numbers as a triple or a pattern.
 pub fn triple_of(subject: u32, predicate: u32, object: u32) -> Triple
@@ -24,6 +27,43 @@ pub fn triple_of(subject: u32, predicate: u32, object: u32) -> Triple
         predicate: ResourceId(predicate),
         object: ResourceId(object),
     }
+}
+
+// 1 to 3: which position's chain.
+fn position_word(p: Position) -> u32
+    ensures { λ r. ⌜ r ≡ chainWord (By p) ⌝ }
+{
+    match p {
+        Position::Subject => 1,
+        Position::Predicate => 2,
+        Position::Object => 3,
+    }
+}
+
+// A cursor's word for its chain: 0 none, 1 subject, 2 predicate, 3 object.
+pub fn chain_word(chain: Chain) -> u32
+    ensures { λ r. ⌜ r ≡ chainWord chain ⌝ }
+{
+    match chain {
+        Chain::All => 0,
+        Chain::By(p) => position_word(p),
+    }
+}
+
+// The chain of a cursor's word.
+pub fn chain_of(k: u32) -> Chain
+    ensures { λ r. ⌜ r ≡ chainOf k ⌝ }
+{
+    if k == 1 {
+        return Chain::By(Position::Subject);
+    }
+    if k == 2 {
+        return Chain::By(Position::Predicate);
+    }
+    if k == 3 {
+        return Chain::By(Position::Object);
+    }
+    Chain::All
 }
 
 // Writes a cursor's words.

@@ -1,5 +1,6 @@
--- The check decides soundness (`specs/Claims.antt`): each of its tests says yes exactly where its part of the definition
--- holds, on every input; so fresh counters pass, and every store that a list of calls leaves. Assumes nothing.
+-- The check decides soundness (`specs/Claims.antt`): each of its tests says yes exactly where its part of the
+-- definition holds, on every input; so fresh counters pass, and every store that a list of calls leaves. Assumes
+-- nothing.
 use mathlib.Core.Path.{_≡_, refl, sym, ap}
 use mathlib.Core.Bool.{true, false, _&&_, false≢true}
 use mathlib.Core.List.{List}
@@ -12,7 +13,8 @@ use borrow.Author.Tests.{eqb-true, eq-eqb, leb-true, le-leb}
 use Rattle.store.specs.declared.Counters.{Counters}
 use Rattle.store.specs.declared.Position.{Position}
 use Rattle.store.specs.Shared.{at, all3, known, kindsPermitted, freshCounters, nameOf, allBelow}
-use Rattle.store.specs.Tables.{Tables, fits, resourceWords, statementWords, nextAt, flagAt, tripleAt, firstAt, countAt, kindAt, liveAt}
+use Rattle.store.specs.Tables.{Tables, fits, resourceWords, statementWords, nextAt, flagAt, tripleAt, firstAt, countAt}
+use Rattle.store.specs.Tables.{kindAt, liveAt}
 use Rattle.store.specs.Names.{Named, Indexed}
 use Rattle.store.specs.Soundness.{holding, isLive, Linked, Sound}
 use Rattle.store.specs.History.{freshStore, storeAfter}

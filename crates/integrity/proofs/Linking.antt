@@ -1,6 +1,7 @@
--- Links and counts by the cheap test: chains that fall, hold their resource, are as long as the count says and have as many live records
--- as the live count says, and counts that add up to the number of records. Then first, next, count and live count are exactly as the
--- records say; and the other way. The position is a parameter throughout. Assumes nothing.
+-- Links and counts by the cheap test: chains that fall, hold their resource, are as long as the count says and have as
+-- many live records as the live count says, and counts that add up to the number of records. Then first, next, count
+-- and live count are exactly as the records say; and the other way. The position is a parameter throughout. Assumes
+-- nothing.
 use mathlib.Core.Path.{_≡_, refl, sym, ap, _∙_}
 use mathlib.Core.Logic.{_≢_}
 use mathlib.Core.Bool.{Bool, true, false, _&&_, true≢false}
@@ -46,7 +47,8 @@ record Opened (next : ℕ → ℕ) (f : ℕ → Bool) (i c : ℕ) : Type 0 where
   rest : chainLength next f fuel (next i) ≡ some left
   one : c ≡ suc left
 
--- A walk meets no more records than pass. If as many, it starts at the highest that passes, and every link is the highest below.
+-- A walk meets no more records than pass. If as many, it starts at the highest that passes, and every link is the
+-- highest below.
 abbrev Tight : (ℕ → ℕ) → (ℕ → Bool) → ℕ → ℕ → ℕ → Type 0
 Tight next f n t c = (c ≤ length (below f n)) × (c ≡ length (below f n) → (t ≡ head0 (below f n)) × Links f next n)
 

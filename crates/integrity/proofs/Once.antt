@@ -2,12 +2,12 @@
 -- its chains, meets its triple exactly if an earlier record has it. Assumes nothing.
 use mathlib.Core.Path.{_≡_, refl, sym, ap, _∙_}
 use mathlib.Core.Logic.{_≢_}
-use mathlib.Core.Bool.{Bool, true, false, cond, not, true≢false, false≢true}
+use mathlib.Core.Bool.{Bool, true, false, cond, not, true≢false}
 use mathlib.Core.List.{List}
 use mathlib.Core.Option.{Option, none, some}
 use Prim.Native.Nat.{ℕ, zero, suc, _≤_, _<_}
 use native.Mathlib.Omega.{arith}
-use borrow.Author.Tests.{eq-eqb, le-leb}
+use borrow.Author.Tests.{eq-eqb, le-leb, not-true}
 use Rattle.store.specs.declared.Position.{Position}
 use Rattle.store.specs.declared.Triple.{Triple}
 use Rattle.store.specs.Shared.{at, same, below, head0, allBelow}
@@ -43,10 +43,6 @@ module _ (next : ℕ → ℕ) (f g : ℕ → Bool) where
       more-some none = refl
       more-some (some m) = refl
 
-not-true-false : (b : Bool) → not b ≡ true → b ≡ false
-not-true-false true e = absurd (false≢true e)
-not-true-false false e = refl
-
 module _ (r t : ℕ) (res stm : List ℕ) (L : Linked r t res stm) (p : Position) (i : ℕ) (h : i < t) where
   abbrev g : ℕ → Bool
   g = holding stm p (termAt stm p i)
@@ -72,7 +68,7 @@ module _ (r t : ℕ) (res stm : List ℕ) (L : Linked r t res stm) (p : Position
   tested-once e j q d =
       let a : cond (g j) (f j) true ≡ true = all-at (λ j. cond (g j) (f j) true) i (sym walk-is ∙ e) j q in
       let b : not (same (tripleAt stm i) (tripleAt stm j)) ≡ true = rw (same-holds j d) at a in
-      true≢false (sym (same-self (tripleAt stm i) (tripleAt stm j) d) ∙ not-true-false _ b)
+      true≢false (sym (same-self (tripleAt stm i) (tripleAt stm j) d) ∙ not-true _ b)
 
   once-tested : ((j : ℕ) → j < i → tripleAt stm j ≢ tripleAt stm i) → standsOnceOn stm p i ≡ true
   unfolding differs

@@ -1,8 +1,9 @@
--- Tests and sums over a range: each number's test; no term falls short where the sums are the same; entries that each
--- hold one number of 1..r, counted for each number, add up. Assumes nothing.
+-- Tests and sums over a range: each number's test, and what code that tests in a row or in a loop answers; no term
+-- falls short where the sums are the same; entries that each hold one number of 1..r, counted for each number, add up.
+-- Assumes nothing.
 use mathlib.Core.Path.{_≡_, refl, sym, ap, ap₂, _∙_}
 use mathlib.Core.Logic.{_≢_}
-use mathlib.Core.Bool.{Bool, true, false, cond}
+use mathlib.Core.Bool.{Bool, true, false, cond, not, _&&_}
 use Prim.Native.Nat.{ℕ, zero, suc, _+_, _≤_, _<_}
 use native.Mathlib.Omega.{arith}
 use native.Mathlib.Numerals.{add-one}
@@ -12,6 +13,7 @@ use borrow.Author.Tests.{eqb-true, eqb-false, ne-eqb}
 use Rattle.store.specs.Shared.{below, allBelow}
 use Rattle.store.proofs.Tests.{decide, and-l, and-r, and-of}
 use Rattle.store.proofs.Falling.{length-suc}
+use Rattle.table.proofs.Branches.{passed, failed}
 use Rattle.integrity.specs.Tests.{sumTo}
 
 -- ---- tests
@@ -43,6 +45,34 @@ all-fails f n i h e = decide (allBelow f n) (λ a. absurd (clash (sym (all-at f 
   where
     clash : true ≡ false → ⊥
     clash z = let q : _≡_ {A = ℕ} 0 1 = cc in omega arith
+
+-- ---- tests in a row, each only where those before it hold; x is the code's value of the first
+
+pub stops : {x a : Bool} (rest : Bool) → x ≡ a → not x ≡ true → false ≡ a && rest
+stops rest e h = rw (failed e h)
+
+pub goes-on : {x a z rest : Bool} → x ≡ a → not x ≡ false → z ≡ rest → z ≡ a && rest
+goes-on e h r = rw (passed e h) r
+
+-- ---- a loop that tests 0 .. n - 1 and ends at the first that fails
+
+-- the first i pass
+abbrev pub PassSoFar : (ℕ → Bool) → ℕ → ℕ → Type 0
+PassSoFar f n i = (i ≤ n) × (allBelow f i ≡ true)
+
+pub loop-begins : (f : ℕ → Bool) (n : ℕ) → PassSoFar f n 0
+loop-begins f n = (omega arith, all-none f)
+
+-- b is the code's value of test i, which it may have asked of a number k that comes to the same
+module _ (f : ℕ → Bool) (n i : ℕ) where
+  pub loop-fails : {b : Bool} {k : ℕ} → i < n → b ≡ f k → k ≡ i → not b ≡ true → false ≡ allBelow f n
+  loop-fails h e q z = sym (all-fails f n i h (rw q at (failed e z)))
+
+  pub loop-turns : {b : Bool} {k : ℕ} → PassSoFar f n i → i < n → b ≡ f k → k ≡ i → not b ≡ false → PassSoFar f n (i + 1)
+  loop-turns p h e q z = (omega arith, all-more f i (p .1) (rw q at (passed e z)))
+
+  pub loop-ends : PassSoFar f n i → n ≤ i → true ≡ allBelow f n
+  loop-ends p h = let e : i ≡ n = omega arith in sym (rw e at (p .1))
 
 -- ---- sums
 

@@ -1,5 +1,5 @@
--- The index by the cheap test: entries in 1..R whose neighbours' names rise are entries that rise throughout; and the other way.
--- Assumes nothing.
+-- The index by the cheap test: entries in 1..R whose neighbours' names rise are entries that rise throughout; and the
+-- other way. Assumes nothing.
 use mathlib.Core.Path.{_≡_, sym, ap, _∙_}
 use mathlib.Core.Bool.{true, _&&_}
 use mathlib.Core.List.{List}
@@ -14,8 +14,10 @@ use Rattle.store.specs.Names.{less, compareBytes, isLess, Indexed}
 use Rattle.store.proofs.Tests.{and-l, and-r, and-of}
 use Rattle.store.proofs.Order.{compare-trans, is-less}
 use Rattle.store.specs.Shared.{allBelow}
+use Rattle.table.specs.Held.{ResourceHeld}
+use Rattle.integrity.specs.Held.{ResourcesHeld}
 use Rattle.integrity.specs.Names.{nameFrom}
-use Rattle.integrity.specs.Index.{entryOk, nameLess, neighboursRise, indexOk}
+use Rattle.integrity.specs.Index.{entryOk, EntriesKnown, nameLess, neighboursRise, indexOk}
 use Rattle.integrity.proofs.Ranges.{all-at, all-of}
 
 -- `name` is what stands in the text for each resource
@@ -32,6 +34,12 @@ module _ (r : ℕ) (res idx used : List ℕ) where
   entry-high e i h =
       leb-true (word idx i) r
       (and-r (ltb 0 (word idx i)) _ (all-at (λ i. ltb 0 (word idx i) && leb (word idx i) r) r e i h))
+
+  -- so the record of each entry lies in its table
+  pub entry-held : EntriesKnown idx r → ResourcesHeld res r → (i : ℕ) → i < r → ResourceHeld res (word idx i)
+  entry-held e h i l =
+      let high = entry-high (e .known) i l in
+      record { from-one = entry-low (e .known) i l; whole = omega arith }
 
   module _ (name : ℕ → List ℕ) (S : Standing r res used name) where
     -- neighbours in the text are neighbours by name

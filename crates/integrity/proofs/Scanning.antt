@@ -1,12 +1,13 @@
--- What the passes over the text and the index meet byte by byte: the ways out of their loops, and a turn. Assumes nothing.
+-- What the passes over the text and the index meet byte by byte: the ways out of their loops, and a turn. Assumes
+-- nothing.
 use mathlib.Core.Path.{_≡_, refl, ap, _∙_}
-use mathlib.Core.Bool.{Bool, true, false}
+use mathlib.Core.Bool.{Bool, true, false, not, _&&_}
 use mathlib.Core.List.{List, [], _∷_}
 use Prim.Native.Nat.{ℕ, zero, suc, _+_, _-_, _≤_, _<_}
 use native.Mathlib.Omega.{arith}
 use native.Mathlib.Numerals.{add-one}
 use lib.ListN.{length, getD, take, drop}
-use lib.Seq.{drop-cons}
+use lib.Seq.{drop-cons, take-all}
 use lib.Dec.{eqb, ltb}
 use borrow.Author.Tests.{eqb-true, eqb-false, ltb-true, ltb-false, eq-eqb, ne-eqb, lt-ltb, le-ltb}
 use Rattle.term.specs.Grammar.{nameLimit}
@@ -17,6 +18,7 @@ use Rattle.store.specs.Shared.{wellFormed}
 use Rattle.store.specs.Names.{storable, upToZero, compareBytes, isLess}
 use Rattle.store.proofs.Tests.{and-l}
 use Rattle.store.proofs.Order.{compare-less, compare-more, compare-tail}
+use Rattle.bytes.specs.Bytes.{indexOf, indexAfter, slice}
 use Rattle.integrity.specs.Names.{nameFrom, nameOk, namesOk}
 use Rattle.integrity.specs.Index.{nameLess}
 
@@ -30,19 +32,19 @@ upto-more : (x : ℕ) (l : List ℕ) → (x ≡ 0 → ⊥) → upToZero (x ∷ l
 upto-more zero l e = absurd (e refl)
 upto-more (suc x) l e = refl
 
+index-zero : (l : List ℕ) → indexOf 0 l ≡ length (upToZero l)
+unfolding indexOf indexAfter
+index-zero [] = refl
+index-zero (zero ∷ l) = refl
+index-zero (suc x ∷ l) = rw (ne-eqb (suc x) 0 (λ e. omega arith)) (ap suc (index-zero l))
+
 all-dropped : (l : List ℕ) (i : ℕ) → length l ≤ i → drop i l ≡ []
 all-dropped [] zero h = refl
 all-dropped [] (suc i) h = refl
 all-dropped (x ∷ l) zero h = absurd (omega arith)
 all-dropped (x ∷ l) (suc i) h = all-dropped l i (omega arith)
 
--- a byte past the end reads 0
-pub past-zero : (l : List ℕ) (i : ℕ) → length l ≤ i → getD l i 0 ≡ 0
-past-zero [] i h = refl
-past-zero (x ∷ l) zero h = absurd (omega arith)
-past-zero (x ∷ l) (suc i) h = past-zero l i (omega arith)
-
--- so a byte that is not 0 lies in the text
+-- a byte past the end reads 0, so one that is not 0 lies in the text
 pub inside : (l : List ℕ) (i : ℕ) → (getD l i 0 ≡ 0 → ⊥) → i < length l
 inside [] i h = absurd (h refl)
 inside (x ∷ l) zero h = omega arith
@@ -82,6 +84,11 @@ module _ (used : List ℕ) where
   pub name-slice : (o e : ℕ) → e ≡ o + length (nameFrom used o) → take (e - o) (drop o used) ≡ nameFrom used o
   name-slice o e h = let q : e - o ≡ length (nameFrom used o) = omega arith in rw q (name-part o)
 
+  -- where the next zero byte stands, or the end
+  pub name-found : (o e : ℕ) → e ≡ o + indexOf 0 (slice o (length used) used) → e ≡ o + length (nameFrom used o)
+  unfolding nameFrom slice
+  name-found o e h = h ∙ rw (take-all (length used) used (omega arith), index-zero (drop o used))
+
 -- ---- one name, and all of them
 
 module _ (res used : List ℕ) (y o : ℕ) where
@@ -104,27 +111,19 @@ module _ (res used : List ℕ) (y o : ℕ) where
   unfolding nameOk storable wellFormed
   name-ill h e k = rw (lt-ltb (o + length n) (length used) h, eq-eqb (offsetAt res y) o e, k)
 
-  pub name-ending : o + length n < length used → offsetAt res y ≡ o → (kindOf nameLimit n ≡ 0 → ⊥) → writesString n ≡ true
-      → nameOk res used y o ≡ false
-  unfolding nameOk storable wellFormed
-  name-ending h e k t =
-      rw (
-        lt-ltb (o + length n) (length used) h,
-        eq-eqb (offsetAt res y) o e,
-        lt-ltb 0 (kindOf nameLimit n) (omega arith),
-        t,
-      )
+  -- a name at its offset, of some kind: without the string ending the kinds decide
+  module _ (h : o + length n < length used) (e : offsetAt res y ≡ o) (k : kindOf nameLimit n ≡ 0 → ⊥) where
+    name-formed : nameOk res used y o ≡ not (writesString n) && eqb (kindAt res y) (kindOf nameLimit n)
+    unfolding nameOk storable wellFormed
+    name-formed =
+        let formed = lt-ltb 0 (kindOf nameLimit n) (omega arith) in
+        rw (lt-ltb (o + length n) (length used) h, eq-eqb (offsetAt res y) o e, formed)
 
-  pub name-kinds : o + length n < length used → offsetAt res y ≡ o → (kindOf nameLimit n ≡ 0 → ⊥) → writesString n ≡ false
-      → nameOk res used y o ≡ eqb (kindAt res y) (kindOf nameLimit n)
-  unfolding nameOk storable wellFormed
-  name-kinds h e k t =
-      rw (
-        lt-ltb (o + length n) (length used) h,
-        eq-eqb (offsetAt res y) o e,
-        lt-ltb 0 (kindOf nameLimit n) (omega arith),
-        t,
-      )
+    pub name-ending : writesString n ≡ true → nameOk res used y o ≡ false
+    name-ending t = name-formed ∙ rw t
+
+    pub name-kinds : writesString n ≡ false → nameOk res used y o ≡ eqb (kindAt res y) (kindOf nameLimit n)
+    name-kinds t = name-formed ∙ rw t
 
 module _ (res used : List ℕ) (r done o : ℕ) where
   pub names-end : r ≤ done → namesOk res used (r - done) (done + 1) o ≡ eqb o (length used)
@@ -150,7 +149,8 @@ module _ (used : List ℕ) (i j : ℕ) where
   unfolding nameLess
   less-here h = rw (name-step used j (λ e. omega arith)) (by (eqb (getD used i 0) 0) refl)
     where
-      by : (b : Bool) → eqb (getD used i 0) 0 ≡ b → isLess (compareBytes (nameFrom used i) (getD used j 0 ∷ nameFrom used (j + 1))) ≡ true
+      by : (b : Bool) → eqb (getD used i 0) 0 ≡ b
+          → isLess (compareBytes (nameFrom used i) (getD used j 0 ∷ nameFrom used (j + 1))) ≡ true
       by true e = unfold compareBytes in rw (name-stop used i (eqb-true (getD used i 0) 0 e))
       by false e =
           rw (
@@ -162,7 +162,8 @@ module _ (used : List ℕ) (i j : ℕ) where
   unfolding nameLess
   more-here h = rw (name-step used i (λ e. omega arith)) (by (eqb (getD used j 0) 0) refl)
     where
-      by : (b : Bool) → eqb (getD used j 0) 0 ≡ b → isLess (compareBytes (getD used i 0 ∷ nameFrom used (i + 1)) (nameFrom used j)) ≡ false
+      by : (b : Bool) → eqb (getD used j 0) 0 ≡ b
+          → isLess (compareBytes (getD used i 0 ∷ nameFrom used (i + 1)) (nameFrom used j)) ≡ false
       by true e = unfold compareBytes in rw (name-stop used j (eqb-true (getD used j 0) 0 e))
       by false e =
           rw (

@@ -17,7 +17,8 @@ use Rattle.store.specs.Shared.{at, same, allBelow}
 use Rattle.store.specs.Tables.{termAt, nextAt, tripleAt, firstAt, countAt, liveAt}
 use Rattle.store.specs.Soundness.{holding, isLive}
 use Rattle.integrity.specs.Tests.{sumTo, chainLength, chainLive, oneMore, isSome}
-use Rattle.integrity.specs.Records.{chainCounts, chainSound, chainsSound, shorter, shortest, differs, standsOnceOn}
+use Rattle.integrity.specs.Records.{chainCounts, chainSound, chainsSound, shorter, shortest, differs}
+use Rattle.integrity.specs.Records.{standsOnceOn}
 use Rattle.integrity.proofs.Linking.{chain-zero, live-zero}
 use Rattle.integrity.proofs.Ranges.{all-none, all-more, all-fails, sum-none, sum-more}
 
@@ -64,7 +65,8 @@ byte-le true = omega arith
 byte-le false = omega arith
 
 module _ (t : ℕ) (stm : List ℕ) (p : Position) (y first : ℕ) where
-  -- the records from `first` on are those met and the walk from record n on, its live ones those met and those from there
+  -- the records from `first` on are those met and the walk from record n on, its live ones those met and those from
+  -- there
   abbrev pub Along : ℕ → ℕ → ℕ → Type 0
   Along met alive n =
       (g : ℕ) × (n ≤ g)

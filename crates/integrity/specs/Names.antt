@@ -1,5 +1,5 @@
--- The test of the names (paper 01, "Sound means"; 02, note 7): one pass over the used text and the resource records. Each name runs
--- from where the one before was closed to the next zero byte. Assumes nothing.
+-- The test of the names (paper 01, "Sound means"; 02, note 7): one pass over the used text and the resource records.
+-- Each name runs from where the one before was closed to the next zero byte. Assumes nothing.
 use mathlib.Core.Bool.{Bool, _&&_}
 use mathlib.Core.List.{List}
 use Prim.Native.Nat.{ℕ, zero, suc, _+_}
@@ -14,7 +14,8 @@ use Rattle.store.specs.Names.{storable, upToZero}
 unfoldable pub nameFrom : List ℕ → ℕ → List ℕ
 nameFrom used o = upToZero (drop o used)
 
--- the name from o on is closed by a zero byte, well formed and without the string ending, and resource y has its offset and kind
+-- the name from o on is closed by a zero byte, well formed and without the string ending, and resource y has its offset
+-- and kind
 unfoldable pub nameOk : List ℕ → List ℕ → ℕ → ℕ → Bool
 nameOk res used y o =
     ltb (o + length (nameFrom used o)) (length used)

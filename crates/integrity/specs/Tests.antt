@@ -1,5 +1,5 @@
--- Tests and sums over a range of numbers, and the walk along a chain that counts its records and the live ones among them.
--- Assumes nothing.
+-- Tests and sums over a range of numbers, and the walk along a chain that counts its records and the live ones among
+-- them. Assumes nothing.
 use mathlib.Core.Bool.{Bool, true, false, cond, _&&_}
 use mathlib.Core.Option.{Option, none, some}
 use Prim.Native.Nat.{ℕ, zero, suc, _+_}

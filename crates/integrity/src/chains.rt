@@ -1,6 +1,7 @@
-// The pass over the chains at one position: from each resource's first, by next, falling, with the resource in every record, as many as
-// its count says and as many live ones as its live count says; and the counts add up to the number of records. So every record is on its
-// chain and nothing else is, and the live ones met are all that the resource has there.
+// The pass over the chains at one position: from each resource's first, by next, falling, with the resource in every
+// record, as many as its count says and as many live ones as its live count says; and the counts add up to the number
+// of records. So every record is on its chain and nothing else is, and the live ones met are all that the resource has
+// there.
 use store::Position;
 use store::ResourceId;
 use store::StatementId;
@@ -10,7 +11,8 @@ ghost use Rattle.store.specs.Shared.{all3};
 ghost use Rattle.integrity.specs.Held.{ResourcesHeld, StatementsHeld};
 ghost use Rattle.integrity.specs.Records.{chainCounts, chainSound, chainsSound};
 
-// Whether the chain from record `first` on falls, holds y in every record, and has `count` records, `live` of them live.
+// Whether the chain from record `first` on falls, holds y in every record, and has `count` records, `live` of them
+// live.
 fn chain_counts(
     statements: &[u32],
     t: u32,

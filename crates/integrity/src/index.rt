@@ -1,23 +1,16 @@
-// The pass over the index: entries in 1..R, and names of neighbours that rise. Names are compared where they stand in the text.
+// The pass over the index: entries in 1..R, and names of neighbours that rise. Names are compared where they stand in
+// the text.
 use store::ResourceId;
+use term::class::byte_at;
 ghost use mathlib.Core.Path.{_≡_};
 ghost use Prim.Native.Nat.{_+_, _-_, _≤_, _<_};
-ghost use lib.ListN.{length, getD};
+ghost use lib.ListN.{length};
 ghost use Rattle.integrity.specs.Held.{ResourcesHeld};
 ghost use Rattle.store.specs.Shared.{allBelow};
 ghost use Rattle.integrity.specs.Index.{entryOk, EntriesKnown, nameLess, neighboursRise, indexOk};
 
-// A byte of the text; 0 past its end, as if the last name were closed there.
-fn byte_at(used: &[u8], i: usize) -> u8
-    ensures { λ b. ⌜ b ≡ getD (now (used .entry)) i 0 ⌝ }
-{
-    if i < used.len() {
-        return used[i];
-    }
-    0
-}
-
-// Whether the name from a on is less than the name from b on. A zero byte is less than any byte of a name, so a prefix comes first.
+// Whether the name from a on is less than the name from b on. A zero byte is less than any byte of a name, so a prefix
+// comes first; past the end of the text a byte is 0, as if the last name were closed there.
 fn name_less(used: &[u8], a: usize, b: usize) -> bool
     ensures { λ r. ⌜ r ≡ nameLess (now (used .entry)) a b ⌝ }
 {

@@ -9,8 +9,9 @@
 //   counts say;
 // - no triple stands twice.
 //
-// One pass over each table and over the chains at each position, so linear in R + T + B, but for the last test: for each record it walks
-// the shortest of its three chains below it. Nothing is written, and no working memory is asked for.
+// One pass over each table and over the chains at each position, so linear in R + T + B, but for the last test: for
+// each record it walks the shortest of its three chains below it. Nothing is written, and no working memory is asked
+// for.
 use store::Counters;
 ghost use mathlib.Core.Path.{_≡_};
 ghost use mathlib.Core.Bool.{true};

@@ -1,4 +1,5 @@
-// The pass over the used text: each name from where the one before was closed to the next zero byte, with its resource's record.
+// The pass over the used text: each name from where the one before was closed to the next zero byte, with its
+// resource's record.
 use store::ResourceId;
 ghost use mathlib.Core.Path.{_≡_};
 ghost use Prim.Native.Nat.{_+_, _≤_};
@@ -7,23 +8,8 @@ ghost use Rattle.table.specs.Held.{ResourceHeld};
 ghost use Rattle.integrity.specs.Held.{ResourcesHeld};
 ghost use Rattle.integrity.specs.Names.{nameFrom, nameOk, namesOk};
 
-// Where the name that starts at `from` ends: at the next zero byte, or with the text.
-fn name_end(used: &[u8], from: usize) -> usize
-    requires { ⌜ from ≤ length (now used) ⌝ }
-    ensures { λ e. ⌜ (e ≡ from + length (nameFrom (now (used .entry)) from)) × (e ≤ length (now (used .entry))) ⌝ }
-{
-    let mut i = from;
-    // No byte from `from` up to i is zero.
-    while i < used.len() {
-        if used[i] == 0 {
-            return i;
-        }
-        i += 1;
-    }
-    i
-}
-
-// Whether the name from `from` to `end` is closed, well formed and without the string ending, and resource y has its offset and kind.
+// Whether the name from `from` to `end` is closed, well formed and without the string ending, and resource y has its
+// offset and kind.
 fn name_ok(resources: &[u32], used: &[u8], y: ResourceId, from: usize, end: usize) -> bool
     requires { ⌜ ResourceHeld (now resources) (y .0) ⌝ }
     requires { ⌜ (end ≡ from + length (nameFrom (now used) from)) × (end ≤ length (now used)) ⌝ }
@@ -54,7 +40,7 @@ pub fn names_ok(resources: &[u32], used: &[u8], r: u32) -> bool
     let mut from: usize = 0;
     // The text up to `from` is the names of the first `done` resources, with right offsets and kinds.
     while done < r {
-        let end = name_end(used, from);
+        let end = bytes::scan::find(used, from, used.len(), 0);
         if !name_ok(resources, used, ResourceId(done + 1), from, end) {
             return false;
         }

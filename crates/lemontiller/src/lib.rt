@@ -1,12 +1,19 @@
 // The store for C: every public operation under a plain name, on numbers and slices.
 //
-// A slice is a pointer and a length in elements. A store function begins with five of them: counters (R, T, B, the reclaims so far),
-// resources, statements, index (words of 32 bits) and text (bytes). What a function gives back is 0 where it answers, the paper's refusal
-// number, or 100 where a lent counters, cursor or reply slice is too short; then nothing is written. Beside a refusal the reply's words
-// are 0. Words past those that a reply names keep their values. The contracts are equations with the definitions in
-// `specs/Calls.antt` of `capi_calls`, or records there where an operation's contract is one.
+// A slice is a pointer and a length in elements. A store function begins with five of them: counters (R, T, B, the
+// reclaims so far), resources, statements, index (words of 32 bits) and text (bytes). What a function gives back is 0
+// where it answers, the paper's refusal number, or 100 where a lent counters, cursor or reply slice is too short; then
+// nothing is written. Beside a refusal the reply's words are 0. Words past those that a reply names keep their values.
+// The contracts are equations with the definitions in `specs/Calls.antt` of `capi_calls`, or records there where an
+// operation's contract is one.
+use capi_calls::ASSERT_REPLY_WORDS;
 use capi_calls::COUNTER_WORDS;
 use capi_calls::CURSOR_WORDS;
+use capi_calls::LINE_WORDS;
+use capi_calls::NAME_REPLY_WORDS;
+use capi_calls::NUMBER_REPLY_WORDS;
+use capi_calls::SCAN_REPLY_WORDS;
+use capi_calls::STATEMENT_REPLY_WORDS;
 use capi_calls::TOO_SHORT;
 use capi_words::replies::assert_answer;
 use capi_words::replies::asserted_counters;
@@ -33,8 +40,9 @@ use store::refusal_number;
 ghost use mathlib.Core.Path.{_≡_};
 ghost use Rattle.store.specs.Tables.{tables, lent};
 ghost use Rattle.store.specs.Shared.{triple};
-ghost use Rattle.capi_calls.specs.Words.{done, wrote};
-ghost use Rattle.capi_calls.specs.Calls.{kindCall, CheckCall, FindCall, nameCall, statementCall, lineCall, retractCall, openCall, nextCall, assertCall, EnterCall};
+ghost use Rattle.capi_calls.specs.Words.{done, beside, wrote, changed};
+ghost use Rattle.capi_calls.specs.Calls.{kindCall, CheckCall, FindCall, nameCall, statementCall, lineCall, retractCall};
+ghost use Rattle.capi_calls.specs.Calls.{openCall, nextCall, assertCall, EnterCall};
 
 pub mod queries;
 pub mod reclaim;
@@ -44,11 +52,11 @@ pub mod reclaim;
 pub extern "C" fn lt_name_kind(name: &[u8], reply: &mut [u32]) -> u32
     ensures { λ r. ⌜ done r (now (reply .exit)) ≡ kindCall (now (name .entry)) (now (reply .entry)) ⌝ }
 {
-    if reply.len() < 1 {
+    if reply.len() < NUMBER_REPLY_WORDS {
         return TOO_SHORT;
     }
     let a = kind_answer(term::name_kind(name));
-    reply[0] = a.first;
+    reply[0] = a.number;
     a.result
 }
 
@@ -68,12 +76,12 @@ pub extern "C" fn lt_check(
     if counters.len() < COUNTER_WORDS {
         return TOO_SHORT;
     }
-    if reply.len() < 1 {
+    if reply.len() < NUMBER_REPLY_WORDS {
         return TOO_SHORT;
     }
     let c = counters_of(counters);
     let a = check_answer(integrity::check(c, resources, statements, index, text));
-    reply[0] = a.first;
+    reply[0] = a.number;
     a.result
 }
 
@@ -94,12 +102,12 @@ pub extern "C" fn lt_find(
     if counters.len() < COUNTER_WORDS {
         return TOO_SHORT;
     }
-    if reply.len() < 1 {
+    if reply.len() < NUMBER_REPLY_WORDS {
         return TOO_SHORT;
     }
     let c = counters_of(counters);
     let a = lookup_answer(dictionary::find(c, resources, statements, index, text, name));
-    reply[0] = a.first;
+    reply[0] = a.number;
     a.result
 }
 
@@ -120,14 +128,14 @@ pub extern "C" fn lt_name(
     if counters.len() < COUNTER_WORDS {
         return TOO_SHORT;
     }
-    if reply.len() < 2 {
+    if reply.len() < NAME_REPLY_WORDS {
         return TOO_SHORT;
     }
     let c = counters_of(counters);
     let n = ResourceId(number);
     let a = name_answer(table::name_span(c, resources, statements, index, text, n));
-    reply[0] = a.first;
-    reply[1] = a.second;
+    reply[0] = a.start;
+    reply[1] = a.size;
     a.result
 }
 
@@ -148,16 +156,16 @@ pub extern "C" fn lt_statement(
     if counters.len() < COUNTER_WORDS {
         return TOO_SHORT;
     }
-    if reply.len() < 4 {
+    if reply.len() < STATEMENT_REPLY_WORDS {
         return TOO_SHORT;
     }
     let c = counters_of(counters);
     let n = StatementId(number);
     let a = statement_answer(table::read_statement(c, resources, statements, index, text, n));
-    reply[0] = a.first;
-    reply[1] = a.second;
-    reply[2] = a.third;
-    reply[3] = a.fourth;
+    reply[0] = a.subject;
+    reply[1] = a.predicate;
+    reply[2] = a.object;
+    reply[3] = a.flag;
     a.result
 }
 
@@ -166,7 +174,7 @@ pub extern "C" fn lt_statement(
 pub extern "C" fn lt_read_line(text: &[u8], at: usize, reply: &mut [u64]) -> u32
     ensures { λ r. ⌜ done r (now (reply .exit)) ≡ lineCall (now (text .entry)) at (now (reply .entry)) ⌝ }
 {
-    if reply.len() < 8 {
+    if reply.len() < LINE_WORDS {
         return TOO_SHORT;
     }
     let read = ntriples::read_line(text, at);
@@ -174,12 +182,12 @@ pub extern "C" fn lt_read_line(text: &[u8], at: usize, reply: &mut [u64]) -> u32
     let a = line_answer(line, read.next);
     reply[0] = a.what;
     reply[1] = a.next;
-    reply[2] = a.first;
-    reply[3] = a.second;
-    reply[4] = a.third;
-    reply[5] = a.fourth;
-    reply[6] = a.fifth;
-    reply[7] = a.sixth;
+    reply[2] = a.subject.start;
+    reply[3] = a.subject.size;
+    reply[4] = a.predicate.start;
+    reply[5] = a.predicate.size;
+    reply[6] = a.object.start;
+    reply[7] = a.object.size;
     a.result
 }
 
@@ -203,13 +211,13 @@ pub extern "C" fn lt_retract(
     if counters.len() < COUNTER_WORDS {
         return TOO_SHORT;
     }
-    if reply.len() < 1 {
+    if reply.len() < NUMBER_REPLY_WORDS {
         return TOO_SHORT;
     }
     let c = counters_of(counters);
     let x = triple_of(subject, predicate, object);
     let a = retract_answer(statement::retract(c, resources, statements, index, text, x));
-    reply[0] = a.first;
+    reply[0] = a.number;
     a.result
 }
 
@@ -259,7 +267,7 @@ pub extern "C" fn lt_scan_next(
     budget: u32,
     reply: &mut [u32],
 ) -> u32
-    ensures { λ r. ⌜ (r, (now (cursor .exit), now (reply .exit)))
+    ensures { λ r. ⌜ beside r (now (cursor .exit)) (now (reply .exit))
         ≡ nextCall (now (counters .entry)) (lent (resources .entry) (statements .entry) (index .entry) (text .entry))
         (now (cursor .entry)) budget (now (reply .entry)) ⌝ }
 {
@@ -269,15 +277,15 @@ pub extern "C" fn lt_scan_next(
     if cursor.len() < CURSOR_WORDS {
         return TOO_SHORT;
     }
-    if reply.len() < 3 {
+    if reply.len() < SCAN_REPLY_WORDS {
         return TOO_SHORT;
     }
     let c = counters_of(counters);
     let next = next_from(c, resources, statements, index, text, cursor, budget);
     let a = scanned_answer(next);
-    reply[0] = a.first;
-    reply[1] = a.second;
-    reply[2] = a.third;
+    reply[0] = a.status;
+    reply[1] = a.number;
+    reply[2] = a.visits;
     if a.result != 0 {
         return a.result;
     }
@@ -299,28 +307,23 @@ pub extern "C" fn lt_assert(
     object: u32,
     reply: &mut [u32],
 ) -> u32
-    ensures { λ r. ⌜ (
-      r,
-      (
-        now (counters .exit),
-        (lent (resources .exit) (statements .exit) (index .entry) (text .entry), now (reply .exit)),
-      ),
-    )
+    ensures { λ r. ⌜ changed r (now (counters .exit)) (lent (resources .exit) (statements .exit) (index .entry) (text .entry))
+        (now (reply .exit))
         ≡ assertCall (now (counters .entry)) (lent (resources .entry) (statements .entry) (index .entry) (text .entry))
         (triple subject predicate object) (now (reply .entry)) ⌝ }
 {
     if counters.len() < COUNTER_WORDS {
         return TOO_SHORT;
     }
-    if reply.len() < 2 {
+    if reply.len() < ASSERT_REPLY_WORDS {
         return TOO_SHORT;
     }
     let c = counters_of(counters);
     let x = triple_of(subject, predicate, object);
     let done = statement::assert(c, resources, statements, index, text, x);
     let a = assert_answer(done);
-    reply[0] = a.first;
-    reply[1] = a.second;
+    reply[0] = a.status;
+    reply[1] = a.number;
     if a.result != 0 {
         return a.result;
     }
@@ -342,18 +345,18 @@ pub extern "C" fn lt_enter(
 ) -> u32
     ensures { λ r. ⌜ EnterCall (now (counters .entry)) (lent (resources .entry) (statements .entry) (index .entry) (text .entry))
         (lent (resources .exit) (statements .entry) (index .exit) (text .exit)) (now (name .entry)) (now (reply .entry))
-        (r, (now (counters .exit), now (reply .exit))) ⌝ }
+        (beside r (now (counters .exit)) (now (reply .exit))) ⌝ }
 {
     if counters.len() < COUNTER_WORDS {
         return TOO_SHORT;
     }
-    if reply.len() < 1 {
+    if reply.len() < NUMBER_REPLY_WORDS {
         return TOO_SHORT;
     }
     let c = counters_of(counters);
     let entered = dictionary::intern(c, resources, statements, index, text, name);
     let told = enter_answer(entered);
-    reply[0] = told.first;
+    reply[0] = told.number;
     if told.result != 0 {
         return told.result;
     }

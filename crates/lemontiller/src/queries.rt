@@ -1,6 +1,7 @@
 // Queries for C: the paper's question of several patterns, its words lent at each call, its cursor as words.
 //
-// Nothing of the tables is written. The contracts are one equation each with the definitions in `specs/QueryCalls.antt` of `capi_calls`.
+// Nothing of the tables is written. The contracts are one equation each with the definitions in `specs/QueryCalls.antt`
+// of `capi_calls`.
 use capi_calls::COUNTER_WORDS;
 use capi_calls::QUERY_CURSOR_WORDS;
 use capi_calls::QUERY_REPLY_WORDS;
@@ -23,7 +24,7 @@ ghost use mathlib.Core.Path.{_≡_};
 ghost use Prim.Native.Nat.{_≤_};
 ghost use lib.ListN.{length};
 ghost use Rattle.store.specs.Tables.{tables, lent};
-ghost use Rattle.capi_calls.specs.Words.{done};
+ghost use Rattle.capi_calls.specs.Words.{done, beside};
 ghost use Rattle.capi_calls.specs.QueryWords.{queryCursorWords, nextQueryFrom};
 ghost use Rattle.capi_calls.specs.QueryCalls.{queryOpenCall, queryNextCall};
 
@@ -91,8 +92,8 @@ pub extern "C" fn lt_query_open(
     0
 }
 
-// Next of a query: status, visits, the number of each variable; the cursor moves on, and stays as it was beside a refusal (1, 8, 13, 6,
-// 7, 9).
+// Next of a query: status, visits, the number of each variable; the cursor moves on, and stays as it was beside a
+// refusal (1, 8, 13, 6, 7, 9).
 #[no_mangle]
 pub extern "C" fn lt_query_next(
     counters: &[u32],
@@ -105,7 +106,7 @@ pub extern "C" fn lt_query_next(
     budget: u32,
     reply: &mut [u32],
 ) -> u32
-    ensures { λ r. ⌜ (r, (now (cursor .exit), now (reply .exit)))
+    ensures { λ r. ⌜ beside r (now (cursor .exit)) (now (reply .exit))
         ≡ queryNextCall (now (counters .entry)) (lent (resources .entry) (statements .entry) (index .entry) (text .entry))
         (now (words .entry)) (now (cursor .entry)) budget (now (reply .entry)) ⌝ }
 {

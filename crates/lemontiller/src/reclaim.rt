@@ -1,7 +1,7 @@
 // Reclaim for C: the room of retracted statements is given back.
 //
-// Statements may have other numbers afterwards, and every cursor from before is refused 13. The contract is a record in `specs/Calls.antt`
-// of `capi_calls`, exact on every input: soundness is no Boolean, so 9 is a field of its own.
+// Statements may have other numbers afterwards, and every cursor from before is refused 13. The contract is a record in
+// `specs/Calls.antt` of `capi_calls`, exact on every input: soundness is no Boolean, so 9 is a field of its own.
 use capi_calls::COUNTER_WORDS;
 use capi_calls::TOO_SHORT;
 use capi_words::words::counters_of;
@@ -12,7 +12,8 @@ ghost use Rattle.store.specs.Tables.{tables, lent};
 ghost use Rattle.capi_calls.specs.Words.{done};
 ghost use Rattle.capi_calls.specs.Calls.{ReclaimCall};
 
-// Reclaim: counters and tables as answered, all as they were beside a refusal (1, 14, 9). There is no reply: the counters tell all.
+// Reclaim: counters and tables as answered, all as they were beside a refusal (1, 14, 9). There is no reply: the
+// counters tell all.
 #[no_mangle]
 pub extern "C" fn lt_reclaim(
     counters: &mut [u32],

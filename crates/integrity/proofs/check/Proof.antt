@@ -13,13 +13,9 @@ verdict-requires c κs = search needs
 
 returns : tie.Need-returns
 returns c =
-    let the-verdict = c .verdict in
     let a = c .before .before .before .before .before .args in
-    let text = now (a .text) in
-    let idx = now (a .index) in
-    let stm = now (a .statements) in
-    let res = now (a .resources) in
-    rw (the-verdict .ensures) (check-decides (a .c) (tables res stm idx text))
+    let m = tables (now (a .resources)) (now (a .statements)) (now (a .index)) (now (a .text)) in
+    rw (c .verdict .ensures) (check-decides (a .c) m)
 
 pub check-spec : {M : Type 1} → statement M
 check-spec = tie.close (tie.spec verdict-requires returns)

@@ -1,5 +1,5 @@
-use mathlib.Core.Path.{sym, _∙_}
-use borrow.Author.Tests.{not-true, not-false}
+use Rattle.table.proofs.Branches.{passed}
+use Rattle.integrity.proofs.Ranges.{stops, goes-on}
 use Rattle.integrity.specs.Records.{recordsOk}
 use borrow.Author.Needs.{needs}
 use Rattle.integrity.proofs.records_ok.Statement.{statement}
@@ -15,10 +15,7 @@ each-ok-requires c κs = search needs
 
 returns : tie.Need-returns
 unfolding recordsOk
-returns c =
-    let the-each-ok = c .before .each-ok in
-    let if1 = c .if1 in
-    rw (← the-each-ok .ensures, not-true (the-each-ok .result) (if1 .taken))
+returns c = stops _ (c .before .each-ok .ensures) (c .if1 .taken)
 
 all-chains-sound-requires : tie.Need-all-chains-sound-requires
 all-chains-sound-requires c κs = search needs
@@ -26,39 +23,19 @@ all-chains-sound-requires c κs = search needs
 returns-2 : tie.Need-returns-2
 unfolding recordsOk
 returns-2 c =
-    let the-each-ok = c .before .before .before .each-ok in
-    let if1 = c .before .before .if1 in
-    let the-all-chains-sound = c .before .all-chains-sound in
-    let if2 = c .if2 in
-    rw (
-      ← the-each-ok .ensures,
-      not-false (the-each-ok .result) (if1 .left),
-      ← the-all-chains-sound .ensures,
-      not-true (the-all-chains-sound .result) (if2 .taken),
-    )
+    goes-on (c .before .before .before .each-ok .ensures) (c .before .before .if1 .left)
+    (stops _ (c .before .all-chains-sound .ensures) (c .if2 .taken))
 
 all-stand-once-requires : tie.Need-all-stand-once-requires
 all-stand-once-requires c κs =
-    let the-each-ok = c .before .before .before .each-ok in
-    let if1 = c .before .before .if1 in
-    let h = sym (the-each-ok .ensures) ∙ not-false (the-each-ok .result) (if1 .left) in
+    let each = passed (c .before .before .before .each-ok .ensures) (c .before .before .if1 .left) in
     search needs
 
 returns-3 : tie.Need-returns-3
 unfolding recordsOk
 returns-3 c =
-    let the-each-ok = c .before .before .before .before .each-ok in
-    let if1 = c .before .before .before .if1 in
-    let the-all-chains-sound = c .before .before .all-chains-sound in
-    let if2 = c .before .if2 in
-    let the-all-stand-once = c .all-stand-once in
-    rw (
-      ← the-each-ok .ensures,
-      not-false (the-each-ok .result) (if1 .left),
-      ← the-all-chains-sound .ensures,
-      not-false (the-all-chains-sound .result) (if2 .left),
-    )
-    (the-all-stand-once .ensures)
+    goes-on (c .before .before .before .before .each-ok .ensures) (c .before .before .before .if1 .left)
+    (goes-on (c .before .before .all-chains-sound .ensures) (c .before .if2 .left) (c .all-stand-once .ensures))
 
 pub records-ok-spec : {M : Type 1} → statement M
 records-ok-spec =

@@ -1,8 +1,9 @@
 use lib.Seq.{length-take-le}
-use mathlib.Core.Path.{sym, _∙_}
+use mathlib.Core.Path.{sym}
 use native.Mathlib.Omega.{arith}
 use denote.Ref.{now}
-use borrow.Author.Tests.{not-true, not-false}
+use Rattle.table.proofs.Branches.{passed}
+use Rattle.integrity.proofs.Ranges.{stops, goes-on}
 use Rattle.store.specs.Tables.{tables}
 use Rattle.table.proofs.Capacity.{fits-room}
 use Rattle.integrity.specs.Check.{checkOf}
@@ -22,121 +23,69 @@ fits-requires c κs = search needs
 
 returns : tie.Need-returns
 unfolding checkOf
-returns c =
-    let the-fits2 = c .before .fits2 in
-    let if1 = c .if1 in
-    rw (← the-fits2 .ensures, not-true (the-fits2 .result) (if1 .taken))
+returns c = stops _ (c .before .fits2 .ensures) (c .if1 .taken)
 
 wide-requires : tie.Need-wide-requires
 wide-requires c κs = search needs
 
 slice-aggregate-used : tie.Need-slice-aggregate-used
 slice-aggregate-used c =
-    let a = c .before .before .before .before .before .before .before .before .args in
-    let text = now (a .text) in
-    let idx = now (a .index) in
-    let stm = now (a .statements) in
-    let res = now (a .resources) in
-    let the-fits2 = c .before .before .before .fits2 in
-    let if1 = c .before .before .if1 in
-    let the-wide = c .before .wide in
-    let room =
-    fits-room (a .c) (tables res stm idx text)
-    (sym (the-fits2 .ensures) ∙ not-false (the-fits2 .result) (if1 .left)) in
-    sym (length-take-le (the-wide .result) text (omega (arith, the-wide .ensures .0, room .in-text)))
+    let fit = c .before .before in
+    let a = fit .before .before .before .before .before .before .args in
+    let m = tables (now (a .resources)) (now (a .statements)) (now (a .index)) (now (a .text)) in
+    let room = fits-room (a .c) m (passed (fit .before .fits2 .ensures) (fit .if1 .left)) in
+    let end = c .before .wide in
+    sym (length-take-le (end .result) (now (a .text)) (omega (arith, end .ensures .0, room .in-text)))
 
 names-ok-requires : tie.Need-names-ok-requires
 names-ok-requires c κs =
-    let a = c .before .before .before .before .before .before .before .before .args in
-    let text = now (a .text) in
-    let idx = now (a .index) in
-    let stm = now (a .statements) in
-    let res = now (a .resources) in
-    let the-fits2 = c .before .before .before .fits2 in
-    let if1 = c .before .before .if1 in
-    let room =
-    fits-room (a .c) (tables res stm idx text)
-    (sym (the-fits2 .ensures) ∙ not-false (the-fits2 .result) (if1 .left)) in
+    let fit = c .before .before in
+    let a = fit .before .before .before .before .before .before .args in
+    let m = tables (now (a .resources)) (now (a .statements)) (now (a .index)) (now (a .text)) in
+    let room = fits-room (a .c) m (passed (fit .before .fits2 .ensures) (fit .if1 .left)) in
     search needs
 
 returns-2 : tie.Need-returns-2
 unfolding checkOf
 returns-2 c =
-    let the-fits2 = c .before .before .before .before .before .fits2 in
-    let if1 = c .before .before .before .before .if1 in
-    let the-wide = c .before .before .before .wide in
-    let the-names-ok = c .before .names-ok in
-    let if2 = c .if2 in
-    rw (
-      ← the-fits2 .ensures,
-      not-false (the-fits2 .result) (if1 .left),
-      sym (rw (the-wide .ensures .0) at (the-names-ok .ensures)) ∙ not-true (the-names-ok .result) (if2 .taken),
-    )
+    let end = c .before .before .before in
+    goes-on (end .before .before .fits2 .ensures) (end .before .if1 .left)
+    (stops _ (rw (end .wide .ensures .0) at (c .before .names-ok .ensures)) (c .if2 .taken))
 
 index-ok-requires : tie.Need-index-ok-requires
 index-ok-requires c κs =
-    let a = c .before .before .before .before .before .before .before .before .before .before .args in
-    let text = now (a .text) in
-    let idx = now (a .index) in
-    let stm = now (a .statements) in
-    let res = now (a .resources) in
-    let the-fits2 = c .before .before .before .before .before .fits2 in
-    let if1 = c .before .before .before .before .if1 in
-    let room =
-    fits-room (a .c) (tables res stm idx text)
-    (sym (the-fits2 .ensures) ∙ not-false (the-fits2 .result) (if1 .left)) in
+    let fit = c .before .before .before .before in
+    let a = fit .before .before .before .before .before .before .args in
+    let m = tables (now (a .resources)) (now (a .statements)) (now (a .index)) (now (a .text)) in
+    let room = fits-room (a .c) m (passed (fit .before .fits2 .ensures) (fit .if1 .left)) in
     search needs
 
 returns-3 : tie.Need-returns-3
 unfolding checkOf
 returns-3 c =
-    let the-fits2 = c .before .before .before .before .before .before .before .fits2 in
-    let if1 = c .before .before .before .before .before .before .if1 in
-    let the-wide = c .before .before .before .before .before .wide in
-    let the-names-ok = c .before .before .before .names-ok in
-    let if2 = c .before .before .if2 in
-    let the-index-ok = c .before .index-ok in
-    let if3 = c .if3 in
-    rw (
-      ← the-fits2 .ensures,
-      not-false (the-fits2 .result) (if1 .left),
-      sym (rw (the-wide .ensures .0) at (the-names-ok .ensures)) ∙ not-false (the-names-ok .result) (if2 .left),
-      sym (rw (the-wide .ensures .0) at (the-index-ok .ensures)) ∙ not-true (the-index-ok .result) (if3 .taken),
-    )
+    let named = c .before .before in
+    let end = named .before .before .before in
+    goes-on (end .before .before .fits2 .ensures) (end .before .if1 .left)
+    (goes-on (rw (end .wide .ensures .0) at (named .before .names-ok .ensures)) (named .if2 .left)
+    (stops _ (rw (end .wide .ensures .0) at (c .before .index-ok .ensures)) (c .if3 .taken)))
 
 records-ok-requires : tie.Need-records-ok-requires
 records-ok-requires c κs =
-    let a =
-    c .before .before .before .before .before .before .before .before .before .before .before .before .args in
-    let text = now (a .text) in
-    let idx = now (a .index) in
-    let stm = now (a .statements) in
-    let res = now (a .resources) in
-    let the-fits2 = c .before .before .before .before .before .before .before .fits2 in
-    let if1 = c .before .before .before .before .before .before .if1 in
-    let room =
-    fits-room (a .c) (tables res stm idx text)
-    (sym (the-fits2 .ensures) ∙ not-false (the-fits2 .result) (if1 .left)) in
+    let fit = c .before .before .before .before .before .before in
+    let a = fit .before .before .before .before .before .before .args in
+    let m = tables (now (a .resources)) (now (a .statements)) (now (a .index)) (now (a .text)) in
+    let room = fits-room (a .c) m (passed (fit .before .fits2 .ensures) (fit .if1 .left)) in
     search needs
 
 returns-4 : tie.Need-returns-4
 unfolding checkOf
 returns-4 c =
-    let the-fits2 = c .before .before .before .before .before .before .before .before .fits2 in
-    let if1 = c .before .before .before .before .before .before .before .if1 in
-    let the-wide = c .before .before .before .before .before .before .wide in
-    let the-names-ok = c .before .before .before .before .names-ok in
-    let if2 = c .before .before .before .if2 in
-    let the-index-ok = c .before .before .index-ok in
-    let if3 = c .before .if3 in
-    let the-records-ok = c .records-ok in
-    rw (
-      ← the-fits2 .ensures,
-      not-false (the-fits2 .result) (if1 .left),
-      sym (rw (the-wide .ensures .0) at (the-names-ok .ensures)) ∙ not-false (the-names-ok .result) (if2 .left),
-      sym (rw (the-wide .ensures .0) at (the-index-ok .ensures)) ∙ not-false (the-index-ok .result) (if3 .left),
-    )
-    (the-records-ok .ensures)
+    let named = c .before .before .before in
+    let end = named .before .before .before in
+    goes-on (end .before .before .fits2 .ensures) (end .before .if1 .left)
+    (goes-on (rw (end .wide .ensures .0) at (named .before .names-ok .ensures)) (named .if2 .left)
+    (goes-on (rw (end .wide .ensures .0) at (c .before .before .index-ok .ensures)) (c .before .if3 .left)
+    (c .records-ok .ensures)))
 
 pub verdict-spec : {M : Type 1} → statement M
 verdict-spec =

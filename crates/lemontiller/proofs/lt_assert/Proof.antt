@@ -1,10 +1,7 @@
--- `capi::lt_assert` meets its contract. Assumes nothing.
+-- `lemontiller::lt_assert` meets its contract. Assumes nothing.
 use Rattle.lemontiller.proofs.Writes.{assert-refused, assert-answered}
-use Rattle.store.specs.Tables.{tables}
-use Rattle.capi_calls.specs.Words.{counterWords, ifShort}
 use Rattle.capi_calls.specs.Calls.{assertCall}
-use lib.ListN.{length}
-use borrow.Author.Tests.{lt-ltb, le-ltb}
+use Rattle.lemontiller.proofs.Lengths.{short-counters, short-reply}
 use borrow.Author.Needs.{needs}
 use Rattle.lemontiller.proofs.lt_assert.Statement.{statement}
 use Rattle.lemontiller.proofs.lt_assert.Tie as tie
@@ -18,12 +15,12 @@ use Rattle.capi_words.proofs.words.triple_of.Reads as triple-of-reads
 use Rattle.statement.proofs.assert.Reads as assert-reads
 
 returns : tie.Need-returns
-unfolding assertCall ifShort
-returns c = simp (lt-ltb (length (c .before .before .before .before .before .before .before .args .counters .now)) counterWords (c .if1 .taken))
+unfolding assertCall
+returns c = short-counters _ _ _ _ _ (c .if1 .taken)
 
 returns-2 : tie.Need-returns-2
-unfolding assertCall ifShort
-returns-2 c = simp (le-ltb (length (c .before .before .before .before .before .before .before .before .args .counters .now)) counterWords (c .before .if1 .left), lt-ltb (length (c .before .before .before .before .before .before .before .before .args .reply .now)) 2 (c .if2 .taken))
+unfolding assertCall
+returns-2 c = short-reply _ _ _ _ _ (c .before .if1 .left) (c .if2 .taken)
 
 counters-of-requires : tie.Need-counters-of-requires
 counters-of-requires c κs = search needs
@@ -56,7 +53,14 @@ same-length-4 : tie.Need-same-length-4
 same-length-4 c = search needs
 
 returns-3 : tie.Need-returns-3
-returns-3 c = assert-refused (c .before .before .before .before .before .before .before .before .before .before .before .before .before .before .before .before .before .before .before .before .before .args .counters .now) (c .before .before .before .before .before .before .before .before .before .before .before .before .before .before .before .before .before .before .before .before .before .args .reply .now) (tables (c .before .before .before .before .before .before .before .before .before .before .before .before .before .before .before .before .before .before .before .before .before .args .resources .now) (c .before .before .before .before .before .before .before .before .before .before .before .before .before .before .before .before .before .before .before .before .before .args .statements .now) (c .before .before .before .before .before .before .before .before .before .before .before .before .before .before .before .before .before .before .before .before .before .args .index .now) (c .before .before .before .before .before .before .before .before .before .before .before .before .before .before .before .before .before .before .before .before .before .args .text .now)) (c .before .before .before .before .before .before .before .before .before .before .before .counters-of .ensures) (c .before .before .before .before .before .before .before .before .before .before .triple-of .ensures) (c .before .before .before .before .before .before .before .assert .ensures) (c .before .before .assert-answer .ensures) (c .if3 .taken) (c .before .before .before .before .before .before .before .before .before .before .before .before .before .before .if1 .left) (c .before .before .before .before .before .before .before .before .before .before .before .before .before .if2 .left)
+returns-3 c =
+    let told = c .before .before in
+    let done = told .before .before .before .before .before in
+    let known = done .before .before .before in
+    let read = known .before in
+    let long = read .before .before in
+    assert-refused _ _ _ (read .counters-of .ensures) (known .triple-of .ensures)
+    (done .assert .ensures) (told .assert-answer .ensures) (c .if3 .taken) (long .before .if1 .left) (long .if2 .left)
 
 asserted-counters-requires : tie.Need-asserted-counters-requires
 asserted-counters-requires c κs = search needs
@@ -77,7 +81,18 @@ same-length-8 : tie.Need-same-length-8
 same-length-8 c = search needs
 
 returns-4 : tie.Need-returns-4
-returns-4 c = assert-answered (c .before .before .before .before .before .before .before .before .before .before .before .before .before .before .before .before .before .before .before .before .before .before .before .before .before .before .args .counters .now) (c .before .before .before .before .before .before .before .before .before .before .before .before .before .before .before .before .before .before .before .before .before .before .before .before .before .before .args .reply .now) (tables (c .before .before .before .before .before .before .before .before .before .before .before .before .before .before .before .before .before .before .before .before .before .before .before .before .before .before .args .resources .now) (c .before .before .before .before .before .before .before .before .before .before .before .before .before .before .before .before .before .before .before .before .before .before .before .before .before .before .args .statements .now) (c .before .before .before .before .before .before .before .before .before .before .before .before .before .before .before .before .before .before .before .before .before .before .before .before .before .before .args .index .now) (c .before .before .before .before .before .before .before .before .before .before .before .before .before .before .before .before .before .before .before .before .before .before .before .before .before .before .args .text .now)) (c .before .before .before .before .before .before .before .before .before .before .before .before .before .before .before .before .counters-of .ensures) (c .before .before .before .before .before .before .before .before .before .before .before .before .before .before .before .triple-of .ensures) (c .before .before .before .before .before .before .before .before .before .before .before .before .assert .ensures) (c .before .before .before .before .before .before .before .assert-answer .ensures) (c .before .before .before .before .before .if3 .left) (c .before .before .before .before .asserted-counters .ensures) (c .before .before .put-counters .ensures) (c .before .before .before .before .before .before .before .before .before .before .before .before .before .before .before .before .before .before .before .if1 .left) (c .before .before .before .before .before .before .before .before .before .before .before .before .before .before .before .before .before .before .if2 .left)
+returns-4 c =
+    let put = c .before .before in
+    let after = put .before .before in
+    let tested = after .before in
+    let told = tested .before .before in
+    let done = told .before .before .before .before .before in
+    let known = done .before .before .before in
+    let read = known .before in
+    let long = read .before .before in
+    assert-answered _ _ _ (read .counters-of .ensures) (known .triple-of .ensures)
+    (done .assert .ensures) (told .assert-answer .ensures) (tested .if3 .left) (after .asserted-counters .ensures)
+    (put .put-counters .ensures) (long .before .if1 .left) (long .if2 .left)
 
 pub lt-assert-spec : {M : Type 1} → statement M
 lt-assert-spec =

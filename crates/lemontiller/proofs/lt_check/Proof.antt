@@ -1,10 +1,7 @@
--- `capi::lt_check` meets its contract. Assumes nothing.
+-- `lemontiller::lt_check` meets its contract. Assumes nothing.
 use mathlib.Core.Bool.{false}
-use Rattle.lemontiller.proofs.Lengths.{no-counters, no-reply}
-use Rattle.capi_calls.specs.Words.{counterWords, ifShort}
+use Rattle.lemontiller.proofs.Lengths.{short-counters, short-reply, room, no-counters, no-reply}
 use Rattle.capi_calls.specs.Calls.{checkAs}
-use lib.ListN.{length}
-use borrow.Author.Tests.{lt-ltb, le-ltb}
 use borrow.Author.Needs.{needs}
 use Rattle.lemontiller.proofs.lt_check.Statement.{statement}
 use Rattle.lemontiller.proofs.lt_check.Tie as tie
@@ -15,12 +12,15 @@ use Rattle.capi_words.proofs.replies.check_answer.Reads as check-answer-reads
 use Rattle.integrity.proofs.check.Reads as check-reads
 
 returns : tie.Need-returns
-unfolding checkAs ifShort
-returns c = record { sound = false; told = simp (lt-ltb (length (c .before .before .before .before .before .before .before .args .counters .now)) counterWords (c .if1 .taken)); exact = no-counters (c .before .before .before .before .before .before .before .args .counters .now) 1 (c .before .before .before .before .before .before .before .args .reply .now) (c .if1 .taken) }
+unfolding checkAs
+returns c =
+    record { sound = false; told = short-counters _ _ _ _ _ (c .if1 .taken); exact = no-counters _ _ _ (c .if1 .taken) }
 
 returns-2 : tie.Need-returns-2
-unfolding checkAs ifShort
-returns-2 c = record { sound = false; told = simp (le-ltb (length (c .before .before .before .before .before .before .before .before .args .counters .now)) counterWords (c .before .if1 .left), lt-ltb (length (c .before .before .before .before .before .before .before .before .args .reply .now)) 1 (c .if2 .taken)); exact = no-reply (c .before .before .before .before .before .before .before .before .args .counters .now) 1 (c .before .before .before .before .before .before .before .before .args .reply .now) (c .before .if1 .left) (c .if2 .taken) }
+unfolding checkAs
+returns-2 c =
+    let long = c .before .if1 .left in
+    record { sound = false; told = short-reply _ _ _ _ _ long (c .if2 .taken); exact = no-reply _ _ _ long (c .if2 .taken) }
 
 counters-of-requires : tie.Need-counters-of-requires
 counters-of-requires c κs = search needs
@@ -38,8 +38,14 @@ same-length : tie.Need-same-length
 same-length c = search needs
 
 returns-3 : tie.Need-returns-3
-unfolding checkAs ifShort
-returns-3 c = record { sound = c .before .check .result; told = simp (c .check-answer .ensures, le-ltb (length (c .before .before .before .before .before .before .before .before .before .before .before .args .counters .now)) counterWords (c .before .before .before .before .if1 .left), le-ltb (length (c .before .before .before .before .before .before .before .before .before .before .before .args .reply .now)) 1 (c .before .before .before .if2 .left)); exact = λ _. rw (← c .before .before .counters-of .ensures) (c .before .check .ensures) }
+unfolding checkAs
+returns-3 c =
+    let tested = c .before .before .before in
+    record {
+      sound = c .before .check .result;
+      told = simp (c .check-answer .ensures) (room _ _ _ _ _ (tested .before .if1 .left) (tested .if2 .left));
+      exact = λ _. rw (← c .before .before .counters-of .ensures) (c .before .check .ensures);
+    }
 
 pub lt-check-spec : {M : Type 1} → statement M
 lt-check-spec =

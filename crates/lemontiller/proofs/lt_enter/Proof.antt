@@ -1,4 +1,4 @@
--- `capi::lt_enter` meets its contract. Assumes nothing.
+-- `lemontiller::lt_enter` meets its contract. Assumes nothing.
 use Rattle.lemontiller.proofs.Writes.{enter-no-counters, enter-no-reply, enter-refused, enter-answered}
 use borrow.Author.Needs.{needs}
 use Rattle.lemontiller.proofs.lt_enter.Statement.{statement}
@@ -13,16 +13,11 @@ use Rattle.dictionary.proofs.intern.Reads as intern-reads
 
 returns : tie.Need-returns
 returns c =
-    let a = c .before .before .before .before .before .before .before .before .args in
-    let if1 = c .if1 in
-    enter-no-counters (a .counters .now) (a .reply .now) (if1 .taken)
+    enter-no-counters _ _ (c .if1 .taken)
 
 returns-2 : tie.Need-returns-2
 returns-2 c =
-    let a = c .before .before .before .before .before .before .before .before .before .args in
-    let if1 = c .before .if1 in
-    let if2 = c .if2 in
-    enter-no-reply (a .counters .now) (a .reply .now) (if1 .left) (if2 .taken)
+    enter-no-reply _ _ (c .before .if1 .left) (c .if2 .taken)
 
 counters-of-requires : tie.Need-counters-of-requires
 counters-of-requires c κs = search needs
@@ -53,15 +48,12 @@ same-length-5 c = search needs
 
 returns-3 : tie.Need-returns-3
 returns-3 c =
-    let a = c .before .before .before .before .before .before .before .before .before .before .before .before .before .before .before .before .before .before .before .before .before .before .before .before .args in
-    let if1 = c .before .before .before .before .before .before .before .before .before .before .before .before .before .before .before .before .if1 in
-    let if2 = c .before .before .before .before .before .before .before .before .before .before .before .before .before .before .before .if2 in
-    let counters-of = c .before .before .before .before .before .before .before .before .before .before .before .before .before .counters-of in
-    let intern = c .before .before .before .before .before .before .before .before .before .intern in
-    let enter-answer = c .before .before .enter-answer in
-    let if3 = c .if3 in
-    enter-refused (a .counters .now) (a .reply .now) (counters-of .ensures) (intern .ensures) (enter-answer .ensures) (if3 .taken)
-    (if1 .left) (if2 .left)
+    let told = c .before .before in
+    let entered = told .before .before .before .before .before .before .before in
+    let read = entered .before .before .before .before in
+    let long = read .before .before in
+    enter-refused _ _ (read .counters-of .ensures) (entered .intern .ensures)
+    (told .enter-answer .ensures) (c .if3 .taken) (long .before .if1 .left) (long .if2 .left)
 
 interned-counters-requires : tie.Need-interned-counters-requires
 interned-counters-requires c κs = search needs
@@ -86,17 +78,16 @@ same-length-10 c = search needs
 
 returns-4 : tie.Need-returns-4
 returns-4 c =
-    let a = c .before .before .before .before .before .before .before .before .before .before .before .before .before .before .before .before .before .before .before .before .before .before .before .before .before .before .before .before .before .args in
-    let if1 = c .before .before .before .before .before .before .before .before .before .before .before .before .before .before .before .before .before .before .before .before .before .if1 in
-    let if2 = c .before .before .before .before .before .before .before .before .before .before .before .before .before .before .before .before .before .before .before .before .if2 in
-    let counters-of = c .before .before .before .before .before .before .before .before .before .before .before .before .before .before .before .before .before .before .counters-of in
-    let intern = c .before .before .before .before .before .before .before .before .before .before .before .before .before .before .intern in
-    let enter-answer = c .before .before .before .before .before .before .before .enter-answer in
-    let interned-counters = c .before .before .before .before .interned-counters in
-    let if3 = c .before .before .before .before .before .if3 in
-    let put-counters = c .before .before .put-counters in
-    enter-answered (a .counters .now) (a .reply .now) (counters-of .ensures) (intern .ensures) (enter-answer .ensures) (if3 .left)
-    (interned-counters .ensures) (put-counters .ensures) (if1 .left) (if2 .left)
+    let put = c .before .before in
+    let after = put .before .before in
+    let tested = after .before in
+    let told = tested .before .before in
+    let entered = told .before .before .before .before .before .before .before in
+    let read = entered .before .before .before .before in
+    let long = read .before .before in
+    enter-answered _ _ (read .counters-of .ensures) (entered .intern .ensures)
+    (told .enter-answer .ensures) (tested .if3 .left) (after .interned-counters .ensures) (put .put-counters .ensures)
+    (long .before .if1 .left) (long .if2 .left)
 
 pub lt-enter-spec : {M : Type 1} → statement M
 lt-enter-spec =

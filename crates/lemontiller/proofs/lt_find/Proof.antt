@@ -1,10 +1,7 @@
--- `capi::lt_find` meets its contract. Assumes nothing.
+-- `lemontiller::lt_find` meets its contract. Assumes nothing.
 use Rattle.store.specs.declared.Lookup.the-variants.{Absent}
-use Rattle.lemontiller.proofs.Lengths.{no-counters, no-reply}
-use Rattle.capi_calls.specs.Words.{counterWords, ifShort}
+use Rattle.lemontiller.proofs.Lengths.{short-counters, short-reply, room, no-counters, no-reply}
 use Rattle.capi_calls.specs.Calls.{findAs}
-use lib.ListN.{length}
-use borrow.Author.Tests.{lt-ltb, le-ltb}
 use borrow.Author.Needs.{needs}
 use Rattle.lemontiller.proofs.lt_find.Statement.{statement}
 use Rattle.lemontiller.proofs.lt_find.Tie as tie
@@ -15,12 +12,15 @@ use Rattle.capi_words.proofs.replies.lookup_answer.Reads as lookup-answer-reads
 use Rattle.dictionary.proofs.find.Reads as find-reads
 
 returns : tie.Need-returns
-unfolding findAs ifShort
-returns c = record { found = Absent; told = simp (lt-ltb (length (c .before .before .before .before .before .before .before .before .args .counters .now)) counterWords (c .if1 .taken)); exact = no-counters (c .before .before .before .before .before .before .before .before .args .counters .now) 1 (c .before .before .before .before .before .before .before .before .args .reply .now) (c .if1 .taken) }
+unfolding findAs
+returns c =
+    record { found = Absent; told = short-counters _ _ _ _ _ (c .if1 .taken); exact = no-counters _ _ _ (c .if1 .taken) }
 
 returns-2 : tie.Need-returns-2
-unfolding findAs ifShort
-returns-2 c = record { found = Absent; told = simp (le-ltb (length (c .before .before .before .before .before .before .before .before .before .args .counters .now)) counterWords (c .before .if1 .left), lt-ltb (length (c .before .before .before .before .before .before .before .before .before .args .reply .now)) 1 (c .if2 .taken)); exact = no-reply (c .before .before .before .before .before .before .before .before .before .args .counters .now) 1 (c .before .before .before .before .before .before .before .before .before .args .reply .now) (c .before .if1 .left) (c .if2 .taken) }
+unfolding findAs
+returns-2 c =
+    let long = c .before .if1 .left in
+    record { found = Absent; told = short-reply _ _ _ _ _ long (c .if2 .taken); exact = no-reply _ _ _ long (c .if2 .taken) }
 
 counters-of-requires : tie.Need-counters-of-requires
 counters-of-requires c κs = search needs
@@ -38,8 +38,14 @@ same-length : tie.Need-same-length
 same-length c = search needs
 
 returns-3 : tie.Need-returns-3
-unfolding findAs ifShort
-returns-3 c = record { found = c .before .find .result; told = simp (c .lookup-answer .ensures, le-ltb (length (c .before .before .before .before .before .before .before .before .before .before .before .before .args .counters .now)) counterWords (c .before .before .before .before .if1 .left), le-ltb (length (c .before .before .before .before .before .before .before .before .before .before .before .before .args .reply .now)) 1 (c .before .before .before .if2 .left)); exact = λ _. rw (← c .before .before .counters-of .ensures) (c .before .find .ensures) }
+unfolding findAs
+returns-3 c =
+    let tested = c .before .before .before in
+    record {
+      found = c .before .find .result;
+      told = simp (c .lookup-answer .ensures) (room _ _ _ _ _ (tested .before .if1 .left) (tested .if2 .left));
+      exact = λ _. rw (← c .before .before .counters-of .ensures) (c .before .find .ensures);
+    }
 
 pub lt-find-spec : {M : Type 1} → statement M
 lt-find-spec =

@@ -1,9 +1,8 @@
--- `capi::lt_name` meets its contract. Assumes nothing.
-use Rattle.capi_calls.specs.Words.{counterWords, ifShort}
+-- `lemontiller::lt_name` meets its contract. Assumes nothing.
 use Rattle.capi_calls.specs.Calls.{nameCall}
 use native.Mathlib.Omega.{arith}
-use lib.ListN.{length, length-set}
-use borrow.Author.Tests.{lt-ltb, le-ltb}
+use lib.ListN.{length-set}
+use Rattle.lemontiller.proofs.Lengths.{short-counters, short-reply, room}
 use borrow.Author.Needs.{needs}
 use Rattle.lemontiller.proofs.lt_name.Statement.{statement}
 use Rattle.lemontiller.proofs.lt_name.Tie as tie
@@ -14,12 +13,12 @@ use Rattle.capi_words.proofs.replies.name_answer.Reads as name-answer-reads
 use Rattle.table.proofs.name_span.Reads as name-span-reads
 
 returns : tie.Need-returns
-unfolding nameCall ifShort
-returns c = simp (lt-ltb (length (c .before .before .before .before .before .before .before .args .counters .now)) counterWords (c .if1 .taken))
+unfolding nameCall
+returns c = short-counters _ _ _ _ _ (c .if1 .taken)
 
 returns-2 : tie.Need-returns-2
-unfolding nameCall ifShort
-returns-2 c = simp (le-ltb (length (c .before .before .before .before .before .before .before .before .args .counters .now)) counterWords (c .before .if1 .left), lt-ltb (length (c .before .before .before .before .before .before .before .before .args .reply .now)) 2 (c .if2 .taken))
+unfolding nameCall
+returns-2 c = short-reply _ _ _ _ _ (c .before .if1 .left) (c .if2 .taken)
 
 counters-of-requires : tie.Need-counters-of-requires
 counters-of-requires c κs = search needs
@@ -40,8 +39,11 @@ same-length : tie.Need-same-length
 same-length c = search needs
 
 returns-3 : tie.Need-returns-3
-unfolding nameCall ifShort
-returns-3 c = simp (c .name-answer .ensures, c .before .name-span .ensures, c .before .before .counters-of .ensures, le-ltb (length (c .before .before .before .before .before .before .before .before .before .before .before .args .counters .now)) counterWords (c .before .before .before .before .if1 .left), le-ltb (length (c .before .before .before .before .before .before .before .before .before .before .before .args .reply .now)) 2 (c .before .before .before .if2 .left))
+unfolding nameCall
+returns-3 c =
+    let tested = c .before .before .before in
+    simp (c .name-answer .ensures, c .before .name-span .ensures, c .before .before .counters-of .ensures)
+    (room _ _ _ _ _ (tested .before .if1 .left) (tested .if2 .left))
 
 pub lt-name-spec : {M : Type 1} → statement M
 lt-name-spec =

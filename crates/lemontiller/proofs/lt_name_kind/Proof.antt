@@ -1,4 +1,5 @@
--- `capi::lt_name_kind` meets its contract. Assumes nothing.
+-- `lemontiller::lt_name_kind` meets its contract. Assumes nothing.
+use Rattle.capi_calls.specs.Words.{numberReplyWords}
 use Rattle.capi_calls.specs.Calls.{kindCall}
 use lib.ListN.{length}
 use borrow.Author.Tests.{lt-ltb, le-ltb}
@@ -12,7 +13,9 @@ use Rattle.term.proofs.name_kind.Reads as name-kind-reads
 
 returns : tie.Need-returns
 unfolding kindCall
-returns c = simp (lt-ltb (length (c .before .before .before .args .reply .now)) 1 (c .if1 .taken))
+returns c =
+    let start = c .before .before .before in
+    simp (lt-ltb (length (start .args .reply .now)) numberReplyWords (c .if1 .taken))
 
 name-kind-requires : tie.Need-name-kind-requires
 name-kind-requires c κs = search needs
@@ -28,7 +31,11 @@ same-length c = search needs
 
 returns-2 : tie.Need-returns-2
 unfolding kindCall
-returns-2 c = simp (c .kind-answer .ensures, c .before .name-kind .ensures, le-ltb (length (c .before .before .before .before .before .args .reply .now)) 1 (c .before .before .if1 .left))
+returns-2 c =
+    let tested = c .before .before in
+    let start = tested .before .before .before in
+    let long = le-ltb (length (start .args .reply .now)) numberReplyWords (tested .if1 .left) in
+    simp (c .kind-answer .ensures, c .before .name-kind .ensures, long)
 
 pub lt-name-kind-spec : {M : Type 1} → statement M
 lt-name-kind-spec =

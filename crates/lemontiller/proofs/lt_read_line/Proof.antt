@@ -1,4 +1,5 @@
--- `capi::lt_read_line` meets its contract. Assumes nothing.
+-- `lemontiller::lt_read_line` meets its contract. Assumes nothing.
+use Rattle.capi_calls.specs.Words.{lineWords}
 use Rattle.capi_calls.specs.Calls.{lineCall}
 use native.Mathlib.Omega.{arith}
 use lib.ListN.{length, length-set}
@@ -13,7 +14,9 @@ use Rattle.ntriples.proofs.read_line.Reads as read-line-reads
 
 returns : tie.Need-returns
 unfolding lineCall
-returns c = simp (lt-ltb (length (c .before .before .before .args .reply .now)) 8 (c .if1 .taken))
+returns c =
+    let start = c .before .before .before in
+    simp (lt-ltb (length (start .args .reply .now)) lineWords (c .if1 .taken))
 
 read-line-requires : tie.Need-read-line-requires
 read-line-requires c κs = search needs
@@ -50,7 +53,11 @@ same-length c = search needs
 
 returns-2 : tie.Need-returns-2
 unfolding lineCall
-returns-2 c = simp (c .line-answer .ensures, c .before .read-line .ensures, le-ltb (length (c .before .before .before .before .before .args .reply .now)) 8 (c .before .before .if1 .left))
+returns-2 c =
+    let tested = c .before .before in
+    let start = tested .before .before .before in
+    let long = le-ltb (length (start .args .reply .now)) lineWords (tested .if1 .left) in
+    simp (c .line-answer .ensures, c .before .read-line .ensures, long)
 
 pub lt-read-line-spec : {M : Type 1} → statement M
 lt-read-line-spec =

@@ -1,10 +1,7 @@
--- `capi::lt_retract` meets its contract. Assumes nothing.
+-- `lemontiller::lt_retract` meets its contract. Assumes nothing.
 use Rattle.lemontiller.proofs.Writes.{retract-done}
-use Rattle.store.specs.Tables.{tables}
-use Rattle.capi_calls.specs.Words.{counterWords, ifShort}
 use Rattle.capi_calls.specs.Calls.{retractCall}
-use lib.ListN.{length}
-use borrow.Author.Tests.{lt-ltb, le-ltb}
+use Rattle.lemontiller.proofs.Lengths.{short-counters, short-reply}
 use borrow.Author.Needs.{needs}
 use Rattle.lemontiller.proofs.lt_retract.Statement.{statement}
 use Rattle.lemontiller.proofs.lt_retract.Tie as tie
@@ -16,13 +13,12 @@ use Rattle.capi_words.proofs.words.triple_of.Reads as triple-of-reads
 use Rattle.statement.proofs.retract.Reads as retract-reads
 
 returns : tie.Need-returns
-unfolding retractCall ifShort
-returns c = simp (lt-ltb (length (c .before .before .before .before .before .before .before .args .counters .now)) counterWords (c .if1 .taken))
+unfolding retractCall
+returns c = short-counters _ _ _ _ _ (c .if1 .taken)
 
 returns-2 : tie.Need-returns-2
-unfolding retractCall ifShort
-returns-2 c = let a = c .before .before .before .before .before .before .before .before .args in
-    simp (le-ltb (length (a .counters .now)) counterWords (c .before .if1 .left), lt-ltb (length (a .reply .now)) 1 (c .if2 .taken))
+unfolding retractCall
+returns-2 c = short-reply _ _ _ _ _ (c .before .if1 .left) (c .if2 .taken)
 
 counters-of-requires : tie.Need-counters-of-requires
 counters-of-requires c κs = search needs
@@ -50,9 +46,12 @@ same-length-3 c = search needs
 
 returns-3 : tie.Need-returns-3
 returns-3 c =
-    let a = c .before .before .before .before .before .before .before .before .before .before .before .before .before .before .before .before .before .before .args in
-    let m = tables (a .resources .now) (a .statements .now) (a .index .now) (a .text .now) in
-    retract-done (a .counters .now) (a .reply .now) m (c .before .before .before .before .before .before .before .before .before .counters-of .ensures) (c .before .before .before .before .before .before .before .before .triple-of .ensures) (c .before .before .before .before .before .retract .ensures) (c .retract-answer .ensures) (c .before .before .before .before .before .before .before .before .before .before .before .if1 .left) (c .before .before .before .before .before .before .before .before .before .before .if2 .left)
+    let done = c .before .before .before .before .before in
+    let known = done .before .before .before in
+    let read = known .before in
+    let long = read .before in
+    retract-done _ _ _ (read .counters-of .ensures) (known .triple-of .ensures)
+    (done .retract .ensures) (c .retract-answer .ensures) (long .before .if1 .left) (long .if2 .left)
 
 pub lt-retract-spec : {M : Type 1} → statement M
 lt-retract-spec =

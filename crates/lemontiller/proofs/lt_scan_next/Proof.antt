@@ -1,11 +1,9 @@
--- `capi::lt_scan_next` meets its contract. Assumes nothing.
-use Rattle.capi_calls.specs.Words.{counterWords, cursorWords}
+-- `lemontiller::lt_scan_next` meets its contract. Assumes nothing.
 use Rattle.lemontiller.proofs.Writes.{next-refused, next-answered}
-use Rattle.store.specs.Tables.{tables}
 use Rattle.capi_calls.specs.Calls.{nextCall}
 use native.Mathlib.Omega.{arith}
-use lib.ListN.{length, length-set}
-use borrow.Author.Tests.{lt-ltb, le-ltb}
+use lib.ListN.{length-set}
+use Rattle.lemontiller.proofs.Lengths.{any-short-counters, any-short-cursor, any-short-reply}
 use borrow.Author.Needs.{needs}
 use Rattle.lemontiller.proofs.lt_scan_next.Statement.{statement}
 use Rattle.lemontiller.proofs.lt_scan_next.Tie as tie
@@ -19,15 +17,15 @@ use Rattle.capi_words.proofs.replies.scanned_cursor.Reads as scanned-cursor-rea
 
 returns : tie.Need-returns
 unfolding nextCall
-returns c = simp (lt-ltb (length (c .before .before .before .before .before .before .before .before .args .counters .now)) counterWords (c .if1 .taken))
+returns c = any-short-counters _ _ _ _ _ _ _ (c .if1 .taken)
 
 returns-2 : tie.Need-returns-2
 unfolding nextCall
-returns-2 c = simp (le-ltb (length (c .before .before .before .before .before .before .before .before .before .args .counters .now)) counterWords (c .before .if1 .left), lt-ltb (length (c .before .before .before .before .before .before .before .before .before .args .cursor .now)) cursorWords (c .if2 .taken))
+returns-2 c = any-short-cursor _ _ _ _ _ _ _ (c .before .if1 .left) (c .if2 .taken)
 
 returns-3 : tie.Need-returns-3
 unfolding nextCall
-returns-3 c = simp (le-ltb (length (c .before .before .before .before .before .before .before .before .before .before .args .counters .now)) counterWords (c .before .before .if1 .left), le-ltb (length (c .before .before .before .before .before .before .before .before .before .before .args .cursor .now)) cursorWords (c .before .if2 .left), lt-ltb (length (c .before .before .before .before .before .before .before .before .before .before .args .reply .now)) 3 (c .if3 .taken))
+returns-3 c = any-short-reply _ _ _ _ _ _ _ (c .before .before .if1 .left) (c .before .if2 .left) (c .if3 .taken)
 
 counters-of-requires : tie.Need-counters-of-requires
 counters-of-requires c κs = search needs
@@ -54,7 +52,14 @@ same-length-2 : tie.Need-same-length-2
 same-length-2 c = search needs
 
 returns-4 : tie.Need-returns-4
-returns-4 c = next-refused (c .before .before .before .before .before .before .before .before .before .before .before .before .before .before .before .before .args .counters .now) (c .before .before .before .before .before .before .before .before .before .before .before .before .before .before .before .before .args .cursor .now) (c .before .before .before .before .before .before .before .before .before .before .before .before .before .before .before .before .args .reply .now) (tables (c .before .before .before .before .before .before .before .before .before .before .before .before .before .before .before .before .args .resources .now) (c .before .before .before .before .before .before .before .before .before .before .before .before .before .before .before .before .args .statements .now) (c .before .before .before .before .before .before .before .before .before .before .before .before .before .before .before .before .args .index .now) (c .before .before .before .before .before .before .before .before .before .before .before .before .before .before .before .before .args .text .now)) (c .before .before .before .before .before .before .before .before .before .before .before .before .before .before .before .before .args .budget) (c .before .before .before .before .before .counters-of .ensures) (c .before .before .before .next-from .ensures) (c .before .before .scanned-answer .ensures) (c .if4 .taken) (c .before .before .before .before .before .before .before .before .if1 .left) (c .before .before .before .before .before .before .before .if2 .left) (c .before .before .before .before .before .before .if3 .left)
+returns-4 c =
+    let told = c .before .before in
+    let walked = told .before in
+    let read = walked .before .before in
+    let long = read .before in
+    next-refused _ _ _ _ _ (read .counters-of .ensures)
+    (walked .next-from .ensures) (told .scanned-answer .ensures) (c .if4 .taken)
+    (long .before .before .if1 .left) (long .before .if2 .left) (long .if3 .left)
 
 scanned-cursor-requires : tie.Need-scanned-cursor-requires
 scanned-cursor-requires c κs = search needs
@@ -69,7 +74,18 @@ same-length-4 : tie.Need-same-length-4
 same-length-4 c = search needs
 
 returns-5 : tie.Need-returns-5
-returns-5 c = next-answered (c .before .before .before .before .before .before .before .before .before .before .before .before .before .before .before .before .before .before .before .before .before .args .counters .now) (c .before .before .before .before .before .before .before .before .before .before .before .before .before .before .before .before .before .before .before .before .before .args .cursor .now) (c .before .before .before .before .before .before .before .before .before .before .before .before .before .before .before .before .before .before .before .before .before .args .reply .now) (tables (c .before .before .before .before .before .before .before .before .before .before .before .before .before .before .before .before .before .before .before .before .before .args .resources .now) (c .before .before .before .before .before .before .before .before .before .before .before .before .before .before .before .before .before .before .before .before .before .args .statements .now) (c .before .before .before .before .before .before .before .before .before .before .before .before .before .before .before .before .before .before .before .before .before .args .index .now) (c .before .before .before .before .before .before .before .before .before .before .before .before .before .before .before .before .before .before .before .before .before .args .text .now)) (c .before .before .before .before .before .before .before .before .before .before .before .before .before .before .before .before .before .before .before .before .before .args .budget) (c .before .before .before .before .before .before .before .before .before .before .counters-of .ensures) (c .before .before .before .before .before .before .before .before .next-from .ensures) (c .before .before .before .before .before .before .before .scanned-answer .ensures) (c .before .before .before .before .before .if4 .left) (c .before .before .before .before .scanned-cursor .ensures) (c .before .before .put-cursor .ensures) (c .before .before .before .before .before .before .before .before .before .before .before .before .before .if1 .left) (c .before .before .before .before .before .before .before .before .before .before .before .before .if2 .left) (c .before .before .before .before .before .before .before .before .before .before .before .if3 .left)
+returns-5 c =
+    let put = c .before .before in
+    let cursor = put .before .before in
+    let tested = cursor .before in
+    let told = tested .before .before in
+    let walked = told .before in
+    let read = walked .before .before in
+    let long = read .before in
+    next-answered _ _ _ _ _ (read .counters-of .ensures)
+    (walked .next-from .ensures) (told .scanned-answer .ensures) (tested .if4 .left)
+    (cursor .scanned-cursor .ensures) (put .put-cursor .ensures)
+    (long .before .before .if1 .left) (long .before .if2 .left) (long .if3 .left)
 
 pub lt-scan-next-spec : {M : Type 1} → statement M
 lt-scan-next-spec =

@@ -1,10 +1,7 @@
--- `capi::lt_scan_open` meets its contract. Assumes nothing.
+-- `lemontiller::lt_scan_open` meets its contract. Assumes nothing.
 use Rattle.lemontiller.proofs.Writes.{open-refused, open-opened}
-use Rattle.store.specs.Tables.{tables}
-use Rattle.capi_calls.specs.Words.{counterWords, cursorWords, ifShort}
 use Rattle.capi_calls.specs.Calls.{openCall}
-use lib.ListN.{length}
-use borrow.Author.Tests.{lt-ltb, le-ltb}
+use Rattle.lemontiller.proofs.Lengths.{short-counters, short-reply}
 use borrow.Author.Needs.{needs}
 use Rattle.lemontiller.proofs.lt_scan_open.Statement.{statement}
 use Rattle.lemontiller.proofs.lt_scan_open.Tie as tie
@@ -17,12 +14,12 @@ use Rattle.capi_words.proofs.words.triple_of.Reads as triple-of-reads
 use Rattle.scan.proofs.scan_open.Reads as scan-open-reads
 
 returns : tie.Need-returns
-unfolding openCall ifShort
-returns c = simp (lt-ltb (length (c .before .before .before .before .before .before .before .args .counters .now)) counterWords (c .if1 .taken))
+unfolding openCall
+returns c = short-counters _ _ _ _ _ (c .if1 .taken)
 
 returns-2 : tie.Need-returns-2
-unfolding openCall ifShort
-returns-2 c = simp (le-ltb (length (c .before .before .before .before .before .before .before .before .args .counters .now)) counterWords (c .before .if1 .left), lt-ltb (length (c .before .before .before .before .before .before .before .before .args .cursor .now)) cursorWords (c .if2 .taken))
+unfolding openCall
+returns-2 c = short-reply _ _ _ _ _ (c .before .if1 .left) (c .if2 .taken)
 
 counters-of-requires : tie.Need-counters-of-requires
 counters-of-requires c κs = search needs
@@ -46,13 +43,28 @@ put-cursor-requires : tie.Need-put-cursor-requires
 put-cursor-requires c κs = search needs
 
 returns-3 : tie.Need-returns-3
-returns-3 c = open-refused (c .before .before .before .before .before .before .before .before .before .before .before .before .before .before .before .args .counters .now) (c .before .before .before .before .before .before .before .before .before .before .before .before .before .before .before .args .cursor .now) (tables (c .before .before .before .before .before .before .before .before .before .before .before .before .before .before .before .args .resources .now) (c .before .before .before .before .before .before .before .before .before .before .before .before .before .before .before .args .statements .now) (c .before .before .before .before .before .before .before .before .before .before .before .before .before .before .before .args .index .now) (c .before .before .before .before .before .before .before .before .before .before .before .before .before .before .before .args .text .now)) (c .before .before .before .before .before .before .counters-of .ensures) (c .before .before .before .before .before .triple-of .ensures) (c .before .before .before .before .scan-open .ensures) (c .before .before .e .given .1) (c .refusal-number .ensures) (c .before .before .before .before .before .before .before .before .if1 .left) (c .before .before .before .before .before .before .before .if2 .left)
+returns-3 c =
+    let refused = c .before .before in
+    let opened = refused .before .before in
+    let known = opened .before in
+    let read = known .before in
+    let long = read .before in
+    open-refused _ _ _ (read .counters-of .ensures) (known .triple-of .ensures)
+    (opened .scan-open .ensures) (refused .e .given .1) (c .refusal-number .ensures) (long .before .if1 .left) (long .if2 .left)
 
 same-length : tie.Need-same-length
 same-length c = search needs
 
 returns-4 : tie.Need-returns-4
-returns-4 c = open-opened (c .before .before .before .before .before .before .before .before .before .before .before .before .before .before .before .before .before .before .args .counters .now) (c .before .before .before .before .before .before .before .before .before .before .before .before .before .before .before .before .before .before .args .cursor .now) (tables (c .before .before .before .before .before .before .before .before .before .before .before .before .before .before .before .before .before .before .args .resources .now) (c .before .before .before .before .before .before .before .before .before .before .before .before .before .before .before .before .before .before .args .statements .now) (c .before .before .before .before .before .before .before .before .before .before .before .before .before .before .before .before .before .before .args .index .now) (c .before .before .before .before .before .before .before .before .before .before .before .before .before .before .before .before .before .before .args .text .now)) (c .before .before .before .before .before .before .before .before .before .counters-of .ensures) (c .before .before .before .before .before .before .before .before .triple-of .ensures) (c .before .before .before .before .before .before .before .scan-open .ensures) (c .before .before .before .before .before .q .given .1) (c .before .before .put-cursor .ensures) (c .before .before .before .before .before .before .before .before .before .before .before .if1 .left) (c .before .before .before .before .before .before .before .before .before .before .if2 .left)
+returns-4 c =
+    let put = c .before .before in
+    let cursor = put .before .before .before in
+    let opened = cursor .before .before in
+    let known = opened .before in
+    let read = known .before in
+    let long = read .before in
+    open-opened _ _ _ (read .counters-of .ensures) (known .triple-of .ensures)
+    (opened .scan-open .ensures) (cursor .q .given .1) (put .put-cursor .ensures) (long .before .if1 .left) (long .if2 .left)
 
 pub lt-scan-open-spec : {M : Type 1} → statement M
 lt-scan-open-spec =

@@ -1,9 +1,8 @@
--- `capi::lt_statement` meets its contract. Assumes nothing.
-use Rattle.capi_calls.specs.Words.{counterWords, ifShort}
+-- `lemontiller::lt_statement` meets its contract. Assumes nothing.
 use Rattle.capi_calls.specs.Calls.{statementCall}
 use native.Mathlib.Omega.{arith}
-use lib.ListN.{length, length-set}
-use borrow.Author.Tests.{lt-ltb, le-ltb}
+use lib.ListN.{length-set}
+use Rattle.lemontiller.proofs.Lengths.{short-counters, short-reply, room}
 use borrow.Author.Needs.{needs}
 use Rattle.lemontiller.proofs.lt_statement.Statement.{statement}
 use Rattle.lemontiller.proofs.lt_statement.Tie as tie
@@ -14,12 +13,12 @@ use Rattle.capi_words.proofs.replies.statement_answer.Reads as statement-answer
 use Rattle.table.proofs.read_statement.Reads as read-statement-reads
 
 returns : tie.Need-returns
-unfolding statementCall ifShort
-returns c = simp (lt-ltb (length (c .before .before .before .before .before .before .before .args .counters .now)) counterWords (c .if1 .taken))
+unfolding statementCall
+returns c = short-counters _ _ _ _ _ (c .if1 .taken)
 
 returns-2 : tie.Need-returns-2
-unfolding statementCall ifShort
-returns-2 c = simp (le-ltb (length (c .before .before .before .before .before .before .before .before .args .counters .now)) counterWords (c .before .if1 .left), lt-ltb (length (c .before .before .before .before .before .before .before .before .args .reply .now)) 4 (c .if2 .taken))
+unfolding statementCall
+returns-2 c = short-reply _ _ _ _ _ (c .before .if1 .left) (c .if2 .taken)
 
 counters-of-requires : tie.Need-counters-of-requires
 counters-of-requires c κs = search needs
@@ -46,8 +45,11 @@ same-length : tie.Need-same-length
 same-length c = search needs
 
 returns-3 : tie.Need-returns-3
-unfolding statementCall ifShort
-returns-3 c = simp (c .statement-answer .ensures, c .before .read-statement .ensures, c .before .before .counters-of .ensures, le-ltb (length (c .before .before .before .before .before .before .before .before .before .before .before .args .counters .now)) counterWords (c .before .before .before .before .if1 .left), le-ltb (length (c .before .before .before .before .before .before .before .before .before .before .before .args .reply .now)) 4 (c .before .before .before .if2 .left))
+unfolding statementCall
+returns-3 c =
+    let tested = c .before .before .before in
+    simp (c .statement-answer .ensures, c .before .read-statement .ensures, c .before .before .counters-of .ensures)
+    (room _ _ _ _ _ (tested .before .if1 .left) (tested .if2 .left))
 
 pub lt-statement-spec : {M : Type 1} → statement M
 lt-statement-spec =

@@ -14,7 +14,7 @@ use Rattle.capi_query_words.proofs.queries.levels_of.Statement.{stateme
 use Rattle.capi_query_words.proofs.queries.levels_of.Tie as tie
 use Rattle.capi_query_words.proofs.queries.levels_of.Reads as reads
 use Rattle.capi_query_words.proofs.queries.levels_of.Lts as lts
-use Rattle.capi_words.proofs.replies.chain_of.Reads as chain-of-reads
+use Rattle.capi_words.proofs.words.chain_of.Reads as chain-of-reads
 use Rattle.query_stack.proofs.stack.level.Reads as level-reads
 
 abbrev Inv-loop : tie.InvT-loop
@@ -77,16 +77,19 @@ loop-less c = search needs
 loop-again : tie.Need-loop-again Inv-loop μ-loop
 loop-again c =
     let a = c .before .before .before .before .before .before .before .before .args in
-    let loop = c .before .before .before .before .before .loop in
-    let chain-of = c .before .before .chain-of in
-    let level2 = c .level2 in
-    (omega arith, ap (λ (z : List Level). set z (loop .i) (level2 .result)) (loop .inv .1) ∙ sym (filled-more (a .words .now) (loop .i) (level2 .result) (level2 .ensures ∙ rw (chain-of .ensures))))
+    let loop = c .before .before .before .before .before .loop in (
+      omega arith,
+      ap (λ (z : List Level). set z (loop .i) (c .level2 .result)) (loop .inv .1)
+          ∙ sym (filled-more (a .words .now) (loop .i) (c .level2 .result)
+          (c .level2 .ensures ∙ rw (c .before .before .chain-of .ensures))),
+    )
 
 returns : tie.Need-returns Inv-loop μ-loop
 returns c =
     let a = c .before .before .before .before .args in
     let loop = c .before .loop in
-    let q : loop .i ≡ maxPatterns = omega arith in loop .inv .1 ∙ ap (filled (a .words .now)) q ∙ filled-all (a .words .now)
+    let q : loop .i ≡ maxPatterns = omega arith in
+    loop .inv .1 ∙ ap (filled (a .words .now)) q ∙ filled-all (a .words .now)
 
 pub levels-of-spec : {M : Type 1} → statement M
 levels-of-spec =

@@ -12,10 +12,12 @@ use Rattle.capi_query_words.proofs.queries.put_levels.Statement.{statem
 use Rattle.capi_query_words.proofs.queries.put_levels.Tie as tie
 use Rattle.capi_query_words.proofs.queries.put_levels.Reads as reads
 use Rattle.capi_query_words.proofs.queries.put_levels.Lts as lts
-use Rattle.capi_words.proofs.replies.chain_word.Reads as chain-word-reads
+use Rattle.capi_words.proofs.words.chain_word.Reads as chain-word-reads
 
 abbrev Inv-loop : tie.InvT-loop
-Inv-loop words₀ levels i₀ words i = (i ≤ maxPatterns) × (length words ≡ length words₀) × (sets words₀ 3 (levelWords levels 0 maxPatterns) ≡ sets words (3 + 2 * i) (levelWords levels i (maxPatterns - i)))
+Inv-loop words₀ levels i₀ words i =
+    (i ≤ maxPatterns) × (length words ≡ length words₀) ×
+    (sets words₀ 3 (levelWords levels 0 maxPatterns) ≡ sets words (3 + 2 * i) (levelWords levels i (maxPatterns - i)))
 
 abbrev μ-loop : tie.MeasureT-loop
 μ-loop words₀ levels i₀ words i = maxPatterns - i
@@ -65,9 +67,11 @@ loop-less c = search needs
 loop-again : tie.Need-loop-again Inv-loop μ-loop
 loop-again c =
     let a = c .before .before .before .before .before .args in
-    let loop = c .before .before .before .loop in
-    let chain-word = c .chain-word in
-    (omega arith, simp length-set (loop .inv .1), loop .inv .2 ∙ levels-more (loop .words) (a .t2) (loop .i) _ _ (omega arith) (chain-word .ensures) refl)
+    let loop = c .before .before .before .loop in (
+      omega arith,
+      simp length-set (loop .inv .1),
+      loop .inv .2 ∙ levels-more (loop .words) (a .t2) (loop .i) _ _ (omega arith) (c .chain-word .ensures) refl,
+    )
 
 same-length : tie.Need-same-length Inv-loop μ-loop
 same-length c = search needs

@@ -23,15 +23,10 @@ put-solution-requires : tie.Need-put-solution-requires
 put-solution-requires c κs = search needs
 
 same-length : tie.Need-same-length
-same-length c =
-    let put-solution = c .before .before .put-solution in
-    simp (put-solution .ensures, length-sets, length-set)
+same-length c = simp (c .before .before .put-solution .ensures, length-sets, length-set)
 
 returns : tie.Need-returns
-returns c =
-    let step-status = c .before .before .before .before .step-status in
-    let put-solution = c .before .before .put-solution in
-    simp (put-solution .ensures, step-status .ensures)
+returns c = simp (c .before .before .put-solution .ensures, c .before .before .before .before .step-status .ensures)
 
 pub put-query-answer-spec : {M : Type 1} → statement M
 put-query-answer-spec =

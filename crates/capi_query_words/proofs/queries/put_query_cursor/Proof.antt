@@ -26,15 +26,10 @@ put-levels-requires : tie.Need-put-levels-requires
 put-levels-requires c κs = search needs
 
 same-length : tie.Need-same-length
-same-length c =
-    let put-levels = c .before .before .put-levels in
-    simp (put-levels .ensures, length-sets, length-set)
+same-length c = simp (c .before .before .put-levels .ensures, length-sets, length-set)
 
 returns : tie.Need-returns
-returns c =
-    let progress-word = c .before .before .before .before .progress-word in
-    let put-levels = c .before .before .put-levels in
-    simp (put-levels .ensures, progress-word .ensures)
+returns c = simp (c .before .before .put-levels .ensures, c .before .before .before .before .progress-word .ensures)
 
 pub put-query-cursor-spec : {M : Type 1} → statement M
 put-query-cursor-spec =

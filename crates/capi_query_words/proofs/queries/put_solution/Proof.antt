@@ -14,7 +14,9 @@ use Rattle.capi_query_words.proofs.queries.put_solution.Reads as reads
 use Rattle.capi_query_words.proofs.queries.put_solution.Lts as lts
 
 abbrev Inv-loop : tie.InvT-loop
-Inv-loop reply₀ s v₀ reply v = (v ≤ variables) × (length reply ≡ length reply₀) × (sets reply₀ 2 (numbersFrom (s .values) 0 variables) ≡ sets reply (2 + v) (numbersFrom (s .values) v (variables - v)))
+Inv-loop reply₀ s v₀ reply v =
+    (v ≤ variables) × (length reply ≡ length reply₀) ×
+    (sets reply₀ 2 (numbersFrom (s .values) 0 variables) ≡ sets reply (2 + v) (numbersFrom (s .values) v (variables - v)))
 
 abbrev μ-loop : tie.MeasureT-loop
 μ-loop reply₀ s v₀ reply v = variables - v
@@ -46,8 +48,11 @@ loop-less c = search needs
 loop-again : tie.Need-loop-again Inv-loop μ-loop
 loop-again c =
     let a = c .before .before .before .args in
-    let loop = c .before .before .loop in
-    (omega arith, simp length-set (loop .inv .1), loop .inv .2 ∙ numbers-more (loop .reply) (a .t2 .values) (loop .v) (omega arith))
+    let loop = c .before .before .loop in (
+      omega arith,
+      simp length-set (loop .inv .1),
+      loop .inv .2 ∙ numbers-more (loop .reply) (a .t2 .values) (loop .v) (omega arith),
+    )
 
 same-length : tie.Need-same-length Inv-loop μ-loop
 same-length c = search needs

@@ -6,19 +6,19 @@ use Rattle.capi_words.proofs.replies.check_answer.Statement.{statement}
 use Rattle.capi_words.proofs.replies.check_answer.Tie as tie
 use Rattle.capi_words.proofs.replies.check_answer.Reads as reads
 use Rattle.capi_words.proofs.replies.check_answer.Lts as lts
-use Rattle.capi_words.proofs.replies.words.Reads as words-reads
+use Rattle.capi_words.proofs.replies.number.Reads as number-reads
 
-words-requires : tie.Need-words-requires
-words-requires c κs = search needs
+number-requires : tie.Need-number-requires
+number-requires c κs = search needs
 
 returns : tie.Need-returns
-returns c = c .words .ensures ∙ sym (ap checkAnswer (c .before .if1 .taken))
+returns c = c .number .ensures ∙ sym (ap checkAnswer (c .before .if1 .taken))
 
-words-requires-2 : tie.Need-words-requires-2
-words-requires-2 c κs = search needs
+number-requires-2 : tie.Need-number-requires-2
+number-requires-2 c κs = search needs
 
 returns-2 : tie.Need-returns-2
-returns-2 c = c .words2 .ensures ∙ sym (ap checkAnswer (c .before .if1 .left))
+returns-2 c = c .number2 .ensures ∙ sym (ap checkAnswer (c .before .if1 .left))
 
 pub check-answer-spec : {M : Type 1} → statement M
-check-answer-spec = tie.close (tie.spec words-requires returns words-requires-2 returns-2)
+check-answer-spec = tie.close (tie.spec number-requires returns number-requires-2 returns-2)

@@ -5,19 +5,19 @@ use Rattle.capi_words.proofs.replies.kind_answer.Statement.{statement}
 use Rattle.capi_words.proofs.replies.kind_answer.Tie as tie
 use Rattle.capi_words.proofs.replies.kind_answer.Reads as reads
 use Rattle.capi_words.proofs.replies.kind_answer.Lts as lts
-use Rattle.capi_words.proofs.replies.words.Reads as words-reads
+use Rattle.capi_words.proofs.replies.number.Reads as number-reads
 
-words-requires : tie.Need-words-requires
-words-requires c κs = search needs
+number-requires : tie.Need-number-requires
+number-requires c κs = search needs
 
 returns : tie.Need-returns
-returns c = simp (c .words .ensures, eq-eqb _ _ (c .before .if1 .taken))
+returns c = simp (c .number .ensures, eq-eqb _ _ (c .before .if1 .taken))
 
-words-requires-2 : tie.Need-words-requires-2
-words-requires-2 c κs = search needs
+number-requires-2 : tie.Need-number-requires-2
+number-requires-2 c κs = search needs
 
 returns-2 : tie.Need-returns-2
-returns-2 c = simp (c .words2 .ensures, ne-eqb _ _ (c .before .if1 .left))
+returns-2 c = simp (c .number2 .ensures, ne-eqb _ _ (c .before .if1 .left))
 
 pub kind-answer-spec : {M : Type 1} → statement M
-kind-answer-spec = tie.close (tie.spec words-requires returns words-requires-2 returns-2)
+kind-answer-spec = tie.close (tie.spec number-requires returns number-requires-2 returns-2)

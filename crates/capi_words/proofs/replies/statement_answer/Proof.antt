@@ -7,7 +7,6 @@ use Rattle.capi_words.proofs.replies.statement_answer.Tie as tie
 use Rattle.capi_words.proofs.replies.statement_answer.Reads as reads
 use Rattle.capi_words.proofs.replies.statement_answer.Lts as lts
 use Rattle.store.proofs.refusal_number.Reads as refusal-number-reads
-use Rattle.capi_words.proofs.replies.words.Reads as words-reads
 
 enum-known-a : tie.Need-enum-known-a
 enum-known-a c = search needs
@@ -18,16 +17,11 @@ enum-known-a-2 c = search needs
 refusal-number-requires : tie.Need-refusal-number-requires
 refusal-number-requires c κs = search needs
 
-words-requires : tie.Need-words-requires
-words-requires c κs = search needs
-
 returns : tie.Need-returns
 returns c = sym (ap statementAnswer (c .before .a .given .1))
 
 returns-2 : tie.Need-returns-2
-returns-2 c = simp (c .words .ensures, c .before .refusal-number .ensures, c .before .before .before .a2 .given .1)
+returns-2 c = simp (c .refusal-number .ensures, c .before .before .a2 .given .1)
 
 pub statement-answer-spec : {M : Type 1} → statement M
-statement-answer-spec =
-    tie.close
-    (tie.spec enum-known-a enum-known-a-2 refusal-number-requires words-requires returns returns-2)
+statement-answer-spec = tie.close (tie.spec enum-known-a enum-known-a-2 refusal-number-requires returns returns-2)

@@ -4,7 +4,7 @@ use Rattle.capi_words.proofs.words.cursor_from.Statement.{statement}
 use Rattle.capi_words.proofs.words.cursor_from.Tie as tie
 use Rattle.capi_words.proofs.words.cursor_from.Reads as reads
 use Rattle.capi_words.proofs.words.cursor_from.Lts as lts
-use Rattle.capi_words.proofs.replies.chain_of.Reads as chain-of-reads
+use Rattle.capi_words.proofs.words.chain_of.Reads as chain-of-reads
 use Rattle.capi_words.proofs.words.triple_of.Reads as triple-of-reads
 
 shared-slice-read-triple-of : tie.Need-shared-slice-read-triple-of

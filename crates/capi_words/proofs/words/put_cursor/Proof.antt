@@ -6,7 +6,7 @@ use Rattle.capi_words.proofs.words.put_cursor.Statement.{statement}
 use Rattle.capi_words.proofs.words.put_cursor.Tie as tie
 use Rattle.capi_words.proofs.words.put_cursor.Reads as reads
 use Rattle.capi_words.proofs.words.put_cursor.Lts as lts
-use Rattle.capi_words.proofs.replies.chain_word.Reads as chain-word-reads
+use Rattle.capi_words.proofs.words.chain_word.Reads as chain-word-reads
 
 chain-word-requires : tie.Need-chain-word-requires
 chain-word-requires c κs = search needs

@@ -31,28 +31,26 @@ term-at-requires c κs = search needs
 
 returns : tie.Need-returns Inv-loop μ-loop
 returns c =
-    let a = c .before .before .before .before .before .before .before .before .args in
     let l = c .before .before .before .before .before .before .loop in
     let test = c .before .before .before .before .if1 in
     let if2 = c .if2 in
     let the-term-at = c .before .before .before .term-at in
     sym
-    (along-lacks (a .t) (now (a .statements)) (a .p) (a .y .0) (a .first .0) (l .met) (l .alive) (l .n .0) (l .inv .2)
-    (a .count) (a .live) (test .taken) (λ e. if2 .taken (the-term-at .ensures ∙ e)))
+    (along-lacks _ _ _ _ _ (l .met) (l .alive) (l .n .0) (l .inv .2) _ _ (test .taken)
+    (λ e. if2 .taken (the-term-at .ensures ∙ e)))
 
 next-at-requires : tie.Need-next-at-requires Inv-loop μ-loop
 next-at-requires c κs = search needs
 
 returns-2 : tie.Need-returns-2 Inv-loop μ-loop
 returns-2 c =
-    let a = c .before .before .before .before .before .before .before .before .before .before .before .before .args in
     let l = c .before .before .before .before .before .before .before .before .before .before .loop in
     let test = c .before .before .before .before .before .before .before .before .if1 in
     let the-term-at = c .before .before .before .before .before .before .before .term-at in
     let if2 = c .before .before .before .before .if2 in
     sym
-    (along-climbs (a .t) (now (a .statements)) (a .p) (a .y .0) (a .first .0) (l .met) (l .alive) (l .n .0) (l .inv .2)
-    (a .count) (a .live) (test .taken) (sym (the-term-at .ensures) ∙ if2 .left) (omega arith))
+    (along-climbs _ _ _ _ _ (l .met) (l .alive) (l .n .0) (l .inv .2) _ _ (test .taken)
+    (sym (the-term-at .ensures) ∙ if2 .left) (omega arith))
 
 add-met : tie.Need-add-met Inv-loop μ-loop
 add-met c = search needs
@@ -90,21 +88,17 @@ loop-again c =
 
 returns-3 : tie.Need-returns-3 Inv-loop μ-loop
 returns-3 c =
-    let a = c .before .before .before .before .before .args in
     let l = c .before .before .before .loop in
     let test = c .before .if1 in
     sym
-    (along-end (a .t) (now (a .statements)) (a .p) (a .y .0) (a .first .0) (l .met) (l .alive) (l .n .0) (l .inv .2)
-    (a .count) (a .live) (test .left) (omega arith))
+    (along-end _ _ _ _ _ (l .met) (l .alive) (l .n .0) (l .inv .2) _ _ (test .left) (omega arith))
 
 returns-4 : tie.Need-returns-4 Inv-loop μ-loop
 returns-4 c =
-    let a = c .before .before .before .before .before .args in
     let l = c .before .before .before .loop in
     let test = c .before .if1 in
     sym
-    (along-off (a .t) (now (a .statements)) (a .p) (a .y .0) (a .first .0) (l .met) (l .alive) (l .n .0) (l .inv .2)
-    (a .count) (a .live) (test .left) (c .if4 .left))
+    (along-off _ _ _ _ _ (l .met) (l .alive) (l .n .0) (l .inv .2) _ _ (test .left) (c .if4 .left))
 
 pub chain-counts-spec : {M : Type 1} → statement M
 chain-counts-spec =

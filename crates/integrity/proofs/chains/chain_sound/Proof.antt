@@ -16,11 +16,7 @@ first-at-requires : tie.Need-first-at-requires
 first-at-requires c κs = search needs
 
 returns : tie.Need-returns
-returns c =
-    let a = c .before .before .before .before .before .args in
-    let stm = now (a .statements) in
-    let res = now (a .resources) in
-    sym (chain-over (a .t) res stm (a .p) (a .y .0) (omega arith))
+returns c = sym (chain-over _ _ _ _ _ (omega arith))
 
 count-at-requires : tie.Need-count-at-requires
 count-at-requires c κs = search needs

@@ -2,7 +2,7 @@ use Prim.Native.Nat.{_-_, _*_, _≤_}
 use mathlib.Core.Path.{sym, _∙_}
 use native.Mathlib.Omega.{arith}
 use denote.Ref.{now}
-use borrow.Author.Tests.{not-true, not-false}
+use Rattle.table.proofs.Branches.{passed, failed}
 use Rattle.integrity.proofs.Walking.{Passed, passed-none, passed-one, passed-fails, passed-all}
 use borrow.Author.Needs.{needs}
 use Rattle.integrity.proofs.chains.chains_sound.Statement.{statement}
@@ -23,9 +23,7 @@ abbrev μ-loop : tie.MeasureT-loop
 loop-holds : tie.Need-loop-holds Inv-loop μ-loop
 loop-holds c =
     let a = c .before .before .args in
-    let stm = now (a .statements) in
-    let res = now (a .resources) in
-    (omega arith, omega arith, passed-none (a .r) (a .t) res stm (a .p))
+    (omega arith, omega arith, passed-none (a .r) (a .t) (now (a .resources)) (now (a .statements)) (a .p))
 
 add-wide : tie.Need-add-wide Inv-loop μ-loop
 add-wide c = search needs
@@ -36,14 +34,9 @@ chain-sound-requires c κs = search needs
 returns : tie.Need-returns Inv-loop μ-loop
 returns c =
     let a = c .before .before .before .before .before .before .args in
-    let stm = now (a .statements) in
-    let res = now (a .resources) in
-    let l = c .before .before .before .loop in
-    let the-chain-sound = c .before .chain-sound in
-    let if1 = c .if1 in
     sym
-    (passed-fails (a .r) (a .t) res stm (a .p) (l .done) (omega arith)
-    (sym (the-chain-sound .ensures) ∙ not-true (the-chain-sound .result) (if1 .taken)))
+    (passed-fails (a .r) (a .t) (now (a .resources)) (now (a .statements)) (a .p) (c .before .before .before .loop .done) (omega arith)
+    (failed (c .before .chain-sound .ensures) (c .if1 .taken)))
 
 count-at-requires : tie.Need-count-at-requires Inv-loop μ-loop
 count-at-requires c κs = search needs
@@ -62,19 +55,13 @@ loop-less c = search needs
 
 loop-again : tie.Need-loop-again Inv-loop μ-loop
 loop-again c =
-    let the-wide = c .wide in
     let a = c .before .before .before .before .before .before .before .before .args in
-    let stm = now (a .statements) in
-    let res = now (a .resources) in
     let l = c .before .before .before .before .before .loop in
-    let the-chain-sound = c .before .before .before .chain-sound in
-    let if1 = c .before .before .if1 in
-    let the-count-at = c .before .count-at in (
+    let sound = passed (c .before .before .before .chain-sound .ensures) (c .before .before .if1 .left) in (
       omega arith,
-      omega (arith, the-wide .ensures .1),
-      passed-one (a .r) (a .t) res stm (a .p) (l .done) (l .total) (the-wide .result) (l .inv .2)
-          (sym (the-chain-sound .ensures) ∙ not-false (the-chain-sound .result) (if1 .left))
-          (the-wide .ensures .0 ∙ the-count-at .ensures),
+      omega (arith, c .wide .ensures .1),
+      passed-one (a .r) (a .t) (now (a .resources)) (now (a .statements)) (a .p) (l .done) (l .total) (c .wide .result)
+          (l .inv .2) sound (c .wide .ensures .0 ∙ c .before .count-at .ensures),
     )
 
 wide-requires-2 : tie.Need-wide-requires-2 Inv-loop μ-loop
@@ -82,13 +69,11 @@ wide-requires-2 c κs = search needs
 
 returns-2 : tie.Need-returns-2 Inv-loop μ-loop
 returns-2 c =
-    let the-wide2 = c .wide2 in
     let a = c .before .before .before .before .before .args in
-    let stm = now (a .statements) in
-    let res = now (a .resources) in
     let l = c .before .before .loop in
-    rw (the-wide2 .ensures .0)
-    (sym (passed-all (a .r) (a .t) res stm (a .p) (l .done) (l .total) (l .inv .2) (omega arith)))
+    rw (c .wide2 .ensures .0)
+    (sym
+    (passed-all (a .r) (a .t) (now (a .resources)) (now (a .statements)) (a .p) (l .done) (l .total) (l .inv .2) (omega arith)))
 
 pub chains-sound-spec : {M : Type 1} → statement M
 chains-sound-spec =

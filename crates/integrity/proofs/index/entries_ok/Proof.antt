@@ -1,12 +1,9 @@
-use Prim.Native.Nat.{_-_, _≤_}
-use mathlib.Core.Path.{_≡_, sym, _∙_}
-use mathlib.Core.Bool.{true}
+use Prim.Native.Nat.{_-_}
+use mathlib.Core.Path.{refl}
 use native.Mathlib.Omega.{arith}
 use denote.Ref.{now}
-use borrow.Author.Tests.{not-true, not-false}
-use Rattle.store.specs.Shared.{allBelow}
 use Rattle.integrity.specs.Index.{entryOk}
-use Rattle.integrity.proofs.Ranges.{all-none, all-more, all-fails}
+use Rattle.integrity.proofs.Ranges.{PassSoFar, loop-begins, loop-fails, loop-turns, loop-ends}
 use borrow.Author.Needs.{needs}
 use Rattle.integrity.proofs.index.entries_ok.Statement.{statement}
 use Rattle.integrity.proofs.index.entries_ok.Tie as tie
@@ -16,7 +13,7 @@ use Rattle.table.proofs.in_range.Reads as in-range-reads
 use Rattle.integrity.proofs.wide.Reads as wide-reads
 
 abbrev Inv-loop : tie.InvT-loop
-Inv-loop index r n i₀ i = (i ≤ r) × (allBelow (entryOk r index) i ≡ true)
+Inv-loop index r n i₀ i = PassSoFar (entryOk r index) r i
 
 abbrev μ-loop : tie.MeasureT-loop
 μ-loop index r n i₀ i = r - i
@@ -27,8 +24,7 @@ wide-requires c κs = search needs
 loop-holds : tie.Need-loop-holds Inv-loop μ-loop
 loop-holds c =
     let a = c .before .before .args in
-    let idx = now (a .index) in
-    (omega arith, all-none (entryOk (a .r) idx))
+    loop-begins (entryOk (a .r) (now (a .index))) (a .r)
 
 mul-in-range : tie.Need-mul-in-range Inv-loop μ-loop
 mul-in-range c = search needs
@@ -42,14 +38,8 @@ in-range-requires c κs = search needs
 returns : tie.Need-returns Inv-loop μ-loop
 unfolding entryOk
 returns c =
-    let a = c .before .before .before .before .before .before .before .args in
-    let idx = now (a .index) in
     let l = c .before .before .before .before .loop in
-    let the-in-range = c .before .in-range in
-    let if1 = c .if1 in
-    sym
-    (all-fails (entryOk (a .r) idx) (a .r) (l .i) (omega arith)
-    (sym (the-in-range .ensures) ∙ not-true (the-in-range .result) (if1 .taken)))
+    loop-fails _ _ (l .i) {k = l .i} (omega arith) (c .before .in-range .ensures) refl (c .if1 .taken)
 
 add-i : tie.Need-add-i Inv-loop μ-loop
 add-i c = search needs
@@ -60,22 +50,11 @@ loop-less c = search needs
 loop-again : tie.Need-loop-again Inv-loop μ-loop
 unfolding entryOk
 loop-again c =
-    let a = c .before .before .before .before .before .before .before .args in
-    let idx = now (a .index) in
     let l = c .before .before .before .before .loop in
-    let the-in-range = c .before .in-range in
-    let if1 = c .if1 in (
-      omega arith,
-      all-more (entryOk (a .r) idx) (l .i) (l .inv .1)
-          (sym (the-in-range .ensures) ∙ not-false (the-in-range .result) (if1 .left)),
-    )
+    loop-turns _ _ (l .i) {k = l .i} (l .inv) (omega arith) (c .before .in-range .ensures) refl (c .if1 .left)
 
 returns-2 : tie.Need-returns-2 Inv-loop μ-loop
-returns-2 c =
-    let l = c .before .loop in
-    let a = c .before .before .before .before .args in
-    let e : l .i ≡ a .r = omega arith in
-    sym (rw e at (l .inv .1))
+returns-2 c = loop-ends _ _ (c .before .loop .i) (c .before .loop .inv) (omega arith)
 
 pub entries-ok-spec : {M : Type 1} → statement M
 entries-ok-spec =

@@ -1,12 +1,9 @@
-use Prim.Native.Nat.{_-_, _≤_}
-use mathlib.Core.Path.{_≡_, sym, _∙_}
-use mathlib.Core.Bool.{true}
+use Prim.Native.Nat.{_-_}
+use mathlib.Core.Path.{refl}
 use native.Mathlib.Omega.{arith}
 use denote.Ref.{now}
-use borrow.Author.Tests.{not-true, not-false}
-use Rattle.store.specs.Shared.{allBelow}
 use Rattle.integrity.specs.Index.{neighboursRise}
-use Rattle.integrity.proofs.Ranges.{all-none, all-more, all-fails}
+use Rattle.integrity.proofs.Ranges.{PassSoFar, loop-begins, loop-fails, loop-turns, loop-ends}
 use borrow.Author.Needs.{needs}
 use Rattle.integrity.proofs.index.entries_rise.Statement.{statement}
 use Rattle.integrity.proofs.index.entries_rise.Tie as tie
@@ -16,7 +13,7 @@ use Rattle.integrity.proofs.index.neighbours_rise.Reads as neighbours-r
 use Rattle.integrity.proofs.wide.Reads as wide-reads
 
 abbrev Inv-loop : tie.InvT-loop
-Inv-loop resources index used r n i₀ i = (i ≤ r - 1) × (allBelow (neighboursRise resources index used) i ≡ true)
+Inv-loop resources index used r n i₀ i = PassSoFar (neighboursRise resources index used) (r - 1) i
 
 abbrev μ-loop : tie.MeasureT-loop
 μ-loop resources index used r n i₀ i = r - i
@@ -27,10 +24,7 @@ wide-requires c κs = search needs
 loop-holds : tie.Need-loop-holds Inv-loop μ-loop
 loop-holds c =
     let a = c .before .before .before .before .args in
-    let used = now (a .used) in
-    let idx = now (a .index) in
-    let res = now (a .resources) in
-    (omega arith, all-none (neighboursRise res idx used))
+    loop-begins (neighboursRise (now (a .resources)) (now (a .index)) (now (a .used))) (a .r - 1)
 
 add-loop : tie.Need-add-loop Inv-loop μ-loop
 add-loop c = search needs
@@ -40,16 +34,8 @@ neighbours-rise-requires c κs = search needs
 
 returns : tie.Need-returns Inv-loop μ-loop
 returns c =
-    let a = c .before .before .before .before .before .before .before .before .args in
-    let used = now (a .used) in
-    let idx = now (a .index) in
-    let res = now (a .resources) in
     let l = c .before .before .before .loop in
-    let the-neighbours-rise = c .before .neighbours-rise in
-    let if1 = c .if1 in
-    sym
-    (all-fails (neighboursRise res idx used) (a .r - 1) (l .i) (omega arith)
-    (sym (the-neighbours-rise .ensures) ∙ not-true (the-neighbours-rise .result) (if1 .taken)))
+    loop-fails _ _ (l .i) (omega arith) (c .before .neighbours-rise .ensures) refl (c .if1 .taken)
 
 add-i : tie.Need-add-i Inv-loop μ-loop
 add-i c = search needs
@@ -59,24 +45,11 @@ loop-less c = search needs
 
 loop-again : tie.Need-loop-again Inv-loop μ-loop
 loop-again c =
-    let a = c .before .before .before .before .before .before .before .before .args in
-    let used = now (a .used) in
-    let idx = now (a .index) in
-    let res = now (a .resources) in
     let l = c .before .before .before .loop in
-    let the-neighbours-rise = c .before .neighbours-rise in
-    let if1 = c .if1 in (
-      omega arith,
-      all-more (neighboursRise res idx used) (l .i) (l .inv .1)
-          (sym (the-neighbours-rise .ensures) ∙ not-false (the-neighbours-rise .result) (if1 .left)),
-    )
+    loop-turns _ _ (l .i) (l .inv) (omega arith) (c .before .neighbours-rise .ensures) refl (c .if1 .left)
 
 returns-2 : tie.Need-returns-2 Inv-loop μ-loop
-returns-2 c =
-    let l = c .before .loop in
-    let a = c .before .before .before .before .before .before .args in
-    let e : l .i ≡ a .r - 1 = omega arith in
-    sym (rw e at (l .inv .1))
+returns-2 c = loop-ends _ _ (c .before .loop .i) (c .before .loop .inv) (omega arith)
 
 pub entries-rise-spec : {M : Type 1} → statement M
 entries-rise-spec =

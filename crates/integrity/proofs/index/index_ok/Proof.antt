@@ -1,5 +1,5 @@
-use mathlib.Core.Path.{sym, _∙_}
-use borrow.Author.Tests.{not-true, not-false}
+use Rattle.table.proofs.Branches.{passed}
+use Rattle.integrity.proofs.Ranges.{stops, goes-on}
 use Rattle.integrity.specs.Index.{indexOk}
 use borrow.Author.Needs.{needs}
 use Rattle.integrity.proofs.index.index_ok.Statement.{statement}
@@ -14,25 +14,16 @@ entries-ok-requires c κs = search needs
 
 returns : tie.Need-returns
 unfolding indexOk
-returns c =
-    let the-entries-ok = c .before .entries-ok in
-    let if1 = c .if1 in
-    rw (← the-entries-ok .ensures, not-true (the-entries-ok .result) (if1 .taken))
+returns c = stops _ (c .before .entries-ok .ensures) (c .if1 .taken)
 
 entries-rise-requires : tie.Need-entries-rise-requires
 entries-rise-requires c κs =
-    let the-entries-ok = c .before .entries-ok in
-    let if1 = c .if1 in
-    let h = sym (the-entries-ok .ensures) ∙ not-false (the-entries-ok .result) (if1 .left) in
+    let known = passed (c .before .entries-ok .ensures) (c .if1 .left) in
     search needs
 
 returns-2 : tie.Need-returns-2
 unfolding indexOk
-returns-2 c =
-    let the-entries-ok = c .before .before .entries-ok in
-    let if1 = c .before .if1 in
-    let the-entries-rise = c .entries-rise in
-    rw (← the-entries-ok .ensures, not-false (the-entries-ok .result) (if1 .left)) (the-entries-rise .ensures)
+returns-2 c = goes-on (c .before .before .entries-ok .ensures) (c .before .if1 .left) (c .entries-rise .ensures)
 
 pub index-ok-spec : {M : Type 1} → statement M
 index-ok-spec = tie.close (tie.spec entries-ok-requires returns entries-rise-requires returns-2)

@@ -10,7 +10,7 @@ use Rattle.integrity.proofs.index.name_less.Statement.{statement}
 use Rattle.integrity.proofs.index.name_less.Tie as tie
 use Rattle.integrity.proofs.index.name_less.Reads as reads
 use Rattle.integrity.proofs.index.name_less.Lts as lts
-use Rattle.integrity.proofs.index.byte_at.Reads as byte-at-reads
+use Rattle.term.proofs.class.byte_at.Reads as byte-at-reads
 
 abbrev Inv-loop : tie.InvT-loop
 Inv-loop used a b i₀ j₀ i j = nameLess used a b ≡ nameLess used i j

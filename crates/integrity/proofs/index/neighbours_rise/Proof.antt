@@ -3,7 +3,7 @@ use native.Mathlib.Omega.{arith}
 use native.Mathlib.Numerals.{add-one}
 use denote.Ref.{now}
 use Rattle.integrity.specs.Index.{neighboursRise}
-use Rattle.integrity.proofs.Rising.{entry-low, entry-high}
+use Rattle.integrity.proofs.Rising.{entry-held}
 use borrow.Author.Needs.{needs}
 use Rattle.integrity.proofs.index.neighbours_rise.Statement.{statement}
 use Rattle.integrity.proofs.index.neighbours_rise.Tie as tie
@@ -30,30 +30,20 @@ shared-slice-read-wide-2 c = search needs
 
 offset-at-requires : tie.Need-offset-at-requires
 offset-at-requires c κs =
-    let a = c .before .before .before .before .before .args in
-    let used = now (a .used) in
-    let idx = now (a .index) in
-    let res = now (a .resources) in
-    let pre = c .before .before .before .before .before .pre in
-    let a = a in
-    let h = entry-low (a .r) res idx used (pre .0 .known) (a .i) (omega arith) in
-    let g = entry-high (a .r) res idx used (pre .0 .known) (a .i) (omega arith) in
-    search needs
+    let start = c .before .before .before .before .before in
+    let a = start .args in
+    entry-held (a .r) (now (a .resources)) (now (a .index)) (now (a .used)) (start .pre .0) (start .pre .1 .0)
+    (a .i) (omega arith)
 
 wide-requires : tie.Need-wide-requires
 wide-requires c κs = search needs
 
 offset-at-requires-2 : tie.Need-offset-at-requires-2
 offset-at-requires-2 c κs =
-    let a = c .before .before .before .before .before .before .before .args in
-    let used = now (a .used) in
-    let idx = now (a .index) in
-    let res = now (a .resources) in
-    let pre = c .before .before .before .before .before .before .before .pre in
-    let a = a in
-    let h = entry-low (a .r) res idx used (pre .0 .known) (a .i + 1) (omega arith) in
-    let g = entry-high (a .r) res idx used (pre .0 .known) (a .i + 1) (omega arith) in
-    search needs
+    let start = c .before .before .before .before .before .before .before in
+    let a = start .args in
+    entry-held (a .r) (now (a .resources)) (now (a .index)) (now (a .used)) (start .pre .0) (start .pre .1 .0)
+    (a .i + 1) (omega arith)
 
 wide-requires-2 : tie.Need-wide-requires-2
 wide-requires-2 c κs = search needs

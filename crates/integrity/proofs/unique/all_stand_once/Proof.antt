@@ -1,12 +1,9 @@
-use Prim.Native.Nat.{_+_, _-_, _≤_}
-use mathlib.Core.Path.{_≡_, sym, _∙_}
-use mathlib.Core.Bool.{true}
+use Prim.Native.Nat.{_+_, _-_}
+use mathlib.Core.Path.{_≡_}
 use native.Mathlib.Omega.{arith}
 use denote.Ref.{now}
-use borrow.Author.Tests.{not-true, not-false}
-use Rattle.store.specs.Shared.{allBelow}
 use Rattle.integrity.specs.Records.{standsOnce}
-use Rattle.integrity.proofs.Ranges.{all-none, all-more, all-fails}
+use Rattle.integrity.proofs.Ranges.{PassSoFar, loop-begins, loop-fails, loop-turns, loop-ends}
 use Rattle.integrity.proofs.Decides.{record-known}
 use borrow.Author.Needs.{needs}
 use Rattle.integrity.proofs.unique.all_stand_once.Statement.{statement}
@@ -16,7 +13,7 @@ use Rattle.integrity.proofs.unique.all_stand_once.Lts as lts
 use Rattle.integrity.proofs.unique.stands_once.Reads as stands-once-reads
 
 abbrev Inv-loop : tie.InvT-loop
-Inv-loop resources statements r t done₀ done = (done ≤ t) × (allBelow (standsOnce resources statements) done ≡ true)
+Inv-loop resources statements r t done₀ done = PassSoFar (standsOnce resources statements) t done
 
 abbrev μ-loop : tie.MeasureT-loop
 μ-loop resources statements r t done₀ done = t - done
@@ -24,37 +21,25 @@ abbrev μ-loop : tie.MeasureT-loop
 loop-holds : tie.Need-loop-holds Inv-loop μ-loop
 loop-holds c =
     let a = c .before .before .args in
-    let stm = now (a .statements) in
-    let res = now (a .resources) in
-    (omega arith, all-none (standsOnce res stm))
+    loop-begins (standsOnce (now (a .resources)) (now (a .statements))) (a .t)
 
 add-t7 : tie.Need-add-t7 Inv-loop μ-loop
 add-t7 c = search needs
 
 stands-once-requires : tie.Need-stands-once-requires Inv-loop μ-loop
 stands-once-requires c κs =
-    let l = c .before .loop in
-    let a = c .before .before .before .before .args in
-    let stm = now (a .statements) in
-    let res = now (a .resources) in
-    let pre = c .before .before .before .before .pre in
-    let e : l .done + 1 - 1 ≡ l .done = omega arith in
-    let h = record-known (a .r) (a .t) res stm (pre .0) (l .done) (omega arith) in
+    let start = c .before .before .before .before in
+    let a = start .args in
+    let n = c .before .loop .done in
+    let e : n + 1 - 1 ≡ n = omega arith in
+    let h = record-known (a .r) (a .t) (now (a .resources)) (now (a .statements)) (start .pre .0) n (omega arith) in
     let k = rw (← e) at h in
     search needs
 
 returns : tie.Need-returns Inv-loop μ-loop
 returns c =
     let l = c .before .before .before .loop in
-    let a = c .before .before .before .before .before .before .args in
-    let stm = now (a .statements) in
-    let res = now (a .resources) in
-    let the-stands-once = c .before .stands-once in
-    let if1 = c .if1 in
-    let e : l .done + 1 - 1 ≡ l .done = omega arith in
-    sym
-    (all-fails (standsOnce res stm) (a .t) (l .done) (omega arith)
-    (rw e at (sym (the-stands-once .ensures) ∙ not-true (the-stands-once .result) (if1 .taken))))
+    loop-fails _ _ (l .done) (omega arith) (c .before .stands-once .ensures) (omega arith) (c .if1 .taken)
 
 add-done : tie.Need-add-done Inv-loop μ-loop
 add-done c = search needs
@@ -65,23 +50,10 @@ loop-less c = search needs
 loop-again : tie.Need-loop-again Inv-loop μ-loop
 loop-again c =
     let l = c .before .before .before .loop in
-    let a = c .before .before .before .before .before .before .args in
-    let stm = now (a .statements) in
-    let res = now (a .resources) in
-    let the-stands-once = c .before .stands-once in
-    let if1 = c .if1 in
-    let e : l .done + 1 - 1 ≡ l .done = omega arith in (
-      omega arith,
-      all-more (standsOnce res stm) (l .done) (l .inv .1)
-          (rw e at (sym (the-stands-once .ensures) ∙ not-false (the-stands-once .result) (if1 .left))),
-    )
+    loop-turns _ _ (l .done) (l .inv) (omega arith) (c .before .stands-once .ensures) (omega arith) (c .if1 .left)
 
 returns-2 : tie.Need-returns-2 Inv-loop μ-loop
-returns-2 c =
-    let l = c .before .loop in
-    let a = c .before .before .before .before .args in
-    let e : l .done ≡ a .t = omega arith in
-    sym (rw e at (l .inv .1))
+returns-2 c = loop-ends _ _ (c .before .loop .done) (c .before .loop .inv) (omega arith)
 
 pub all-stand-once-spec : {M : Type 1} → statement M
 all-stand-once-spec =

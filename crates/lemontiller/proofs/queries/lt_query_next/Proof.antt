@@ -1,11 +1,7 @@
--- `capi::queries::lt_query_next` meets its contract. Assumes nothing.
+-- `lemontiller::queries::lt_query_next` meets its contract. Assumes nothing.
 use Rattle.lemontiller.proofs.QueryWrites.{next-refused, next-answered}
 use Rattle.capi_calls.specs.QueryCalls.{queryNextCall}
-use Rattle.capi_calls.specs.QueryWords.{queryCursorWords, queryReplyWords}
-use Rattle.capi_calls.specs.Words.{counterWords}
-use borrow.Author.Tests.{lt-ltb, le-ltb}
-use lib.ListN.{length}
-use Rattle.store.specs.Tables.{tables}
+use Rattle.lemontiller.proofs.Lengths.{any-short-counters, any-short-cursor, any-short-reply}
 use borrow.Author.Needs.{needs}
 use Rattle.lemontiller.proofs.queries.lt_query_next.Statement.{statement}
 use Rattle.lemontiller.proofs.queries.lt_query_next.Tie as tie
@@ -19,27 +15,15 @@ use Rattle.capi_query_words.proofs.queries.step_refusal.Reads as step-refusal-r
 
 returns : tie.Need-returns
 unfolding queryNextCall
-returns c =
-    let a = c .before .before .before .before .before .before .before .before .before .args in
-    let if1 = c .if1 in
-    simp (lt-ltb (length (a .counters .now)) counterWords (if1 .taken))
+returns c = any-short-counters _ _ _ _ _ _ _ (c .if1 .taken)
 
 returns-2 : tie.Need-returns-2
 unfolding queryNextCall
-returns-2 c =
-    let a = c .before .before .before .before .before .before .before .before .before .before .args in
-    let if1 = c .before .if1 in
-    let if2 = c .if2 in
-    simp (le-ltb (length (a .counters .now)) counterWords (if1 .left), lt-ltb (length (a .cursor .now)) queryCursorWords (if2 .taken))
+returns-2 c = any-short-cursor _ _ _ _ _ _ _ (c .before .if1 .left) (c .if2 .taken)
 
 returns-3 : tie.Need-returns-3
 unfolding queryNextCall
-returns-3 c =
-    let a = c .before .before .before .before .before .before .before .before .before .before .before .args in
-    let if1 = c .before .before .if1 in
-    let if2 = c .before .if2 in
-    let if3 = c .if3 in
-    simp (le-ltb (length (a .counters .now)) counterWords (if1 .left), le-ltb (length (a .cursor .now)) queryCursorWords (if2 .left), lt-ltb (length (a .reply .now)) queryReplyWords (if3 .taken))
+returns-3 c = any-short-reply _ _ _ _ _ _ _ (c .before .before .if1 .left) (c .before .if2 .left) (c .if3 .taken)
 
 counters-of-requires : tie.Need-counters-of-requires
 counters-of-requires c κs = search needs
@@ -61,16 +45,14 @@ same-length-2 c = search needs
 
 returns-4 : tie.Need-returns-4
 returns-4 c =
-    let a = c .before .before .before .before .before .before .before .before .before .before .before .before .before .before .before .before .before .before .before .before .args in
-    let if1 = c .before .before .before .before .before .before .before .before .before .before .before .if1 in
-    let if2 = c .before .before .before .before .before .before .before .before .before .before .if2 in
-    let counters-of = c .before .before .before .before .before .before .before .before .counters-of in
-    let if3 = c .before .before .before .before .before .before .before .before .before .if3 in
-    let query-from = c .before .before .before .before .before .before .query-from in
-    let put-query-answer = c .before .before .before .before .put-query-answer in
-    let step-refusal = c .before .step-refusal in
-    let if4 = c .if4 in
-    next-refused (a .counters .now) (a .cursor .now) (a .reply .now) (a .words .now) (tables (a .resources .now) (a .statements .now) (a .index .now) (a .text .now)) (a .budget) (counters-of .ensures) (query-from .ensures) (put-query-answer .ensures) (step-refusal .ensures) (if4 .taken) (if1 .left) (if2 .left) (if3 .left)
+    let told = c .before in
+    let put = told .before .before .before in
+    let walked = put .before .before in
+    let read = walked .before .before in
+    let long = read .before in
+    next-refused _ _ _ _ _ _ (read .counters-of .ensures)
+    (walked .query-from .ensures) (put .put-query-answer .ensures) (told .step-refusal .ensures) (c .if4 .taken)
+    (long .before .before .if1 .left) (long .before .if2 .left) (long .if3 .left)
 
 put-query-cursor-requires : tie.Need-put-query-cursor-requires
 put-query-cursor-requires c κs = search needs
@@ -83,17 +65,16 @@ same-length-4 c = search needs
 
 returns-5 : tie.Need-returns-5
 returns-5 c =
-    let a = c .before .before .before .before .before .before .before .before .before .before .before .before .before .before .before .before .before .before .before .before .before .before .before .before .before .args in
-    let if1 = c .before .before .before .before .before .before .before .before .before .before .before .before .before .before .before .before .if1 in
-    let if2 = c .before .before .before .before .before .before .before .before .before .before .before .before .before .before .before .if2 in
-    let counters-of = c .before .before .before .before .before .before .before .before .before .before .before .before .before .counters-of in
-    let if3 = c .before .before .before .before .before .before .before .before .before .before .before .before .before .before .if3 in
-    let query-from = c .before .before .before .before .before .before .before .before .before .before .before .query-from in
-    let put-query-answer = c .before .before .before .before .before .before .before .before .before .put-query-answer in
-    let step-refusal = c .before .before .before .before .before .before .step-refusal in
-    let if4 = c .before .before .before .before .before .if4 in
-    let put-query-cursor = c .before .before .put-query-cursor in
-    next-answered (a .counters .now) (a .cursor .now) (a .reply .now) (a .words .now) (tables (a .resources .now) (a .statements .now) (a .index .now) (a .text .now)) (a .budget) (counters-of .ensures) (query-from .ensures) (put-query-answer .ensures) (step-refusal .ensures) (if4 .left) (put-query-cursor .ensures) (if1 .left) (if2 .left) (if3 .left)
+    let cursor = c .before .before in
+    let tested = cursor .before .before .before in
+    let told = tested .before in
+    let put = told .before .before .before in
+    let walked = put .before .before in
+    let read = walked .before .before in
+    let long = read .before in
+    next-answered _ _ _ _ _ _ (read .counters-of .ensures)
+    (walked .query-from .ensures) (put .put-query-answer .ensures) (told .step-refusal .ensures) (tested .if4 .left)
+    (cursor .put-query-cursor .ensures) (long .before .before .if1 .left) (long .before .if2 .left) (long .if3 .left)
 
 pub lt-query-next-spec : {M : Type 1} → statement M
 lt-query-next-spec =

@@ -1,14 +1,9 @@
--- `capi::queries::query_from` meets its contract. Assumes nothing.
-use Rattle.lemontiller.proofs.QueryWrites.{from-told, from-none, misspelt-stale, misspelt-bad}
-use Rattle.capi_calls.specs.QueryWords.{misspelt}
-use Rattle.graph.specs.Query.{nextQueryOf}
-use Rattle.graph.specs.declared.QueryCursor.{QueryCursor}
-use Rattle.store.specs.declared.Refusal.the-variants.{BadCursor, StaleCursor}
-use Rattle.store.specs.Tables.{tables, word}
-use mathlib.Core.Path.{_≡_, sym, ap, _∙_}
+-- `lemontiller::queries::query_from` meets its contract. Assumes nothing.
+use Rattle.lemontiller.proofs.QueryWrites.{from-told, from-refused, from-stale, from-bad}
+use Rattle.store.specs.Tables.{word}
+use mathlib.Core.Path.{_≡_, sym, _∙_}
 use mathlib.Core.Logic.{_≢_}
 use native.Mathlib.Omega.{arith}
-use lib.Dec.{eqb}
 use borrow.Author.Needs.{needs}
 use Rattle.lemontiller.proofs.queries.query_from.Statement.{statement}
 use Rattle.lemontiller.proofs.queries.query_from.Tie as tie
@@ -31,12 +26,10 @@ query-next-requires c κs = search needs
 
 returns : tie.Need-returns
 returns c =
-    let a = c .before .before .before .before .before .before .before .before .before .before .args in
-    let spelt = c .before .before .before .spelt in
-    let query-cursor-of = c .before .query-cursor-of in
-    let if1 = c .before .before .if1 in
-    let query-next = c .query-next in
-    from-told (a .c) (tables (a .resources .now) (a .statements .now) (a .index .now) (a .text .now)) (a .words .now) (a .cursor .now) (a .budget) (sym (spelt .ensures) ∙ if1 .taken) (query-next .ensures ∙ ap (λ (z : QueryCursor). nextQueryOf (a .c) (tables (a .resources .now) (a .statements .now) (a .index .now) (a .text .now)) (a .words .now) z (a .budget)) (query-cursor-of .ensures))
+    let told = c .before in
+    let tested = told .before in
+    from-told _ _ _ _ _ (sym (tested .before .spelt .ensures) ∙ tested .if1 .taken)
+    (told .query-cursor-of .ensures) (c .query-next .ensures)
 
 query-open-requires : tie.Need-query-open-requires
 query-open-requires c κs = search needs
@@ -58,46 +51,36 @@ refused-requires-2 c κs = search needs
 
 returns-2 : tie.Need-returns-2
 returns-2 c =
-    let a = c .before .before .before .before .before .before .before .before .before .before .before .before .before .before .before .args in
-    let spelt = c .before .before .before .before .before .before .before .before .spelt in
-    let if1 = c .before .before .before .before .before .before .before .if1 in
-    let query-open = c .before .before .before .before .before .before .query-open in
-    let enum-told = c .before .before .before .before .enum-told in
-    let if2 = c .before .if2 in
-    let refused2 = c .refused2 in
+    let case = c .before .before .before .before in
+    let opened = case .before .before in
+    let tested = opened .before in
+    let start = tested .before .before .before .before .before .before .before .before in
+    let a = start .args in
     let ne : word (a .cursor .now) 2 ≢ a .c .generation = λ e. omega arith in
-    from-none (a .c) (tables (a .resources .now) (a .statements .now) (a .index .now) (a .text .now)) (a .words .now) (a .cursor .now)
-    (a .budget) StaleCursor (sym (spelt .ensures) ∙ if1 .left) (query-open .ensures)
-    (misspelt-stale (a .c) (a .cursor .now) (enum-told .given .1) ne) (refused2 .ensures)
+    from-stale _ _ _ _ _ (sym (tested .before .spelt .ensures) ∙ tested .if1 .left)
+    (opened .query-open .ensures) (case .enum-told .given .1) ne (c .refused2 .ensures)
 
 refused-requires-3 : tie.Need-refused-requires-3
 refused-requires-3 c κs = search needs
 
 returns-3 : tie.Need-returns-3
 returns-3 c =
-    let a = c .before .before .before .before .before .before .before .before .before .before .before .before .before .args in
-    let spelt = c .before .before .before .before .before .before .spelt in
-    let if1 = c .before .before .before .before .before .if1 in
-    let query-open = c .before .before .before .before .query-open in
-    let opening = c .before .before .opening in
-    let refused = c .refused in
-    from-none (a .c) (tables (a .resources .now) (a .statements .now) (a .index .now) (a .text .now)) (a .words .now) (a .cursor .now)
-    (a .budget) _ (sym (spelt .ensures) ∙ if1 .left) (query-open .ensures)
-    (ap (misspelt (eqb (word (a .cursor .now) 2) (a .c .generation))) (opening .given .1)) (refused .ensures)
+    let case = c .before .before in
+    let opened = case .before .before in
+    let tested = opened .before in
+    from-refused _ _ _ _ _ (sym (tested .before .spelt .ensures) ∙ tested .if1 .left)
+    (opened .query-open .ensures) (case .opening .given .1) (c .refused .ensures)
 
 returns-4 : tie.Need-returns-4
 returns-4 c =
-    let a = c .before .before .before .before .before .before .before .before .before .before .before .before .before .before .before .args in
-    let spelt = c .before .before .before .before .before .before .before .before .spelt in
-    let if1 = c .before .before .before .before .before .before .before .if1 in
-    let query-open = c .before .before .before .before .before .before .query-open in
-    let enum-told = c .before .before .before .before .enum-told in
-    let if2 = c .before .if2 in
-    let refused3 = c .refused3 in
-    let e : word (a .cursor .now) 2 ≡ a .c .generation = omega arith in
-    from-none (a .c) (tables (a .resources .now) (a .statements .now) (a .index .now) (a .text .now)) (a .words .now) (a .cursor .now)
-    (a .budget) BadCursor (sym (spelt .ensures) ∙ if1 .left) (query-open .ensures)
-    (misspelt-bad (a .c) (a .cursor .now) (enum-told .given .1) e) (refused3 .ensures)
+    let case = c .before .before .before .before in
+    let opened = case .before .before in
+    let tested = opened .before in
+    let start = tested .before .before .before .before .before .before .before .before in
+    let a = start .args in
+    let same : word (a .cursor .now) 2 ≡ a .c .generation = omega arith in
+    from-bad _ _ _ _ _ (sym (tested .before .spelt .ensures) ∙ tested .if1 .left)
+    (opened .query-open .ensures) (case .enum-told .given .1) same (c .refused3 .ensures)
 
 pub query-from-spec : {M : Type 1} → statement M
 query-from-spec =

@@ -1,4 +1,4 @@
--- `capi::reclaim::lt_reclaim` meets its contract. Assumes nothing.
+-- `lemontiller::reclaim::lt_reclaim` meets its contract. Assumes nothing.
 use Rattle.lemontiller.proofs.Writes.{reclaim-no-counters, reclaim-refused, reclaim-done}
 use borrow.Author.Needs.{needs}
 use Rattle.lemontiller.proofs.reclaim.lt_reclaim.Statement.{statement}
@@ -12,9 +12,7 @@ use Rattle.store.proofs.refusal_number.Reads as refusal-number-reads
 
 returns : tie.Need-returns
 returns c =
-    let a = c .before .before .before .before .before .before .args in
-    let if1 = c .if1 in
-    reclaim-no-counters (a .counters .now) (if1 .taken)
+    reclaim-no-counters _ (c .if1 .taken)
 
 counters-of-requires : tie.Need-counters-of-requires
 counters-of-requires c κs = search needs
@@ -45,13 +43,12 @@ same-length-3 c = search needs
 
 returns-2 : tie.Need-returns-2
 returns-2 c =
-    let a = c .before .before .before .before .before .before .before .before .before .before .before .before .before .before .before .before .before .before .before .args in
-    let if1 = c .before .before .before .before .before .before .before .before .before .before .before .before .before .if1 in
-    let counters-of = c .before .before .before .before .before .before .before .before .before .before .before .counters-of in
-    let reclaim = c .before .before .before .before .before .before .before .before .reclaim in
-    let e = c .before .before .e in
-    let refusal-number = c .refusal-number in
-    reclaim-refused (a .counters .now) (counters-of .ensures) (reclaim .ensures) (e .given .1) (refusal-number .ensures) (if1 .left)
+    let refused = c .before .before in
+    let done = refused .before .before .before .before .before .before in
+    let read = done .before .before .before in
+    let long = read .before .before in
+    reclaim-refused _ (read .counters-of .ensures) (done .reclaim .ensures) (refused .e .given .1)
+    (c .refusal-number .ensures) (long .if1 .left)
 
 same-length-4 : tie.Need-same-length-4
 same-length-4 c = search needs
@@ -64,13 +61,13 @@ same-length-6 c = search needs
 
 returns-3 : tie.Need-returns-3
 returns-3 c =
-    let a = c .before .before .before .before .before .before .before .before .before .before .before .before .before .before .before .before .before .before .before .before .before .before .args in
-    let if1 = c .before .before .before .before .before .before .before .before .before .before .before .before .before .before .before .before .if1 in
-    let counters-of = c .before .before .before .before .before .before .before .before .before .before .before .before .before .before .counters-of in
-    let reclaim = c .before .before .before .before .before .before .before .before .before .before .before .reclaim in
-    let d = c .before .before .before .before .before .d in
-    let put-counters = c .before .before .put-counters in
-    reclaim-done (a .counters .now) (counters-of .ensures) (reclaim .ensures) (d .given .1) (put-counters .ensures) (if1 .left)
+    let put = c .before .before in
+    let after = put .before .before .before in
+    let done = after .before .before .before .before .before .before in
+    let read = done .before .before .before in
+    let long = read .before .before in
+    reclaim-done _ (read .counters-of .ensures) (done .reclaim .ensures) (after .d .given .1)
+    (put .put-counters .ensures) (long .if1 .left)
 
 pub lt-reclaim-spec : {M : Type 1} → statement M
 lt-reclaim-spec =

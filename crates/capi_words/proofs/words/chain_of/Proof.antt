@@ -1,9 +1,9 @@
--- `capi_words::replies::chain_of` meets its contract. Assumes nothing.
+-- `capi_words::words::chain_of` meets its contract. Assumes nothing.
 use borrow.Author.Tests.{eq-eqb, ne-eqb}
-use Rattle.capi_words.proofs.replies.chain_of.Statement.{statement}
-use Rattle.capi_words.proofs.replies.chain_of.Tie as tie
-use Rattle.capi_words.proofs.replies.chain_of.Reads as reads
-use Rattle.capi_words.proofs.replies.chain_of.Lts as lts
+use Rattle.capi_words.proofs.words.chain_of.Statement.{statement}
+use Rattle.capi_words.proofs.words.chain_of.Tie as tie
+use Rattle.capi_words.proofs.words.chain_of.Reads as reads
+use Rattle.capi_words.proofs.words.chain_of.Lts as lts
 
 returns : tie.Need-returns
 returns c = simp (eq-eqb _ _ (c .if1 .taken))
