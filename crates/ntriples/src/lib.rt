@@ -15,8 +15,8 @@ ghost use Rattle.ntriples.specs.Grammar.{white, commentByte};
 ghost use Rattle.ntriples.specs.Reader.{isDot, opens, Begin, Gap, After, CommentLine, answerOf, readSpelled};
 ghost use Rattle.ntriples.specs.Reader.{readOf};
 ghost use Rattle.ntriples.specs.Productions.{Inline, OnLine, TermAt, NotWhite, Reached, RunEnd, onward, TermEnds};
-ghost use Rattle.ntriples.specs.Productions.{EarlierEnds};
-ghost use Rattle.ntriples.specs.Productions.{ObjectEnds, cutOf, crDropped, Seen, BlockSeen, Passed, EolAt};
+ghost use Rattle.ntriples.specs.Productions.{EarlierEnds, ObjectEnds, cutOf, crDropped, Seen, BlockSeen, Passed};
+ghost use Rattle.ntriples.specs.Productions.{EolAt};
 use term::Scan;
 
 // A part of the text: the position of its first byte, and the position after its last.

@@ -25,8 +25,9 @@ reached : (c : tie.After-white-space)
 reached c = run-reached (c .before .before .pre) (c .white-space .ensures)
 
 -- the comment begins after its `#`
-noted : (c : tie.Else2) → (let d = c .before .before .before .before .before in OnLine (d .args .text .now)
-    (d .args .at) (c .before .before .before .white-space .result + 1) (d .args .stop))
+noted : (c : tie.Else2)
+    → (let d = c .before .before .before .before .before in
+    OnLine (d .args .text .now) (d .args .at) (c .before .before .before .white-space .result + 1) (d .args .stop))
 noted c = line-next (reached (c .before .before .before)) (c .before .before .if1 .left)
 
 white-space-requires : tie.Need-white-space-requires
@@ -50,8 +51,7 @@ unfolding answerOf
 returns-2 c =
     let d = c .before .before .before .before .before in
     sym (ap (answerOf (d .args .at)) (after-odd (line-of (d .pre)) (c .before .before .before .white-space .ensures)
-    (parts d) (c .before .before .if1 .left)
-    (c .if2 .taken)))
+    (parts d) (c .before .before .if1 .left) (c .if2 .taken)))
 
 add-comment : tie.Need-add-comment
 add-comment c = let w = noted c in search needs

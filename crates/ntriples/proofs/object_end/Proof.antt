@@ -18,9 +18,8 @@ scanned : (c : tie.After-scan-term)
     → (let a = c .before .before .before .args in TermScanned (a .text .now) (a .stop) (a .a) (c .scan-term .result))
 scanned c =
     let d = c .before .before .before in
-    term-scanned (d .args .text .now) (d .args .stop) (d .args .a) (c .before .cut .result)
-    (c .scan-term .result) (d .pre)
-    (c .before .cut .ensures) (c .scan-term .ensures)
+    term-scanned (d .args .text .now) (d .args .stop) (d .args .a) (c .before .cut .result) (c .scan-term .result)
+    (d .pre) (c .before .cut .ensures) (c .scan-term .ensures)
 
 cut-requires : tie.Need-cut-requires
 cut-requires c κs = let h = c .before .pre .before in omega arith
