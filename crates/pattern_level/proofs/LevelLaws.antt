@@ -101,19 +101,19 @@ module _ (all one : ℕ → Bool) (step : (i : ℕ) → all (i + 1) ≡ one i &&
   more d = let q : suc d ≡ d + 1 = omega arith in ap all q ∙ step d
 
   -- one that fails is enough
-  pub first-fails : (i d : ℕ) → i ≤ d → all i ≡ false → all d ≡ false
-  first-fails i zero h e = let q : i ≡ 0 = omega arith in rw q at e
-  first-fails i (suc d) h e =
+  pub prefix-fails : (i d : ℕ) → i ≤ d → all i ≡ false → all d ≡ false
+  prefix-fails i zero h e = let q : i ≡ 0 = omega arith in rw q at e
+  prefix-fails i (suc d) h e =
       decide (eqb i (suc d)) (λ k. rw (eqb-true i (suc d) k) at e)
-      (λ k. let n = eqb-false i (suc d) k in more d ∙ rw (first-fails i d (omega arith) e) (and-false (one d)))
+      (λ k. let n = eqb-false i (suc d) k in more d ∙ rw (prefix-fails i d (omega arith) e) (and-false (one d)))
 
   -- each passes
-  pub each-passes : (d : ℕ) → all d ≡ true → (i : ℕ) → i < d → one i ≡ true
-  each-passes zero e i h = absurd (omega arith)
-  each-passes (suc d) e i h =
+  pub prefix-each : (d : ℕ) → all d ≡ true → (i : ℕ) → i < d → one i ≡ true
+  prefix-each zero e i h = absurd (omega arith)
+  prefix-each (suc d) e i h =
       let f = sym (more d) ∙ e in
       decide (eqb i d) (λ k. rw (eqb-true i d k) (and-l _ (all d) f))
-      (λ k. let n = eqb-false i d k in each-passes d (and-r (one d) _ f) i (omega arith))
+      (λ k. let n = eqb-false i d k in prefix-each d (and-r (one d) _ f) i (omega arith))
 
 -- ---- 9 before any visit
 
@@ -130,12 +130,12 @@ module _ (stm : List ℕ) (ls : List Level) where
   pub intact-each : (d : ℕ) → intact stm (levelsOf ls d) ≡ true → (i : ℕ) → i < d
       → levelIntact stm (getD ls i noLevel) ≡ true
   intact-each =
-      each-passes (λ i. intact stm (levelsOf ls i)) (λ i. levelIntact stm (getD ls i noLevel)) intact-step
+      prefix-each (λ i. intact stm (levelsOf ls i)) (λ i. levelIntact stm (getD ls i noLevel)) intact-step
 
   -- the loop over the levels that 9 tests before any visit
   pub intact-miss : (i d : ℕ) → i < d → levelIntact stm (getD ls i noLevel) ≡ false → intact stm (levelsOf ls d) ≡ false
   intact-miss i d h e =
-      first-fails (λ i. intact stm (levelsOf ls i)) (λ i. levelIntact stm (getD ls i noLevel)) intact-step (i + 1) d
+      prefix-fails (λ i. intact stm (levelsOf ls i)) (λ i. levelIntact stm (getD ls i noLevel)) intact-step (i + 1) d
       (omega arith) (intact-step i ∙ rw e)
 
   pub intact-hit : (i : ℕ) → levelIntact stm (getD ls i noLevel) ≡ true → intact stm (levelsOf ls i) ≡ true

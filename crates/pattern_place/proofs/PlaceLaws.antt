@@ -24,7 +24,7 @@ use Rattle.pattern.specs.declared.binding.Matched.{Matched}
 use Rattle.pattern.specs.Matching.{matchedAs}
 use Rattle.pattern_place.specs.Tested.{levelOk, LevelTested, LevelsTested, deepestOk, InsideTested, PlaceTested}
 use Rattle.graph.proofs.Laws.{levels-length}
-use Rattle.pattern_level.proofs.LevelLaws.{record-at, bound-or, next-at, binds-step, first-fails, each-passes}
+use Rattle.pattern_level.proofs.LevelLaws.{record-at, bound-or, next-at, binds-step, prefix-fails, prefix-each}
 
 -- ---- one entered level
 
@@ -105,10 +105,10 @@ module _ (r t : ℕ) (stm : List ℕ) (ps : List QueryPattern) (ls : List Level)
   one-ok i = levelOk r t stm (getD ps i (pattern 0 0 0)) (binds stm ps (levelsOf ls i)) (getD ls i noLevel)
 
   pub entered-false : (i d : ℕ) → i ≤ d → first-ok i ≡ false → first-ok d ≡ false
-  entered-false = first-fails first-ok one-ok entered-step
+  entered-false = prefix-fails first-ok one-ok entered-step
 
   pub entered-each : (d : ℕ) → first-ok d ≡ true → (i : ℕ) → i < d → one-ok i ≡ true
-  entered-each = each-passes first-ok one-ok entered-step
+  entered-each = prefix-each first-ok one-ok entered-step
 
 -- the loop over the levels that 6 tests: one that fails, one more, all of them
 module _ (r t : ℕ) (stm : List ℕ) (ps : List QueryPattern) (ls : List Level) (i : ℕ) (x : QueryPattern)
