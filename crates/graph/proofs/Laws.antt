@@ -11,14 +11,14 @@ use lib.Seq.{getD-set-same, getD-set-other}
 use lib.Dec.{eqb, leb, ltb}
 use borrow.Author.Tests.{eqb-true, eqb-false, eq-eqb, ne-eqb, leb-true, ltb-true, le-leb, lt-ltb}
 use Rattle.store.specs.declared.Refusal.the-variants.{Damaged}
-use Rattle.store.specs.Shared.{known, prev}
+use Rattle.store.specs.Shared.{known, prev, isSome}
 use Rattle.store.specs.Scan.{chainOk, recordOk}
 use Rattle.store.proofs.Tests.{decide, and-l, and-r, and-of, cond-all}
 use Rattle.graph.specs.declared.QueryPattern.{QueryPattern}
 use Rattle.graph.specs.declared.Level.{Level}
 use Rattle.graph.specs.Query.{Turn, bad, go, whole, Answer, refused, found, ended, spent}
 use Rattle.graph.specs.Query.{past, backtrack, remains, intact, pruned, enter, visit, walk, begun, resume}
-use Rattle.graph.specs.Query.{match, isSome, recordAt, nextPattern, binds, asked, enteredOk, placeOk}
+use Rattle.graph.specs.Query.{match, recordAt, nextPattern, binds, asked, enteredOk, placeOk}
 use Rattle.graph.specs.Place.{Place, start, inside, finish, noLevel, levelsOf, insideOf, placeAs, placeOf}
 use Rattle.graph.specs.Place.{written, cursorAt}
 use Rattle.graph.specs.Words.{patternsOf, pattern, maxPatterns, Bindings, unbound}

@@ -11,7 +11,7 @@ use lib.Dec.{eqb}
 use borrow.Author.Tests.{eqb-true, eqb-false, le-leb}
 use Rattle.store.specs.declared.Chain.{Chain}
 use Rattle.store.specs.declared.Triple.{Triple}
-use Rattle.store.specs.Shared.{known, prev, Entry}
+use Rattle.store.specs.Shared.{known, prev, Entry, isSome}
 use Rattle.store.specs.Tables.{flagAt}
 use Rattle.store.specs.Walk.{entryAt, pickChain}
 use Rattle.store.specs.Scan.{recordOk}
@@ -21,7 +21,7 @@ use Rattle.store.proofs.Falling.{head-le}
 use Rattle.store.proofs.Chains.{onWords, entry-known, chain-holds-resource}
 use Rattle.graph.specs.declared.QueryPattern.{QueryPattern}
 use Rattle.graph.specs.declared.Level.{Level}
-use Rattle.graph.specs.Query.{match, isSome, Turn, bad, go, whole, Answer, refused, found, ended, spent, recordAt}
+use Rattle.graph.specs.Query.{match, Turn, bad, go, whole, Answer, refused, found, ended, spent, recordAt}
 use Rattle.graph.specs.Query.{past}
 use Rattle.graph.specs.Place.{Place, start, inside, finish}
 use Rattle.graph.specs.Words.{variables, Bindings, unbound}

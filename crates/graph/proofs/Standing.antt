@@ -15,7 +15,7 @@ use Rattle.store.specs.declared.Counters.{Counters}
 use Rattle.store.specs.declared.Position.{Position}
 use Rattle.store.specs.declared.Position.the-variants.{Subject, Predicate, Object}
 use Rattle.store.specs.declared.Triple.{Triple}
-use Rattle.store.specs.Shared.{at}
+use Rattle.store.specs.Shared.{at, isSome}
 use Rattle.store.specs.Tables.{Tables, fits}
 use Rattle.store.specs.Scan.{chainOk}
 use Rattle.store.specs.RefusalClaims.{ChainStands}
@@ -28,7 +28,7 @@ use Rattle.graph.specs.declared.QueryAnswer.{QueryAnswer}
 use Rattle.graph.specs.Words.{variables, firstVariable, isVariable, patternsOf, wordsOk, Bindings, boundTo}
 use Rattle.graph.specs.Words.{valueOf, under}
 use Rattle.graph.specs.Place.{Place, start, inside, finish, placeOf}
-use Rattle.graph.specs.Query.{match, isSome, recordAt, nextPattern, binds, asked, enteredOk, placeOk}
+use Rattle.graph.specs.Query.{match, recordAt, nextPattern, binds, asked, enteredOk, placeOk}
 use Rattle.graph.specs.Query.{answerOf, packed, stale, nextQueryOf}
 use Rattle.graph.specs.Values.{queryValues}
 use Rattle.graph.specs.Standing.{wordUnder, tripleUnder, Each, occursIn, boundBy, scanUnder, recordOn}

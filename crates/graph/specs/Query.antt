@@ -5,7 +5,7 @@ use Rattle.store.specs.Prelude.{suc, _+_, _-_, length, getD, set, eqb, leb, ltb
 use Rattle.graph.specs.Prelude.{Counters, Triple, Refusal, Capacity, BadCursor, NoBudget, BadQuery, Damaged}
 use Rattle.graph.specs.Prelude.{StaleCursor, QueryPattern, Level, QueryCursor, QueryOpening, Opened, NotOpened}
 use Rattle.graph.specs.Prelude.{QueryOpened, QueryStep, Found, Ended, Spent, NotAnswered, QueryAnswer}
-use Rattle.store.specs.Shared.{unless, known, prev}
+use Rattle.store.specs.Shared.{unless, known, isSome, prev}
 use Rattle.store.specs.Tables.{Tables, fits, tripleAt, flagAt}
 use Rattle.store.specs.Walk.{pickChain, pickable, startOf, linkOf, visitable}
 use Rattle.store.specs.Scan.{chainOk, recordOk}
@@ -28,10 +28,6 @@ andThen (some a) f = f a
 abbrev pub orElse : {A : Type 0} → Option A → A → A
 orElse none d = d
 orElse (some a) d = a
-
-abbrev pub isSome : {A : Type 0} → Option A → Bool
-isSome none = false
-isSome (some a) = true
 
 -- a triple meets a pattern, subject, predicate, object in turn: what is then bound
 unfoldable pub match : QueryPattern → Triple → Bindings → Option Bindings

@@ -18,7 +18,7 @@ use Rattle.store.specs.Tables.{resourceWords, statementWords, termAt, nextAt, f
 use Rattle.store.specs.Soundness.{holding, isLive, living, Linked}
 use Rattle.store.proofs.Tests.{decide, and-l, and-r}
 use Rattle.store.proofs.Falling.{below-yes, below-no, head-le}
-use Rattle.store.proofs.Walks.{Links}
+use Rattle.store.proofs.Walks.{Links, links-down}
 use Rattle.integrity.specs.Tests.{sumTo, chainLength, chainLive, oneMore}
 use Rattle.integrity.proofs.Ranges.{sum-tight, sum-same, all-counted}
 
@@ -29,9 +29,6 @@ none-some c e = let z : _≡_ {A = ℕ} 0 1 = cc in omega arith
 
 some-inj : (a b : ℕ) → some a ≡ some b → a ≡ b
 some-inj a b e = cc
-
-pub links-down : (f : ℕ → Bool) (next : ℕ → ℕ) (n : ℕ) → Links f next (suc n) → Links f next n
-links-down f next n h i l e = h i (omega arith) e
 
 pub live-zero : (next : ℕ → ℕ) (f : ℕ → Bool) (k : ℕ) → chainLive next f k 0 ≡ 0
 unfolding chainLive

@@ -10,17 +10,17 @@ use native.Mathlib.Omega.{arith}
 use borrow.Author.Tests.{eq-eqb, le-leb, not-true}
 use Rattle.store.specs.declared.Position.{Position}
 use Rattle.store.specs.declared.Triple.{Triple}
-use Rattle.store.specs.Shared.{at, same, below, head0, allBelow}
+use Rattle.store.specs.Shared.{at, same, below, head0, allBelow, isSome}
 use Rattle.store.specs.Tables.{termAt, nextAt, tripleAt}
 use Rattle.store.specs.Soundness.{holding, Linked}
 use Rattle.store.proofs.Tests.{decide, same-self, same-is}
 use Rattle.store.proofs.Words.{triple-at}
 use Rattle.store.proofs.Falling.{head-le}
-use Rattle.store.proofs.Walks.{Links}
-use Rattle.integrity.specs.Tests.{chainLength, oneMore, isSome}
+use Rattle.store.proofs.Walks.{Links, links-down}
+use Rattle.integrity.specs.Tests.{chainLength, oneMore}
 use Rattle.integrity.specs.Records.{shortest, differs, standsOnceOn, standsOnce}
 use Rattle.integrity.proofs.Ranges.{all-at, all-of}
-use Rattle.integrity.proofs.Linking.{links-down, chain-zero, linked-links}
+use Rattle.integrity.proofs.Linking.{chain-zero, linked-links}
 
 -- a walk along the chain of the entries that pass g goes through exactly if each of them passes f
 module _ (next : ℕ → ℕ) (f g : ℕ → Bool) where

@@ -13,10 +13,10 @@ use borrow.Author.Tests.{eq-eqb, ne-eqb, le-leb, lt-leb, lt-ltb, le-ltb}
 use Rattle.store.specs.declared.Position.{Position}
 use Rattle.store.specs.declared.Position.the-variants.{Subject, Predicate, Object}
 use Rattle.store.specs.declared.Triple.{Triple}
-use Rattle.store.specs.Shared.{at, same, allBelow}
+use Rattle.store.specs.Shared.{at, same, allBelow, isSome}
 use Rattle.store.specs.Tables.{termAt, nextAt, tripleAt, firstAt, countAt, liveAt}
 use Rattle.store.specs.Soundness.{holding, isLive}
-use Rattle.integrity.specs.Tests.{sumTo, chainLength, chainLive, oneMore, isSome}
+use Rattle.integrity.specs.Tests.{sumTo, chainLength, chainLive, oneMore}
 use Rattle.integrity.specs.Records.{chainCounts, chainSound, chainsSound, shorter, shortest, differs}
 use Rattle.integrity.specs.Records.{standsOnceOn}
 use Rattle.integrity.proofs.Linking.{chain-zero, live-zero}

@@ -32,7 +32,3 @@ chainLive next f (suc k) (suc i) = cond (f i) 1 0 + chainLive next f k (next i)
 abbrev pub isCount : Option ℕ → ℕ → Bool
 isCount none n = false
 isCount (some m) n = eqb m n
-
-abbrev pub isSome : Option ℕ → Bool
-isSome none = false
-isSome (some n) = true

@@ -9,7 +9,7 @@ use native.Mathlib.Omega.{arith}
 use lib.ListN.{length, getD}
 use borrow.Author.Tests.{lt-ltb, le-ltb, le-leb, lt-leb}
 use Rattle.store.specs.declared.Triple.{Triple}
-use Rattle.store.specs.Shared.{known}
+use Rattle.store.specs.Shared.{known, isSome}
 use Rattle.store.specs.Tables.{tripleAt}
 use Rattle.store.specs.Scan.{chainOk}
 use Rattle.graph.specs.declared.QueryPattern.{QueryPattern}
@@ -17,7 +17,7 @@ use Rattle.graph.specs.declared.Solution.{Solution}
 use Rattle.graph.specs.declared.Level.{Level}
 use Rattle.graph.specs.declared.QueryCursor.{QueryCursor}
 use Rattle.graph.specs.declared.Progress.the-variants.{Start, Within, End}
-use Rattle.graph.specs.Query.{match, orElse, isSome, binds, asked, enteredOk, placeOk}
+use Rattle.graph.specs.Query.{match, orElse, binds, asked, enteredOk, placeOk}
 use Rattle.graph.specs.Place.{noLevel, placeAs, levelsOf, insideOf}
 use Rattle.graph.specs.Words.{pattern, Bindings, under}
 use Rattle.pattern.specs.declared.binding.Matched.{Matched}

@@ -6,14 +6,14 @@ use mathlib.Core.List.{List}
 use Prim.Native.Nat.{ℕ, _-_}
 use lib.Dec.{leb, ltb}
 use Rattle.store.specs.declared.Triple.{Triple}
-use Rattle.store.specs.Shared.{known}
+use Rattle.store.specs.Shared.{known, isSome}
 use Rattle.store.specs.Scan.{chainOk, recordOk}
 use Rattle.graph.specs.declared.QueryPattern.{QueryPattern}
 use Rattle.graph.specs.declared.Solution.{Solution}
 use Rattle.graph.specs.declared.Level.{Level}
 use Rattle.graph.specs.declared.QueryCursor.{QueryCursor}
 use Rattle.graph.specs.declared.Progress.the-variants.{Within}
-use Rattle.graph.specs.Query.{match, orElse, isSome, recordAt, binds, enteredOk, placeOk}
+use Rattle.graph.specs.Query.{match, orElse, recordAt, binds, enteredOk, placeOk}
 use Rattle.graph.specs.Place.{levelsOf, insideOf, placeOf}
 use Rattle.graph.specs.Words.{Bindings, under}
 use Rattle.pattern.specs.declared.binding.Matched.{Matched}

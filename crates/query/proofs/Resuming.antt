@@ -13,13 +13,13 @@ use borrow.Author.Tests.{eqb-true, eqb-false, eq-eqb, ne-eqb, ltb-true, ltb-fals
 use Rattle.store.specs.declared.Refusal.the-variants.{Damaged as Nine}
 use Rattle.store.specs.declared.Counters.{Counters}
 use Rattle.store.specs.declared.Triple.{Triple}
-use Rattle.store.specs.Shared.{known}
+use Rattle.store.specs.Shared.{known, isSome}
 use Rattle.store.specs.Tables.{Tables, fits, statementWords, flagAt}
 use Rattle.store.specs.Scan.{chainOk}
 use Rattle.graph.specs.declared.QueryPattern.{QueryPattern}
 use Rattle.graph.specs.declared.Solution.{Solution}
 use Rattle.graph.specs.declared.Level.{Level}
-use Rattle.graph.specs.Query.{match, isSome, recordAt, past, levelRetracted, intact, anyRetracted, pruned, binds, asked}
+use Rattle.graph.specs.Query.{match, recordAt, past, levelRetracted, intact, anyRetracted, pruned, binds, asked}
 use Rattle.graph.specs.Words.{patternsOf, pattern, maxPatterns, wordsOk, Bindings, unbound, under}
 use Rattle.graph.specs.Place.{noLevel, start, inside, levelsOf, insideOf, written, finish}
 use Rattle.graph.specs.Query.{placeOk, Answer, refused, found, enter, begun, walk, resume}
