@@ -25,7 +25,9 @@ returns-2 c = any-short-cursor _ _ _ _ _ _ _ (c .before .if1 .left) (c .if2 .tak
 
 returns-3 : tie.Need-returns-3
 unfolding nextCall
-returns-3 c = any-short-reply _ _ _ _ _ _ _ (c .before .before .if1 .left) (c .before .if2 .left) (c .if3 .taken)
+returns-3 c =
+    let short = c .if3 .taken in
+    any-short-reply _ _ _ _ _ _ _ (c .before .before .if1 .left) (c .before .if2 .left) (omega arith)
 
 counters-of-requires : tie.Need-counters-of-requires
 counters-of-requires c κs = search needs
