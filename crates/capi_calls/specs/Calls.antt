@@ -21,14 +21,10 @@ use Rattle.store.specs.Soundness.{Sound}
 use Rattle.store.specs.Reading.{nameSpanOf, statementOf}
 use Rattle.store.specs.Dictionary.{FindAnswer, InternAnswer}
 use Rattle.store.specs.Reclaim.{ReclaimAnswer}
-use Rattle.capi_calls.specs.Words.{counterWords, cursorWords, tooShort, ifShort, ifAnyShort, longEnough}
-use Rattle.capi_calls.specs.Words.{countersOf}
-use Rattle.capi_calls.specs.Words.{numberReplyWords, nameReplyWords, statementReplyWords, assertReplyWords}
-use Rattle.capi_calls.specs.Words.{scanReplyWords, lineWords, done, beside, wrote, changed}
-use Rattle.capi_calls.specs.Words.{kindAnswer, checkAnswer, lookupAnswer, nameAnswer, statementAnswer, readAnswer}
-use Rattle.capi_calls.specs.Words.{nextFrom}
-use Rattle.capi_calls.specs.Words.{numberAs, nameAs, statementAs, lineAs, openedAs, scannedAs, retractAs}
-use Rattle.capi_calls.specs.Words.{assertAs}
+use Rattle.capi_calls.specs.Words.{counterWords, cursorWords, tooShort, ifShort, ifAnyShort, longEnough, countersOf, numberReplyWords}
+use Rattle.capi_calls.specs.Words.{nameReplyWords, statementReplyWords, assertReplyWords, scanReplyWords, lineWords, done, beside}
+use Rattle.capi_calls.specs.Words.{wrote, changed, kindAnswer, checkAnswer, lookupAnswer, nameAnswer, statementAnswer, readAnswer}
+use Rattle.capi_calls.specs.Words.{nextFrom, numberAs, nameAs, statementAs, lineAs, openedAs, scannedAs, retractAs, assertAs}
 use Rattle.capi_calls.specs.Words.{enteredAs, reclaimedAs}
 
 -- `lt_name_kind`: the name, the reply

@@ -20,13 +20,11 @@ use Rattle.store.specs.Shared.{maxReclaims}
 use Rattle.store.specs.Soundness.{Sound}
 use Rattle.store.specs.Reclaim.{reclaimOf}
 use Rattle.graph.specs.Words.{wordsOk}
-use Rattle.capi_calls.specs.Words.{counterWords, cursorWords, tooShort, countersOf, withCounters, cursorFrom}
-use Rattle.capi_calls.specs.Words.{withCursor}
-use Rattle.capi_calls.specs.Words.{numberReplyWords, nameReplyWords, statementReplyWords, assertReplyWords}
-use Rattle.capi_calls.specs.Words.{scanReplyWords}
-use Rattle.capi_calls.specs.Words.{chainOf, chainWord, done, beside, wrote, changed}
-use Rattle.capi_calls.specs.Calls.{FindCall, nameCall, statementCall, retractCall, openCall, nextCall, assertCall}
-use Rattle.capi_calls.specs.Calls.{EnterCall, ReclaimCall}
+use Rattle.capi_calls.specs.Words.{counterWords, cursorWords, tooShort, countersOf, withCounters, cursorFrom, withCursor}
+use Rattle.capi_calls.specs.Words.{numberReplyWords, nameReplyWords, statementReplyWords, assertReplyWords, scanReplyWords, chainOf}
+use Rattle.capi_calls.specs.Words.{chainWord, done, beside, wrote, changed}
+use Rattle.capi_calls.specs.Calls.{FindCall, nameCall, statementCall, retractCall, openCall, nextCall, assertCall, EnterCall}
+use Rattle.capi_calls.specs.Calls.{ReclaimCall}
 use Rattle.capi_calls.specs.QueryWords.{queryCursorWords, queryReplyWords}
 use Rattle.capi_calls.specs.QueryCalls.{queryOpenCall, queryNextCall}
 

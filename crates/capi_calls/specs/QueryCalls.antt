@@ -16,8 +16,8 @@ use Rattle.graph.specs.Query.{openQueryOf}
 use Rattle.graph.specs.Words.{maxPatterns}
 use Rattle.graph.specs.Values.{queryOpenedValues, queryValues}
 use Rattle.capi_calls.specs.Words.{countersOf, tooShort, done, beside, ifShort, ifAnyShort, ifAnswered}
-use Rattle.capi_calls.specs.QueryWords.{queryCursorWords, queryReplyWords, queryCursorOf, spelt, nextQueryFrom}
-use Rattle.capi_calls.specs.QueryWords.{withQueryCursor, withQueryAnswer}
+use Rattle.capi_calls.specs.QueryWords.{queryCursorWords, queryReplyWords, queryCursorOf, spelt, nextQueryFrom, withQueryCursor}
+use Rattle.capi_calls.specs.QueryWords.{withQueryAnswer}
 
 abbrev pub queryOpenedAs : List ℕ → QueryOpened → ℕ × List ℕ
 queryOpenedAs w a =
@@ -26,8 +26,7 @@ queryOpenedAs w a =
 
 -- `lt_query_open`: the words, the cursor
 unfoldable pub queryOpenCall : List ℕ → Tables → List ℕ → List ℕ → ℕ × List ℕ
-queryOpenCall cw m ws w =
-    ifShort cw queryCursorWords w (done tooShort w) (queryOpenedAs w (openQueryOf (countersOf cw) m ws))
+queryOpenCall cw m ws w = ifShort cw queryCursorWords w (done tooShort w) (queryOpenedAs w (openQueryOf (countersOf cw) m ws))
 
 abbrev pub queryAnsweredAs : List ℕ → List ℕ → QueryAnswer → ℕ × (List ℕ × List ℕ)
 queryAnsweredAs q w a =
@@ -50,8 +49,7 @@ pub record QueryCursorKept (w : List ℕ) (q : QueryCursor) : Type 0 where
   pub rest-kept : drop queryCursorWords (withQueryCursor w q) ≡ drop queryCursorWords w
 
 abbrev pub QueryCursorsKept : Type 0
-QueryCursorsKept = (w : List ℕ) (q : QueryCursor)
-    → queryCursorWords ≤ length w → length (q .levels) ≡ maxPatterns → QueryCursorKept w q
+QueryCursorsKept = (w : List ℕ) (q : QueryCursor) → queryCursorWords ≤ length w → length (q .levels) ≡ maxPatterns → QueryCursorKept w q
 
 -- every cursor that is answered has a level for each slot, so the above holds of it
 abbrev pub QueryCursorsFull : Type 0
@@ -65,8 +63,7 @@ QueryRepliesKept = (w : List ℕ) (a : QueryAnswer) → queryReplyWords ≤ leng
 
 -- ---- what an answered call writes past the levels
 
--- In a cursor's words the slots from the levels entered on are 0. At the start and at the end no levels are entered, so
--- all slots are 0.
+-- In a cursor's words the slots from the levels entered on are 0. At the start and at the end no levels are entered, so all slots are 0.
 pub record SlotsBlank (q : List ℕ) : Type 0 where
   pub chain-blank : (i : ℕ) → word q 1 ≤ i → i < maxPatterns → word q (3 + 2 * i) ≡ 0
   pub record-blank : (i : ℕ) → word q 1 ≤ i → i < maxPatterns → word q (4 + 2 * i) ≡ 0

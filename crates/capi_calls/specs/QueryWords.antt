@@ -1,7 +1,6 @@
--- The words of a query's cursor and of its reply: how many they are, what they tell, and how they are written. A cursor
--- is its progress (0 start, 1 within, 2 end), the levels entered, the number of reclaims, then chain and record of each
--- of `maxPatterns` levels. A reply is its status, the visits, then the number of each of the `variables` variables.
--- Assumes nothing.
+-- The words of a query's cursor and of its reply: how many they are, what they tell, and how they are written. A cursor is its progress
+-- (0 start, 1 within, 2 end), the levels entered, the number of reclaims, then chain and record of each of `maxPatterns` levels. A reply is
+-- its status, the visits, then the number of each of the `variables` variables. Assumes nothing.
 use mathlib.Core.Bool.{Bool, true, false, cond}
 use mathlib.Core.List.{List, [], _∷_}
 use Prim.Native.Nat.{ℕ, zero, suc, _+_, _*_}

@@ -28,8 +28,8 @@ use Rattle.store.specs.declared.Chain.{Chain}
 use Rattle.store.specs.declared.Chain.the-variants.{All, By}
 use Rattle.store.specs.declared.ScanCursor.{ScanCursor}
 use Rattle.store.specs.Tables.{Tables, word, fits}
-use Rattle.store.specs.Values.{lookupValues, nameValues, statementValues, assertedValues, retractedValues, openedValues}
-use Rattle.store.specs.Values.{scannedValues, internedValues, reclaimedValues}
+use Rattle.store.specs.Values.{lookupValues, nameValues, statementValues, assertedValues, retractedValues, openedValues, scannedValues}
+use Rattle.store.specs.Values.{internedValues, reclaimedValues}
 use Rattle.capi_calls.specs.declared.NumberReply.{NumberReply}
 use Rattle.capi_calls.specs.declared.NameReply.{NameReply}
 use Rattle.capi_calls.specs.declared.StatementReply.{StatementReply}

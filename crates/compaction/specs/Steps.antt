@@ -25,5 +25,4 @@ pub record AllSweepable (n : ℕ) (z : Swept) : Type 0 where
 -- all three passes: how many live ones, and the two tables
 abbrev pub compacted : ℕ → ℕ → List ℕ → List ℕ → Swept
 compacted r t res stm =
-    let z = sweep t (swept 0 (unlinked r res) stm) in
-    swept (z .count) (z .resources) (blanked (z .count) t (z .statements))
+    let z = sweep t (swept 0 (unlinked r res) stm) in swept (z .count) (z .resources) (blanked (z .count) t (z .statements))

@@ -25,9 +25,8 @@ pub record Readable (c : Counters) (res idx text : List ℕ) : Type 0 where
   pub in-index : c .resources ≤ length idx
   pub in-text : c .text ≤ length text
 
--- The bytes from o on, closed by a zero byte before e, against a name: by the first byte that differs. A well-formed
--- name has no zero byte, so a text that ends first is less. No byte at or past e is needed, or the answer is
--- Unreadable.
+-- The bytes from o on, closed by a zero byte before e, against a name: by the first byte that differs. A well-formed name has no zero
+-- byte, so a text that ends first is less. No byte at or past e is needed, or the answer is Unreadable.
 unfoldable pub compareOf : List ℕ → ℕ → ℕ → List ℕ → Compared
 compareOf t e o [] = cond (ltb o e) (cond (eqb (word t o) 0) Same More) Unreadable
 compareOf t e o (y ∷ ys) =

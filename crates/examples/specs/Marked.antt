@@ -1,6 +1,5 @@
--- The ten marked examples (paper 01, "Bench examples") as one table: what is asked of the store, in turn, after the
--- sample load, and what is answered. The rows are data; `Marked` says that the definitions answer each row so. Assumes
--- nothing.
+-- The ten marked examples (paper 01, "Bench examples") as one table: what is asked of the store, in turn, after the sample load, and what
+-- is answered. The rows are data; `Marked` says that the definitions answer each row so. Assumes nothing.
 use mathlib.Core.Path.{_≡_}
 use mathlib.Core.Bool.{Bool, true, false}
 use mathlib.Core.List.{List, [], _∷_, _++_}
@@ -110,9 +109,7 @@ answer s (links n) = (
 answer s (solve ws x) = (s, solveOn 9 s ws x (startCursor (s .counters .generation)) 0 [])
 answer s (remove x) = let r = callStore s (retract byValue x) in (r .0, (r .1) .number ∷ [])
 answer s (put x) = let r = callStore s (assert byValue x) in (r .0, (r .1) .status ∷ (r .1) .number ∷ [])
-answer s (once x b) =
-    let r = callStore (opened s x) (next (length (s .cursors)) b) in
-    (s, (r .1) .status ∷ (r .1) .visits ∷ [])
+answer s (once x b) = let r = callStore (opened s x) (next (length (s .cursors)) b) in (s, (r .1) .status ∷ (r .1) .visits ∷ [])
 
 -- ---- the table
 

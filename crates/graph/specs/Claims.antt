@@ -3,8 +3,8 @@
 -- mappings of SPARQL 1.1; a call from any accepted cursor answers from the solutions that hold; budgets add up; a
 -- pattern scan read through gives exactly the live triples that match; what each write does to the graph.
 -- Assumes nothing.
-use Rattle.store.specs.Prelude.{_≡_, _⊎_, _↔_, _≢_, Bool, true, false, cond, _&&_, _||_, List, [], _∷_, _++_, map}
-use Rattle.store.specs.Prelude.{List·Memᴰ, ℕ, _+_, _*_, _≤_, _<_, length, eqb}
+use Rattle.store.specs.Prelude.{_≡_, _⊎_, _↔_, _≢_, Bool, true, false, cond, _&&_, _||_, List, [], _∷_, _++_, map, List·Memᴰ, ℕ, _+_, _*_}
+use Rattle.store.specs.Prelude.{_≤_, _<_, length, eqb}
 use Rattle.graph.specs.Prelude.{Position, Counters, Triple, ScanCursor, QueryCursor}
 use Rattle.term.specs.Grammar.{nameLimit}
 use Rattle.term.specs.Scanner.{kindOf}
@@ -46,8 +46,7 @@ GraphClaim = (c : Counters) (m : Tables) → Sound c m → LiveGraph c m
 
 -- ---- 2. Words for a reading, of a query or of a scan, by the paper's numbers.
 
--- what a next answers: the refusal's number, or 0; found 1, ended 2, spent 3; the visits; what was found; the cursor
--- from now on
+-- what a next answers: the refusal's number, or 0; found 1, ended 2, spent 3; the visits; what was found; the cursor from now on
 pub record Reply (A Q : Type 0) : Type 0 where
   pub refusal : ℕ
   pub status : ℕ
@@ -56,25 +55,12 @@ pub record Reply (A Q : Type 0) : Type 0 where
   pub cursor : Q
 
 abbrev pub queryReply : QueryValues → Reply Bindings QueryCursor
-queryReply v = record {
-  refusal = v .refusal;
-  status = v .status;
-  visits = v .visits;
-  value = v .solution .values;
-  cursor = v .cursor;
-}
+queryReply v = record { refusal = v .refusal; status = v .status; visits = v .visits; value = v .solution .values; cursor = v .cursor }
 
 abbrev pub scanReply : Values → Reply ℕ ScanCursor
-scanReply v = record {
-  refusal = v .refusal;
-  status = v .status;
-  visits = v .visits;
-  value = v .number;
-  cursor = v .cursor;
-}
+scanReply v = record { refusal = v .refusal; status = v .status; visits = v .visits; value = v .number; cursor = v .cursor }
 
--- the replies to calls with these budgets in turn, with no change between, each from the cursor last answered; a
--- refusal leaves it
+-- the replies to calls with these budgets in turn, with no change between, each from the cursor last answered; a refusal leaves it
 unfoldable pub readOn : {A Q : Type 0} → (Q → ℕ → Reply A Q) → Q → List ℕ → List (Reply A Q)
 readOn next q [] = []
 readOn next q (b ∷ bs) = next q b ∷ readOn next (cond (eqb ((next q b) .refusal) 0) ((next q b) .cursor) q) bs
@@ -114,8 +100,7 @@ module _ {A Q : Type 0} where
     pub split : all ≡ foundIn rs ++ rest
     pub ended : hasEnded rs ≡ true → rest ≡ []
 
-  -- n visits in all, whatever the budgets, and spent only while one of them is left; the reading ends after so many
-  -- calls
+  -- n visits in all, whatever the budgets, and spent only while one of them is left; the reading ends after so many calls
   pub record Ends (read : List ℕ → List (Reply A Q)) (n : ℕ) : Type 0 where
     pub ends : (bs : List ℕ) → AllPositive bs → n + 1 < length bs → hasEnded (read bs) ≡ true
     pub visits : (bs : List ℕ) → AllPositive bs → hasEnded (read bs) ≡ true → visitsIn (read bs) ≡ n
@@ -167,23 +152,20 @@ accepted c m ws q = eqb (q .generation) (c .generation)
 abbrev pub onwardsFrom : Counters → Tables → List ℕ → List Bindings → QueryCursor → List Bindings
 onwardsFrom c m ws ss q = onwardsOf (statementNumbers c m ws) ss (placeOf q)
 
--- found: the first of those at or after the place, the others from now on; ended: there are none, and the place is the
--- end; spent: the budget is visited and the same are left
-pub record Answers (c : Counters) (m : Tables) (ws : List ℕ) (ss : List Bindings) (q : QueryCursor) (b : ℕ)
-    (v : QueryValues) : Type 0 where
+-- found: the first of those at or after the place, the others from now on; ended: there are none, and the place is the end; spent: the
+-- budget is visited and the same are left
+pub record Answers (c : Counters) (m : Tables) (ws : List ℕ) (ss : List Bindings) (q : QueryCursor) (b : ℕ) (v : QueryValues) : Type 0 where
   pub unrefused : v .refusal ≡ 0
   pub status : (v .status ≡ 1) ⊎ ((v .status ≡ 2) ⊎ (v .status ≡ 3))
   pub found : v .status ≡ 1 → onwardsFrom c m ws ss q ≡ v .solution .values ∷ onwardsFrom c m ws ss (v .cursor)
-  pub ended : v .status ≡ 2
-      → (onwardsFrom c m ws ss q ≡ []) × (placeOf (v .cursor) ≡ finish) × (onwardsFrom c m ws ss (v .cursor) ≡ [])
+  pub ended : v .status ≡ 2 → (onwardsFrom c m ws ss q ≡ []) × (placeOf (v .cursor) ≡ finish) × (onwardsFrom c m ws ss (v .cursor) ≡ [])
   pub spent : v .status ≡ 3 → (onwardsFrom c m ws ss q ≡ onwardsFrom c m ws ss (v .cursor)) × (v .visits ≡ b)
   pub kept : accepted c m ws (v .cursor) ≡ true
 
 abbrev pub NextClaim : Type 0
 NextClaim = (c : Counters) (m : Tables) → Sound c m → (ws : List ℕ) → wordsOk (c .resources) ws ≡ true
     → (ss : List Bindings) × AllInOrder c m ws ss
-    × ((q : QueryCursor) (b : ℕ) → accepted c m ws q ≡ true → 0 < b
-    → Answers c m ws ss q b (queryValues (nextQueryOf c m ws q b)))
+    × ((q : QueryCursor) (b : ℕ) → accepted c m ws q ≡ true → 0 < b → Answers c m ws ss q b (queryValues (nextQueryOf c m ws q b)))
 
 -- a cursor that a next call answered is never refused 6 by a later one, whatever was called between
 abbrev pub KeptClaim : Type 0
@@ -201,14 +183,12 @@ StaleClaim = (c : Counters) (m : Tables) (ws : List ℕ) (q : QueryCursor) (b : 
 
 -- the refusal's number, and zeros: no visits, no solution, the cursor zero, its number too
 abbrev pub refusedQuery : ℕ → QueryValues
-refusedQuery n =
-    record { refusal = n; status = 0; visits = 0; solution = record { values = unbound }; cursor = startCursor 0 }
+refusedQuery n = record { refusal = n; status = 0; visits = 0; solution = record { values = unbound }; cursor = startCursor 0 }
 
 -- Beside a refusal stand zeros, on any tables.
 abbrev pub RefusalsBare : Type 0
 RefusalsBare = (c : Counters) (m : Tables) (ws : List ℕ)
-    → ((q : QueryCursor) (b : ℕ)
-    → let v = queryValues (nextQueryOf c m ws q b) in v .refusal ≢ 0 → v ≡ refusedQuery (v .refusal))
+    → ((q : QueryCursor) (b : ℕ) → let v = queryValues (nextQueryOf c m ws q b) in v .refusal ≢ 0 → v ≡ refusedQuery (v .refusal))
     × (let v = queryOpenedValues (openQueryOf c m ws) in v .refusal ≢ 0 → v ≡ refusedQuery (v .refusal))
 
 -- A cursor that open or next answered is refused 13 once a reclaim was answered since, whatever else was called.
@@ -222,28 +202,19 @@ ReclaimedClaim = (c : Counters) (m : Tables) → Sound c m → (ws : List ℕ) (
 
 -- A call visits no more records than its budget, on any tables, words and cursor.
 abbrev pub BudgetClaim : Type 0
-BudgetClaim = (c : Counters) (m : Tables) (ws : List ℕ) (q : QueryCursor) (b : ℕ)
-    → (queryValues (nextQueryOf c m ws q b)) .visits ≤ b
+BudgetClaim = (c : Counters) (m : Tables) (ws : List ℕ) (q : QueryCursor) (b : ℕ) → (queryValues (nextQueryOf c m ws q b)) .visits ≤ b
 
 -- ---- 5. Budgets add up.
 
 abbrev pub moreVisits : ℕ → QueryValues → QueryValues
-moreVisits n v = record {
-  refusal = v .refusal;
-  status = v .status;
-  visits = n + v .visits;
-  solution = v .solution;
-  cursor = v .cursor;
-}
+moreVisits n v = record { refusal = v .refusal; status = v .status; visits = n + v .visits; solution = v .solution; cursor = v .cursor }
 
--- With no change between, a call that spends b followed by one with b′ answers as one call with b + b′, the visits
--- added.
+-- With no change between, a call that spends b followed by one with b′ answers as one call with b + b′, the visits added.
 abbrev pub SplitClaim : Type 0
 SplitClaim = (c : Counters) (m : Tables) → Sound c m → (ws : List ℕ) (q : QueryCursor) (b b′ : ℕ) → 0 < b′
     → let v = queryValues (nextQueryOf c m ws q b) in
     v .status ≡ 3
-    → queryValues (nextQueryOf c m ws q (b + b′))
-    ≡ moreVisits (v .visits) (queryValues (nextQueryOf c m ws (v .cursor) b′))
+    → queryValues (nextQueryOf c m ws q (b + b′)) ≡ moreVisits (v .visits) (queryValues (nextQueryOf c m ws (v .cursor) b′))
 
 -- ---- 6. A pattern scan read through gives exactly the live triples that match, each once, latest first.
 

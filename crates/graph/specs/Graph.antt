@@ -5,8 +5,7 @@ use Rattle.graph.specs.Prelude.{Counters, Triple, QueryPattern}
 use Rattle.store.specs.Tables.{Tables, tripleAt, flagAt}
 use Rattle.store.specs.Names.{nameAt}
 use Rattle.graph.specs.Words.{firstVariable, isVariable, patternsOf, Bindings, boundTo}
-use Rattle.graph.specs.Meaning.{Term, RdfTriple, Graph, PatternTerm, term, var, TriplePattern}
-use Rattle.graph.specs.Meaning.{BasicGraphPattern, Mapping}
+use Rattle.graph.specs.Meaning.{Term, RdfTriple, Graph, PatternTerm, term, var, TriplePattern, BasicGraphPattern, Mapping}
 
 -- three numbers as three names
 unfoldable pub named : Tables → Triple → RdfTriple

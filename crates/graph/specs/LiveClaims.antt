@@ -22,8 +22,7 @@ LiveCountClaim = (c : Counters) (m : Tables) → Sound c m → (p : Position) (y
     → (bs : List ℕ) → AllPositive bs → hasEnded (scanning c m (only p y) bs) ≡ true
     → length (foundIn (scanning c m (only p y) bs)) ≡ liveAt (m .resources) p y
 
--- On tables that differ in live counts alone a query is answered alike, sound or not; of a scan `ScansDoNotLook` of
--- crate `store` says so.
+-- On tables that differ in live counts alone a query is answered alike, sound or not; of a scan `ScansDoNotLook` of crate `store` says so.
 abbrev pub QueriesDoNotLook : Type 0
 QueriesDoNotLook = (c : Counters) (m m′ : Tables) → SameButLive m m′ → (ws : List ℕ)
     → (openQueryOf c m ws ≡ openQueryOf c m′ ws)

@@ -1,5 +1,4 @@
--- The place of a query (paper 01, "Next of a question"): its levels, and how a cursor's array holds them.
--- Assumes nothing.
+-- The place of a query (paper 01, "Next of a question"): its levels, and how a cursor's array holds them. Assumes nothing.
 use Rattle.store.specs.Prelude.{List, [], _∷_, ℕ, zero, suc, length, getD, set, replicate}
 use Rattle.graph.specs.Prelude.{Chain, All, Level, Progress, Start, Within, End, QueryCursor}
 use Rattle.graph.specs.Words.{maxPatterns}

@@ -1,5 +1,4 @@
--- What definitions and claims on queries are written with beyond `Prelude` of crate `store`: the types of both crates.
--- Defines nothing.
+-- What definitions and claims on queries are written with beyond `Prelude` of crate `store`: the types of both crates. Defines nothing.
 pub use Rattle.graph.specs.declared.Level.{Level}
 pub use Rattle.graph.specs.declared.Progress.{Progress}
 pub use Rattle.graph.specs.declared.Progress.the-variants.{Start, Within, End}

@@ -1,16 +1,15 @@
 -- Open and next of a query, the paper's question (paper 01, "Open a question", "Next of a question"; 02, note 6), on
 -- tables, words and cursors that hold anything. Assumes nothing.
-use Rattle.store.specs.Prelude.{Bool, true, false, cond, not, _&&_, _||_, List, [], _∷_, Option, none, some, ℕ, zero}
-use Rattle.store.specs.Prelude.{suc, _+_, _-_, length, getD, set, eqb, leb, ltb}
-use Rattle.graph.specs.Prelude.{Counters, Triple, Refusal, Capacity, BadCursor, NoBudget, BadQuery, Damaged}
-use Rattle.graph.specs.Prelude.{StaleCursor, QueryPattern, Level, QueryCursor, QueryOpening, Opened, NotOpened}
-use Rattle.graph.specs.Prelude.{QueryOpened, QueryStep, Found, Ended, Spent, NotAnswered, QueryAnswer}
+use Rattle.store.specs.Prelude.{Bool, true, false, cond, not, _&&_, _||_, List, [], _∷_, Option, none, some, ℕ, zero, suc, _+_, _-_, length}
+use Rattle.store.specs.Prelude.{getD, set, eqb, leb, ltb}
+use Rattle.graph.specs.Prelude.{Counters, Triple, Refusal, Capacity, BadCursor, NoBudget, BadQuery, Damaged, StaleCursor}
+use Rattle.graph.specs.Prelude.{QueryPattern, Level, QueryCursor, QueryOpening, Opened, NotOpened, QueryOpened, QueryStep, Found}
+use Rattle.graph.specs.Prelude.{Ended, Spent, NotAnswered, QueryAnswer}
 use Rattle.store.specs.Shared.{unless, known, isSome, prev}
 use Rattle.store.specs.Tables.{Tables, fits, tripleAt, flagAt}
 use Rattle.store.specs.Walk.{pickChain, pickable, startOf, linkOf, visitable}
 use Rattle.store.specs.Scan.{chainOk, recordOk}
-use Rattle.graph.specs.Words.{firstVariable, pattern, patternsOf, wordsOk, Bindings, resource, unbound, valueOf}
-use Rattle.graph.specs.Words.{under}
+use Rattle.graph.specs.Words.{firstVariable, pattern, patternsOf, wordsOk, Bindings, resource, unbound, valueOf, under}
 use Rattle.graph.specs.Place.{level, Place, start, inside, finish, placeOf, startCursor, cursorAt}
 
 -- ---- a record against a pattern
@@ -91,8 +90,7 @@ module _ (stm : List ℕ) (ps : List QueryPattern) where
 
   -- ---- refusal 6
 
-  -- each entered record: a record of the table, a chain that a scan would take, resources in 1..R, a match under the
-  -- earlier ones
+  -- each entered record: a record of the table, a chain that a scan would take, resources in 1..R, a match under the earlier ones
   unfoldable pub enteredOk : (r t : ℕ) → List Level → Bool
   enteredOk r t [] = true
   enteredOk r t (e ∷ up) =
@@ -135,11 +133,9 @@ module _ (r t : ℕ) (res stm : List ℕ) (ps : List QueryPattern) where
 
   -- what the record to visit binds, if it is live and matches
   unfoldable pub hit : Level → List Level → Option Bindings
-  hit l up =
-      cond (levelRetracted stm l) none (match (nextPattern ps up) (recordAt stm (l .statement .0)) (binds stm ps up))
+  hit l up = cond (levelRetracted stm l) none (match (nextPattern ps up) (recordAt stm (l .statement .0)) (binds stm ps up))
 
-  -- no match: on along the chain; a match of the last pattern: a whole solution; of an earlier one: the next is entered
-  -- at once
+  -- no match: on along the chain; a match of the last pattern: a whole solution; of an earlier one: the next is entered at once
   unfoldable pub tried : Level → List Level → Option Bindings → Turn
   tried l up none = go (past stm l) up
   tried l up (some b) = cond (eqb (suc (length up)) (length ps)) (whole b (past stm l) up) (enter (l ∷ up))
@@ -210,8 +206,7 @@ packed g (spent v q) = answered Spent v unbound (cursorAt g q)
 unfoldable pub stale : Counters → Tables → List ℕ → QueryCursor → Bool
 stale c m ws q = fits c m && (wordsOk (c .resources) ws && not (eqb (q .generation) (c .generation)))
 
--- Next: 1; 8; 13 if the cursor, at the start and at the end too, has another number of reclaims; 6; 7; 9; else found,
--- ended or spent
+-- Next: 1; 8; 13 if the cursor, at the start and at the end too, has another number of reclaims; 6; 7; 9; else found, ended or spent
 unfoldable pub nextQueryOf : Counters → Tables → List ℕ → QueryCursor → ℕ → QueryAnswer
 nextQueryOf c m ws q budget =
     packed (c .generation) (cond (stale c m ws q) (refused StaleCursor) (answerOf c m ws (placeOf q) budget))

@@ -1,8 +1,7 @@
 -- Refusal 6 of a query in the paper's words (paper 01, "6 is exact"): the places that a next call accepts, a field for
 -- each clause. It goes by an assignment of resources to variables, not by what the definition binds level by level.
 -- Assumes nothing.
-use Rattle.store.specs.Prelude.{_≡_, _↔_, Bool, true, false, cond, _||_, List, [], _∷_, ℕ, _+_, _-_, _≤_, _<_, length}
-use Rattle.store.specs.Prelude.{eqb}
+use Rattle.store.specs.Prelude.{_≡_, _↔_, Bool, true, false, cond, _||_, List, [], _∷_, ℕ, _+_, _-_, _≤_, _<_, length, eqb}
 use Rattle.graph.specs.Prelude.{Counters, Position, Triple, QueryPattern, Level, QueryCursor}
 use Rattle.store.specs.Shared.{at, triple}
 use Rattle.store.specs.Tables.{Tables, fits}
@@ -39,8 +38,7 @@ module _ (ps : List QueryPattern) where
   boundBy [] v = false
   boundBy (e ∷ earlier) v = occursIn v (nextPattern ps earlier) || boundBy earlier v
 
-  -- the next pattern as a scan's, the paper's listing: 0 at a variable that they do not bind, even if the pattern has
-  -- it twice
+  -- the next pattern as a scan's, the paper's listing: 0 at a variable that they do not bind, even if the pattern has it twice
   unfoldable pub scanUnder : (ℕ → ℕ) → List Level → Triple
   scanUnder σ earlier = tripleUnder (λ v. cond (boundBy earlier v) (σ v) 0) (nextPattern ps earlier)
 
@@ -77,14 +75,11 @@ module _ (c : Counters) (m : Tables) (ws : List ℕ) where
 
 -- Where 1 and 8 are not refused, the definition's test accepts exactly the places that stand.
 abbrev pub PlaceClaim : Type 0
-PlaceClaim = (c : Counters) (m : Tables) (ws : List ℕ) → fits c m ≡ true → wordsOk (c .resources) ws ≡ true
-    → (q : Place)
+PlaceClaim = (c : Counters) (m : Tables) (ws : List ℕ) → fits c m ≡ true → wordsOk (c .resources) ws ≡ true → (q : Place)
     → placeOk (m .statements) (patternsOf ws) (c .resources) (c .statements) q ≡ true ↔ PlaceStands c m ws q
 
--- On any tables a next is refused 6 exactly where 1, 8 and 13 are not refused and the place does not stand, whatever
--- the budget.
+-- On any tables a next is refused 6 exactly where 1, 8 and 13 are not refused and the place does not stand, whatever the budget.
 abbrev pub BadPlaceClaim : Type 0
 BadPlaceClaim = (c : Counters) (m : Tables) (ws : List ℕ) (q : QueryCursor) (b : ℕ)
     → (queryValues (nextQueryOf c m ws q b)) .refusal ≡ 6
-    ↔ (fits c m ≡ true) × (wordsOk (c .resources) ws ≡ true) × (q .generation ≡ c .generation)
-    × (PlaceStands c m ws (placeOf q) → ⊥)
+    ↔ (fits c m ≡ true) × (wordsOk (c .resources) ws ≡ true) × (q .generation ≡ c .generation) × (PlaceStands c m ws (placeOf q) → ⊥)

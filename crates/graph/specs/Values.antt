@@ -1,8 +1,8 @@
 -- The paper's number and values for each case of a query's two replies (paper 01, "Operations and refusals"): what a
 -- promise compares. Assumes nothing.
 use Rattle.store.specs.Prelude.{ℕ}
-use Rattle.graph.specs.Prelude.{Solution, QueryCursor, QueryOpening, Opened, NotOpened, QueryOpened, QueryStep}
-use Rattle.graph.specs.Prelude.{Found, Ended, Spent, NotAnswered, QueryAnswer}
+use Rattle.graph.specs.Prelude.{Solution, QueryCursor, QueryOpening, Opened, NotOpened, QueryOpened, QueryStep, Found, Ended, Spent}
+use Rattle.graph.specs.Prelude.{NotAnswered, QueryAnswer}
 use Rattle.store.specs.Values.{refusalNumber}
 use Rattle.graph.specs.Words.{unbound}
 

@@ -1,7 +1,6 @@
 -- The words of a query, the paper's question (paper 01, "Open a question"): its limits, its patterns, refusal 8, what
 -- is bound to its variables, and a pattern under what is bound. Assumes nothing.
-use Rattle.store.specs.Prelude.{Bool, true, cond, _&&_, _||_, List, [], _∷_, ℕ, _+_, _*_, _-_}
-use Rattle.store.specs.Prelude.{length, getD, replicate, eqb, leb, ltb}
+use Rattle.store.specs.Prelude.{Bool, true, cond, _&&_, _||_, List, [], _∷_, ℕ, _+_, _*_, _-_, length, getD, replicate, eqb, leb, ltb}
 use Rattle.graph.specs.Prelude.{Position, Subject, Predicate, Object, ResourceId, Triple, QueryPattern}
 use Rattle.store.specs.Shared.{triple}
 

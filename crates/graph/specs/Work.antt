@@ -1,5 +1,4 @@
--- How many records a query or a scan read through visits, by the statements alone: no link, cursor or budget.
--- Assumes nothing.
+-- How many records a query or a scan read through visits, by the statements alone: no link, cursor or budget. Assumes nothing.
 use Rattle.store.specs.Prelude.{cond, List, [], _∷_, Option, none, some, ℕ, zero, suc, _+_, length}
 use Rattle.graph.specs.Prelude.{Counters, Chain, Triple, QueryPattern}
 use Rattle.store.specs.Tables.{Tables, tripleAt}
@@ -22,8 +21,7 @@ abbrev pub eachN : {A : Type 0} → Option A → (A → ℕ) → ℕ
 eachN none f = 0
 eachN (some a) f = f a
 
--- every record on the chain picked for the first pattern, live or not, and for each that matches the work of the other
--- patterns
+-- every record on the chain picked for the first pattern, live or not, and for each that matches the work of the other patterns
 unfoldable pub work : (ℕ → Entry) → ℕ → (Triple → Chain) → List QueryPattern → Bindings → ℕ
 work E n pk [] b = 0
 work E n pk (x ∷ ps) b =
@@ -36,5 +34,4 @@ workOf c m ws = work (entryAt (m .statements)) (c .statements) (pickChain (m .re
 
 -- of a scan: every record on the chain picked, live or not
 abbrev pub scanWorkOf : Counters → Tables → Triple → ℕ
-scanWorkOf c m x =
-    length (below (λ i. onChain (pickChain (m .resources) x) x (tripleAt (m .statements) i)) (c .statements))
+scanWorkOf c m x = length (below (λ i. onChain (pickChain (m .resources) x) x (tripleAt (m .statements) i)) (c .statements))

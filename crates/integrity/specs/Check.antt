@@ -1,6 +1,5 @@
--- The check (paper 01, "Sound means … The check says yes exactly then"): an executable test of the counters and the
--- four tables, on tables that hold anything. Its steps are linear in R + T + B, but for the walks down each record's
--- shortest chain. Assumes nothing.
+-- The check (paper 01, "Sound means … The check says yes exactly then"): an executable test of the counters and the four tables, on
+-- tables that hold anything. Its steps are linear in R + T + B, but for the walks down each record's shortest chain. Assumes nothing.
 use mathlib.Core.Bool.{Bool, _&&_}
 use lib.ListN.{take}
 use Rattle.store.specs.declared.Counters.{Counters}

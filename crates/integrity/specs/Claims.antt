@@ -1,5 +1,4 @@
--- What is claimed of the check (paper 01, "Sound means"). `proofs/Decides.antt` has a declaration of each. Assumes
--- nothing.
+-- What is claimed of the check (paper 01, "Sound means"). `proofs/Decides.antt` has a declaration of each. Assumes nothing.
 use mathlib.Core.Path.{_≡_}
 use mathlib.Core.Bool.{true}
 use mathlib.Core.List.{List}

@@ -14,8 +14,7 @@ use Rattle.store.specs.Names.{storable, upToZero}
 unfoldable pub nameFrom : List ℕ → ℕ → List ℕ
 nameFrom used o = upToZero (drop o used)
 
--- the name from o on is closed by a zero byte, well formed and without the string ending, and resource y has its offset
--- and kind
+-- the name from o on is closed by a zero byte, well formed and without the string ending, and resource y has its offset and kind
 unfoldable pub nameOk : List ℕ → List ℕ → ℕ → ℕ → Bool
 nameOk res used y o =
     ltb (o + length (nameFrom used o)) (length used)

@@ -37,10 +37,8 @@ pub record LineLoads (text l : List ℕ) (s p o : Span) (before : Store) : Type 
   pub loaded : Loaded before ((loadOf before (namesIn text s p o)) .0) (canonicalTriple (namesIn text s p o))
       ((loadOf before (namesIn text s p o)) .1 .refusal)
   -- answered as by the plain lists, with 0 or 3, so 3 exactly where they have no room
-  pub listed : (loadOf before (namesIn text s p o)) .1
-      ≡ (loadModel (capacitiesOf (before .tables)) (listsOf before) (namesIn text s p o)) .1
-  pub room : ((loadOf before (namesIn text s p o)) .1 .refusal ≡ 0)
-      ⊎ ((loadOf before (namesIn text s p o)) .1 .refusal ≡ 3)
+  pub listed : (loadOf before (namesIn text s p o)) .1 ≡ (loadModel (capacitiesOf (before .tables)) (listsOf before) (namesIn text s p o)) .1
+  pub room : ((loadOf before (namesIn text s p o)) .1 .refusal ≡ 0) ⊎ ((loadOf before (namesIn text s p o)) .1 .refusal ≡ 3)
 
 abbrev pub LinesLoad : Type 0
 LinesLoad = (text : List ℕ) (at : ℕ) (l : List ℕ) (n : ℕ) → at < length text → FirstLine (drop at text) l n
@@ -50,14 +48,12 @@ LinesLoad = (text : List ℕ) (at : ℕ) (l : List ℕ) (n : ℕ) → at < lengt
 -- On a sound store two numbers are two terms of RDF 1.1,
 abbrev pub NumbersAreTerms : Type 0
 NumbersAreTerms = (c : Counters) (m : Tables) → Sound c m
-    → (y z : ℕ) → 0 < y → y ≤ c .resources → 0 < z → z ≤ c .resources → termOf (nameAt m y) ≡ termOf (nameAt m z)
-    → y ≡ z
+    → (y z : ℕ) → 0 < y → y ≤ c .resources → 0 < z → z ≤ c .resources → termOf (nameAt m y) ≡ termOf (nameAt m z) → y ≡ z
 
 -- and two live statements two triples.
 abbrev pub StatementsAreTriples : Type 0
 StatementsAreTriples = (c : Counters) (m : Tables) → Sound c m → (i j : ℕ) → LiveAt c m i → LiveAt c m j
-    → ((p : Position) → termOf (partAt p (named m (tripleAt (m .statements) i)))
-    ≡ termOf (partAt p (named m (tripleAt (m .statements) j))))
+    → ((p : Position) → termOf (partAt p (named m (tripleAt (m .statements) i))) ≡ termOf (partAt p (named m (tripleAt (m .statements) j))))
     → i ≡ j
 
 -- Two names found have one number exactly if RDF 1.1 gives them one term,

@@ -1,5 +1,4 @@
--- A name's reply: the refusal's number, and the part of the text that the span tells, empty beside a refusal.
--- Assumes nothing.
+-- A name's reply: the refusal's number, and the part of the text that the span tells, empty beside a refusal. Assumes nothing.
 use mathlib.Core.Path.{_≡_}
 use mathlib.Core.List.{List, []}
 use Prim.Native.Nat.{ℕ, _+_, _≤_}

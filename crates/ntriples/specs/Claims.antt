@@ -1,14 +1,13 @@
--- What is proved of reading a line (paper 01, "Names", last paragraph, and "Read a line"; paper 02, note 7), for every
--- limit m of a term's bytes from 1 up; the paper's is 255. Each claim is a type, and `proofs/` has a value of each.
--- Assumes nothing.
+-- What is proved of reading a line (paper 01, "Names", last paragraph, and "Read a line"; paper 02, note 7), for every limit m of a
+-- term's bytes from 1 up; the paper's is 255. Each claim is a type, and `proofs/` has a value of each. Assumes nothing.
 use Rattle.term.specs.Prelude.{ℕ, _+_, _≤_, _<_, _≡_, List, true, cond, _⊎_, _↔_, eqb, length, drop}
 use Rattle.term.specs.Bytes.{between, All}
 use Rattle.term.specs.Grammar.{Name}
 use Rattle.term.specs.Scanner.{kindOf}
 use Rattle.term.specs.Canonical.{canonical}
 use Rattle.ntriples.specs.declared.Span.{Span}
-use Rattle.ntriples.specs.Grammar.{span, Trail, Triple, subjectSpan, predicateSpan, objectSpan, Within, Longest}
-use Rattle.ntriples.specs.Grammar.{FirstLine, bytesOf, Values, values, noPart, valuesOf}
+use Rattle.ntriples.specs.Grammar.{span, Trail, Triple, subjectSpan, predicateSpan, objectSpan, Within, Longest, FirstLine, bytesOf}
+use Rattle.ntriples.specs.Grammar.{Values, values, noPart, valuesOf}
 use Rattle.ntriples.specs.Standard as standard
 use Rattle.ntriples.specs.Standard.{stringsOf, iri, iriOf, subjectTerm, objectTerm}
 use Rattle.ntriples.specs.TermOf.{termOf}
@@ -18,8 +17,7 @@ use Rattle.ntriples.specs.Reader.{readOf}
 abbrev pub objectPart : {l : List ℕ} → ℕ → Triple l → Span
 objectPart i d = let a = objectSpan i d .start in span a (a + length (canonical (d .object)))
 
--- The line l at position i has a derivation with the parts s, p, o, the object's without the string ending, and terms
--- of at most m bytes.
+-- The line l at position i has a derivation with the parts s, p, o, the object's without the string ending, and terms of at most m bytes.
 pub record Derived (m i : ℕ) (l : List ℕ) (s p o : Span) : Type 0 where
   pub derivation : Triple l
   pub within : Within m derivation
@@ -40,8 +38,7 @@ pub record Enterable (m : ℕ) (text : List ℕ) (s p o : Span) : Type 0 where
   pub objectKind : (kindOf m (bytesOf text o) ≡ 1) ⊎ ((kindOf m (bytesOf text o) ≡ 2) ⊎ (kindOf m (bytesOf text o) ≡ 3))
   pub objectShort : canonical (bytesOf text o) ≡ bytesOf text o
 
--- The line has a derivation in the standard's grammar, and by every one the terms of the parts are those that the
--- standard gives.
+-- The line has a derivation in the standard's grammar, and by every one the terms of the parts are those that the standard gives.
 pub record Meant (l : List ℕ) (text : List ℕ) (s p o : Span) : Type 0 where
   pub derivation : standard.Triple l
   pub subjectMeans : (e : standard.Triple l) → termOf (bytesOf text s) ≡ subjectTerm (e .isSubject)
@@ -92,8 +89,7 @@ pub record InSubset {l : List ℕ} (e : standard.Triple l) : Type 0 where
   pub object : (k : ℕ) × Name k (e .object)
   pub after : All (λ c. cond (eqb c 9) true (between 32 126 c)) (e .after)
 
--- A line's derivations in the paper's grammar are, string for string, its derivations in the standard's that lie in the
--- subset.
+-- A line's derivations in the paper's grammar are, string for string, its derivations in the standard's that lie in the subset.
 abbrev pub SubsetOfStandard : Type 0
 SubsetOfStandard =
     (l : List ℕ)

@@ -1,8 +1,7 @@
 -- The grammar of a line (paper 01, "Names", last paragraph): the productions of RDF 1.1 N-Triples, by their names there
 -- (triple, subject, predicate, object), with white space and comments as the paper has them, over the terms that it
 -- permits; lines of a text; and the paper's number and values for each answer ("Read a line"). Assumes nothing.
-use Rattle.term.specs.Prelude.{ℕ, _+_, _-_, _≤_, min, _≡_, List, [], _∷_, _++_, Bool, true, false, cond, _⊎_, eqb}
-use Rattle.term.specs.Prelude.{length, take, drop}
+use Rattle.term.specs.Prelude.{ℕ, _+_, _-_, _≤_, min, _≡_, List, [], _∷_, _++_, Bool, true, false, cond, _⊎_, eqb, length, take, drop}
 use Rattle.term.specs.Bytes.{between, among, All}
 use Rattle.term.specs.Grammar.{Iri, Blank, Literal}
 use Rattle.ntriples.specs.declared.Span.{Span}
@@ -71,8 +70,7 @@ pub record Viable (m : ℕ) (p : List ℕ) : Type 0 where
   pub rest : List ℕ
   pub line : Trail (p ++ rest) ⊎ ((d : Triple (p ++ rest)) × ShortTerms m (length p) d)
 
--- k is the length of the longest viable prefix of l: the first k bytes are one, and they are all of l or one byte more
--- is none
+-- k is the length of the longest viable prefix of l: the first k bytes are one, and they are all of l or one byte more is none
 pub record Longest (m : ℕ) (l : List ℕ) (k : ℕ) : Type 0 where
   pub front : List ℕ
   pub back : List ℕ

@@ -8,14 +8,13 @@ use lib.ListN.{length, drop}
 use Rattle.term.specs.Canonical.{canonical}
 use Rattle.term.specs.Scanner.{stepOf, wholeOf, isBad, firstKindOf}
 use Rattle.term.specs.declared.Scan.{Scan}
-use Rattle.term.specs.declared.Scan.the-variants.{Start, IriOpen, Iri, Closed, Under, Colon, Label, Dot, Dots, Text}
-use Rattle.term.specs.declared.Scan.the-variants.{Escape, Quote, At, Tag, Hyphen, Group, Caret, Carets, Bad}
+use Rattle.term.specs.declared.Scan.the-variants.{Start, IriOpen, Iri, Closed, Under, Colon, Label, Dot, Dots, Text, Escape, Quote, At, Tag}
+use Rattle.term.specs.declared.Scan.the-variants.{Hyphen, Group, Caret, Carets, Bad}
 use Rattle.ntriples.specs.declared.Span.{Span}
 use Rattle.ntriples.specs.declared.Line.{Line}
 use Rattle.ntriples.specs.declared.Line.the-variants.{End, Nothing, Triple, Refused}
 use Rattle.ntriples.specs.declared.LineRead.{LineRead}
-use Rattle.ntriples.specs.Grammar.{span, white, commentByte}
-use Rattle.ntriples.specs.Grammar.{bytesOf}
+use Rattle.ntriples.specs.Grammar.{span, white, commentByte, bytesOf}
 
 -- What a line gives: nothing, the parts of its terms in order, or a refusal with the position of the byte.
 pub data Outcome : Type 0 where
@@ -173,8 +172,7 @@ shortLine text Nothing = Nothing
 shortLine text (Triple s p o) = Triple s p (shortPart text o)
 shortLine text (Refused k) = Refused k
 
--- reading a line: the object's part without the string ending; the position after the line and a refusal's offset by
--- the line as spelled
+-- reading a line: the object's part without the string ending; the position after the line and a refusal's offset by the line as spelled
 unfoldable pub readOf : ℕ → List ℕ → ℕ → LineRead
 readOf limit text at =
     record { line = shortLine text (readSpelled limit text at .line); next = readSpelled limit text at .next }

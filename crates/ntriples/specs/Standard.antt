@@ -1,8 +1,6 @@
--- RDF 1.1 N-Triples (W3C Recommendation of 25 February 2014): its grammar over lists of code points, a definition for
--- each production, under its name (with `-` for `_`) and below its number and text there, and the terms. Nothing in it
--- is paper 01's. Assumes nothing.
-use Rattle.term.specs.Prelude.{ℕ, _+_, _-_, _*_, _≡_, List, [], _∷_, _++_, Bool, true, false, cond, _||_, leb, eqb}
-use Rattle.term.specs.Prelude.{drop}
+-- RDF 1.1 N-Triples (W3C Recommendation of 25 February 2014): its grammar over lists of code points, a definition for each production,
+-- under its name (with `-` for `_`) and below its number and text there, and the terms. Nothing in it is paper 01's. Assumes nothing.
+use Rattle.term.specs.Prelude.{ℕ, _+_, _-_, _*_, _≡_, List, [], _∷_, _++_, Bool, true, false, cond, _||_, leb, eqb, drop}
 use Rattle.term.specs.Bytes.{between, among}
 use Rattle.term.specs.Canonical.{xsdString}
 
@@ -132,8 +130,7 @@ abbrev pub Object : List ℕ → Type 0
 Object = IRIREF ∣ BLANK-NODE-LABEL ∣ Literal
 
 -- [2] triple ::= subject predicate object '.'
--- A derivation of the line l, by productions for the terms, for the white space around and between them, and for what
--- may follow the dot.
+-- A derivation of the line l, by productions for the terms, for the white space around and between them, and for what may follow the dot.
 pub record TripleOf (S P O W E : List ℕ → Type 0) (l : List ℕ) : Type 0 where
   pub before : List ℕ
   pub subject : List ℕ
@@ -163,8 +160,7 @@ Triple = TripleOf Subject Predicate Object WS (WS ▸ maybe COMMENT)
 
 -- ---- terms as RDF 1.1 Concepts has them, and the term of a derivation ("Parsing", "RDF Term Constructors")
 
--- A literal has a lexical form and a datatype; one with a language tag has the datatype rdf:langString, which is not
--- written.
+-- A literal has a lexical form and a datatype; one with a language tag has the datatype rdf:langString, which is not written.
 pub data RdfTerm : Type 0 where
   iri : List ℕ → RdfTerm
   blank : List ℕ → RdfTerm

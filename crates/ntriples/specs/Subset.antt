@@ -1,8 +1,7 @@
--- What the paper leaves out of the standard's terms, as conditions on bytes alone: the paper's names are exactly the
--- standard's terms that meet them. So a name more or less in the paper's grammar would be refused, and in the
--- standard's a term more or less that meets them. Of terms that do not (as with other escapes, with control characters,
--- with `:` in a label) nothing is said here: there the standard's grammar is to be read. Proved in
--- `proofs/StandardNames.antt`. Assumes nothing.
+-- What the paper leaves out of the standard's terms, as conditions on bytes alone: the paper's names are exactly the standard's terms
+-- that meet them. So a name more or less in the paper's grammar would be refused, and in the standard's a term more or less that meets
+-- them. Of terms that do not (as with other escapes, with control characters, with `:` in a label) nothing is said here: there the
+-- standard's grammar is to be read. Proved in `proofs/StandardNames.antt`. Assumes nothing.
 use Rattle.term.specs.Prelude.{ℕ, _≡_, List, [], _∷_, Bool, true, false, cond, _↔_, leb, eqb, drop}
 use Rattle.term.specs.Bytes.{between, among, All}
 use Rattle.term.specs.Grammar.{Iri, Blank, Literal}

@@ -1,5 +1,4 @@
--- The term of a name of the paper by one pass over its bytes. `Claims.antt` says that it is the standard's. Assumes
--- nothing.
+-- The term of a name of the paper by one pass over its bytes. `Claims.antt` says that it is the standard's. Assumes nothing.
 use Rattle.term.specs.Prelude.{ℕ, List, [], _∷_, Bool, true, false, cond, eqb, drop}
 use Rattle.term.specs.Canonical.{xsdString}
 use Rattle.ntriples.specs.Standard.{RdfTerm, iri, blank, literal, tagged, unescaped}

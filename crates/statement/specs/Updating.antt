@@ -14,10 +14,8 @@ use Rattle.store.specs.Statement.{Updated, assertUpdatingOf, retractUpdatingOf}
 abbrev pub kept : {A : Type 0} → Counters → Tables → A → Updated A
 kept c m a = record { counters = c; tables = m; reply = a }
 
-pub record AssertedUpdating (c c′ : Counters) (res res′ stm stm′ index text : List ℕ) (x : Triple) (r : Asserted)
-    : Type 0 where
+pub record AssertedUpdating (c c′ : Counters) (res res′ stm stm′ index text : List ℕ) (x : Triple) (r : Asserted) : Type 0 where
   pub exact : kept c′ (tables res′ stm′ index text) r ≡ assertUpdatingOf c (tables res stm index text) x
 
-pub record RetractedUpdating (c c′ : Counters) (res res′ stm stm′ index text : List ℕ) (x : Triple) (r : Retracted)
-    : Type 0 where
+pub record RetractedUpdating (c c′ : Counters) (res res′ stm stm′ index text : List ℕ) (x : Triple) (r : Retracted) : Type 0 where
   pub exact : kept c′ (tables res′ stm′ index text) r ≡ retractUpdatingOf c (tables res stm index text) x

@@ -55,15 +55,12 @@ Appendable c res x = AllLinkable (c .statements) res x
 
 -- a new record, or 3: the index and the text stay
 pub record Appended (c : Counters) (x : Triple) (res res′ stm stm′ : List ℕ) (r : Asserted) : Type 0 where
-  pub leaves : (index text : List ℕ)
-      → after (tables res′ stm′ index text) r ≡ asserting c (tables res stm index text) x 0
+  pub leaves : (index text : List ℕ) → after (tables res′ stm′ index text) r ≡ asserting c (tables res stm index text) x 0
 
 -- the triple's own record n, made live: the index and the text stay
 pub record Revived (c : Counters) (x : Triple) (n : ℕ) (res res′ stm stm′ : List ℕ) (r : Asserted) : Type 0 where
-  pub leaves : (index text : List ℕ)
-      → after (tables res′ stm′ index text) r ≡ asserting c (tables res stm index text) x n
+  pub leaves : (index text : List ℕ) → after (tables res′ stm′ index text) r ≡ asserting c (tables res stm index text) x n
 
 -- the triple's own record n, retracted, or 9: the index and the text stay
 pub record RecordRetracted (x : Triple) (n : ℕ) (res res′ stm stm′ : List ℕ) (r : Retracted) : Type 0 where
-  pub leaves : (index text : List ℕ)
-      → after (tables res′ stm′ index text) r ≡ retracting (tables res stm index text) x n
+  pub leaves : (index text : List ℕ) → after (tables res′ stm′ index text) r ≡ retracting (tables res stm index text) x n

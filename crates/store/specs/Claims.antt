@@ -1,13 +1,13 @@
 -- What is claimed of every list of calls (demand 3), as types: the answers are those of the plain lists, the store
 -- stays sound, and a listing in the user's words. `proofs/Theorems.antt` has a declaration of each claim of this
 -- folder. Assumes nothing.
-use Rattle.store.specs.Prelude.{_≡_, _↔_, Bool, true, false, cond, List, [], _∷_, _++_, map, List·Memᴰ, ℕ, zero}
-use Rattle.store.specs.Prelude.{suc, _+_, _≤_, _<_, length, take, drop, eqb, Counters, Position, By, Triple}
+use Rattle.store.specs.Prelude.{_≡_, _↔_, Bool, true, false, cond, List, [], _∷_, _++_, map, List·Memᴰ, ℕ, zero, suc, _+_, _≤_, _<_}
+use Rattle.store.specs.Prelude.{length, take, drop, eqb, Counters, Position, By, Triple}
 use Rattle.store.specs.Shared.{at, prev, freshCounters, Entry, matches}
 use Rattle.store.specs.Tables.{Tables}
 use Rattle.store.specs.Values.{Values, refusedWith}
-use Rattle.store.specs.Model.{Model, Call, intern, assert, retract, open′, next, reclaim, freshModel, totals}
-use Rattle.store.specs.Model.{entry, holders, cursorOf, modelReplies, modelAfter}
+use Rattle.store.specs.Model.{Model, Call, intern, assert, retract, open′, next, reclaim, freshModel, totals, entry, holders}
+use Rattle.store.specs.Model.{cursorOf, modelReplies, modelAfter}
 use Rattle.store.specs.Walk.{entryAt}
 use Rattle.store.specs.Names.{namesUpTo}
 use Rattle.store.specs.Soundness.{Sound}

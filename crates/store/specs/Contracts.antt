@@ -2,20 +2,17 @@
 -- reply. The contracts are those of `dictionary::intern`, `statement::assert`, `retract`, `assert_updating`,
 -- `retract_updating`, `scan::scan_open`, `scan_next` and `compaction::reclaim`; the updating forms have the same
 -- equation inside a record. Assumes nothing.
-use Rattle.store.specs.Prelude.{_≡_, List, [], _∷_, getD, Interned, Asserted, Retracted, Reclaimed, ScanOpened}
-use Rattle.store.specs.Prelude.{Scanned}
+use Rattle.store.specs.Prelude.{_≡_, List, [], _∷_, getD, Interned, Asserted, Retracted, Reclaimed, ScanOpened, Scanned}
 use Rattle.store.specs.Tables.{Tables, after}
-use Rattle.store.specs.Values.{Values, noCursor, internedValues, assertedValues, retractedValues, openedValues}
-use Rattle.store.specs.Values.{scannedValues, reclaimedValues}
-use Rattle.store.specs.Model.{Call, byValue, updating, intern, assert, retract, open′, next}
-use Rattle.store.specs.Model.{reclaim, freshModel, modelReplies, modelAfter}
+use Rattle.store.specs.Values.{Values, noCursor, internedValues, assertedValues, retractedValues, openedValues, scannedValues}
+use Rattle.store.specs.Values.{reclaimedValues}
+use Rattle.store.specs.Model.{Call, byValue, updating, intern, assert, retract, open′, next, reclaim, freshModel, modelReplies}
+use Rattle.store.specs.Model.{modelAfter}
 use Rattle.store.specs.Dictionary.{InternAnswer}
-use Rattle.store.specs.Statement.{Updated, assertOf, retractOf, countersAfter, assertUpdatingOf}
-use Rattle.store.specs.Statement.{retractUpdatingOf}
+use Rattle.store.specs.Statement.{Updated, assertOf, retractOf, countersAfter, assertUpdatingOf, retractUpdatingOf}
 use Rattle.store.specs.Scan.{openOf, nextOf}
 use Rattle.store.specs.Reclaim.{ReclaimAnswer}
-use Rattle.store.specs.History.{Store, store, freshStore, capacitiesOf, internedCounters, afterReclaim}
-use Rattle.store.specs.History.{openedCursors, movedCursors}
+use Rattle.store.specs.History.{Store, store, freshStore, capacitiesOf, internedCounters, afterReclaim, openedCursors, movedCursors}
 use Rattle.store.specs.Claims.{Holds}
 
 -- The call leaves the store t and replies v: some answer a meets the contract, the counters and cursors kept from it
@@ -41,8 +38,7 @@ Ran s reclaim t v = (a : Reclaimed) × ReclaimAnswer (s .counters) (s .tables) (
 -- A list of calls leaves the store t, with the replies vs.
 abbrev pub Run : Store → List Call → Store → List Values → Type 0
 Run s [] t vs = (t ≡ s) × (vs ≡ [])
-Run s (a ∷ calls) t vs = (u : Store) × (v : Values) × (rest : List Values) × Ran s a u v × Run u calls t rest
-    × (vs ≡ v ∷ rest)
+Run s (a ∷ calls) t vs = (u : Store) × (v : Values) × (rest : List Values) × Ran s a u v × Run u calls t rest × (vs ≡ v ∷ rest)
 
 -- From fresh counters over tables that hold anything, a run of the code is answered as by the plain lists, and leaves a
 -- sound store of just their names, triples and marks.

@@ -1,9 +1,8 @@
 -- Find and enter a name (paper 01; 02, notes 5 and 7): what they answer and write on a sound dictionary, and the bound
 -- that holds on any tables after refusals 1 and 2. Assumes nothing.
-use Rattle.store.specs.Prelude.{_≡_, _⊎_, Bool, true, false, cond, _&&_, List, [], _∷_, _++_, ℕ, zero, suc, _+_}
-use Rattle.store.specs.Prelude.{_*_, _-_, _≤_, _<_, length, sets, leb, ltb, Counters, Refusal, Capacity}
-use Rattle.store.specs.Prelude.{Malformed, Full, Damaged, IndexPlace, At, Before, OutOfRange, Lookup, Number}
-use Rattle.store.specs.Prelude.{Absent, NotFound, Interned, Id, NotInterned}
+use Rattle.store.specs.Prelude.{_≡_, _⊎_, Bool, true, false, cond, _&&_, List, [], _∷_, _++_, ℕ, zero, suc, _+_, _*_, _-_, _≤_, _<_}
+use Rattle.store.specs.Prelude.{length, sets, leb, ltb, Counters, Refusal, Capacity, Malformed, Full, Damaged, IndexPlace, At, Before}
+use Rattle.store.specs.Prelude.{OutOfRange, Lookup, Number, Absent, NotFound, Interned, Id, NotInterned}
 use Rattle.term.specs.Bytes.{eqBytes}
 use Rattle.term.specs.Scanner.{firstKindOf}
 use Rattle.term.specs.Canonical.{canonical}
@@ -43,8 +42,7 @@ rank name idx r w = length (below (λ i. isLess (compareBytes (name (word idx i)
 -- the entry at the rank has these bytes, or the name is absent and belongs there
 unfoldable pub placeAt : Counters → Tables → List ℕ → ℕ → IndexPlace
 placeAt c m w k =
-    cond (ltb k (c .resources) && eqBytes (nameAt m (word (m .index) k)) w)
-    (At (record { 0 = word (m .index) k }) k) (Before k)
+    cond (ltb k (c .resources) && eqBytes (nameAt m (word (m .index) k)) w) (At (record { 0 = word (m .index) k }) k) (Before k)
 
 unfoldable pub indexPlaceOf : Counters → Tables → List ℕ → IndexPlace
 indexPlaceOf c m w = placeAt c m w (rank (nameAt m) (m .index) (c .resources) w)

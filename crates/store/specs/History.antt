@@ -1,13 +1,12 @@
 -- A list of calls on the tables (paper 01, "The plain lists"; 02, note 6): from fresh counters over tables that hold
 -- anything, each call on the counters last answered and the tables the last call left, each next from its opening's
 -- last cursor. Assumes nothing.
-use Rattle.store.specs.Prelude.{List, [], _∷_, _++_, ℕ, getD, set, Counters, ScanCursor, Interned, Id}
-use Rattle.store.specs.Prelude.{NotInterned, Reclaimed, Done, NotReclaimed, ScanOpened, Cursor, NotOpened}
-use Rattle.store.specs.Prelude.{Scanned, Found, Ended, Spent, NotScanned}
+use Rattle.store.specs.Prelude.{List, [], _∷_, _++_, ℕ, getD, set, Counters, ScanCursor, Interned, Id, NotInterned, Reclaimed, Done}
+use Rattle.store.specs.Prelude.{NotReclaimed, ScanOpened, Cursor, NotOpened, Scanned, Found, Ended, Spent, NotScanned}
 use Rattle.store.specs.Tables.{Tables, resourceCapacity, statementCapacity, textCapacity}
 use Rattle.store.specs.Shared.{freshCounters}
-use Rattle.store.specs.Values.{Values, noCursor, internedValues, assertedValues, retractedValues, openedValues}
-use Rattle.store.specs.Values.{scannedValues, reclaimedValues}
+use Rattle.store.specs.Values.{Values, noCursor, internedValues, assertedValues, retractedValues, openedValues, scannedValues}
+use Rattle.store.specs.Values.{reclaimedValues}
 use Rattle.store.specs.Model.{Capacities, byValue, updating, Call, intern, assert, retract, open′, next, reclaim}
 use Rattle.store.specs.Dictionary.{internOf}
 use Rattle.store.specs.Statement.{assertOf, retractOf, countersAfter, assertUpdatingOf, retractUpdatingOf}
@@ -58,16 +57,13 @@ callStore s (assert byValue x) =
     let r = assertOf (s .counters) (s .tables) x in
     (store (countersAfter (s .counters) (r .1)) (r .0) (s .cursors), assertedValues (r .1))
 callStore s (assert updating x) =
-    let r = assertUpdatingOf (s .counters) (s .tables) x in
-    (store (r .counters) (r .tables) (s .cursors), assertedValues (r .reply))
+    let r = assertUpdatingOf (s .counters) (s .tables) x in (store (r .counters) (r .tables) (s .cursors), assertedValues (r .reply))
 callStore s (retract byValue x) =
     let r = retractOf (s .counters) (s .tables) x in (store (s .counters) (r .0) (s .cursors), retractedValues (r .1))
 callStore s (retract updating x) =
-    let r = retractUpdatingOf (s .counters) (s .tables) x in
-    (store (r .counters) (r .tables) (s .cursors), retractedValues (r .reply))
+    let r = retractUpdatingOf (s .counters) (s .tables) x in (store (r .counters) (r .tables) (s .cursors), retractedValues (r .reply))
 callStore s (open′ x) =
-    let r = openOf (s .counters) (s .tables) x in
-    (store (s .counters) (s .tables) (openedCursors (s .cursors) r), openedValues r)
+    let r = openOf (s .counters) (s .tables) x in (store (s .counters) (s .tables) (openedCursors (s .cursors) r), openedValues r)
 callStore s (next j b) =
     let r = nextOf (s .counters) (s .tables) (getD (s .cursors) j noCursor) b in
     (store (s .counters) (s .tables) (movedCursors (s .cursors) j r), scannedValues r)

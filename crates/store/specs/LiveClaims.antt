@@ -1,6 +1,6 @@
 -- What is claimed of live counts (paper 02, note 5), as types. Assumes nothing.
-use Rattle.store.specs.Prelude.{_≡_, cond, not, _&&_, List, [], _∷_, ℕ, _+_, _-_, _*_, _≤_, _<_, length, eqb}
-use Rattle.store.specs.Prelude.{Counters, Triple, ScanCursor}
+use Rattle.store.specs.Prelude.{_≡_, cond, not, _&&_, List, [], _∷_, ℕ, _+_, _-_, _*_, _≤_, _<_, length, eqb, Counters, Triple}
+use Rattle.store.specs.Prelude.{ScanCursor}
 use Rattle.store.specs.Tables.{Tables, word, resourceWords}
 use Rattle.store.specs.Model.{Call, freshModel, modelAfter}
 use Rattle.store.specs.Shared.{Entry}
@@ -27,10 +27,8 @@ LiveCountsShown = (c : Counters) (m : Tables) → Sound c m → (y : ℕ) → 0 
 
 -- After any list of calls they say how many of the plain list's entries that are not retracted have it there.
 abbrev pub LiveCountsAgree : Type 0
-LiveCountsAgree = (m : Tables) (calls : List Call) (y : ℕ) → 0 < y
-    → y ≤ (storeAfter (freshStore m) calls) .counters .resources
-    → ShowsLive ((storeAfter (freshStore m) calls) .tables .resources) y
-    (modelAfter (capacitiesOf m) freshModel calls .entries)
+LiveCountsAgree = (m : Tables) (calls : List Call) (y : ℕ) → 0 < y → y ≤ (storeAfter (freshStore m) calls) .counters .resources
+    → ShowsLive ((storeAfter (freshStore m) calls) .tables .resources) y (modelAfter (capacitiesOf m) freshModel calls .entries)
 
 -- tables that differ in live counts alone
 pub record SameButLive (m m′ : Tables) : Type 0 where

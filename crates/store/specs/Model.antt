@@ -1,18 +1,17 @@
 -- The plain lists (paper 01, "The plain lists"; 02, notes 6 and 7): what a reader has to believe of demand 3. Two lists
 -- under the same capacities, of names and of triples with a mark, what is left of each opening, and the number of
 -- reclaims. Nothing here speaks of tables, links or counts. Assumes nothing.
-use Rattle.store.specs.Prelude.{Bool, true, false, cond, _&&_, List, [], _∷_, _++_, ℕ, zero, suc, length, getD}
-use Rattle.store.specs.Prelude.{set, eqb, leb, ltb, Chain, All, By, Counters, Triple, ScanCursor}
+use Rattle.store.specs.Prelude.{Bool, true, false, cond, _&&_, List, [], _∷_, _++_, ℕ, zero, suc, length, getD, set, eqb, leb, ltb}
+use Rattle.store.specs.Prelude.{Chain, All, By, Counters, Triple, ScanCursor}
 use Rattle.term.specs.Scanner.{firstKindOf}
 use Rattle.term.specs.Canonical.{canonical}
-use Rattle.store.specs.Shared.{maxReclaims, unless, at, known, within, same, kindsPermitted, Entry, matches, pick}
-use Rattle.store.specs.Shared.{wellFormed, nameOf, textBytes, lookupName, below, head0, prev}
+use Rattle.store.specs.Shared.{maxReclaims, unless, at, known, within, same, kindsPermitted, Entry, matches, pick, wellFormed, nameOf}
+use Rattle.store.specs.Shared.{textBytes, lookupName, below, head0, prev}
 use Rattle.store.specs.Values.{Values, noTriple, refusedWith, numbered, counted, placed, stepped}
 
 -- ---- the lists
 
--- an opening: the pattern, the position picked, the positions in the list not yet taken, highest first; the number of
--- reclaims then
+-- an opening: the pattern, the position picked, the positions in the list not yet taken, highest first; the number of reclaims then
 pub record Listing : Type 0 where
   pub pattern : Triple
   pub chain : Chain
@@ -69,8 +68,7 @@ internName k s w zero =
     (lastName (withNames s (s .names ++ w ∷ [])))
 internName k s w (suc i) = (s, counted 0 (suc i) (totals s))
 
--- Enter: 2, by the name as spelled; then by the name without the string ending: its position if it is listed; 3; else
--- it is appended
+-- Enter: 2, by the name as spelled; then by the name without the string ending: its position if it is listed; 3; else it is appended
 unfoldable pub internModel : Capacities → Model → List ℕ → Model × Values
 internModel k s w =
     unless (wellFormed w) (s, refusedWith 2)
@@ -104,8 +102,7 @@ put k s x (suc i) =
     (withEntries s (mark (s .entries) i false), counted 3 (suc i) (totals s))
     (s, counted 2 (suc i) (totals s))
 
--- Assert: 4; 5 by first bytes; a listed triple goes live, "already" or "revived" by its old mark; 3; else appended
--- live, "new"
+-- Assert: 4; 5 by first bytes; a listed triple goes live, "already" or "revived" by its old mark; 3; else appended live, "new"
 unfoldable pub assertModel : Capacities → Model → Triple → Model × Values
 assertModel k s x =
     unless (known (length (s .names)) x) (s, refusedWith 4)
@@ -115,8 +112,7 @@ assertModel k s x =
 unfoldable pub retractEntry : Model → ℕ → Model × Values
 retractEntry s zero = (s, numbered 0)
 retractEntry s (suc i) =
-    cond ((entry (s .entries) i) .retracted) (s, numbered 0)
-    (withEntries s (mark (s .entries) i true), numbered (suc i))
+    cond ((entry (s .entries) i) .retracted) (s, numbered 0) (withEntries s (mark (s .entries) i true), numbered (suc i))
 
 -- Retract: 4; a live triple is retracted; otherwise 0
 unfoldable pub retractModel : Model → Triple → Model × Values

@@ -1,6 +1,5 @@
 -- What is claimed of numbers and names (paper 01, demand 2; 02, note 7), as types. Assumes nothing.
-use Rattle.store.specs.Prelude.{_≡_, _↔_, true, false, List, ℕ, _≤_, _<_, take, drop, Counters, ResourceId, Span}
-use Rattle.store.specs.Prelude.{Number}
+use Rattle.store.specs.Prelude.{_≡_, _↔_, true, false, List, ℕ, _≤_, _<_, take, drop, Counters, ResourceId, Span, Number}
 use Rattle.term.specs.Canonical.{writesString, canonical}
 use Rattle.store.specs.Tables.{Tables}
 use Rattle.store.specs.Model.{Model, Capacities, internModel}
@@ -23,13 +22,11 @@ pub record BothWays (c : Counters) (m : Tables) : Type 0 where
   pub there : (y : ResourceId) → 0 < y .0 → y .0 ≤ c .resources
       → NamedAs c m y (nameAt m (y .0)) × (findOf c m (nameAt m (y .0)) ≡ Number y)
   -- name to number to name: a well-formed name is found where it stands, without the string ending
-  pub back : (w : List ℕ) (y : ResourceId)
-      → (findOf c m w ≡ Number y) ↔ ((wellFormed w ≡ true) × NamedAs c m y (canonical w))
+  pub back : (w : List ℕ) (y : ResourceId) → (findOf c m w ≡ Number y) ↔ ((wellFormed w ≡ true) × NamedAs c m y (canonical w))
   -- no name has the string ending
   pub plain : (y : ResourceId) (w : List ℕ) → NamedAs c m y w → writesString w ≡ false
   -- distinct numbers have names that differ in more than that
-  pub distinct : (y z : ResourceId) (v w : List ℕ) → NamedAs c m y v → NamedAs c m z w → canonical v ≡ canonical w
-      → y ≡ z
+  pub distinct : (y z : ResourceId) (v w : List ℕ) → NamedAs c m y v → NamedAs c m z w → canonical v ≡ canonical w → y ≡ z
 
 -- On a sound store numbers and names go both ways.
 abbrev pub RoundTrips : Type 0
@@ -40,8 +37,7 @@ RoundTrips = (c : Counters) (m : Tables) → Sound c m → BothWays c m
 abbrev pub FindMeans : Type 0
 FindMeans = (c : Counters) (m : Tables) → Sound c m → (w : List ℕ)
     → (wellFormed w ≡ false → lookupValues (findOf c m w) ≡ refusedWith 2)
-    × (wellFormed w ≡ true
-    → lookupValues (findOf c m w) ≡ numbered (lookupName (canonical w) (namesUpTo m (c .resources))))
+    × (wellFormed w ≡ true → lookupValues (findOf c m w) ≡ numbered (lookupName (canonical w) (namesUpTo m (c .resources))))
 
 -- v and w have one answer of find's definition and of enter's, on any tables, and one of the plain lists' enter
 pub record Alike (v w : List ℕ) : Type 0 where

@@ -1,11 +1,11 @@
 -- What stands on both sides of the claims (`Shared`) and the byte order of names are pinned here by what they mean, as
 -- types. Assumes nothing.
-use Rattle.store.specs.Prelude.{_≡_, _≢_, _↔_, Bool, true, false, List, [], _∷_, List·Memᴰ, ℕ, suc, _≤_, _<_}
-use Rattle.store.specs.Prelude.{length, getD, Position, _⊎_, _++_, Chain, All, By, Triple}
+use Rattle.store.specs.Prelude.{_≡_, _≢_, _↔_, Bool, true, false, List, [], _∷_, List·Memᴰ, ℕ, suc, _≤_, _<_, length, getD, Position}
+use Rattle.store.specs.Prelude.{_⊎_, _++_, Chain, All, By, Triple}
 use Rattle.term.specs.Bytes.{eqBytes}
 use Rattle.term.specs.Grammar.{nameLimit}
-use Rattle.store.specs.Shared.{at, known, within, same, kindsPermitted, below, head0, Entry, matches, pick}
-use Rattle.store.specs.Shared.{lookupName, maxResources, maxStatements, maxText, maxReclaims}
+use Rattle.store.specs.Shared.{at, known, within, same, kindsPermitted, below, head0, Entry, matches, pick, lookupName, maxResources}
+use Rattle.store.specs.Shared.{maxStatements, maxText, maxReclaims}
 use Rattle.store.specs.Tables.{off}
 use Rattle.store.specs.Names.{less, equal, compareBytes}
 
@@ -85,8 +85,7 @@ OrderMeans = (v w : List ℕ)
 
 -- the position of a listed name is that of the name, and 0 says that it is not listed
 abbrev pub LookupMeans : Type 0
-LookupMeans = (w : List ℕ) (ns : List (List ℕ))
-    → ((i : ℕ) → lookupName w ns ≡ suc i → (i < length ns) × (getD ns i [] ≡ w))
+LookupMeans = (w : List ℕ) (ns : List (List ℕ)) → ((i : ℕ) → lookupName w ns ≡ suc i → (i < length ns) × (getD ns i [] ≡ w))
     × (lookupName w ns ≡ 0 ↔ (List·Memᴰ w ns → ⊥))
 
 -- the picked position is bound and of least cost, and every earlier bound one costs more; all records only if nothing

@@ -1,5 +1,4 @@
--- What definitions and claims are written with: the library's names and this crate's types, passed on by one module.
--- Defines nothing.
+-- What definitions and claims are written with: the library's names and this crate's types, passed on by one module. Defines nothing.
 pub use mathlib.Core.Bool.{Bool, true, false, cond, _&&_, not, _||_}
 pub use mathlib.Core.List.{List, [], _∷_, _++_, map, List·Memᴰ}
 pub use mathlib.Core.Logic.{_↔_, _⊎_, _≢_}

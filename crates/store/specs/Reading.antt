@@ -1,7 +1,7 @@
 -- Read a statement, and name of a number (paper 01), on any tables. Assumes nothing.
-use Rattle.store.specs.Prelude.{Bool, true, false, _&&_, List, Option, none, some, ℕ, zero, suc, _+_, _-_, eqb}
-use Rattle.store.specs.Prelude.{leb, ltb, Counters, ResourceId, StatementId, Capacity, UnknownNumber, Damaged}
-use Rattle.store.specs.Prelude.{StatementRead, Is, NotRead, NameRead, Span, NotNamed}
+use Rattle.store.specs.Prelude.{Bool, true, false, _&&_, List, Option, none, some, ℕ, zero, suc, _+_, _-_, eqb, leb, ltb, Counters}
+use Rattle.store.specs.Prelude.{ResourceId, StatementId, Capacity, UnknownNumber, Damaged, StatementRead, Is, NotRead, NameRead, Span}
+use Rattle.store.specs.Prelude.{NotNamed}
 use Rattle.store.specs.Shared.{unless, known}
 use Rattle.term.specs.Grammar.{nameLimit}
 use Rattle.store.specs.Tables.{Tables, fits, tripleAt, flagAt, offsetAt, word}
@@ -15,8 +15,7 @@ unfoldable pub statementOf : Counters → Tables → StatementId → StatementRe
 statementOf c m n =
     unless (fits c m) (NotRead Capacity)
     (unless (inRange (c .statements) (n .0)) (NotRead UnknownNumber)
-    (unless (known (c .resources) (tripleAt (m .statements) (n .0 - 1)) && leb (flagAt (m .statements) (n .0 - 1)) 1)
-    (NotRead Damaged)
+    (unless (known (c .resources) (tripleAt (m .statements) (n .0 - 1)) && leb (flagAt (m .statements) (n .0 - 1)) 1) (NotRead Damaged)
     (Is (tripleAt (m .statements) (n .0 - 1)) (flagAt (m .statements) (n .0 - 1)))))
 
 -- a name of the most bytes, and its zero byte
@@ -34,11 +33,9 @@ abbrev pub spanTo : ℕ → Option ℕ → NameRead
 spanTo o none = NotNamed Damaged
 spanTo o (some e) = Span o (e - o)
 
--- Name of a number: 1; 4 if 0 or above R; 9 if the offset is at or past B or no zero byte follows within 256 bytes and
--- before B
+-- Name of a number: 1; 4 if 0 or above R; 9 if the offset is at or past B or no zero byte follows within 256 bytes and before B
 unfoldable pub nameSpanOf : Counters → Tables → ResourceId → NameRead
 nameSpanOf c m n =
     unless (fits c m) (NotNamed Capacity)
     (unless (inRange (c .resources) (n .0)) (NotNamed UnknownNumber)
-    (spanTo (offsetAt (m .resources) (n .0))
-    (zeroFrom (m .text) (c .text) nameWindow (offsetAt (m .resources) (n .0)))))
+    (spanTo (offsetAt (m .resources) (n .0)) (zeroFrom (m .text) (c .text) nameWindow (offsetAt (m .resources) (n .0)))))

@@ -1,9 +1,8 @@
 -- Reclaim (paper 02, note 6): the live statements move down in their order and are numbered from 1, all chains and
 -- counts are built anew, the words of the records given up are 0, names stay. Right on a sound store; on any tables
 -- `ReclaimAnswer` says what holds. Assumes nothing.
-use Rattle.store.specs.Prelude.{_≡_, true, false, cond, List, [], _∷_, ℕ, zero, suc, _+_, _*_, _-_, _<_}
-use Rattle.store.specs.Prelude.{replicate, sets, eqb, ltb, Counters, Triple, Capacity, Damaged, ReclaimLimit}
-use Rattle.store.specs.Prelude.{Reclaimed, Done, NotReclaimed}
+use Rattle.store.specs.Prelude.{_≡_, true, false, cond, List, [], _∷_, ℕ, zero, suc, _+_, _*_, _-_, _<_, replicate, sets, eqb, ltb}
+use Rattle.store.specs.Prelude.{Counters, Triple, Capacity, Damaged, ReclaimLimit, Reclaimed, Done, NotReclaimed}
 use Rattle.store.specs.Tables.{Tables, tables, after, fits, statementWords, resourceWords, flagAt, tripleAt}
 use Rattle.store.specs.Shared.{unless, maxReclaims}
 use Rattle.store.specs.Statement.{appendRecord, linkRecord}
@@ -15,8 +14,7 @@ use Rattle.store.specs.Soundness.{Sound}
 unfoldable pub unlinked : ℕ → List ℕ → List ℕ
 unlinked zero res = res
 unlinked (suc r) res =
-    sets (sets (unlinked r res) (resourceWords * r) (0 ∷ 0 ∷ 0 ∷ 0 ∷ 0 ∷ 0 ∷ []))
-    (resourceWords * r + 8) (0 ∷ 0 ∷ 0 ∷ [])
+    sets (sets (unlinked r res) (resourceWords * r) (0 ∷ 0 ∷ 0 ∷ 0 ∷ 0 ∷ 0 ∷ [])) (resourceWords * r + 8) (0 ∷ 0 ∷ 0 ∷ [])
 
 -- ---- one pass over the records, in place
 
@@ -75,6 +73,5 @@ reclaimOf c m =
 pub record ReclaimAnswer (c : Counters) (m m′ : Tables) (a : Reclaimed) : Type 0 where
   pub capacity : fits c m ≡ false → after m′ a ≡ after m (NotReclaimed Capacity)
   pub limit : fits c m ≡ true → c .generation ≡ maxReclaims → after m′ a ≡ after m (NotReclaimed ReclaimLimit)
-  pub unsound : fits c m ≡ true → c .generation < maxReclaims → (Sound c m → ⊥)
-      → after m′ a ≡ after m (NotReclaimed Damaged)
+  pub unsound : fits c m ≡ true → c .generation < maxReclaims → (Sound c m → ⊥) → after m′ a ≡ after m (NotReclaimed Damaged)
   pub exact : Sound c m → c .generation < maxReclaims → after m′ a ≡ reclaimOf c m

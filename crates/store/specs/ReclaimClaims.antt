@@ -1,6 +1,5 @@
 -- What is claimed of reclaim (paper 02, note 6), as types. Assumes nothing.
-use Rattle.store.specs.Prelude.{_≡_, _↔_, true, cond, List, [], _∷_, _++_, ℕ, suc, _*_, _≤_, _<_, length}
-use Rattle.store.specs.Prelude.{Counters, Position, Triple}
+use Rattle.store.specs.Prelude.{_≡_, _↔_, true, cond, List, [], _∷_, _++_, ℕ, suc, _*_, _≤_, _<_, length, Counters, Position, Triple}
 use Rattle.store.specs.Shared.{maxReclaims, Entry}
 use Rattle.store.specs.Tables.{Tables, word, statementWords, resourceWords, countAt, offsetAt, kindAt, liveAt}
 use Rattle.store.specs.Model.{Form, Call, assert, reclaim, entry, unretracted}

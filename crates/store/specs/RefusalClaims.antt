@@ -1,15 +1,14 @@
 -- What is claimed of refusals on any tables (demand 1), as types: 1 before all else, nothing written and zeros beside a
 -- refusal, 6 and 13 of a listing, 9 for live counts, 1, 4 and 9 of a statement read, 1 and 4 of a name read, 1, 14 and
 -- 9 of a reclaim. Assumes nothing.
-use Rattle.store.specs.Prelude.{_≡_, _≢_, _↔_, true, false, some, ℕ, suc, _≤_, _<_, Counters, Position, Chain}
-use Rattle.store.specs.Prelude.{All, By, Triple, _⊎_, List, _-_, length, ResourceId, StatementId, ScanCursor}
-use Rattle.store.specs.Prelude.{Reclaimed}
+use Rattle.store.specs.Prelude.{_≡_, _≢_, _↔_, true, false, some, ℕ, suc, _≤_, _<_, Counters, Position, Chain, All, By, Triple, _⊎_}
+use Rattle.store.specs.Prelude.{List, _-_, length, ResourceId, StatementId, ScanCursor, Reclaimed}
 use Rattle.store.specs.Shared.{at, known, kindsPermitted}
-use Rattle.store.specs.Tables.{Tables, fits, tripleAt, offsetAt, flagAt, countAt, kindAt, liveAt}
-use Rattle.store.specs.Tables.{resourceCapacity, statementCapacity, textCapacity, termAt}
+use Rattle.store.specs.Tables.{Tables, fits, tripleAt, offsetAt, flagAt, countAt, kindAt, liveAt, resourceCapacity, statementCapacity}
+use Rattle.store.specs.Tables.{textCapacity, termAt}
 use Rattle.store.specs.Names.{nameAt}
-use Rattle.store.specs.Values.{refusedWith, assertedValues, retractedValues, scannedValues, reclaimedValues}
-use Rattle.store.specs.Values.{noTriple, StatementValues, statementValues, NameValues, nameValues}
+use Rattle.store.specs.Values.{refusedWith, assertedValues, retractedValues, scannedValues, reclaimedValues, noTriple}
+use Rattle.store.specs.Values.{StatementValues, statementValues, NameValues, nameValues}
 use Rattle.store.specs.Reading.{statementOf, nameSpanOf}
 use Rattle.store.specs.Model.{Call, next}
 use Rattle.store.specs.Statement.{locate, kindsOk, assertOf, retractOf}
@@ -21,8 +20,7 @@ use Rattle.store.specs.History.{Store, callStore}
 -- Refusal 1: a counter above its capacity, or more than 65,535 reclaims; every call tests it first, on any store.
 abbrev pub FitsMeans : Type 0
 FitsMeans = (c : Counters) (m : Tables) → fits c m ≡ true
-    ↔ (c .resources ≤ resourceCapacity m) × (c .statements ≤ statementCapacity m)
-    × (c .text ≤ textCapacity m) × (c .generation ≤ 65535)
+    ↔ (c .resources ≤ resourceCapacity m) × (c .statements ≤ statementCapacity m) × (c .text ≤ textCapacity m) × (c .generation ≤ 65535)
 
 abbrev pub CapacityFirst : Type 0
 CapacityFirst = (s : Store) (a : Call) → fits (s .counters) (s .tables) ≡ false → (callStore s a) .1 ≡ refusedWith 1
@@ -53,23 +51,19 @@ pub record Stands (c : Counters) (m : Tables) (q : ScanCursor) : Type 0 where
   pub next : q .next .0 ≤ c .statements
   pub holds : RecordStands (m .statements) (q .chain) (q .pattern) (q .next .0)
 
--- On any tables a next is refused 6 exactly where 1 and 13 are not refused and the cursor does not stand, whatever the
--- budget.
+-- On any tables a next is refused 6 exactly where 1 and 13 are not refused and the cursor does not stand, whatever the budget.
 abbrev pub BadRefused : Type 0
 BadRefused = (c : Counters) (m : Tables) (q : ScanCursor) (b : ℕ)
-    → scannedValues (nextOf c m q b) ≡ refusedWith 6 ↔ (fits c m ≡ true) × (q .generation ≡ c .generation)
-    × (Stands c m q → ⊥)
+    → scannedValues (nextOf c m q b) ≡ refusedWith 6 ↔ (fits c m ≡ true) × (q .generation ≡ c .generation) × (Stands c m q → ⊥)
 
--- On any tables a next is refused 13 exactly where 1 is not refused and the cursor has another number of reclaims,
--- whatever the budget.
+-- On any tables a next is refused 13 exactly where 1 is not refused and the cursor has another number of reclaims, whatever the budget.
 abbrev pub StaleRefused : Type 0
 StaleRefused = (c : Counters) (m : Tables) (q : ScanCursor) (b : ℕ)
     → scannedValues (nextOf c m q b) ≡ refusedWith 13 ↔ (fits c m ≡ true) × (q .generation ≢ c .generation)
 
 -- On any tables a live count above its count, at any position of the triple, is refused 9 where nothing before it is.
 abbrev pub LiveAboveCount : Type 0
-LiveAboveCount = (c : Counters) (m : Tables) (x : Triple) (p : Position) → fits c m ≡ true
-    → known (c .resources) x ≡ true
+LiveAboveCount = (c : Counters) (m : Tables) (x : Triple) (p : Position) → fits c m ≡ true → known (c .resources) x ≡ true
     → countAt (m .resources) p (at p x) < liveAt (m .resources) p (at p x)
     → (retractedValues (retractOf c m x .1) ≡ refusedWith 9) × (retractOf c m x .0 ≡ m)
     × (kindsOk (m .resources) x ≡ true → kindsPermitted (kindAt (m .resources)) x ≡ true
@@ -77,8 +71,7 @@ LiveAboveCount = (c : Counters) (m : Tables) (x : Triple) (p : Position) → fit
 
 -- On any tables a live count of 0, at any position of the triple, is refused 9 where retract has found a live record.
 abbrev pub LiveCountOfZero : Type 0
-LiveCountOfZero = (c : Counters) (m : Tables) (x : Triple) (p : Position) (i : ℕ) → fits c m ≡ true
-    → known (c .resources) x ≡ true
+LiveCountOfZero = (c : Counters) (m : Tables) (x : Triple) (p : Position) (i : ℕ) → fits c m ≡ true → known (c .resources) x ≡ true
     → locate c m x ≡ some (suc i) → flagAt (m .statements) i ≡ 0 → liveAt (m .resources) p (at p x) ≡ 0
     → (retractedValues (retractOf c m x .1) ≡ refusedWith 9) × (retractOf c m x .0 ≡ m)
 
@@ -101,16 +94,14 @@ pub record ReadInOrder (c : Counters) (m : Tables) (n : StatementId) : Type 0 wh
   pub one : statementValues (statementOf c m n) ≡ unread 1 ↔ fits c m ≡ false
   pub four : statementValues (statementOf c m n) ≡ unread 4 ↔ (fits c m ≡ true) × ((n .0 ≡ 0) ⊎ (c .statements < n .0))
   pub nine : statementValues (statementOf c m n) ≡ unread 9
-      ↔ (fits c m ≡ true) × (0 < n .0) × (n .0 ≤ c .statements)
-      × (InRange (c .resources) (m .statements) (n .0 - 1) → ⊥)
+      ↔ (fits c m ≡ true) × (0 < n .0) × (n .0 ≤ c .statements) × (InRange (c .resources) (m .statements) (n .0 - 1) → ⊥)
   pub answered : Sound c m → 0 < n .0 → n .0 ≤ c .statements → statementValues (statementOf c m n)
       ≡ record { refusal = 0; spo = tripleAt (m .statements) (n .0 - 1); flag = flagAt (m .statements) (n .0 - 1) }
 
 abbrev pub ReadRefuses : Type 0
 ReadRefuses = (c : Counters) (m : Tables) (n : StatementId) → ReadInOrder c m n
 
--- Name of a number: on any tables 1, then 4 for 0 and above R; on a sound store where its bytes stand and how many they
--- are.
+-- Name of a number: on any tables 1, then 4 for 0 and above R; on a sound store where its bytes stand and how many they are.
 pub record NamedInOrder (c : Counters) (m : Tables) (y : ResourceId) : Type 0 where
   pub one : nameValues (nameSpanOf c m y) ≡ unnamed 1 ↔ fits c m ≡ false
   pub four : nameValues (nameSpanOf c m y) ≡ unnamed 4 ↔ (fits c m ≡ true) × ((y .0 ≡ 0) ⊎ (c .resources < y .0))

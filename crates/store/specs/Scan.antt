@@ -1,13 +1,11 @@
 -- Open and next of a pattern scan, the paper's listing (paper 01, "Open a listing", "Next of a listing"; 02, note 6),
 -- on tables that hold anything and any cursor. Assumes nothing.
-use Rattle.store.specs.Prelude.{Bool, true, cond, _&&_, List, Option, none, some, ℕ, zero, suc, eqb, leb, ltb}
-use Rattle.store.specs.Prelude.{Counters, Chain, All, By, Triple, ScanCursor, Capacity, UnknownNumber, BadCursor}
-use Rattle.store.specs.Prelude.{NoBudget, Damaged, StaleCursor, ScanOpened, Cursor, NotOpened, Scanned, Found}
-use Rattle.store.specs.Prelude.{Ended, Spent, NotScanned}
+use Rattle.store.specs.Prelude.{Bool, true, cond, _&&_, List, Option, none, some, ℕ, zero, suc, eqb, leb, ltb, Counters, Chain, All}
+use Rattle.store.specs.Prelude.{By, Triple, ScanCursor, Capacity, UnknownNumber, BadCursor, NoBudget, Damaged, StaleCursor}
+use Rattle.store.specs.Prelude.{ScanOpened, Cursor, NotOpened, Scanned, Found, Ended, Spent, NotScanned}
 use Rattle.store.specs.Shared.{unless, at, all3, within, matches}
 use Rattle.store.specs.Tables.{Tables, fits}
-use Rattle.store.specs.Walk.{entryAt, pickChain, pickable, startOf, linkOf, holdsResource, visitable, walk}
-use Rattle.store.specs.Walk.{Step, found, ended, spent}
+use Rattle.store.specs.Walk.{entryAt, pickChain, pickable, startOf, linkOf, holdsResource, visitable, walk, Step, found, ended, spent}
 
 -- ---- open
 
@@ -15,8 +13,7 @@ use Rattle.store.specs.Walk.{Step, found, ended, spent}
 abbrev pub cursorIn : ℕ → Triple → Chain → ℕ → ScanCursor
 cursorIn g x ch n = record { pattern = x; chain = ch; next = record { 0 = n }; generation = g }
 
--- Open: 1; 4 if a number exceeds R; 9 at the pick; else the pattern, the chain picked, its first record and the number
--- of reclaims
+-- Open: 1; 4 if a number exceeds R; 9 at the pick; else the pattern, the chain picked, its first record and the number of reclaims
 unfoldable pub openOf : Counters → Tables → Triple → ScanOpened
 openOf c m x =
     unless (fits c m) (NotOpened Capacity)

@@ -1,9 +1,8 @@
 -- What the plain lists and the tables' definitions share: limits, refusals in their order, triples of numbers at a
 -- position in general, listed triples, the position picked, names, and the falling positions of a list's entries that
 -- pass a test. What its tests and searches mean is pinned in `Pins`. Assumes nothing.
-use Rattle.store.specs.Prelude.{Bool, true, false, cond, not, _&&_, _||_, List, [], _∷_, ℕ, zero, suc, _+_, _-_}
-use Rattle.store.specs.Prelude.{length, getD, eqb, leb, ltb, Counters, Position, Subject, Predicate, Object}
-use Rattle.store.specs.Prelude.{Chain, All, By, Triple, Option, none, some}
+use Rattle.store.specs.Prelude.{Bool, true, false, cond, not, _&&_, _||_, List, [], _∷_, ℕ, zero, suc, _+_, _-_, length, getD, eqb}
+use Rattle.store.specs.Prelude.{leb, ltb, Counters, Position, Subject, Predicate, Object, Chain, All, By, Triple, Option, none, some}
 use Rattle.term.specs.Bytes.{eqBytes}
 use Rattle.term.specs.Grammar.{nameLimit}
 use Rattle.term.specs.Scanner.{kindOf}

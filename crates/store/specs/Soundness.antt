@@ -1,10 +1,9 @@
 -- Sound (paper 01, "Sound means"; 02, notes 5, 6 and 7): one definition for find, intern, reclaim, the check and both
 -- demands. Words past the counters do not matter. Assumes nothing.
-use Rattle.store.specs.Prelude.{_≡_, _≢_, Bool, true, _&&_, List, ℕ, _*_, _≤_, _<_, length, eqb, Counters}
-use Rattle.store.specs.Prelude.{Position}
+use Rattle.store.specs.Prelude.{_≡_, _≢_, Bool, true, _&&_, List, ℕ, _*_, _≤_, _<_, length, eqb, Counters, Position}
 use Rattle.store.specs.Shared.{kindsPermitted, below, head0}
-use Rattle.store.specs.Tables.{Tables, fits, resourceWords, statementWords, termAt, nextAt, flagAt, tripleAt}
-use Rattle.store.specs.Tables.{firstAt, countAt, kindAt, liveAt}
+use Rattle.store.specs.Tables.{Tables, fits, resourceWords, statementWords, termAt, nextAt, flagAt, tripleAt, firstAt, countAt}
+use Rattle.store.specs.Tables.{kindAt, liveAt}
 use Rattle.store.specs.Names.{Named}
 
 -- entry i holds the resource y at a position
@@ -18,9 +17,8 @@ isLive stm i = eqb (flagAt stm i) 0
 unfoldable pub living : List ℕ → Position → ℕ → ℕ → Bool
 living stm p y i = isLive stm i && holding stm p y i
 
--- The chains, for a position in general: resources in 1..R, flags 0 or 1; a record's next is the highest earlier record
--- with its resource there, a resource's first the highest of all, its count their number, live or not, its live count
--- that of the live ones.
+-- The chains, for a position in general: resources in 1..R, flags 0 or 1; a record's next is the highest earlier record with its
+-- resource there, a resource's first the highest of all, its count their number, live or not, its live count that of the live ones.
 pub record Linked (r t : ℕ) (res stm : List ℕ) : Type 0 where
   pub fit-resources : resourceWords * r ≤ length res
   pub fit-statements : statementWords * t ≤ length stm

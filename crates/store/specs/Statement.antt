@@ -1,12 +1,12 @@
 -- Assert and retract (paper 01; 02, note 5), by value and on lent counters: the reply and all four tables, on tables
 -- that hold anything. Assumes nothing.
-use Rattle.store.specs.Prelude.{Bool, cond, _&&_, List, [], _∷_, Option, none, some, ℕ, zero, suc, _+_, _*_, _-_}
-use Rattle.store.specs.Prelude.{set, sets, eqb, leb, ltb, Counters, Position, Subject, Predicate, Object, Triple}
-use Rattle.store.specs.Prelude.{Capacity, Full, UnknownNumber, KindNotPermitted, Damaged, Asserted, New, Already}
-use Rattle.store.specs.Prelude.{Revived, NotAsserted, Retracted, WasLive, NotLive, NotRetracted}
+use Rattle.store.specs.Prelude.{Bool, cond, _&&_, List, [], _∷_, Option, none, some, ℕ, zero, suc, _+_, _*_, _-_, set, sets, eqb, leb}
+use Rattle.store.specs.Prelude.{ltb, Counters, Position, Subject, Predicate, Object, Triple, Capacity, Full, UnknownNumber}
+use Rattle.store.specs.Prelude.{KindNotPermitted, Damaged, Asserted, New, Already, Revived, NotAsserted, Retracted, WasLive, NotLive}
+use Rattle.store.specs.Prelude.{NotRetracted}
 use Rattle.store.specs.Shared.{unless, at, all3, known, same, kindsPermitted}
-use Rattle.store.specs.Tables.{Tables, fits, statementCapacity, statementWords, resourceWords, off, tripleAt}
-use Rattle.store.specs.Tables.{flagAt, firstAt, countAt, kindAt, liveAt}
+use Rattle.store.specs.Tables.{Tables, fits, statementCapacity, statementWords, resourceWords, off, tripleAt, flagAt, firstAt}
+use Rattle.store.specs.Tables.{countAt, kindAt, liveAt}
 use Rattle.store.specs.Walk.{pickChain, pickable, startOf, linkOf, visitable, walk, Step, foundIn}
 
 -- ---- the record with the triple, by the chain that a scan would take
@@ -37,8 +37,7 @@ unfoldable pub tallyAt : (ℕ → ℕ) → Position → ℕ → List ℕ → Lis
 tallyAt f p y res = set res (resourceWords * (y - 1) + (8 + off p)) (f (liveAt res p y))
 
 unfoldable pub tally : (ℕ → ℕ) → Triple → List ℕ → List ℕ
-tally f x res =
-    tallyAt f Object (x .object .0) (tallyAt f Predicate (x .predicate .0) (tallyAt f Subject (x .subject .0) res))
+tally f x res = tallyAt f Object (x .object .0) (tallyAt f Predicate (x .predicate .0) (tallyAt f Subject (x .subject .0) res))
 
 -- entry i, which holds the triple, gets the flag v, and its three live counts change by f
 abbrev pub withFlag : (ℕ → ℕ) → ℕ → Tables → Triple → ℕ → Tables
@@ -60,8 +59,7 @@ madeRetracted m x i = withFlag (λ n. n - 1) 1 m x i
 abbrev pub recordWords : Triple → List ℕ → List ℕ
 recordWords x res =
     x .subject .0 ∷ x .predicate .0 ∷ x .object .0
-    ∷ firstAt res Subject (x .subject .0) ∷ firstAt res Predicate (x .predicate .0)
-    ∷ firstAt res Object (x .object .0) ∷ 0 ∷ []
+    ∷ firstAt res Subject (x .subject .0) ∷ firstAt res Predicate (x .predicate .0) ∷ firstAt res Object (x .object .0) ∷ 0 ∷ []
 
 unfoldable pub appendRecord : ℕ → Triple → List ℕ → List ℕ → List ℕ
 appendRecord t x res stm = sets stm (statementWords * t) (recordWords x res)
@@ -69,14 +67,11 @@ appendRecord t x res stm = sets stm (statementWords * t) (recordWords x res)
 -- at one position of the resource y the new record is the first, and one more holds it, live
 unfoldable pub linkFirst : Position → ℕ → ℕ → List ℕ → List ℕ
 linkFirst p t y res =
-    set (set (set res (resourceWords * (y - 1) + off p) (suc t)) (resourceWords * (y - 1) + (3 + off p))
-    (suc (countAt res p y)))
+    set (set (set res (resourceWords * (y - 1) + off p) (suc t)) (resourceWords * (y - 1) + (3 + off p)) (suc (countAt res p y)))
     (resourceWords * (y - 1) + (8 + off p)) (suc (liveAt res p y))
 
 unfoldable pub linkRecord : ℕ → Triple → List ℕ → List ℕ
-linkRecord t x res =
-    linkFirst Object t (x .object .0)
-    (linkFirst Predicate t (x .predicate .0) (linkFirst Subject t (x .subject .0) res))
+linkRecord t x res = linkFirst Object t (x .object .0) (linkFirst Predicate t (x .predicate .0) (linkFirst Subject t (x .subject .0) res))
 
 abbrev pub appended : ℕ → Tables → Triple → Tables
 appended t m x = record {

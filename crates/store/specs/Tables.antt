@@ -2,14 +2,13 @@
 -- their words at a position in general, capacities, refusal 1. Total on any words: a word past a table's end is 0.
 -- Assumes nothing.
 use denote.Ref.{RefT, now}
-use Rattle.store.specs.Prelude.{Bool, _&&_, List, ℕ, _+_, _*_, _-_, _/_, min, length, getD, leb, Counters}
-use Rattle.store.specs.Prelude.{Position, Subject, Predicate, Object, Triple}
+use Rattle.store.specs.Prelude.{Bool, _&&_, List, ℕ, _+_, _*_, _-_, _/_, min, length, getD, leb, Counters, Position, Subject}
+use Rattle.store.specs.Prelude.{Predicate, Object, Triple}
 use Rattle.store.specs.Shared.{triple, maxResources, maxStatements, maxText, maxReclaims}
 
 -- ---- widths, each named once
 
--- a resource record: first statement as subject, predicate, object; count as each; text offset; kind; live count as
--- each
+-- a resource record: first statement as subject, predicate, object; count as each; text offset; kind; live count as each
 abbrev pub resourceWords : ℕ
 resourceWords = 11
 
@@ -91,5 +90,4 @@ textCapacity m = min (length (m .text)) maxText
 unfoldable pub fits : Counters → Tables → Bool
 fits c m =
     leb (c .resources) (resourceCapacity m)
-    && (leb (c .statements) (statementCapacity m)
-    && (leb (c .text) (textCapacity m) && leb (c .generation) maxReclaims))
+    && (leb (c .statements) (statementCapacity m) && (leb (c .text) (textCapacity m) && leb (c .generation) maxReclaims))

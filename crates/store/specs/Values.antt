@@ -1,12 +1,11 @@
 -- The paper's number and values for each case of each reply (paper 01, "Operations and refusals"; 02, note 6): what a
 -- promise compares. Every field that a case does not name is 0, and beside a refusal's number all are. Assumes nothing.
-use Rattle.store.specs.Prelude.{ℕ, Counters, Triple, All, ScanCursor, Refusal, Capacity, Malformed, Full}
-use Rattle.store.specs.Prelude.{UnknownNumber, KindNotPermitted, BadCursor, NoBudget, BadQuery, Damaged, BadLine}
-use Rattle.store.specs.Prelude.{ExportSpace, NoTimes, StaleCursor, ReclaimLimit, BadPath, PathSpace, BadGroup}
-use Rattle.store.specs.Prelude.{StatementRead, Is, NotRead, NameRead, Span, NotNamed, Lookup, Number, Absent}
-use Rattle.store.specs.Prelude.{NotFound, Interned, Id, NotInterned, Asserted, New, Already, Revived, NotAsserted}
-use Rattle.store.specs.Prelude.{Retracted, WasLive, NotLive, NotRetracted, Reclaimed, Done, NotReclaimed}
-use Rattle.store.specs.Prelude.{ScanOpened, Cursor, NotOpened, Scanned, Found, Ended, Spent, NotScanned}
+use Rattle.store.specs.Prelude.{ℕ, Counters, Triple, All, ScanCursor, Refusal, Capacity, Malformed, Full, UnknownNumber}
+use Rattle.store.specs.Prelude.{KindNotPermitted, BadCursor, NoBudget, BadQuery, Damaged, BadLine, ExportSpace, NoTimes, StaleCursor}
+use Rattle.store.specs.Prelude.{ReclaimLimit, BadPath, PathSpace, BadGroup, StatementRead, Is, NotRead, NameRead, Span, NotNamed}
+use Rattle.store.specs.Prelude.{Lookup, Number, Absent, NotFound, Interned, Id, NotInterned, Asserted, New, Already, Revived}
+use Rattle.store.specs.Prelude.{NotAsserted, Retracted, WasLive, NotLive, NotRetracted, Reclaimed, Done, NotReclaimed, ScanOpened}
+use Rattle.store.specs.Prelude.{Cursor, NotOpened, Scanned, Found, Ended, Spent, NotScanned}
 use Rattle.store.specs.Shared.{triple, freshCounters}
 
 abbrev pub refusalNumber : Refusal → ℕ
@@ -34,8 +33,7 @@ noTriple = triple 0 0 0
 abbrev pub noCursor : ScanCursor
 noCursor = record { pattern = noTriple; chain = All; next = record { 0 = 0 }; generation = 0 }
 
--- refusal: the paper's number, 0 where the call is answered. status: new 1, already 2, revived 3; found 1, ended 2,
--- spent 3.
+-- refusal: the paper's number, 0 where the call is answered. status: new 1, already 2, revived 3; found 1, ended 2, spent 3.
 pub record Values : Type 0 where
   pub refusal : ℕ
   pub status : ℕ

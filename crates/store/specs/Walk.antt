@@ -1,8 +1,8 @@
 -- Chains in the tables (paper 01, "9 in a chain step"): which chain is picked, what a visit tests, and the walk within
 -- a budget. One definition for the scan, assert and retract, over a position in general, on tables that hold anything.
 -- Assumes nothing.
-use Rattle.store.specs.Prelude.{Bool, true, false, _&&_, _||_, List, Option, none, some, ℕ, zero, suc, eqb, leb}
-use Rattle.store.specs.Prelude.{Chain, All, By, Triple}
+use Rattle.store.specs.Prelude.{Bool, true, false, _&&_, _||_, List, Option, none, some, ℕ, zero, suc, eqb, leb, Chain, All, By}
+use Rattle.store.specs.Prelude.{Triple}
 use Rattle.store.specs.Shared.{at, all3, known, Entry, pick}
 use Rattle.store.specs.Tables.{termAt, nextAt, flagAt, tripleAt, firstAt, countAt}
 
@@ -37,11 +37,9 @@ unfoldable pub holdsResource : List ℕ → Chain → Triple → ℕ → Bool
 holdsResource stm All x i = true
 holdsResource stm (By p) x i = eqb (termAt stm p i) (at p x)
 
--- 9 at a visit: a resource outside 1..R, the chain's resource missing, a next not below the record's own number, a flag
--- above 1
+-- 9 at a visit: a resource outside 1..R, the chain's resource missing, a next not below the record's own number, a flag above 1
 unfoldable pub visitable : ℕ → List ℕ → Chain → Triple → ℕ → Bool
-visitable r stm ch x i =
-    known r (tripleAt stm i) && (holdsResource stm ch x i && (leb (linkOf stm ch i) i && leb (flagAt stm i) 1))
+visitable r stm ch x i = known r (tripleAt stm i) && (holdsResource stm ch x i && (leb (linkOf stm ch i) i && leb (flagAt stm i) 1))
 
 -- ---- the walk
 

@@ -1,6 +1,5 @@
--- One spelling for a string (paper 02, note 7): RDF 1.1 takes a literal that writes the datatype xsd:string out and the
--- one that writes none as one term. The spelling that writes none is the one compared and stored. `Theorems.antt` says
--- what the step is. Assumes nothing.
+-- One spelling for a string (paper 02, note 7): RDF 1.1 takes a literal that writes the datatype xsd:string out and the one that writes
+-- none as one term. The spelling that writes none is the one compared and stored. `Theorems.antt` says what the step is. Assumes nothing.
 use Rattle.term.specs.Prelude.{ℕ, _-_, List, [], _∷_, _++_, Bool, cond, _&&_, leb, length, take, drop}
 use Rattle.term.specs.Bytes.{eqBytes}
 

@@ -1,8 +1,7 @@
 -- Where a scan must halt, and what it then has read, in the grammar's words; and what is proved of the scanner, for the
 -- proofs of lines and of the store. The proofs are in `proofs/Names.antt`, `WellFormed.antt` and `Halts.antt`. Assumes
 -- nothing.
-use Rattle.term.specs.Prelude.{ℕ, zero, suc, _+_, _≤_, _≡_, List, [], _∷_, _++_, Bool, true, false, _⊎_, _↔_}
-use Rattle.term.specs.Prelude.{length, take}
+use Rattle.term.specs.Prelude.{ℕ, zero, suc, _+_, _≤_, _≡_, List, [], _∷_, _++_, Bool, true, false, _⊎_, _↔_, length, take}
 use Rattle.term.specs.Grammar.{Name}
 use Rattle.term.specs.Scanner.{runOf, wholeOf, firstKindOf, kindOf, haltOf, longestOf}
 use Rattle.term.specs.declared.Halt.{Halt}

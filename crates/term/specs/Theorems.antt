@@ -1,6 +1,5 @@
--- What is proved of names (paper 01, "Names"; paper 02, note 7). The proofs are in `proofs/Names.antt`,
--- `WellFormed.antt` and `Shortened.antt`. `Spelling.antt` has the grammar's second reading, `Halting.antt` what is
--- proved of the scanner. Assumes nothing.
+-- What is proved of names (paper 01, "Names"; paper 02, note 7). The proofs are in `proofs/Names.antt`, `WellFormed.antt` and
+-- `Shortened.antt`. `Spelling.antt` has the grammar's second reading, `Halting.antt` what is proved of the scanner. Assumes nothing.
 use Rattle.term.specs.Prelude.{ℕ, _≤_, _≡_, List, _++_, false, _↔_, length}
 use Rattle.term.specs.Grammar.{Name, WellFormed, nameLimit}
 use Rattle.term.specs.Scanner.{firstKindOf, kindOf, numberOf, refusalOf}
