@@ -37,7 +37,8 @@ pub record LineLoads (text l : List ℕ) (s p o : Span) (before : Store) : Type 
   pub loaded : Loaded before ((loadOf before (namesIn text s p o)) .0) (canonicalTriple (namesIn text s p o))
       ((loadOf before (namesIn text s p o)) .1 .refusal)
   -- answered as by the plain lists, with 0 or 3, so 3 exactly where they have no room
-  pub listed : (loadOf before (namesIn text s p o)) .1 ≡ (loadModel (capacitiesOf (before .tables)) (listsOf before) (namesIn text s p o)) .1
+  pub listed : (loadOf before (namesIn text s p o)) .1
+      ≡ (loadModel (capacitiesOf (before .tables)) (listsOf before) (namesIn text s p o)) .1
   pub room : ((loadOf before (namesIn text s p o)) .1 .refusal ≡ 0) ⊎ ((loadOf before (namesIn text s p o)) .1 .refusal ≡ 3)
 
 abbrev pub LinesLoad : Type 0
