@@ -17,7 +17,7 @@ ghost use mathlib.Core.Path.{_≡_};
 ghost use mathlib.Core.Bool.{true};
 ghost use mathlib.Core.Logic.{_↔_};
 ghost use Prim.Native.Nat.{_<_};
-ghost use Rattle.store.specs.Tables.{tables, lent};
+ghost use Rattle.store.specs.Tables.{lent};
 ghost use Rattle.store.specs.Soundness.{Sound};
 ghost use Rattle.integrity.specs.Held.{ResourcesHeld, StatementsHeld};
 ghost use Rattle.integrity.specs.Records.{recordsOk};

@@ -38,7 +38,7 @@ use store::ScanOpened;
 use store::StatementId;
 use store::refusal_number;
 ghost use mathlib.Core.Path.{_≡_};
-ghost use Rattle.store.specs.Tables.{tables, lent};
+ghost use Rattle.store.specs.Tables.{lent};
 ghost use Rattle.store.specs.Shared.{triple};
 ghost use Rattle.capi_calls.specs.Words.{done, beside, wrote, changed};
 ghost use Rattle.capi_calls.specs.Calls.{kindCall, CheckCall, FindCall, nameCall, statementCall, lineCall, retractCall};

@@ -23,7 +23,7 @@ use store::Refusal;
 ghost use mathlib.Core.Path.{_≡_};
 ghost use Prim.Native.Nat.{_≤_};
 ghost use lib.ListN.{length};
-ghost use Rattle.store.specs.Tables.{tables, lent};
+ghost use Rattle.store.specs.Tables.{lent};
 ghost use Rattle.capi_calls.specs.Words.{done, beside};
 ghost use Rattle.capi_calls.specs.QueryWords.{queryCursorWords, nextQueryFrom};
 ghost use Rattle.capi_calls.specs.QueryCalls.{queryOpenCall, queryNextCall};

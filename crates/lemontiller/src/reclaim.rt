@@ -8,7 +8,7 @@ use capi_words::words::counters_of;
 use capi_words::words::put_counters;
 use store::Reclaimed;
 use store::refusal_number;
-ghost use Rattle.store.specs.Tables.{tables, lent};
+ghost use Rattle.store.specs.Tables.{lent};
 ghost use Rattle.capi_calls.specs.Words.{done};
 ghost use Rattle.capi_calls.specs.Calls.{ReclaimCall};
 

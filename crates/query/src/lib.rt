@@ -17,7 +17,7 @@ use store::Counters;
 use store::Refusal;
 use table::fits;
 ghost use mathlib.Core.Path.{_≡_};
-ghost use Rattle.store.specs.Tables.{tables, lent};
+ghost use Rattle.store.specs.Tables.{lent};
 ghost use Rattle.graph.specs.Query.{openQueryOf, nextQueryOf};
 
 mod resume;

@@ -23,7 +23,7 @@ use table::triple::within;
 ghost use mathlib.Core.Path.{_≡_};
 ghost use Prim.Native.Nat.{_*_, _≤_};
 ghost use lib.ListN.{length};
-ghost use Rattle.store.specs.Tables.{tables, lent, statementWords};
+ghost use Rattle.store.specs.Tables.{lent, statementWords};
 ghost use Rattle.store.specs.Scan.{cursorIn, openOf, nextOf};
 ghost use Rattle.scan.specs.Cursors.{CursorTested};
 

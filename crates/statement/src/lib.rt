@@ -15,7 +15,7 @@ use store::Counters;
 use store::Retracted;
 use store::Triple;
 ghost use mathlib.Core.Path.{_≡_};
-ghost use Rattle.store.specs.Tables.{after, tables, lent};
+ghost use Rattle.store.specs.Tables.{after, lent};
 ghost use Rattle.store.specs.Statement.{assertOf, retractOf, countersAfter};
 ghost use Rattle.statement.specs.Updating.{AssertedUpdating, RetractedUpdating};
 

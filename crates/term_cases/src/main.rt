@@ -2,7 +2,6 @@
 // where `%` and two hexadecimal digits stand for one byte. It writes a line for each: the case's number and name, what
 // `kind_of_name` answers (`kind` and its number, or `refused 2`), and the offset at which `scan_term` halts.
 ghost use Prim.Native.Nat.{_≤_};
-ghost use lib.ListN.{length};
 ghost use Rattle.io.specs.Counts.{Counts};
 use bytes::scan::find;
 use libc::STDIN_FILENO;
