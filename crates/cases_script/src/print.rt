@@ -7,13 +7,13 @@ use graph::Solution;
 use graph::VARIABLES;
 use libc::STDOUT_FILENO;
 use store::Refusal;
-use table::COUNT;
-use table::FLAG;
-use table::KIND;
-use table::LIVE;
-use table::NEXT;
-use table::OFFSET;
-use table::RESOURCE_WORDS;
+use table::word::COUNT;
+use table::word::FLAG;
+use table::word::KIND;
+use table::word::LIVE;
+use table::word::NEXT;
+use table::word::OFFSET;
+use table::word::RESOURCE_WORDS;
 
 // The words of answers, by their number in `token`.
 pub const NEW: u32 = 0;

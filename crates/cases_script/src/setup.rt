@@ -3,14 +3,14 @@ use crate::script;
 use crate::state;
 use crate::state::State;
 use crate::words;
-use table::COUNT;
-use table::FLAG;
-use table::KIND;
-use table::LIVE;
-use table::NEXT;
-use table::OFFSET;
-use table::RESOURCE_WORDS;
-use table::STATEMENT_WORDS;
+use table::word::COUNT;
+use table::word::FLAG;
+use table::word::KIND;
+use table::word::LIVE;
+use table::word::NEXT;
+use table::word::OFFSET;
+use table::word::RESOURCE_WORDS;
+use table::word::STATEMENT_WORDS;
 
 // ---- the state
 

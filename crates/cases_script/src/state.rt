@@ -14,8 +14,8 @@ use store::ResourceId;
 use store::ScanCursor;
 use store::StatementId;
 use store::Triple;
-use table::RESOURCE_WORDS;
-use table::STATEMENT_WORDS;
+use table::word::RESOURCE_WORDS;
+use table::word::STATEMENT_WORDS;
 ghost use Prim.Native.Nat.{_≤_};
 
 pub struct State {

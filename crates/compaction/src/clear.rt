@@ -27,12 +27,12 @@ pub fn unlink_one(resources: &mut [u32], y: ResourceId)
     requires { ⌜ ResourceHeld (now resources) (y .0) ⌝ }
     ensures { λ _. ⌜ now (resources .exit) ≡ unlinkedOne (y .0 - 1) (now (resources .entry)) ⌝ }
 {
-    let start = table::RESOURCE_WORDS * (y.0 as usize - 1);
-    zero(resources, start, table::OFFSET);
+    let start = table::word::RESOURCE_WORDS * (y.0 as usize - 1);
+    zero(resources, start, table::word::OFFSET);
     zero(
         resources,
-        start + table::LIVE,
-        table::RESOURCE_WORDS - table::LIVE,
+        start + table::word::LIVE,
+        table::word::RESOURCE_WORDS - table::word::LIVE,
     );
 }
 
@@ -54,10 +54,10 @@ pub fn blank(statements: &mut [u32], live: u32, t: u32)
     requires { ⌜ (live ≤ t) × (statementWords * t ≤ length (now statements)) ⌝ }
     ensures { λ _. ⌜ now (statements .exit) ≡ blanked live t (now (statements .entry)) ⌝ }
 {
-    let start = table::STATEMENT_WORDS * live as usize;
+    let start = table::word::STATEMENT_WORDS * live as usize;
     zero(
         statements,
         start,
-        table::STATEMENT_WORDS * (t - live) as usize,
+        table::word::STATEMENT_WORDS * (t - live) as usize,
     );
 }

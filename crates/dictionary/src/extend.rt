@@ -29,15 +29,15 @@ pub fn write_record(resources: &mut [u32], r: u32, offset: u32, kind: u32)
     ensures { λ _. ⌜ now (resources .exit)
         ≡ sets (now (resources .entry)) (resourceWords * r) (freshRecord offset kind) ⌝ }
 {
-    let start = table::RESOURCE_WORDS * r as usize;
+    let start = table::word::RESOURCE_WORDS * r as usize;
     let mut i = 0;
     // The record's first i words are 0.
-    while i < table::RESOURCE_WORDS {
+    while i < table::word::RESOURCE_WORDS {
         resources[start + i] = 0;
         i += 1;
     }
-    resources[start + table::OFFSET] = offset;
-    resources[start + table::KIND] = kind;
+    resources[start + table::word::OFFSET] = offset;
+    resources[start + table::word::KIND] = kind;
 }
 
 // The name's bytes from b on, closed by a zero byte.

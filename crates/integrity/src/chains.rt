@@ -82,10 +82,10 @@ fn chains_sound(resources: &[u32], statements: &[u32], r: u32, t: u32, p: Positi
         if !chain_sound(resources, statements, r, t, p, y) {
             return false;
         }
-        total += crate::wide(table::word::count_at(resources, y, p));
+        total += crate::width::wide(table::word::count_at(resources, y, p));
         done += 1;
     }
-    total == crate::wide(t)
+    total == crate::width::wide(t)
 }
 
 // Whether the chains at all three positions are right.

@@ -43,8 +43,8 @@ fn neighbours_rise(resources: &[u32], index: &[u32], used: &[u8], r: u32, i: usi
 {
     let x = ResourceId(index[i]);
     let y = ResourceId(index[i + 1]);
-    let a = crate::wide(table::word::offset_at(resources, x));
-    let b = crate::wide(table::word::offset_at(resources, y));
+    let a = crate::width::wide(table::word::offset_at(resources, x));
+    let b = crate::width::wide(table::word::offset_at(resources, y));
     name_less(used, a, b)
 }
 
@@ -53,7 +53,7 @@ fn entries_ok(index: &[u32], r: u32) -> bool
     requires { ⌜ r ≤ length (now index) ⌝ }
     ensures { λ b. ⌜ b ≡ allBelow (entryOk r (now (index .entry))) r ⌝ }
 {
-    let n = crate::wide(r);
+    let n = crate::width::wide(r);
     let mut i: usize = 0;
     // The first i entries are in 1..r.
     while i < n {
@@ -71,7 +71,7 @@ fn entries_rise(resources: &[u32], index: &[u32], used: &[u8], r: u32) -> bool
     requires { ⌜ ResourcesHeld (now resources) r ⌝ }
     ensures { λ b. ⌜ b ≡ allBelow (neighboursRise (now (resources .entry)) (now (index .entry)) (now (used .entry))) (r - 1) ⌝ }
 {
-    let n = crate::wide(r);
+    let n = crate::width::wide(r);
     let mut i: usize = 0;
     // Each of the first i entries rises to the entry after it.
     while i + 1 < n {

@@ -28,13 +28,7 @@ mod index;
 mod names;
 mod records;
 mod unique;
-
-// A word as an offset.
-fn wide(x: u32) -> usize
-    ensures { λ r. ⌜ (r ≡ x) × (r < 4294967296) ⌝ }
-{
-    x as usize
-}
+mod width;
 
 // Whether the statement records, their chains, counts and live counts are right.
 fn records_ok(resources: &[u32], statements: &[u32], r: u32, t: u32) -> bool
@@ -58,7 +52,7 @@ fn verdict(c: Counters, resources: &[u32], statements: &[u32], index: &[u32], te
     if !table::fits(c, resources, statements, index, text) {
         return false;
     }
-    let end = wide(c.text);
+    let end = width::wide(c.text);
     let used = &text[..end];
     if !names::names_ok(resources, used, c.resources) {
         return false;

@@ -18,7 +18,7 @@ fn name_ok(resources: &[u32], used: &[u8], y: ResourceId, from: usize, end: usiz
     if end == used.len() {
         return false;
     }
-    if crate::wide(table::word::offset_at(resources, y)) != from {
+    if crate::width::wide(table::word::offset_at(resources, y)) != from {
         return false;
     }
     let kind = term::name_kind(&used[from..end]);

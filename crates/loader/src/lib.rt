@@ -17,9 +17,9 @@ pub mod output;
 pub const BUFFER: usize = 8192;
 
 // The loading program's tables: 512 resources, 1,024 statements, 16 KiB of text.
-pub const RESOURCE_TABLE: usize = 512 * table::RESOURCE_WORDS;
+pub const RESOURCE_TABLE: usize = 512 * table::word::RESOURCE_WORDS;
 
-pub const STATEMENT_TABLE: usize = 1024 * table::STATEMENT_WORDS;
+pub const STATEMENT_TABLE: usize = 1024 * table::word::STATEMENT_WORDS;
 
 pub const INDEX_TABLE: usize = 512;
 

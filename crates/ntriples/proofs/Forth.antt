@@ -13,8 +13,8 @@ use Rattle.term.specs.Bytes.{among, iriByte, textByte, pairByte, firstByte, lab
 use Rattle.term.specs.Scanner.{stepOf, runOf, wholeOf, isBad, firstKindOf}
 use Rattle.term.specs.Grammar.{Name}
 use Rattle.term.specs.Grammar as names
-use Rattle.term.specs.declared.Scan.{Scan}
-use Rattle.term.specs.declared.Scan.the-variants.{Start, IriOpen, Iri, Closed, Label, Dot}
+use Rattle.term.specs.declared.production.Scan.{Scan}
+use Rattle.term.specs.declared.production.Scan.the-variants.{Start, IriOpen, Iri, Closed, Label, Dot}
 use Rattle.term.proofs.Booleans.{decide, and-of}
 use Rattle.term.proofs.Places.{same, same-is, bad-only, every-if, leads}
 use Rattle.term.proofs.Names.{Accepts, never, bad, name-forth, name-kind}

@@ -11,9 +11,9 @@ use lib.Seq.{slice}
 use native.Mathlib.Omega.{arith}
 use borrow.Author.Tests.{ltb-true, ltb-false, eqb-true, eqb-false, eq-eqb, lt-ltb, le-ltb}
 use Rattle.term.specs.Scanner.{stepOf, wholeOf, isBad, haltOf}
-use Rattle.term.specs.declared.Scan.{Scan}
-use Rattle.term.specs.declared.Scan.the-variants.{Start}
-use Rattle.term.specs.declared.Halt.{Halt}
+use Rattle.term.specs.declared.production.Scan.{Scan}
+use Rattle.term.specs.declared.production.Scan.the-variants.{Start}
+use Rattle.term.specs.declared.production.Halt.{Halt}
 use Rattle.term.proofs.Booleans.{decide}
 use Rattle.term.proofs.Names.{never}
 use Rattle.term.proofs.Turn.{below-or}

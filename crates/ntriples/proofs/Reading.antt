@@ -13,8 +13,8 @@ use Rattle.term.specs.Bytes.{among, iriByte}
 use Rattle.term.specs.Scanner.{stepOf, wholeOf, isBad}
 use Rattle.term.specs.Grammar.{Name}
 use Rattle.term.specs.Grammar as names
-use Rattle.term.specs.declared.Scan.{Scan}
-use Rattle.term.specs.declared.Scan.the-variants.{Start}
+use Rattle.term.specs.declared.production.Scan.{Scan}
+use Rattle.term.specs.declared.production.Scan.the-variants.{Start}
 use Rattle.term.proofs.Booleans.{decide}
 use Rattle.term.proofs.Names.{never}
 use Rattle.term.proofs.Places.{leads}

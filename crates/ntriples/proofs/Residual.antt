@@ -11,8 +11,8 @@ use native.Mathlib.Omega.{arith}
 use borrow.Author.Tests.{eqb-true}
 use Rattle.term.specs.Bytes.{among, labelByte, All}
 use Rattle.term.specs.Scanner.{stepOf, runOf, wholeOf, isBad, firstKindOf}
-use Rattle.term.specs.declared.Scan.{Scan}
-use Rattle.term.specs.declared.Scan.the-variants.{Start, Label, Dot, Bad}
+use Rattle.term.specs.declared.production.Scan.{Scan}
+use Rattle.term.specs.declared.production.Scan.the-variants.{Start, Label, Dot, Bad}
 use Rattle.term.proofs.Booleans.{decide}
 use Rattle.term.proofs.Places.{same, same-is, leads}
 use Rattle.term.proofs.Names.{Accepts, never, name-back}

@@ -12,8 +12,8 @@ use Rattle.term.specs.Bytes.{among, textByte, pairByte}
 use Rattle.term.specs.Grammar as g
 use Rattle.term.specs.Scanner.{stepOf, runOf, wholeOf, kindOf}
 use Rattle.term.specs.Canonical.{xsdString, stringEnding, writesString, canonical}
-use Rattle.term.specs.declared.Scan.{Scan}
-use Rattle.term.specs.declared.Scan.the-variants.{Start, IriOpen, Under, Text, Escape, Quote, Bad}
+use Rattle.term.specs.declared.production.Scan.{Scan}
+use Rattle.term.specs.declared.production.Scan.the-variants.{Start, IriOpen, Under, Text, Escape, Quote, Bad}
 use Rattle.term.proofs.Names.{never, kinds, name-forth}
 use Rattle.term.proofs.Booleans.{decide, other}
 use Rattle.term.proofs.Lists.{head-same, tail-same, cons-same, no-nil}

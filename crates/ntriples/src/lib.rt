@@ -17,7 +17,7 @@ ghost use Rattle.ntriples.specs.Reader.{readOf};
 ghost use Rattle.ntriples.specs.Productions.{Inline, OnLine, TermAt, NotWhite, Reached, RunEnd, onward, TermEnds};
 ghost use Rattle.ntriples.specs.Productions.{EarlierEnds, ObjectEnds, cutOf, crDropped, Seen, BlockSeen, Passed};
 ghost use Rattle.ntriples.specs.Productions.{EolAt};
-use term::Scan;
+use term::production::Scan;
 
 // A part of the text: the position of its first byte, and the position after its last.
 pub struct Span {

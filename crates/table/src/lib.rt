@@ -23,28 +23,6 @@ ghost use Rattle.store.specs.Reading.{inRange, statementOf, nameSpanOf};
 pub mod triple;
 pub mod word;
 
-pub const RESOURCE_WORDS: usize = 11;
-
-pub const STATEMENT_WORDS: usize = 7;
-
-// Words of a resource record after the three firsts: the three counts, the name's offset, its kind, the three live
-// counts.
-pub const COUNT: usize = 3;
-
-pub const OFFSET: usize = 6;
-
-pub const KIND: usize = 7;
-
-pub const LIVE: usize = 8;
-
-// Words of a statement record after the three resources: the three nexts, the flag.
-pub const NEXT: usize = 3;
-
-pub const FLAG: usize = 6;
-
-// A name of the longest kind and its zero byte.
-pub const NAME_WINDOW: usize = Counters::MAX_NAME as usize + 1;
-
 // Whether no counter exceeds its capacity, nor the reclaims so far their maximum. Every operation of the store
 // refuses 1 where this is false.
 pub fn fits(c: Counters, resources: &[u32], statements: &[u32], index: &[u32], text: &[u8]) -> bool
@@ -56,7 +34,7 @@ pub fn fits(c: Counters, resources: &[u32], statements: &[u32], index: &[u32], t
     if c.resources > Counters::MAX_RESOURCES {
         return false;
     }
-    if RESOURCE_WORDS * r > resources.len() {
+    if word::RESOURCE_WORDS * r > resources.len() {
         return false;
     }
     if r > index.len() {
@@ -65,7 +43,7 @@ pub fn fits(c: Counters, resources: &[u32], statements: &[u32], index: &[u32], t
     if c.statements > Counters::MAX_STATEMENTS {
         return false;
     }
-    if STATEMENT_WORDS * t > statements.len() {
+    if word::STATEMENT_WORDS * t > statements.len() {
         return false;
     }
     if c.text > Counters::MAX_TEXT {

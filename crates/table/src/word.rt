@@ -1,5 +1,6 @@
 // Words of a record at a position in general. Each function asks that its record lies in the table; the operations
 // see to it.
+use store::Counters;
 use store::NameRead;
 use store::Position;
 use store::Refusal;
@@ -14,6 +15,28 @@ ghost use Rattle.store.specs.Tables.{resourceWords, statementWords, off, word, 
 ghost use Rattle.store.specs.Tables.{firstAt, countAt, offsetAt, kindAt, liveAt};
 ghost use Rattle.store.specs.Reading.{nameWindow, zeroFrom, spanTo};
 ghost use Rattle.table.specs.Held.{StatementHeld, ResourceHeld, TripleHeld};
+
+pub const RESOURCE_WORDS: usize = 11;
+
+pub const STATEMENT_WORDS: usize = 7;
+
+// Words of a resource record after the three firsts: the three counts, the name's offset, its kind, the three live
+// counts.
+pub const COUNT: usize = 3;
+
+pub const OFFSET: usize = 6;
+
+pub const KIND: usize = 7;
+
+pub const LIVE: usize = 8;
+
+// Words of a statement record after the three resources: the three nexts, the flag.
+pub const NEXT: usize = 3;
+
+pub const FLAG: usize = 6;
+
+// A name of the longest kind and its zero byte.
+pub const NAME_WINDOW: usize = Counters::MAX_NAME as usize + 1;
 
 // A position's word within a group of three.
 pub fn offset(p: Position) -> usize
@@ -32,7 +55,7 @@ fn statement_word(statements: &[u32], n: StatementId, k: usize) -> u32
     requires { ⌜ k < statementWords ⌝ }
     ensures { λ r. ⌜ r ≡ word (now (statements .entry)) (statementWords * (n .0 - 1) + k) ⌝ }
 {
-    let i = crate::STATEMENT_WORDS * (n.0 as usize - 1) + k;
+    let i = STATEMENT_WORDS * (n.0 as usize - 1) + k;
     statements[i]
 }
 
@@ -42,7 +65,7 @@ fn resource_word(resources: &[u32], y: ResourceId, k: usize) -> u32
     requires { ⌜ k < resourceWords ⌝ }
     ensures { λ r. ⌜ r ≡ word (now (resources .entry)) (resourceWords * (y .0 - 1) + k) ⌝ }
 {
-    let i = crate::RESOURCE_WORDS * (y.0 as usize - 1) + k;
+    let i = RESOURCE_WORDS * (y.0 as usize - 1) + k;
     resources[i]
 }
 
@@ -59,7 +82,7 @@ pub fn next_at(statements: &[u32], n: StatementId, p: Position) -> StatementId
     requires { ⌜ StatementHeld (now statements) (n .0) ⌝ }
     ensures { λ r. ⌜ r .0 ≡ nextAt (now (statements .entry)) p (n .0 - 1) ⌝ }
 {
-    StatementId(statement_word(statements, n, crate::NEXT + offset(p)))
+    StatementId(statement_word(statements, n, NEXT + offset(p)))
 }
 
 // The flag of statement n.
@@ -67,7 +90,7 @@ pub fn flag_at(statements: &[u32], n: StatementId) -> u32
     requires { ⌜ StatementHeld (now statements) (n .0) ⌝ }
     ensures { λ r. ⌜ r ≡ flagAt (now (statements .entry)) (n .0 - 1) ⌝ }
 {
-    statement_word(statements, n, crate::FLAG)
+    statement_word(statements, n, FLAG)
 }
 
 // The three resources of statement n.
@@ -95,7 +118,7 @@ pub fn count_at(resources: &[u32], y: ResourceId, p: Position) -> u32
     requires { ⌜ ResourceHeld (now resources) (y .0) ⌝ }
     ensures { λ r. ⌜ r ≡ countAt (now (resources .entry)) p (y .0) ⌝ }
 {
-    resource_word(resources, y, crate::COUNT + offset(p))
+    resource_word(resources, y, COUNT + offset(p))
 }
 
 // How many live statements hold resource y at a position.
@@ -103,7 +126,7 @@ pub fn live_at(resources: &[u32], y: ResourceId, p: Position) -> u32
     requires { ⌜ ResourceHeld (now resources) (y .0) ⌝ }
     ensures { λ r. ⌜ r ≡ liveAt (now (resources .entry)) p (y .0) ⌝ }
 {
-    resource_word(resources, y, crate::LIVE + offset(p))
+    resource_word(resources, y, LIVE + offset(p))
 }
 
 // Where the name of resource y starts in the text.
@@ -111,7 +134,7 @@ pub fn offset_at(resources: &[u32], y: ResourceId) -> u32
     requires { ⌜ ResourceHeld (now resources) (y .0) ⌝ }
     ensures { λ r. ⌜ r ≡ offsetAt (now (resources .entry)) (y .0) ⌝ }
 {
-    resource_word(resources, y, crate::OFFSET)
+    resource_word(resources, y, OFFSET)
 }
 
 // The kind of resource y.
@@ -119,7 +142,7 @@ pub fn kind_at(resources: &[u32], y: ResourceId) -> u32
     requires { ⌜ ResourceHeld (now resources) (y .0) ⌝ }
     ensures { λ r. ⌜ r ≡ kindAt (now (resources .entry)) (y .0) ⌝ }
 {
-    resource_word(resources, y, crate::KIND)
+    resource_word(resources, y, KIND)
 }
 
 // Whether the subject is no literal and the predicate is an IRI.
@@ -149,7 +172,7 @@ pub fn span_at(text: &[u8], end: u32, from: u32) -> NameRead
     ensures { λ r. ⌜ r ≡ spanTo from (zeroFrom (now (text .entry)) end nameWindow from) ⌝ }
 {
     let start = from as usize;
-    let stop = lesser(start + crate::NAME_WINDOW, end as usize);
+    let stop = lesser(start + NAME_WINDOW, end as usize);
     let mut at = start;
     // No byte from `start` up to `at` is zero.
     while at < stop {

@@ -13,10 +13,10 @@ use Rattle.term.specs.Grammar.{Name}
 use Rattle.term.specs.Scanner.{stepOf, runOf, wholeOf, isBad, haltOf, firstKindOf, longestOf}
 use Rattle.term.specs.Halting.{Begins, HaltIsFirstBreak, BeginningHasOneKind, LongestIsLongest, LongestEndsByHalt}
 use Rattle.term.specs.Halting.{WholeAtHalt, WholeBeforeDot}
-use Rattle.term.specs.declared.Scan.{Scan}
-use Rattle.term.specs.declared.Halt.{Halt}
-use Rattle.term.specs.declared.Scan.the-variants.{Start, IriOpen, Iri, Closed, Under, Colon, Label, Dot, Dots}
-use Rattle.term.specs.declared.Scan.the-variants.{Text, Escape, Quote, At, Tag, Hyphen, Group, Caret, Carets, Bad}
+use Rattle.term.specs.declared.production.Scan.{Scan}
+use Rattle.term.specs.declared.production.Halt.{Halt}
+use Rattle.term.specs.declared.production.Scan.the-variants.{Start, IriOpen, Iri, Closed, Under, Colon, Label, Dot, Dots}
+use Rattle.term.specs.declared.production.Scan.the-variants.{Text, Escape, Quote, At, Tag, Hyphen, Group, Caret, Carets, Bad}
 use Rattle.term.proofs.Booleans.{decide}
 use Rattle.term.proofs.Lists.{head-same, no-nil}
 use Rattle.term.proofs.Places.{same, bad-only, every-if, leads}

@@ -8,9 +8,9 @@ use lib.ListN.{length, getD}
 use native.Mathlib.Omega.{arith}
 use borrow.Author.Tests.{lt-leb, le-leb}
 use Rattle.term.specs.Scanner.{stepOf, runOf, isBad, haltOf, wholeOf, firstKindOf, kindOf}
-use Rattle.term.specs.declared.Scan.{Scan}
-use Rattle.term.specs.declared.Halt.{Halt}
-use Rattle.term.specs.declared.Scan.the-variants.{Start, Bad}
+use Rattle.term.specs.declared.production.Scan.{Scan}
+use Rattle.term.specs.declared.production.Halt.{Halt}
+use Rattle.term.specs.declared.production.Scan.the-variants.{Start, Bad}
 use Rattle.term.proofs.Places.{bad-only}
 
 -- nothing leads on from Bad

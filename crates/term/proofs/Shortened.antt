@@ -13,8 +13,8 @@ use Rattle.term.specs.Bytes.{among, iriByte, textByte, pairByte, firstBy
 use Rattle.term.specs.Scanner.{stepOf, runOf, wholeOf, firstKindOf, kindOf}
 use Rattle.term.specs.Canonical.{stringEnding, endingBytes, writesString, canonical}
 use Rattle.term.specs.Theorems.{CanonicalDrops, CanonicalKeeps, Canonical, CanonicalName}
-use Rattle.term.specs.declared.Scan.{Scan}
-use Rattle.term.specs.declared.Scan.the-variants.{Start, IriOpen, Under, Text, Escape, Quote, Bad}
+use Rattle.term.specs.declared.production.Scan.{Scan}
+use Rattle.term.specs.declared.production.Scan.the-variants.{Start, IriOpen, Under, Text, Escape, Quote, Bad}
 use Rattle.term.proofs.Booleans.{decide, and-l, and-r, eqBytes-is, eqBytes-refl}
 use Rattle.term.proofs.Places.{same, same-is, every, every-if, leads}
 use Rattle.term.proofs.Names.{Accepts, never}

@@ -11,8 +11,8 @@ use Rattle.term.specs.Grammar as g
 use Rattle.term.specs.Scanner.{stepOf, runOf, wholeOf, firstKindOf, kindOf, numberOf, refusalOf}
 use Rattle.term.specs.Theorems.{KindIsWellFormed, RefusedIsMalformed}
 use Rattle.term.specs.Halting.{KindAtMostThree, clean, NameIsClean, NameHasTwoBytes}
-use Rattle.term.specs.declared.Scan.{Scan}
-use Rattle.term.specs.declared.Scan.the-variants.{Start, IriOpen, Under, Text}
+use Rattle.term.specs.declared.production.Scan.{Scan}
+use Rattle.term.specs.declared.production.Scan.the-variants.{Start, IriOpen, Under, Text}
 use Rattle.term.specs.declared.NameKind.the-variants.{Iri, Blank, Literal, Malformed}
 use Rattle.term.proofs.Names.{Accepts, never, bad, case, case-or-bad, name-forth, kinds}
 use Rattle.term.proofs.Turn.{no-zero}

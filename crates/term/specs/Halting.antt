@@ -4,8 +4,8 @@
 use Rattle.term.specs.Prelude.{ℕ, zero, suc, _+_, _≤_, _≡_, List, [], _∷_, _++_, Bool, true, false, _⊎_, _↔_, length, take}
 use Rattle.term.specs.Grammar.{Name}
 use Rattle.term.specs.Scanner.{runOf, wholeOf, firstKindOf, kindOf, haltOf, longestOf}
-use Rattle.term.specs.declared.Halt.{Halt}
-use Rattle.term.specs.declared.Scan.the-variants.{Start, Dot}
+use Rattle.term.specs.declared.production.Halt.{Halt}
+use Rattle.term.specs.declared.production.Scan.the-variants.{Start, Dot}
 
 -- some name begins with p
 pub record Begins (p : List ℕ) : Type 0 where

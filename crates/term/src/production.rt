@@ -3,9 +3,37 @@
 ghost use mathlib.Core.Path.{_≡_};
 ghost use lib.ListN.{drop};
 ghost use Rattle.term.specs.Scanner.{haltOf, labelPlaceOf};
-ghost use Rattle.term.specs.declared.Scan.the-variants.{Start, IriOpen, Under, Text, Quote, At, Hyphen, Caret};
-use crate::Halt;
-use crate::Scan;
+ghost use Rattle.term.specs.declared.production.Scan.the-variants.{Start, IriOpen, Under, Text, Quote, At, Hyphen, Caret};
+
+// The place in a name where a scan stands, by what it read last. `Bad`: no name begins with what was read.
+pub enum Scan {
+    Start,
+    IriOpen,
+    Iri,
+    Closed,
+    Under,
+    Colon,
+    Label,
+    Dot,
+    Dots,
+    Text,
+    Escape,
+    Quote,
+    At,
+    Tag,
+    Hyphen,
+    Group,
+    Caret,
+    Carets,
+    Bad,
+}
+
+// Where a scan halts: the place, and the offset of the first byte that it did not take.
+pub struct Halt {
+    pub state: Scan,
+    pub at: usize,
+}
+
 use crate::class::byte_at;
 use crate::class::is_alnum;
 use crate::class::is_iri_byte;

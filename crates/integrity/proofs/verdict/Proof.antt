@@ -15,7 +15,7 @@ use Rattle.integrity.proofs.verdict.Lts as lts
 use Rattle.integrity.proofs.index.index_ok.Reads as index-ok-reads
 use Rattle.integrity.proofs.names.names_ok.Reads as names-ok-reads
 use Rattle.integrity.proofs.records_ok.Reads as records-ok-reads
-use Rattle.integrity.proofs.wide.Reads as wide-reads
+use Rattle.integrity.proofs.width.wide.Reads as wide-reads
 use Rattle.table.proofs.fits.Reads as fits-reads
 
 fits-requires : tie.Need-fits-requires

@@ -10,7 +10,7 @@ use Rattle.integrity.proofs.chains.chains_sound.Tie as tie
 use Rattle.integrity.proofs.chains.chains_sound.Reads as reads
 use Rattle.integrity.proofs.chains.chains_sound.Lts as lts
 use Rattle.integrity.proofs.chains.chain_sound.Reads as chain-sound-reads
-use Rattle.integrity.proofs.wide.Reads as wide-reads
+use Rattle.integrity.proofs.width.wide.Reads as wide-reads
 use Rattle.table.proofs.word.count_at.Reads as count-at-reads
 
 abbrev Inv-loop : tie.InvT-loop

@@ -10,7 +10,7 @@ use Rattle.integrity.proofs.index.entries_ok.Tie as tie
 use Rattle.integrity.proofs.index.entries_ok.Reads as reads
 use Rattle.integrity.proofs.index.entries_ok.Lts as lts
 use Rattle.table.proofs.in_range.Reads as in-range-reads
-use Rattle.integrity.proofs.wide.Reads as wide-reads
+use Rattle.integrity.proofs.width.wide.Reads as wide-reads
 
 abbrev Inv-loop : tie.InvT-loop
 Inv-loop index r n i₀ i = PassSoFar (entryOk r index) r i

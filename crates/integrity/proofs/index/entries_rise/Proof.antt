@@ -10,7 +10,7 @@ use Rattle.integrity.proofs.index.entries_rise.Tie as tie
 use Rattle.integrity.proofs.index.entries_rise.Reads as reads
 use Rattle.integrity.proofs.index.entries_rise.Lts as lts
 use Rattle.integrity.proofs.index.neighbours_rise.Reads as neighbours-rise-reads
-use Rattle.integrity.proofs.wide.Reads as wide-reads
+use Rattle.integrity.proofs.width.wide.Reads as wide-reads
 
 abbrev Inv-loop : tie.InvT-loop
 Inv-loop resources index used r n i₀ i = PassSoFar (neighboursRise resources index used) (r - 1) i

@@ -10,7 +10,7 @@ use Rattle.integrity.proofs.index.neighbours_rise.Tie as tie
 use Rattle.integrity.proofs.index.neighbours_rise.Reads as reads
 use Rattle.integrity.proofs.index.neighbours_rise.Lts as lts
 use Rattle.integrity.proofs.index.name_less.Reads as name-less-reads
-use Rattle.integrity.proofs.wide.Reads as wide-reads
+use Rattle.integrity.proofs.width.wide.Reads as wide-reads
 use Rattle.table.proofs.word.offset_at.Reads as offset-at-reads
 
 mul-wide : tie.Need-mul-wide

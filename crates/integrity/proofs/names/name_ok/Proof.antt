@@ -9,7 +9,7 @@ use Rattle.integrity.proofs.names.name_ok.Statement.{statement}
 use Rattle.integrity.proofs.names.name_ok.Tie as tie
 use Rattle.integrity.proofs.names.name_ok.Reads as reads
 use Rattle.integrity.proofs.names.name_ok.Lts as lts
-use Rattle.integrity.proofs.wide.Reads as wide-reads
+use Rattle.integrity.proofs.width.wide.Reads as wide-reads
 use Rattle.table.proofs.word.kind_at.Reads as kind-at-reads
 use Rattle.table.proofs.word.offset_at.Reads as offset-at-reads
 use Rattle.term.proofs.name_kind.Reads as name-kind-reads

@@ -9,7 +9,7 @@ use borrow.Author.Tests.{not-true, not-false}
 use Rattle.term.specs.Bytes.{firstByte, labelByte, letter, alnum}
 use Rattle.term.specs.Spelling.{labelOrDot}
 use Rattle.term.specs.Scanner.{stepOf, isBad}
-use Rattle.term.specs.declared.Scan.the-variants.{Under, Colon}
+use Rattle.term.specs.declared.production.Scan.the-variants.{Under, Colon}
 use Rattle.term.proofs.Turn.{seen, unlike, inside, inside-byte, Comes, comes-here, comes-by, comes-stop, LabelAt}
 use Rattle.term.proofs.Turn.{label-start, label-turn, label-end}
 use borrow.Author.Needs.{needs}

@@ -4,7 +4,7 @@ use mathlib.Core.Path.{_≡_, refl, sym, _∙_}
 use lib.ListN.{length, getD}
 use native.Mathlib.Omega.{arith}
 use Rattle.term.specs.Scanner.{stepOf, isBad}
-use Rattle.term.specs.declared.Scan.the-variants.{Caret, Carets}
+use Rattle.term.specs.declared.production.Scan.the-variants.{Caret, Carets}
 use Rattle.term.proofs.Turn.{unlike, inside-byte, Comes, comes-here, comes-by, comes-to, comes-stop, comes-end}
 use borrow.Author.Needs.{needs}
 use Rattle.term.proofs.production.datatype.Statement.{statement}

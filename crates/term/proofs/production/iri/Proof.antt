@@ -8,8 +8,8 @@ use native.Mathlib.Omega.{arith}
 use borrow.Author.Tests.{ne-eqb}
 use Rattle.term.specs.Bytes.{iriByte, among}
 use Rattle.term.specs.Scanner.{stepOf, isBad, haltOf}
-use Rattle.term.specs.declared.Scan.{Scan}
-use Rattle.term.specs.declared.Scan.the-variants.{IriOpen, Iri, Closed}
+use Rattle.term.specs.declared.production.Scan.{Scan}
+use Rattle.term.specs.declared.production.Scan.the-variants.{IriOpen, Iri, Closed}
 use Rattle.term.proofs.Turn.{seen, unlike, inside, inside-byte, Comes, comes-here, comes-on, comes-stop, IriAt}
 use Rattle.term.proofs.Turn.{iri-start, iri-turn}
 use borrow.Author.Needs.{needs}

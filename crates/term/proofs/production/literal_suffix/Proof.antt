@@ -5,8 +5,8 @@ use mathlib.Core.Bool.{false}
 use lib.ListN.{length}
 use native.Mathlib.Omega.{arith}
 use Rattle.term.specs.Scanner.{stepOf, isBad}
-use Rattle.term.specs.declared.Scan.{Scan}
-use Rattle.term.specs.declared.Scan.the-variants.{Quote}
+use Rattle.term.specs.declared.production.Scan.{Scan}
+use Rattle.term.specs.declared.production.Scan.the-variants.{Quote}
 use Rattle.term.proofs.Turn.{unlike, inside-byte, Comes, comes-here, comes-by, comes-stop, comes-end}
 use borrow.Author.Needs.{needs}
 use Rattle.term.proofs.production.literal_suffix.Statement.{statement}
