@@ -8,7 +8,8 @@ use lib.ListN.{length, drop}
 use Rattle.term.specs.Canonical.{canonical}
 use Rattle.term.specs.Scanner.{stepOf, wholeOf, isBad, firstKindOf}
 use Rattle.term.specs.declared.production.Scan.{Scan}
-use Rattle.term.specs.declared.production.Scan.the-variants.{Start, IriOpen, Iri, Closed, Under, Colon, Label, Dot, Dots, Text, Escape, Quote, At, Tag}
+use Rattle.term.specs.declared.production.Scan.the-variants.{Start, IriOpen, Iri, Closed, Under, Colon, Label, Dot}
+use Rattle.term.specs.declared.production.Scan.the-variants.{Dots, Text, Escape, Quote, At, Tag}
 use Rattle.term.specs.declared.production.Scan.the-variants.{Hyphen, Group, Caret, Carets, Bad}
 use Rattle.ntriples.specs.declared.Span.{Span}
 use Rattle.ntriples.specs.declared.Line.{Line}
