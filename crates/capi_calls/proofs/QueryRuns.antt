@@ -8,7 +8,8 @@ use Prim.Native.Nat.{ℕ, suc, _+_, _-_}
 use lib.ListN.{replicate}
 use Rattle.store.specs.declared.Chain.the-variants.{All, By}
 use Rattle.store.specs.declared.Position.the-variants.{Object}
-use Rattle.store.specs.Shared.{known, better, pick, allBelow}
+use Rattle.store.specs.Shared.{known, better, pick}
+use Rattle.store.specs.Lists.{allBelow}
 use Rattle.store.specs.Tables.{Tables, tables, fits, termAt, nextAt, flagAt, tripleAt, firstAt, countAt}
 use Rattle.store.specs.Walk.{pickChain, pickable, startOf, linkOf, holdsResource, visitable}
 use Rattle.store.specs.Scan.{chainOk, recordOk}

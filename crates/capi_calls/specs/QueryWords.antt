@@ -22,7 +22,7 @@ use Rattle.graph.specs.Query.{refused, packed, openQueryOf, nextQueryOf}
 use Rattle.graph.specs.Place.{level, noLevel}
 use Rattle.graph.specs.Words.{maxPatterns, variables, Bindings, boundTo}
 use Rattle.graph.specs.Values.{queryValues}
-use Rattle.store.specs.Shared.{allBelow}
+use Rattle.store.specs.Lists.{allBelow}
 use Rattle.capi_calls.specs.Words.{chainOf, chainWord}
 
 -- ---- how many words; both follow from the limits of `graph`

@@ -11,7 +11,7 @@ use Rattle.graph.specs.declared.Level.{Level}
 use Rattle.graph.specs.Place.{level, noLevel}
 use Rattle.graph.specs.Words.{maxPatterns, variables, Bindings, boundTo}
 use Rattle.capi_calls.specs.Words.{chainOf, chainWord}
-use Rattle.store.specs.Shared.{allBelow}
+use Rattle.store.specs.Lists.{allBelow}
 use Rattle.capi_calls.specs.QueryWords.{levelAt, levelsFrom, chainSpelt, slotsOf, spelt}
 use Rattle.capi_calls.specs.QueryWords.{levelWords, numbersFrom}
 

@@ -26,7 +26,7 @@ ghost use lib.ListN.{length};
 ghost use lib.Seq.{sets};
 ghost use Rattle.graph.specs.Words.{maxPatterns, variables};
 ghost use Rattle.graph.specs.Values.{openingRefusal, stepRefusal, stepStatus};
-ghost use Rattle.store.specs.Shared.{allBelow};
+ghost use Rattle.store.specs.Lists.{allBelow};
 ghost use Rattle.capi_calls.specs.QueryWords.{queryCursorWords, queryReplyWords, progressOf, progressWord, levelsFrom};
 ghost use Rattle.capi_calls.specs.QueryWords.{queryCursorOf, chainSpelt, slotsOf, spelt, levelWords, withQueryCursor};
 ghost use Rattle.capi_calls.specs.QueryWords.{numbersFrom, withQueryAnswer};

@@ -11,7 +11,8 @@ use lib.Seq.{getD-set-same, getD-set-other}
 use lib.Dec.{eqb, leb, ltb}
 use borrow.Author.Tests.{eqb-true, eqb-false, eq-eqb, ne-eqb, leb-true, ltb-true, le-leb, lt-ltb}
 use Rattle.store.specs.declared.Refusal.the-variants.{Damaged}
-use Rattle.store.specs.Shared.{known, prev, isSome}
+use Rattle.store.specs.Shared.{known, prev}
+use Rattle.store.specs.Lists.{isSome}
 use Rattle.store.specs.Scan.{chainOk, recordOk}
 use Rattle.store.proofs.Tests.{decide, and-l, and-r, and-of, cond-all}
 use Rattle.graph.specs.declared.QueryPattern.{QueryPattern}

@@ -31,7 +31,7 @@ use Rattle.graph.specs.Query.{placeOk, enter, walk, begun, resume, answe
 use Rattle.graph.specs.Query.{nextQueryOf}
 use Rattle.graph.specs.Values.{QueryValues, queryOpenedValues, queryValues}
 use Rattle.graph.specs.Order.{numbersOn, atOrAfter, onwardsOf}
-use Rattle.store.specs.Shared.{keep}
+use Rattle.store.specs.Lists.{keep}
 use Rattle.graph.specs.Claims.{statementNumbers, accepted, onwardsFrom, Answers, NextClaim}
 use Rattle.graph.specs.Claims.{KeptClaim, ReclaimedClaim, moreVisits, SplitClaim}
 use Rattle.graph.proofs.Laws.{Shallow, place-cursor, place-tests, walk-ended, walk-bad, walk-go, walk-whole}

@@ -15,7 +15,8 @@ use borrow.Author.Tests.{eqb-true, eqb-false, eq-eqb, ne-eqb, le-leb, lt-ltb, le
 use Rattle.store.specs.declared.Chain.{Chain}
 use Rattle.store.specs.declared.Chain.the-variants.{All, By}
 use Rattle.store.specs.declared.Triple.{Triple}
-use Rattle.store.specs.Shared.{at, prev, Entry, keep}
+use Rattle.store.specs.Shared.{at, prev, Entry}
+use Rattle.store.specs.Lists.{keep}
 use Rattle.store.specs.Tables.{tripleAt, termAt, flagAt}
 use Rattle.store.specs.Model.{onChain}
 use Rattle.store.specs.Walk.{entryAt, linkOf, holdsResource}

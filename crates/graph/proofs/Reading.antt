@@ -11,7 +11,8 @@ use lib.Dec.{eqb}
 use borrow.Author.Tests.{eqb-true, eqb-false, le-leb}
 use Rattle.store.specs.declared.Chain.{Chain}
 use Rattle.store.specs.declared.Triple.{Triple}
-use Rattle.store.specs.Shared.{known, prev, Entry, isSome}
+use Rattle.store.specs.Shared.{known, prev, Entry}
+use Rattle.store.specs.Lists.{isSome}
 use Rattle.store.specs.Tables.{flagAt}
 use Rattle.store.specs.Walk.{entryAt, pickChain}
 use Rattle.store.specs.Scan.{recordOk}

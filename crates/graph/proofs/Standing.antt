@@ -15,7 +15,8 @@ use Rattle.store.specs.declared.Counters.{Counters}
 use Rattle.store.specs.declared.Position.{Position}
 use Rattle.store.specs.declared.Position.the-variants.{Subject, Predicate, Object}
 use Rattle.store.specs.declared.Triple.{Triple}
-use Rattle.store.specs.Shared.{at, isSome}
+use Rattle.store.specs.Shared.{at}
+use Rattle.store.specs.Lists.{isSome}
 use Rattle.store.specs.Tables.{Tables, fits}
 use Rattle.store.specs.Scan.{chainOk}
 use Rattle.store.specs.RefusalClaims.{ChainStands}

@@ -2,7 +2,8 @@
 -- number a pattern, the first difference decides, higher numbers first. Assumes nothing.
 use Rattle.store.specs.Prelude.{_≡_, _⊎_, Bool, true, _&&_, _||_, List, [], _∷_, List·Memᴰ, ℕ, _<_, eqb, ltb}
 use Rattle.graph.specs.Prelude.{Triple, QueryPattern, Level}
-use Rattle.store.specs.Shared.{same, below, head0, keep}
+use Rattle.store.specs.Shared.{same, below, head0}
+use Rattle.store.specs.Lists.{keep}
 use Rattle.store.specs.Tables.{tripleAt}
 use Rattle.graph.specs.Place.{Place, start, inside, finish}
 use Rattle.graph.specs.Words.{Bindings, under}

@@ -5,7 +5,8 @@ use Rattle.store.specs.Prelude.{getD, set, eqb, leb, ltb}
 use Rattle.graph.specs.Prelude.{Counters, Triple, Refusal, Capacity, BadCursor, NoBudget, BadQuery, Damaged, StaleCursor}
 use Rattle.graph.specs.Prelude.{QueryPattern, Level, QueryCursor, QueryOpening, Opened, NotOpened, QueryOpened, QueryStep, Found}
 use Rattle.graph.specs.Prelude.{Ended, Spent, NotAnswered, QueryAnswer}
-use Rattle.store.specs.Shared.{unless, known, isSome, prev}
+use Rattle.store.specs.Shared.{unless, known, prev}
+use Rattle.store.specs.Lists.{isSome}
 use Rattle.store.specs.Tables.{Tables, fits, tripleAt, flagAt}
 use Rattle.store.specs.Walk.{pickChain, pickable, startOf, linkOf, visitable}
 use Rattle.store.specs.Scan.{chainOk, recordOk}

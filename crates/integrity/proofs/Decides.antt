@@ -12,7 +12,8 @@ use lib.Dec.{eqb, leb}
 use borrow.Author.Tests.{eqb-true, eq-eqb, leb-true, le-leb}
 use Rattle.store.specs.declared.Counters.{Counters}
 use Rattle.store.specs.declared.Position.{Position}
-use Rattle.store.specs.Shared.{at, all3, known, kindsPermitted, freshCounters, nameOf, allBelow}
+use Rattle.store.specs.Shared.{at, all3, known, kindsPermitted, freshCounters, nameOf}
+use Rattle.store.specs.Lists.{allBelow}
 use Rattle.store.specs.Tables.{Tables, fits, resourceWords, statementWords, nextAt, flagAt, tripleAt, firstAt, countAt}
 use Rattle.store.specs.Tables.{kindAt, liveAt}
 use Rattle.store.specs.Names.{Named, Indexed}

@@ -10,7 +10,8 @@ use native.Mathlib.Omega.{arith}
 use borrow.Author.Tests.{eq-eqb, le-leb, not-true}
 use Rattle.store.specs.declared.Position.{Position}
 use Rattle.store.specs.declared.Triple.{Triple}
-use Rattle.store.specs.Shared.{at, same, below, head0, allBelow, isSome}
+use Rattle.store.specs.Shared.{at, same, below, head0}
+use Rattle.store.specs.Lists.{allBelow, isSome}
 use Rattle.store.specs.Tables.{termAt, nextAt, tripleAt}
 use Rattle.store.specs.Soundness.{holding, Linked}
 use Rattle.store.proofs.Tests.{decide, same-self, same-is}

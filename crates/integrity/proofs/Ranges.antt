@@ -10,7 +10,8 @@ use native.Mathlib.Numerals.{add-one}
 use lib.ListN.{length}
 use lib.Dec.{eqb}
 use borrow.Author.Tests.{eqb-true, eqb-false, ne-eqb}
-use Rattle.store.specs.Shared.{below, allBelow}
+use Rattle.store.specs.Shared.{below}
+use Rattle.store.specs.Lists.{allBelow}
 use Rattle.store.proofs.Tests.{decide, and-l, and-r, and-of}
 use Rattle.store.proofs.Falling.{length-suc}
 use Rattle.table.proofs.Branches.{passed, failed}

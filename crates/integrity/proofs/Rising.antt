@@ -13,7 +13,7 @@ use Rattle.store.specs.Reading.{inRange}
 use Rattle.store.specs.Names.{less, compareBytes, isLess, Indexed}
 use Rattle.store.proofs.Tests.{and-l, and-r, and-of}
 use Rattle.store.proofs.Order.{compare-trans, is-less}
-use Rattle.store.specs.Shared.{allBelow}
+use Rattle.store.specs.Lists.{allBelow}
 use Rattle.table.specs.Held.{ResourceHeld}
 use Rattle.integrity.specs.Held.{ResourcesHeld}
 use Rattle.integrity.specs.Names.{nameFrom}

@@ -13,7 +13,8 @@ use borrow.Author.Tests.{eq-eqb, ne-eqb, le-leb, lt-leb, lt-ltb, le-ltb}
 use Rattle.store.specs.declared.Position.{Position}
 use Rattle.store.specs.declared.Position.the-variants.{Subject, Predicate, Object}
 use Rattle.store.specs.declared.Triple.{Triple}
-use Rattle.store.specs.Shared.{at, same, allBelow, isSome}
+use Rattle.store.specs.Shared.{at, same}
+use Rattle.store.specs.Lists.{allBelow, isSome}
 use Rattle.store.specs.Tables.{termAt, nextAt, tripleAt, firstAt, countAt, liveAt}
 use Rattle.store.specs.Soundness.{holding, isLive}
 use Rattle.integrity.specs.Tests.{sumTo, chainLength, chainLive, oneMore}

@@ -8,7 +8,7 @@ use lib.ListN.{length}
 use Rattle.store.specs.Tables.{word, offsetAt}
 use Rattle.store.specs.Reading.{inRange}
 use Rattle.store.specs.Names.{compareBytes, isLess}
-use Rattle.store.specs.Shared.{allBelow}
+use Rattle.store.specs.Lists.{allBelow}
 use Rattle.integrity.specs.Names.{nameFrom}
 
 unfoldable pub entryOk : ℕ → List ℕ → ℕ → Bool

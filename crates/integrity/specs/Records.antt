@@ -7,7 +7,8 @@ use lib.Dec.{eqb, leb, ltb}
 use Rattle.store.specs.declared.Position.{Position}
 use Rattle.store.specs.declared.Position.the-variants.{Subject, Predicate, Object}
 use Rattle.store.specs.declared.Triple.{Triple}
-use Rattle.store.specs.Shared.{at, all3, known, same, kindsPermitted, allBelow, isSome}
+use Rattle.store.specs.Shared.{at, all3, known, same, kindsPermitted}
+use Rattle.store.specs.Lists.{allBelow, isSome}
 use Rattle.store.specs.Tables.{nextAt, flagAt, tripleAt, firstAt, countAt, kindAt, liveAt}
 use Rattle.store.specs.Soundness.{holding, isLive}
 use Rattle.integrity.specs.Tests.{sumTo, chainLength, chainLive, isCount}

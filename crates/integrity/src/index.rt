@@ -6,7 +6,7 @@ ghost use mathlib.Core.Path.{_≡_};
 ghost use Prim.Native.Nat.{_+_, _-_, _≤_, _<_};
 ghost use lib.ListN.{length};
 ghost use Rattle.integrity.specs.Held.{ResourcesHeld};
-ghost use Rattle.store.specs.Shared.{allBelow};
+ghost use Rattle.store.specs.Lists.{allBelow};
 ghost use Rattle.integrity.specs.Index.{entryOk, EntriesKnown, nameLess, neighboursRise, indexOk};
 
 // Whether the name from a on is less than the name from b on. A zero byte is less than any byte of a name, so a prefix

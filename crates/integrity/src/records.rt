@@ -2,7 +2,7 @@
 use store::StatementId;
 ghost use mathlib.Core.Path.{_≡_};
 ghost use Prim.Native.Nat.{_-_, _≤_, _<_};
-ghost use Rattle.store.specs.Shared.{allBelow};
+ghost use Rattle.store.specs.Lists.{allBelow};
 ghost use Rattle.integrity.specs.Held.{ResourcesHeld, StatementsHeld};
 ghost use Rattle.integrity.specs.Records.{recordOk};
 

@@ -6,7 +6,8 @@ use mathlib.Core.List.{List}
 use Prim.Native.Nat.{ℕ, _-_}
 use lib.Dec.{leb, ltb}
 use Rattle.store.specs.declared.Triple.{Triple}
-use Rattle.store.specs.Shared.{known, isSome}
+use Rattle.store.specs.Shared.{known}
+use Rattle.store.specs.Lists.{isSome}
 use Rattle.store.specs.Scan.{chainOk, recordOk}
 use Rattle.graph.specs.declared.QueryPattern.{QueryPattern}
 use Rattle.graph.specs.declared.Solution.{Solution}

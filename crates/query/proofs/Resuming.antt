@@ -13,7 +13,8 @@ use borrow.Author.Tests.{eqb-true, eqb-false, eq-eqb, ne-eqb, ltb-true, ltb-fals
 use Rattle.store.specs.declared.Refusal.the-variants.{Damaged as Nine}
 use Rattle.store.specs.declared.Counters.{Counters}
 use Rattle.store.specs.declared.Triple.{Triple}
-use Rattle.store.specs.Shared.{known, isSome}
+use Rattle.store.specs.Shared.{known}
+use Rattle.store.specs.Lists.{isSome}
 use Rattle.store.specs.Tables.{Tables, fits, statementWords, flagAt}
 use Rattle.store.specs.Scan.{chainOk}
 use Rattle.graph.specs.declared.QueryPattern.{QueryPattern}

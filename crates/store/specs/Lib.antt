@@ -1,5 +1,6 @@
 pub mod Prelude
 pub mod Shared
+pub mod Lists
 pub mod Tables
 pub mod Values
 pub mod Model

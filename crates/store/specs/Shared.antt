@@ -1,8 +1,8 @@
 -- What the plain lists and the tables' definitions share: limits, refusals in their order, triples of numbers at a
 -- position in general, listed triples, the position picked, names, and the falling positions of a list's entries that
 -- pass a test. What its tests and searches mean is pinned in `Pins`. Assumes nothing.
-use Rattle.store.specs.Prelude.{Bool, true, false, cond, not, _&&_, _||_, List, [], _∷_, ℕ, zero, suc, _+_, _-_, length, getD, eqb}
-use Rattle.store.specs.Prelude.{leb, ltb, Counters, Position, Subject, Predicate, Object, Chain, All, By, Triple, Option, none, some}
+use Rattle.store.specs.Prelude.{Bool, cond, not, _&&_, _||_, List, [], _∷_, ℕ, zero, suc, _+_, _-_, length, getD, eqb}
+use Rattle.store.specs.Prelude.{leb, ltb, Counters, Position, Subject, Predicate, Object, Chain, All, By, Triple}
 use Rattle.term.specs.Bytes.{eqBytes}
 use Rattle.term.specs.Grammar.{nameLimit}
 use Rattle.term.specs.Scanner.{kindOf}
@@ -82,23 +82,6 @@ better x cost q (By p) = cond (eqb (at q x) 0) (By p) (cond (ltb (cost q) (cost 
 -- the bound position of least cost, ties to subject, then predicate, then object; All if nothing is bound
 unfoldable pub pick : Triple → (Position → ℕ) → Chain
 pick x cost = better x cost Object (better x cost Predicate (better x cost Subject All))
-
--- ---- tests of a range, of a list and of an option
-
--- a test of 0 .. n - 1
-unfoldable pub allBelow : (ℕ → Bool) → ℕ → Bool
-allBelow f zero = true
-allBelow f (suc n) = f n && allBelow f n
-
--- what passes a test, in order
-unfoldable pub keep : {A : Type 0} → (A → Bool) → List A → List A
-keep f [] = []
-keep f (x ∷ xs) = cond (f x) (x ∷ keep f xs) (keep f xs)
-
--- there is a value
-abbrev pub isSome : {A : Type 0} → Option A → Bool
-isSome none = false
-isSome (some a) = true
 
 -- ---- falling positions
 
