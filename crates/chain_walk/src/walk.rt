@@ -1,14 +1,18 @@
-// What a visit of a record tests, and the walk along a chain (paper 01, "9 in a chain step").
+// What a visit of a record tests, and the walks along a chain (paper 01, "9 in a chain step"; 02, note 3).
 //
-// Assert, retract and the scan take the same visit and the same walk; `Sought` says what ends the walk. Each function
+// Every visit makes the same tests, `test_record`. A scan walks within a budget and counts its visits, `walk`; assert
+// and retract seek one record, `seek`; both work out their plan first. The query visits record by record. Each function
 // asks that the records it reads lie in the statement table, and nothing of what they hold: a word out of range is an
 // answer.
+use crate::plan::Plan;
+use crate::plan::agrees_by;
+use crate::plan::resource_of;
 use store::Chain;
+use store::ResourceId;
 use store::StatementId;
 use store::Triple;
 use table::known;
 use table::triple::agrees;
-use table::triple::at;
 use table::triple::same;
 use table::word::flag_at;
 use table::word::next_at;
@@ -18,16 +22,31 @@ ghost use mathlib.Core.Path.{_≡_};
 ghost use Prim.Native.Nat.{_-_, _*_, _≤_};
 ghost use lib.ListN.{length};
 ghost use Rattle.store.specs.Tables.{statementWords};
-ghost use Rattle.store.specs.Walk.{linkOf, holdsResource, visitable, walk};
+ghost use Rattle.store.specs.Walk.{linkOf, visitable, walk};
 ghost use Rattle.store.specs.Scan.{recordOk};
 ghost use Rattle.table.specs.Held.{StatementHeld};
-ghost use Rattle.chain_walk.specs.Walks.{hits, visitOf, stepOf};
+ghost use Rattle.chain_walk.specs.declared.walk.Sought.the-variants.{Same};
+ghost use Rattle.chain_walk.specs.Plans.{planOf, agreesBy};
+ghost use Rattle.chain_walk.specs.Walks.{recordHas, followOf, testedOf, hitsIn, hitsBy, hits, visitOf, stepOf, seenOf, locatedIn};
 
 // What a walk seeks: the record with the pattern's three numbers, retracted or not, or the first live match of a
 // pattern.
 pub enum Sought {
     Same,
     LiveMatch,
+}
+
+// Where a record's chain leads: nowhere, since the record is not of the chain or its next does not fall; or the next
+// record.
+pub enum Followed {
+    Broken,
+    To(StatementId),
+}
+
+// What the tests of a record give: it is damaged; or the next record on the chain, its three resources and its flag.
+pub enum Tested {
+    Damaged,
+    Is(StatementId, Triple, u32),
 }
 
 // What a visit finds: a damaged record, what is sought, or another record; with the next record on the chain.
@@ -46,6 +65,12 @@ pub enum Walked {
     Damaged,
 }
 
+// What seeking a record comes to: its number, 0 for none; or a damaged record.
+pub enum Seen {
+    At(StatementId),
+    Damaged,
+}
+
 // The record after n on a chain.
 pub fn link_of(statements: &[u32], chain: Chain, n: StatementId) -> StatementId
     requires { ⌜ StatementHeld (now statements) (n .0) ⌝ }
@@ -57,31 +82,56 @@ pub fn link_of(statements: &[u32], chain: Chain, n: StatementId) -> StatementId
     }
 }
 
-// Whether record n has the chain's resource at the chain's position.
-pub fn holds_resource(statements: &[u32], chain: Chain, x: Triple, n: StatementId) -> bool
+// The record after n on the chain of resource y, if n is on that chain and the next falls.
+fn follow(statements: &[u32], chain: Chain, y: ResourceId, n: StatementId) -> Followed
     requires { ⌜ StatementHeld (now statements) (n .0) ⌝ }
-    ensures { λ b. ⌜ b ≡ holdsResource (now (statements .entry)) chain x (n .0 - 1) ⌝ }
+    ensures { λ f. ⌜ f ≡ followOf (now (statements .entry)) chain (y .0) (n .0 - 1) ⌝ }
 {
     match chain {
-        Chain::All => true,
+        Chain::All => Followed::To(StatementId(n.0 - 1)),
         Chain::By(p) => {
-            let y = at(p, x);
             let z = term_at(statements, n, p);
-            z.0 == y.0
+            if z.0 != y.0 {
+                return Followed::Broken;
+            }
+            let next = next_at(statements, n, p);
+            if next.0 >= n.0 {
+                return Followed::Broken;
+            }
+            Followed::To(next)
         }
     }
 }
 
-// Whether record n is what is sought.
-pub fn hits(statements: &[u32], sought: Sought, x: Triple, n: StatementId) -> bool
+// The tests of record n on the chain of resource y, each word read once; where one fails, an operation refuses 9.
+fn test_record(statements: &[u32], r: u32, chain: Chain, y: ResourceId, n: StatementId) -> Tested
     requires { ⌜ StatementHeld (now statements) (n .0) ⌝ }
-    ensures { λ b. ⌜ b ≡ hits sought (now (statements .entry)) x (n .0 - 1) ⌝ }
+    ensures { λ v. ⌜ v ≡ testedOf r (now (statements .entry)) chain (y .0) (n .0 - 1) ⌝ }
 {
     let t = triple_at(statements, n);
+    if !known(r, t) {
+        return Tested::Damaged;
+    }
+    match follow(statements, chain, y, n) {
+        Followed::Broken => Tested::Damaged,
+        Followed::To(next) => {
+            let flag = flag_at(statements, n);
+            if flag > 1 {
+                return Tested::Damaged;
+            }
+            Tested::Is(next, t, flag)
+        }
+    }
+}
+
+// Whether a record with three resources t and a flag is what is sought.
+fn hits(sought: Sought, x: Triple, t: Triple, flag: u32) -> bool
+    ensures { λ b. ⌜ b ≡ hitsIn sought x t flag ⌝ }
+{
     match sought {
         Sought::Same => same(x, t),
         Sought::LiveMatch => {
-            if flag_at(statements, n) == 1 {
+            if flag == 1 {
                 return false;
             }
             agrees(x, t)
@@ -89,26 +139,25 @@ pub fn hits(statements: &[u32], sought: Sought, x: Triple, n: StatementId) -> bo
     }
 }
 
-// Whether record n can be visited on a chain; where not, an operation refuses 9.
-pub fn visitable(statements: &[u32], r: u32, chain: Chain, x: Triple, n: StatementId) -> bool
-    requires { ⌜ StatementHeld (now statements) (n .0) ⌝ }
-    ensures { λ b. ⌜ b ≡ visitable r (now (statements .entry)) chain x (n .0 - 1) ⌝ }
+// The same by a plan, for a record on its chain.
+fn hits_by(plan: Plan, sought: Sought, t: Triple, flag: u32) -> bool
+    ensures { λ b. ⌜ b ≡ hitsBy plan sought t flag ⌝ }
 {
-    let t = triple_at(statements, n);
-    if !known(r, t) {
-        return false;
+    match sought {
+        Sought::Same => {
+            let x = plan.pattern;
+            same(x, t)
+        }
+        Sought::LiveMatch => {
+            if flag == 1 {
+                return false;
+            }
+            agrees_by(plan, t)
+        }
     }
-    if !holds_resource(statements, chain, x, n) {
-        return false;
-    }
-    let next = link_of(statements, chain, n);
-    if next.0 >= n.0 {
-        return false;
-    }
-    flag_at(statements, n) <= 1
 }
 
-// One visit of record n.
+// One visit of record n, for a single one.
 pub fn visit(
     statements: &[u32],
     r: u32,
@@ -120,14 +169,34 @@ pub fn visit(
     requires { ⌜ StatementHeld (now statements) (n .0) ⌝ }
     ensures { λ v. ⌜ v ≡ visitOf sought r (now (statements .entry)) chain x (n .0 - 1) ⌝ }
 {
-    if !visitable(statements, r, chain, x, n) {
-        return Visited::Damaged;
+    let y = resource_of(chain, x);
+    match test_record(statements, r, chain, y, n) {
+        Tested::Damaged => Visited::Damaged,
+        Tested::Is(next, t, flag) => {
+            if hits(sought, x, t, flag) {
+                Visited::Hit(next)
+            } else {
+                Visited::Miss(next)
+            }
+        }
     }
-    let next = link_of(statements, chain, n);
-    if hits(statements, sought, x, n) {
-        Visited::Hit(next)
-    } else {
-        Visited::Miss(next)
+}
+
+// One visit of record n by a plan.
+fn visit_by(statements: &[u32], r: u32, plan: Plan, sought: Sought, n: StatementId) -> Visited
+    requires { ⌜ StatementHeld (now statements) (n .0) × (plan ≡ planOf (plan .chain) (plan .pattern)) ⌝ }
+    ensures { λ v. ⌜ v ≡ visitOf sought r (now (statements .entry)) (plan .chain) (plan .pattern) (n .0 - 1) ⌝ }
+{
+    let chain = plan.chain;
+    match test_record(statements, r, chain, plan.resource, n) {
+        Tested::Damaged => Visited::Damaged,
+        Tested::Is(next, t, flag) => {
+            if hits_by(plan, sought, t, flag) {
+                Visited::Hit(next)
+            } else {
+                Visited::Miss(next)
+            }
+        }
     }
 }
 
@@ -136,16 +205,17 @@ pub fn visit(
 pub fn walk(
     statements: &[u32],
     r: u32,
-    chain: Chain,
-    x: Triple,
+    plan: Plan,
     sought: Sought,
     from: StatementId,
     budget: u32,
 ) -> Walked
-    requires { ⌜ statementWords * (from .0) ≤ length (now statements) ⌝ }
+    requires { ⌜ (statementWords * (from .0) ≤ length (now statements))
+        × (plan ≡ planOf (plan .chain) (plan .pattern)) ⌝ }
     ensures { λ a. ⌜ stepOf a
-        ≡ walk (linkOf (now (statements .entry)) chain) (visitable r (now (statements .entry)) chain x)
-        (hits sought (now (statements .entry)) x) budget (from .0) ⌝ }
+        ≡ walk (linkOf (now (statements .entry)) (plan .chain))
+        (visitable r (now (statements .entry)) (plan .chain) (plan .pattern))
+        (hits sought (now (statements .entry)) (plan .pattern)) budget (from .0) ⌝ }
 {
     let mut n = from;
     let mut visits: u32 = 0;
@@ -157,18 +227,59 @@ pub fn walk(
         if visits == budget {
             return Walked::Spent(visits, n);
         }
-        visits += 1;
-        match visit(statements, r, chain, x, sought, n) {
+        match visit_by(statements, r, plan, sought, n) {
             Visited::Damaged => return Walked::Damaged,
             Visited::Hit(m) => {
                 let here = n;
                 n = m;
                 break here;
             }
-            Visited::Miss(m) => n = m,
+            Visited::Miss(m) => {
+                n = m;
+                visits += 1;
+            }
         }
     };
-    Walked::Found(found, visits, n)
+    Walked::Found(found, visits + 1, n)
+}
+
+// The first record from a record on with the pattern's three numbers, retracted or not. Nexts fall, so that every
+// record of the chain is reached.
+pub fn seek(statements: &[u32], r: u32, plan: Plan, from: StatementId) -> Seen
+    requires { ⌜ (statementWords * (from .0) ≤ length (now statements))
+        × (plan ≡ planOf (plan .chain) (plan .pattern)) ⌝ }
+    ensures { λ a. ⌜ seenOf a
+        ≡ locatedIn (walk (linkOf (now (statements .entry)) (plan .chain))
+        (visitable r (now (statements .entry)) (plan .chain) (plan .pattern))
+        (hits Same (now (statements .entry)) (plan .pattern)) (from .0) (from .0)) ⌝ }
+{
+    let mut n = from;
+    // No record from `from` on down to n is damaged or has the three numbers; n is the next on the chain.
+    while n.0 != 0 {
+        match visit_by(statements, r, plan, Sought::Same, n) {
+            Visited::Damaged => return Seen::Damaged,
+            Visited::Hit(_) => return Seen::At(n),
+            Visited::Miss(m) => n = m,
+        }
+    }
+    Seen::At(n)
+}
+
+// Whether a cursor's next record, if it has one, is on the chain of resource y.
+pub fn record_has(statements: &[u32], chain: Chain, y: ResourceId, n: StatementId) -> bool
+    requires { ⌜ statementWords * (n .0) ≤ length (now statements) ⌝ }
+    ensures { λ b. ⌜ b ≡ recordHas (now (statements .entry)) chain (y .0) (n .0) ⌝ }
+{
+    if n.0 == 0 {
+        return true;
+    }
+    match chain {
+        Chain::All => true,
+        Chain::By(p) => {
+            let z = term_at(statements, n, p);
+            z.0 == y.0
+        }
+    }
 }
 
 // Whether a cursor's next record, if it has one, has the chain's resource at the chain's position.
@@ -176,8 +287,5 @@ pub fn record_ok(statements: &[u32], chain: Chain, x: Triple, n: StatementId) ->
     requires { ⌜ statementWords * (n .0) ≤ length (now statements) ⌝ }
     ensures { λ b. ⌜ b ≡ recordOk (now (statements .entry)) chain x (n .0) ⌝ }
 {
-    if n.0 == 0 {
-        return true;
-    }
-    holds_resource(statements, chain, x, n)
+    record_has(statements, chain, resource_of(chain, x), n)
 }

@@ -3,13 +3,15 @@
 // Each operation takes the counters and all four tables and answers on any words in them, and on any cursor: what it
 // answers is its definition in `store`. Refusals are tested in the paper's order: open 1, 4, 9; next 1, 13, 6, 7, 9.
 // Nothing is written.
-use chain::pick::chain_ok;
 use chain::pick::pick_chain;
 use chain::pick::pickable;
 use chain::pick::start_of;
+use chain_walk::plan::Plan;
+use chain_walk::plan::chain_fits;
+use chain_walk::plan::plan_of;
 use chain_walk::walk::Sought;
 use chain_walk::walk::Walked;
-use chain_walk::walk::record_ok;
+use chain_walk::walk::record_has;
 use chain_walk::walk::walk;
 use store::Counters;
 use store::Refusal;
@@ -25,6 +27,7 @@ ghost use Prim.Native.Nat.{_*_, _≤_};
 ghost use lib.ListN.{length};
 ghost use Rattle.store.specs.Tables.{lent, statementWords};
 ghost use Rattle.store.specs.Scan.{cursorIn, openOf, nextOf};
+ghost use Rattle.chain_walk.specs.Plans.{planOf};
 ghost use Rattle.scan.specs.Cursors.{CursorTested};
 
 // Open a pattern scan: a cursor of the store's generation, before the first record of the bound position of least
@@ -59,23 +62,24 @@ pub fn scan_open(
     })
 }
 
-// Whether a next call takes a cursor of the store's generation; where not, it refuses 6.
-fn cursor_ok(c: Counters, statements: &[u32], q: ScanCursor) -> bool
-    requires { ⌜ statementWords * c .statements ≤ length (now statements) ⌝ }
+// Whether a next call takes a cursor of the store's generation, which the plan is made of; where not, it refuses 6.
+fn cursor_ok(c: Counters, statements: &[u32], q: ScanCursor, plan: Plan) -> bool
+    requires { ⌜ (statementWords * c .statements ≤ length (now statements))
+        × (plan ≡ planOf (q .chain) (q .pattern)) ⌝ }
     ensures { λ b. ⌜ CursorTested c (now (statements .entry)) q b ⌝ }
 {
     let x = q.pattern;
     if !within(c.resources, x) {
         return false;
     }
-    let chain = q.chain;
-    if !chain_ok(chain, x) {
-        return false;
-    }
     if q.next.0 > c.statements {
         return false;
     }
-    record_ok(statements, chain, x, q.next)
+    if !chain_fits(plan) {
+        return false;
+    }
+    let chain = q.chain;
+    record_has(statements, chain, plan.resource, q.next)
 }
 
 // The cursor with another next record, of the same generation.
@@ -107,19 +111,17 @@ pub fn scan_next(
     if q.generation != c.generation {
         return Scanned::Refused(Refusal::StaleCursor);
     }
-    if !cursor_ok(c, statements, q) {
+    let plan = plan_of(q.chain, q.pattern);
+    if !cursor_ok(c, statements, q, plan) {
         return Scanned::Refused(Refusal::BadCursor);
     }
     if budget == 0 {
         return Scanned::Refused(Refusal::NoBudget);
     }
-    let chain = q.chain;
-    let x = q.pattern;
     match walk(
         statements,
         c.resources,
-        chain,
-        x,
+        plan,
         Sought::LiveMatch,
         q.next,
         budget,

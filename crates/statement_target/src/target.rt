@@ -3,9 +3,9 @@
 use chain::pick::pick_chain;
 use chain::pick::pickable;
 use chain::pick::start_of;
-use chain_walk::walk::Sought;
-use chain_walk::walk::Walked;
-use chain_walk::walk::walk;
+use chain_walk::plan::plan_of;
+use chain_walk::walk::Seen;
+use chain_walk::walk::seek;
 use store::Counters;
 use store::Position;
 use store::Refusal;
@@ -73,7 +73,7 @@ pub fn ready(t: u32, resources: &[u32], x: Triple) -> bool
     countable(resources, x)
 }
 
-// The record with a triple, by the chain that a scan would take, retracted or not. T visits reach every record.
+// The record with a triple, by the chain that a scan would take, retracted or not.
 pub fn locate(c: Counters, resources: &[u32], statements: &[u32], x: Triple) -> Located
     requires { ⌜ TripleHeld (now resources) x × (statementWords * c .statements ≤ length (now statements)) ⌝ }
     ensures { λ r. ⌜ r ≡ locatedAs (locate c (tables (now (resources .entry)) (now (statements .entry)) [] []) x) ⌝ }
@@ -83,19 +83,10 @@ pub fn locate(c: Counters, resources: &[u32], statements: &[u32], x: Triple) -> 
     }
     let chain = pick_chain(resources, x);
     let first = start_of(c.statements, resources, chain, x);
-    match walk(
-        statements,
-        c.resources,
-        chain,
-        x,
-        Sought::Same,
-        first,
-        c.statements,
-    ) {
-        Walked::Found(n, _, _) => Located::At(n),
-        Walked::Ended(_) => Located::At(StatementId(0)),
-        Walked::Spent(_, _) => Located::At(StatementId(0)),
-        Walked::Damaged => Located::Refused(Refusal::Damaged),
+    let plan = plan_of(chain, x);
+    match seek(statements, c.resources, plan, first) {
+        Seen::At(n) => Located::At(n),
+        Seen::Damaged => Located::Refused(Refusal::Damaged),
     }
 }
 

@@ -1,0 +1,49 @@
+-- What a walk asks of every record of its chain, worked out before the first (paper 02, note 3). Assumes nothing.
+use mathlib.Core.Bool.{Bool, not, _&&_, _||_}
+use Prim.Native.Nat.{ℕ, _+_}
+use lib.Dec.{eqb}
+use Rattle.store.specs.declared.Chain.{Chain}
+use Rattle.store.specs.declared.Chain.the-variants.{All, By}
+use Rattle.store.specs.declared.Position.the-variants.{Subject, Predicate, Object}
+use Rattle.store.specs.declared.Triple.{Triple}
+use Rattle.store.specs.Shared.{at}
+use Rattle.chain_walk.specs.declared.plan.Plan.{Plan}
+
+-- a chain's resource, 0 for all records
+abbrev pub resourceOf : Chain → Triple → ℕ
+resourceOf All x = 0
+resourceOf (By p) x = at p x
+
+-- a pattern's number is bound: 0 stands for any
+abbrev pub bound : ℕ → Bool
+bound y = not (eqb y 0)
+
+-- the pattern binds no position but that of y, one of its numbers or 0: they add up to y
+abbrev pub alone : Triple → ℕ → Bool
+alone x y = eqb (at Subject x + at Predicate x + at Object x) y
+
+unfoldable pub planOf : Chain → Triple → Plan
+planOf ch x = record {
+  pattern = x;
+  chain = ch;
+  resource = record { 0 = resourceOf ch x };
+  subject = bound (at Subject x);
+  predicate = bound (at Predicate x);
+  object = bound (at Object x);
+  alone = alone x (resourceOf ch x);
+}
+
+-- where the mark is set, z is the pattern's number y
+abbrev pub like : Bool → ℕ → ℕ → Bool
+like mark y z = not mark || eqb z y
+
+-- the pattern's number at each position whose mark is set
+unfoldable pub agreesMarked : Plan → Triple → Bool
+agreesMarked p t =
+    like (p .subject) (at Subject (p .pattern)) (at Subject t)
+    && (like (p .predicate) (at Predicate (p .pattern)) (at Predicate t)
+    && like (p .object) (at Object (p .pattern)) (at Object t))
+
+-- nothing is left to compare once the chain's resource was tested, or the marked positions are
+abbrev pub agreesBy : Plan → Triple → Bool
+agreesBy p t = p .alone || agreesMarked p t
