@@ -71,8 +71,7 @@ hits LiveMatch stm x = λ i. matches x (entryAt stm i)
 -- a visit of entry i
 unfoldable pub visitOf : Sought → ℕ → List ℕ → Chain → Triple → ℕ → Visited
 visitOf k r stm ch x i =
-    let after : StatementId = record { 0 = linkOf stm ch i } in
-    cond (visitable r stm ch x i) (cond (hits k stm x i) (Hit after) (Miss after)) BadRecord
+    cond (visitable r stm ch x i) (cond (hits k stm x i) (Hit (after stm ch i)) (Miss (after stm ch i))) BadRecord
 
 -- ---- the walks
 

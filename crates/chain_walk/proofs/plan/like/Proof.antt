@@ -1,0 +1,13 @@
+use mathlib.Core.Path.{sym}
+use borrow.Author.Needs.{needs}
+use Rattle.chain_walk.proofs.plan.like.Statement.{statement}
+use Rattle.chain_walk.proofs.plan.like.Tie as tie
+
+returns : tie.Need-returns
+returns c = search needs
+
+returns-2 : tie.Need-returns-2
+returns-2 c = rw (c .before .before .if1 .left)
+
+pub like-spec : {M : Type 1} → statement M
+like-spec = tie.close (tie.spec returns returns-2)
