@@ -1,6 +1,6 @@
 -- Laws of a walk's plan: by its marks a record of the chain is compared as by its pattern, and its chain is told to be
 -- one that a cursor may be on. Assumes nothing.
-use mathlib.Core.Path.{_≡_, refl, sym, ap, _∙_}
+use mathlib.Core.Path.{_≡_, refl, sym, ap, ap₂, _∙_}
 use mathlib.Core.Bool.{Bool, true, false, not, _&&_, _||_}
 use mathlib.Core.List.{List}
 use Prim.Native.Nat.{ℕ, _+_}
@@ -19,6 +19,25 @@ use Rattle.store.proofs.Tests.{decide, and-l, and-r}
 use Rattle.chain_walk.specs.declared.plan.Plan.{Plan}
 use Rattle.chain_walk.specs.Plans.{resourceOf, bound, alone, planOf, like, agreesMarked, agreesBy}
 use Rattle.chain_walk.specs.Walks.{has}
+
+-- ---- a plan that was made
+
+module _ (p : Plan) (ch : Chain) (x : Triple) (e : p ≡ planOf ch x) where
+  pub plan-chain : p .chain ≡ ch
+  unfolding planOf
+  plan-chain = ap (λ (p : Plan). p .chain) e
+
+  pub plan-pattern : p .pattern ≡ x
+  unfolding planOf
+  plan-pattern = ap (λ (p : Plan). p .pattern) e
+
+  pub plan-resource : p .resource .0 ≡ resourceOf ch x
+  unfolding planOf
+  plan-resource = ap (λ (p : Plan). p .resource .0) e
+
+  -- of its own chain and pattern
+  pub planned : p ≡ planOf (p .chain) (p .pattern)
+  planned = e ∙ sym (ap₂ planOf plan-chain plan-pattern)
 
 -- ---- marks
 

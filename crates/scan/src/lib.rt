@@ -111,7 +111,9 @@ pub fn scan_next(
     if q.generation != c.generation {
         return Scanned::Refused(Refusal::StaleCursor);
     }
-    let plan = plan_of(q.chain, q.pattern);
+    let chain = q.chain;
+    let x = q.pattern;
+    let plan = plan_of(chain, x);
     if !cursor_ok(c, statements, q, plan) {
         return Scanned::Refused(Refusal::BadCursor);
     }

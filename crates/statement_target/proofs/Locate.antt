@@ -22,9 +22,12 @@ use Rattle.table.proofs.Held.{triple-held}
 use Rattle.chain.specs.Chains.{PatternHeld}
 use Rattle.chain.proofs.Chains.{pick-bound, start-within, count-within}
 use Rattle.chain_walk.specs.declared.walk.Sought.the-variants.{Same}
-use Rattle.chain_walk.specs.declared.walk.Walked.{Walked}
-use Rattle.chain_walk.specs.Walks.{hits, stepOf}
-use Rattle.chain_walk.proofs.Walks.{numberIn, walk-within, falling}
+use Rattle.chain_walk.specs.declared.plan.Plan.{Plan}
+use Rattle.chain_walk.specs.declared.walk.Seen.{Seen}
+use Rattle.chain_walk.specs.Plans.{planOf}
+use Rattle.chain_walk.specs.Walks.{hits, locatedIn, seenOf}
+use Rattle.chain_walk.proofs.Plans.{plan-chain, plan-pattern}
+use Rattle.chain_walk.proofs.Walks.{numberIn, walk-within, falling, enough}
 
 -- ---- a known triple, where the counters are within capacity
 
@@ -38,11 +41,6 @@ held-pattern res x d = record { each = λ p. d .each p .whole }
 
 -- ---- the record located
 
--- what is located, of what a walk comes to
-abbrev pub located : Option Step → Option ℕ
-located none = none
-located (some s) = some (foundIn s)
-
 -- firsts and counts are within T, live counts within the counts
 abbrev pub ready : ℕ → List ℕ → Triple → Bool
 ready t res x = pickable t res x && countable res x
@@ -52,22 +50,29 @@ module _ (c : Counters) (m : Tables) (x : Triple) where
   unfolding locate
   locate-damaged e = rw e
 
-  opened : (s : Option Step) → elim s [ none ↦ none | some s ↦ some (foundIn s) ] ≡ located s
+  opened : (s : Option Step) → elim s [ none ↦ none | some s ↦ some (foundIn s) ] ≡ locatedIn s
   opened none = refl
   opened (some s) = refl
 
-  locate-seek : ready (c .statements) (m .resources) x ≡ true → locate c m x ≡ located (seek c m x)
+  locate-seek : ready (c .statements) (m .resources) x ≡ true → locate c m x ≡ locatedIn (seek c m x)
   unfolding locate
   locate-seek e = rw e (opened (seek c m x))
 
-  -- the walk that code makes, from the chain picked and its first record
-  pub locate-walk : (a : Walked) (ch : Chain) (n : ℕ) → ready (c .statements) (m .resources) x ≡ true
-      → ch ≡ pickChain (m .resources) x → n ≡ startOf (c .statements) (m .resources) ch x
-      → stepOf a ≡ walk (linkOf (m .statements) ch) (visitable (c .resources) (m .statements) ch x)
-      (hits Same (m .statements) x) (c .statements) n
-      → locate c m x ≡ located (stepOf a)
+  -- the record that code seeks by a plan, on the chain picked and from its first record: T visits find the same
+  pub locate-seen : (a : Seen) (ch : Chain) (n : ℕ) (p : Plan) → p ≡ planOf ch x
+      → ready (c .statements) (m .resources) x ≡ true → ch ≡ pickChain (m .resources) x
+      → n ≡ startOf (c .statements) (m .resources) ch x → n ≤ c .statements
+      → seenOf a ≡ locatedIn (walk (linkOf (m .statements) (p .chain))
+      (visitable (c .resources) (m .statements) (p .chain) (p .pattern)) (hits Same (m .statements) (p .pattern)) n n)
+      → locate c m x ≡ seenOf a
   unfolding seek hits
-  locate-walk a ch n p d e w = let s : stepOf a ≡ seek c m x = w ∙ rw (e, d) in locate-seek p ∙ ap located (sym s)
+  locate-seen a ch n p q k d e h w =
+      let f = enough (linkOf (m .statements) ch) (visitable (c .resources) (m .statements) ch x)
+      (λ i. same x (tripleAt (m .statements) i)) (falling (c .resources) (m .statements) ch x) n (c .statements) n
+      (omega arith) h in
+      let s : seenOf a ≡ locatedIn (seek c m x) =
+          w ∙ rw (plan-chain p ch x q, plan-pattern p ch x q) (f ∙ rw (e, d)) in
+      locate-seek k ∙ sym s
 
   locate-ready : (n : ℕ) → locate c m x ≡ some n → ready (c .statements) (m .resources) x ≡ true
   unfolding locate
@@ -105,7 +110,7 @@ module _ (c : Counters) (m : Tables) (x : Triple) where
       let d = number (seek c m x) (sym (locate-seek (locate-ready n e)) ∙ e) in
       omega arith
     where
-      number : (s : Option Step) → located s ≡ some n → numberIn s ≡ n
+      number : (s : Option Step) → locatedIn s ≡ some n → numberIn s ≡ n
       number none e = let z : _≡_ {A = ℕ} 0 1 = cc in absurd (omega arith)
       number (some s) e = cc
 

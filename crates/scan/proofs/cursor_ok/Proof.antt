@@ -1,6 +1,10 @@
 use Rattle.table.proofs.Branches.{failed, passed}
-use borrow.Author.Tests.{lt-leb, le-leb}
+use borrow.Author.Tests.{le-leb}
+use denote.Ref.{now}
+use Rattle.store.specs.Tables.{tables}
 use Rattle.store.specs.Scan.{cursorOk}
+use Rattle.chain_walk.proofs.Plans.{planned}
+use Rattle.scan.proofs.Cursors.{past-last, chain-by, record-told}
 use borrow.Author.Needs.{needs}
 use Rattle.scan.proofs.cursor_ok.Statement.{statement}
 use Rattle.scan.proofs.cursor_ok.Tie as tie
@@ -12,45 +16,51 @@ returns : tie.Need-returns
 unfolding cursorOk
 returns c = record { tells = λ r i t. rw (failed (c .before .within .ensures) (c .if1 .taken)) }
 
-chain-ok-requires : tie.Need-chain-ok-requires
-chain-ok-requires c κs = search needs
-
 returns-2 : tie.Need-returns-2
-unfolding cursorOk
 returns-2 c =
+    let d = c .before .before .before in
+    let a = d .before .before .before .before .args in
     record {
-      tells = λ r i t. rw (
-        passed (c .before .before .before .within .ensures) (c .before .before .if1 .left),
-        failed (c .before .chain-ok .ensures) (c .if2 .taken),
-      );
+      tells = λ r i t. past-last (a .c) (tables r (now (a .statements)) i t) (a .q)
+          (passed (d .before .within .ensures) (d .if1 .left)) (c .if2 .taken);
     }
+
+chain-fits-requires : tie.Need-chain-fits-requires
+chain-fits-requires c κs =
+    let s = c .before .before .before .before .before .before .before in
+    planned (s .args .plan) (s .args .q .chain) (s .args .q .pattern) (s .pre .1)
 
 returns-3 : tie.Need-returns-3
 unfolding cursorOk
 returns-3 c =
-    let d = c .before .before .before in
+    let d = c .before .before .before .before .before in
+    let s = d .before .before .before .before in
     record {
       tells = λ r i t. rw (
-        passed (d .before .before .before .within .ensures) (d .before .before .if1 .left),
-        passed (d .before .chain-ok .ensures) (d .if2 .left),
-        lt-leb _ _ (c .if3 .taken),
+        passed (d .before .within .ensures) (d .if1 .left),
+        failed (chain-by (s .args .plan) (s .args .q .chain) (s .args .q .pattern) (s .pre .1)
+            (c .before .chain-fits .ensures)) (c .if3 .taken),
       );
     }
 
-record-ok-requires : tie.Need-record-ok-requires
-record-ok-requires c κs = search needs
+record-has-requires : tie.Need-record-has-requires
+record-has-requires c κs = search needs
 
 returns-4 : tie.Need-returns-4
 unfolding cursorOk
 returns-4 c =
-    let d = c .before .before .before .before in
+    let f = c .before in
+    let d = f .before .before .before .before .before in
+    let s = d .before .before .before .before in
+    let x = s .args .q .pattern in
     record {
       tells = λ r i t. rw (
-        passed (d .before .before .before .within .ensures) (d .before .before .if1 .left),
-        passed (d .before .chain-ok .ensures) (d .if2 .left),
-        le-leb _ _ (c .before .if3 .left),
-        ← c .record-ok .ensures,
-      );
+        passed (d .before .within .ensures) (d .if1 .left),
+        passed (chain-by (s .args .plan) (s .args .q .chain) x (s .pre .1) (f .before .chain-fits .ensures)) (f .if3 .left),
+        le-leb _ _ (f .before .before .if2 .left),
+      )
+      (record-told (s .args .plan) (s .args .q .chain) x (s .pre .1) (now (s .args .statements)) (s .args .q .next .0)
+      (c .record-has .ensures));
     }
 
 pub cursor-ok-spec : {M : Type 1} → statement M
@@ -59,8 +69,8 @@ cursor-ok-spec =
     (tie.spec
     within-requires
     returns
-    chain-ok-requires
     returns-2
+    chain-fits-requires
     returns-3
-    record-ok-requires
+    record-has-requires
     returns-4)

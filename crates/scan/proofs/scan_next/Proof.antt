@@ -5,6 +5,7 @@ use denote.Ref.{now}
 use borrow.Author.Tests.{eq-eqb, ne-eqb}
 use Rattle.table.proofs.Branches.{passed, failed, first-refuses}
 use Rattle.table.proofs.Capacity.{fits-room}
+use Rattle.chain_walk.proofs.Plans.{planned}
 use Rattle.scan.proofs.Cursors.{cursor-within, next-walk}
 use Rattle.chain_walk.specs.Walks.{stepOf}
 use Rattle.chain_walk.specs.declared.walk.Walked.{Walked}
@@ -31,7 +32,7 @@ own-number c = omega arith
 -- ---- nor 6
 
 abbrev before-test : tie.Else3 → tie.Else2
-before-test c = c .before .before
+before-test c = c .before .before .before .before
 
 taken : (c : tie.Else3)
     → (let s = start (before-test c) in cursorOk (s .args .c) (tablesOf s) (s .args .q) ≡ true)
@@ -41,13 +42,14 @@ taken c =
 
 -- the answer to what the walk came to
 answered : (c : tie.After-walk) (w : Walked) → c .walk .result ≡ w
-    → (let s = start (before-test (c .before .before .before)) in
+    → (let s = start (before-test (c .before .before)) in
     scannedAs (s .args .q) (stepOf w) ≡ nextOf (s .args .c) (tablesOf s) (s .args .q) (s .args .budget))
 answered c w e =
-    let d = c .before .before .before in
+    let d = c .before .before in
     let s = start (before-test d) in
+    let p = d .before .before .plan-of in
     sym (next-walk (s .args .c) (tablesOf s) (s .args .q) (c .walk .result) (s .args .budget) (fit (before-test d))
-    (own-number (before-test d)) (taken d) (c .before .before .if4 .left) (c .walk .ensures)
+    (own-number (before-test d)) (taken d) (c .before .if4 .left) (p .result) (p .ensures) (c .walk .ensures)
     ∙ ap (λ (w : Walked). scannedAs (s .args .q) (stepOf w)) e)
 
 -- ---- the needs
@@ -68,13 +70,18 @@ returns-2 c =
       ne-eqb (a .q .generation) (a .c .generation) (λ e. omega arith),
     )
 
+plan-of-requires : tie.Need-plan-of-requires
+plan-of-requires c κs = search needs
+
 cursor-ok-requires : tie.Need-cursor-ok-requires
-cursor-ok-requires c κs = fits-room (start c .args .c) (tablesOf (start c)) (fit c) .in-statements
+cursor-ok-requires c κs =
+    let d = c .before .before in
+    (fits-room (start d .args .c) (tablesOf (start d)) (fit d) .in-statements, c .plan-of .ensures)
 
 returns-3 : tie.Need-returns-3
 unfolding nextOf
 returns-3 c =
-    let d = c .before .before in
+    let d = c .before .before .before .before in
     let a = start d .args in
     rw (
       fit d,
@@ -91,11 +98,12 @@ returns-4 c =
 
 walk-requires : tie.Need-walk-requires
 walk-requires c κs =
-    let d = c .before .before in
+    let d = c .before in
     let s = start (before-test d) in
+    let p = d .before .before .plan-of in
     let k = cursor-within (s .args .c) (tablesOf s) (s .args .q) (taken d) in
     let i = fits-room (s .args .c) (tablesOf s) (fit (before-test d)) .in-statements in
-    omega arith
+    (omega arith, planned (p .result) (s .args .q .chain) (s .args .q .pattern) (p .ensures))
 
 enum-known-n : tie.Need-enum-known-n
 enum-known-n c = search needs
@@ -140,6 +148,7 @@ scan-next-spec =
     fits-requires
     returns
     returns-2
+    plan-of-requires
     cursor-ok-requires
     returns-3
     returns-4

@@ -1,9 +1,9 @@
-use mathlib.Core.Path.{_≡_, sym, ap, _∙_}
+use mathlib.Core.Path.{_≡_, sym, _∙_}
 use mathlib.Core.Bool.{true, false}
 use denote.Ref.{now}
-use Prim.Native.Nat.{ℕ, _-_}
-use Rattle.chain_walk.specs.declared.plan.Plan.{Plan}
-use Rattle.chain_walk.specs.Plans.{resourceOf, planOf}
+use Prim.Native.Nat.{_-_}
+use Rattle.chain_walk.specs.Plans.{resourceOf}
+use Rattle.chain_walk.proofs.Plans.{plan-resource}
 use Rattle.chain_walk.proofs.Walks.{visit-unfit, visit-by-plan}
 use borrow.Author.Needs.{needs}
 use Rattle.chain_walk.proofs.walk.visit_by.Statement.{statement}
@@ -13,10 +13,9 @@ abbrev start : tie.After-test-record → tie.Start
 start d = d .before .before
 
 -- the plan's resource is the chain's
-planned : (d : tie.After-test-record)
+own : (d : tie.After-test-record)
     → (let p = start d .args .plan in p .resource .0 ≡ resourceOf (p .chain) (p .pattern))
-unfolding planOf
-planned d = ap (λ (p : Plan). p .resource .0) (start d .pre .1)
+own d = let p = start d .args .plan in plan-resource p (p .chain) (p .pattern) (start d .pre .1)
 
 test-record-requires : tie.Need-test-record-requires
 test-record-requires c κs = search needs
@@ -35,7 +34,7 @@ returns c =
     let d = c .before .before in
     let a = start d .args in
     visit-unfit (a .sought) (a .r) (now (a .statements)) (a .plan .chain) (a .plan .pattern) (a .plan .resource .0)
-    (a .n .0 - 1) (planned d) (sym (d .test-record .ensures) ∙ c .enum-told .given .1)
+    (a .n .0 - 1) (own d) (sym (d .test-record .ensures) ∙ c .enum-told .given .1)
 
 returns-2 : tie.Need-returns-2
 returns-2 c =
@@ -43,7 +42,7 @@ returns-2 c =
     let d = f .before .before in
     let a = start d .args in
     visit-by-plan (a .sought) (a .r) (now (a .statements)) (a .plan .chain) (a .plan .pattern) (a .plan .resource .0)
-    (a .n .0 - 1) (planned d) _ _ _ (sym (d .test-record .ensures) ∙ f .next .given .1) (a .plan) true
+    (a .n .0 - 1) (own d) _ _ _ (sym (d .test-record .ensures) ∙ f .next .given .1) (a .plan) true
     (start d .pre .1) (sym (c .if1 .taken) ∙ c .before .hits-by .ensures)
 
 returns-3 : tie.Need-returns-3
@@ -52,7 +51,7 @@ returns-3 c =
     let d = f .before .before in
     let a = start d .args in
     visit-by-plan (a .sought) (a .r) (now (a .statements)) (a .plan .chain) (a .plan .pattern) (a .plan .resource .0)
-    (a .n .0 - 1) (planned d) _ _ _ (sym (d .test-record .ensures) ∙ f .next .given .1) (a .plan) false
+    (a .n .0 - 1) (own d) _ _ _ (sym (d .test-record .ensures) ∙ f .next .given .1) (a .plan) false
     (start d .pre .1) (sym (c .if1 .left) ∙ c .before .hits-by .ensures)
 
 pub visit-by-spec : {M : Type 1} → statement M

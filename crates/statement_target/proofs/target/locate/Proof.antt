@@ -2,7 +2,7 @@ use mathlib.Core.Path.{_≡_, sym, _∙_, ap}
 use mathlib.Core.Bool.{true}
 use mathlib.Core.Option.{Option}
 use mathlib.Core.List.{[]}
-use Prim.Native.Nat.{ℕ}
+use Prim.Native.Nat.{ℕ, _≤_}
 use native.Mathlib.Omega.{arith}
 use denote.Ref.{now}
 use Rattle.store.specs.Walk.{pickable}
@@ -11,15 +11,16 @@ use Rattle.store.specs.Tables.{Tables, tables}
 use Rattle.store.proofs.Tests.{and-l}
 use Rattle.table.proofs.Branches.{failed, passed}
 use Rattle.chain.proofs.Chains.{pick-bound, start-within}
-use Rattle.chain_walk.specs.declared.walk.Walked.{Walked}
-use Rattle.chain_walk.specs.Walks.{stepOf}
+use Rattle.chain_walk.specs.declared.walk.Seen.{Seen}
+use Rattle.chain_walk.specs.Walks.{seenOf}
+use Rattle.chain_walk.proofs.Plans.{planned}
 use Rattle.statement_target.specs.Targets.{locatedAs}
-use Rattle.statement_target.proofs.Locate.{held-pattern, locate-damaged, locate-walk, located, ready}
+use Rattle.statement_target.proofs.Locate.{held-pattern, locate-damaged, locate-seen, ready}
 use borrow.Author.Needs.{needs}
 use Rattle.statement_target.proofs.target.locate.Statement.{statement}
 use Rattle.statement_target.proofs.target.locate.Tie as tie
 
--- ---- where the walk may begin
+-- ---- where the record may be sought
 
 abbrev start : tie.Else1 → tie.Start
 start c = c .before .before .before .before
@@ -31,17 +32,30 @@ tablesOf s = tables (now (s .args .resources)) (now (s .args .statements)) [] []
 can-begin : (c : tie.Else1) → (let a = start c .args in ready (a .c .statements) (now (a .resources)) (a .x) ≡ true)
 can-begin c = passed (c .before .ready .ensures) (c .if1 .left)
 
--- the answer to what the walk came to
-answered : (c : tie.After-walk) (w : Walked) → c .walk .result ≡ w
-    → (let s = start (c .before .before .before) in
-    locatedAs (located (stepOf w)) ≡ locatedAs (locate (s .args .c) (tablesOf s) (s .args .x)))
+-- the chain's first record is within T
+first-within : (c : tie.After-start-of) → c .start-of .result .0 ≤ start (c .before .before) .args .c .statements
+first-within c =
+    let d = c .before .before in
+    let a = start d .args in
+    let res = now (a .resources) in
+    let p = and-l (pickable (a .c .statements) res (a .x)) (countable res (a .x)) (can-begin d) in
+    let s = start-within (a .c .statements) res (a .x) p (c .before .pick-chain .result)
+    (rw (c .before .pick-chain .ensures) (pick-bound res (a .x))) in
+    rw (c .start-of .ensures) s
+
+-- the answer to what seeking came to
+answered : (c : tie.After-seek) (w : Seen) → c .seek .result ≡ w
+    → (let s = start (c .before .before .before .before) in
+    locatedAs (seenOf w) ≡ locatedAs (locate (s .args .c) (tablesOf s) (s .args .x)))
 answered c w e =
-    let d = c .before .before .before in
+    let f = c .before .before in
+    let d = f .before .before in
     let s = start d in
-    sym (ap (λ (o : Option ℕ). locatedAs o) (locate-walk (s .args .c) (tablesOf s) (s .args .x) (c .walk .result)
-    (c .before .before .pick-chain .result) (c .before .start-of .result .0) (can-begin d)
-    (c .before .before .pick-chain .ensures) (c .before .start-of .ensures) (c .walk .ensures))
-    ∙ ap (λ (w : Walked). locatedAs (located (stepOf w))) e)
+    let q = c .before .plan-of in
+    sym (ap (λ (o : Option ℕ). locatedAs o) (locate-seen (s .args .c) (tablesOf s) (s .args .x) (c .seek .result)
+    (f .before .pick-chain .result) (f .start-of .result .0) (q .result) (q .ensures) (can-begin d)
+    (f .before .pick-chain .ensures) (f .start-of .ensures) (first-within f) (c .seek .ensures))
+    ∙ ap (λ (w : Seen). locatedAs (seenOf w)) e)
 
 -- ---- the needs
 
@@ -63,15 +77,14 @@ start-of-requires c κs =
     let res = now (s .args .resources) in
     (held-pattern res (s .args .x) (s .pre .0), rw (c .pick-chain .ensures) (pick-bound res (s .args .x)))
 
-walk-requires : tie.Need-walk-requires
-walk-requires c κs =
-    let d = c .before .before in
-    let a = start d .args in
-    let res = now (a .resources) in
-    let p = and-l (pickable (a .c .statements) res (a .x)) (countable res (a .x)) (can-begin d) in
-    let s = start-within (a .c .statements) res (a .x) p (c .before .pick-chain .result)
-    (rw (c .before .pick-chain .ensures) (pick-bound res (a .x))) in
-    rw (c .start-of .ensures) (omega arith)
+plan-of-requires : tie.Need-plan-of-requires
+plan-of-requires c κs = search needs
+
+seek-requires : tie.Need-seek-requires
+seek-requires c κs =
+    let s = start (c .before .before .before) in
+    let h = first-within (c .before) in
+    (omega arith, planned (c .plan-of .result) (c .before .before .pick-chain .result) (s .args .x) (c .plan-of .ensures))
 
 enum-known-n : tie.Need-enum-known-n
 enum-known-n c = search needs
@@ -79,23 +92,11 @@ enum-known-n c = search needs
 enum-told : tie.Need-enum-told
 enum-told c = search needs
 
-enum-told-2 : tie.Need-enum-told-2
-enum-told-2 c = search needs
-
-enum-told-3 : tie.Need-enum-told-3
-enum-told-3 c = search needs
-
 returns-2 : tie.Need-returns-2
 returns-2 c = answered (c .before .before .before) _ (c .before .n .given .1)
 
 returns-3 : tie.Need-returns-3
 returns-3 c = answered (c .before .before) _ (c .enum-told .given .1)
-
-returns-4 : tie.Need-returns-4
-returns-4 c = answered (c .before .before) _ (c .enum-told2 .given .1)
-
-returns-5 : tie.Need-returns-5
-returns-5 c = answered (c .before .before) _ (c .enum-told3 .given .1)
 
 pub locate-spec : {M : Type 1} → statement M
 locate-spec =
@@ -105,12 +106,9 @@ locate-spec =
     returns
     pick-chain-requires
     start-of-requires
-    walk-requires
+    plan-of-requires
+    seek-requires
     enum-known-n
     enum-told
-    enum-told-2
-    enum-told-3
     returns-2
-    returns-3
-    returns-4
-    returns-5)
+    returns-3)
