@@ -1,4 +1,5 @@
--- The words of counters and cursors: what was written is read back, and every word past them is kept. Assumes nothing.
+-- The words of counters and cursors: how many there are, what was written is read back, and every word past them is
+-- kept. Assumes nothing.
 use mathlib.Core.Path.{_≡_, refl}
 use mathlib.Core.List.{List, [], _∷_}
 use Prim.Native.Nat.{ℕ, _<_}
@@ -11,11 +12,16 @@ use Rattle.store.specs.Tables.{word}
 use Rattle.capi_calls.specs.Words.{chainWord}
 use Rattle.capi_calls.proofs.Runs as runs
 use Rattle.capi_calls.proofs.QueryRuns as query-runs
-use Rattle.capi_calls.specs.Claims.{CountersReadBack, CountersKeepTheRest, ChainsReadBack, CursorsReadBack}
+use Rattle.capi_calls.specs.Claims.{WidthsAre, CountersReadBack, CountersKeepTheRest, ChainsReadBack, CursorsReadBack}
 use Rattle.capi_calls.specs.Claims.{CursorsKeepTheRest}
 
 past : (w : List ℕ) (i k v : ℕ) → i < k → word (set w i v) k ≡ word w k
 past w i k v h = getD-set-other w i k v 0 (omega arith)
+
+-- ---- widths
+
+pub widths-are : WidthsAre
+widths-are = refl
 
 -- ---- counters
 

@@ -6,7 +6,7 @@
 use mathlib.Core.Path.{_≡_}
 use mathlib.Core.Logic.{_≢_, _↔_}
 use mathlib.Core.Bool.{true, cond}
-use mathlib.Core.List.{List}
+use mathlib.Core.List.{List, [], _∷_}
 use Prim.Native.Nat.{ℕ, zero, suc, _≤_, _<_}
 use lib.ListN.{length, set}
 use lib.Dec.{eqb}
@@ -16,17 +16,24 @@ use Rattle.store.specs.declared.ScanCursor.{ScanCursor}
 use Rattle.store.specs.declared.Triple.{Triple}
 use Rattle.store.specs.declared.Reclaimed.the-variants.{Done}
 use Rattle.store.specs.Tables.{Tables, word, fits, after}
-use Rattle.store.specs.Shared.{maxReclaims}
 use Rattle.store.specs.Soundness.{Sound}
 use Rattle.store.specs.Reclaim.{reclaimOf}
 use Rattle.graph.specs.Words.{wordsOk}
 use Rattle.capi_calls.specs.Words.{counterWords, cursorWords, tooShort, countersOf, withCounters, cursorFrom, withCursor}
 use Rattle.capi_calls.specs.Words.{numberReplyWords, nameReplyWords, statementReplyWords, assertReplyWords, scanReplyWords, chainOf}
-use Rattle.capi_calls.specs.Words.{chainWord, done, beside, wrote, changed}
+use Rattle.capi_calls.specs.Words.{lineWords, chainWord, done, beside, wrote, changed}
 use Rattle.capi_calls.specs.Calls.{FindCall, nameCall, statementCall, retractCall, openCall, nextCall, assertCall, EnterCall}
 use Rattle.capi_calls.specs.Calls.{ReclaimCall}
 use Rattle.capi_calls.specs.QueryWords.{queryCursorWords, queryReplyWords}
 use Rattle.capi_calls.specs.QueryCalls.{queryOpenCall, queryNextCall}
+
+-- ---- widths
+
+-- The header's words are these: of counters, of a scan's and a query's cursor, then of replies.
+abbrev pub WidthsAre : Type 0
+WidthsAre = counterWords ∷ cursorWords ∷ queryCursorWords
+    ∷ numberReplyWords ∷ nameReplyWords ∷ statementReplyWords ∷ assertReplyWords ∷ scanReplyWords ∷ lineWords ∷ queryReplyWords ∷ []
+    ≡ 4 ∷ 6 ∷ 19 ∷ 1 ∷ 2 ∷ 4 ∷ 2 ∷ 3 ∷ 8 ∷ 18 ∷ []
 
 -- ---- counters
 
@@ -128,13 +135,13 @@ UnansweredQueryNext = (cw : List ℕ) (m : Tables) (ws q : List ℕ) (b : ℕ) (
 -- whatever its other words hold.
 abbrev pub StaleWords : Type 0
 StaleWords = (cw : List ℕ) (m : Tables) (q : List ℕ) (b : ℕ) (w : List ℕ)
-    → counterWords ≤ length cw → cursorWords ≤ length q → scanReplyWords ≤ length w
+    → 4 ≤ length cw → 6 ≤ length q → 3 ≤ length w
     → (nextCall cw m q b w) .0 ≡ 13 ↔ (fits (countersOf cw) m ≡ true) × (word q 5 ≢ word cw 3)
 
 -- So is `lt_query_next` where 1 and 8 are not refused, by the third word.
 abbrev pub StaleQueryWords : Type 0
 StaleQueryWords = (cw : List ℕ) (m : Tables) (ws q : List ℕ) (b : ℕ) (w : List ℕ)
-    → counterWords ≤ length cw → queryCursorWords ≤ length q → queryReplyWords ≤ length w → (queryNextCall cw m ws q b w) .0 ≡ 13
+    → 4 ≤ length cw → queryCursorWords ≤ length q → queryReplyWords ≤ length w → (queryNextCall cw m ws q b w) .0 ≡ 13
     ↔ (fits (countersOf cw) m ≡ true) × (wordsOk (word cw 0) ws ≡ true) × (word q 2 ≢ word cw 3)
 
 -- `lt_reclaim` on a sound store below the maximum: the counters' words tell the answer, the fourth one more.
@@ -144,5 +151,5 @@ pub record Reclaims (cw : List ℕ) (m m′ : Tables) (z : ℕ × List ℕ) : Ty
   pub number : word (z .1) 3 ≡ suc (word cw 3)
 
 abbrev pub AnsweredReclaim : Type 0
-AnsweredReclaim = (cw : List ℕ) (m m′ : Tables) (z : ℕ × List ℕ) → ReclaimCall cw m m′ z → counterWords ≤ length cw
-    → Sound (countersOf cw) m → word cw 3 < maxReclaims → Reclaims cw m m′ z
+AnsweredReclaim = (cw : List ℕ) (m m′ : Tables) (z : ℕ × List ℕ) → ReclaimCall cw m m′ z → 4 ≤ length cw
+    → Sound (countersOf cw) m → word cw 3 < 65535 → Reclaims cw m m′ z

@@ -16,7 +16,6 @@ use store::Counters;
 ghost use mathlib.Core.Path.{_≡_};
 ghost use mathlib.Core.Bool.{true};
 ghost use mathlib.Core.Logic.{_↔_};
-ghost use Prim.Native.Nat.{_<_};
 ghost use Rattle.store.specs.Tables.{lent};
 ghost use Rattle.store.specs.Soundness.{Sound};
 ghost use Rattle.integrity.specs.Held.{ResourcesHeld, StatementsHeld};
