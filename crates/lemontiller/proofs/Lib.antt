@@ -1,3 +1,4 @@
 pub mod Lengths
+pub mod MovedCursor
 pub mod Writes
 pub mod QueryWrites

@@ -1,9 +1,9 @@
 -- What a call that writes comes to once the lent slices are long enough. Assumes nothing.
-use mathlib.Core.Path.{_≡_, sym, ap, _∙_, refl}
+use mathlib.Core.Path.{_≡_, sym, ap, subst, _∙_, refl}
 use mathlib.Core.List.{List}
 use Prim.Native.Nat.{ℕ, _<_, _≤_}
 use native.Mathlib.Omega.{arith}
-use lib.ListN.{length}
+use lib.ListN.{length, set}
 use borrow.Author.Tests.{lt-ltb, le-ltb, ne-eqb}
 use Rattle.store.specs.declared.Counters.{Counters}
 use Rattle.store.specs.declared.Triple.{Triple}
@@ -38,6 +38,7 @@ use Rattle.capi_calls.specs.Calls.{ReclaimCall}
 use Rattle.store.proofs.Numbers.{refuses}
 use Rattle.lemontiller.proofs.Lengths.{short-counters, short-reply, room, no-counters, no-reply, some-room}
 use Rattle.lemontiller.proofs.Lengths.{any-room}
+use Rattle.lemontiller.proofs.MovedCursor.{OneWord, next-one-word}
 
 -- ---- on the triple or pattern y, which the code holds as x, with the counters c
 
@@ -93,14 +94,16 @@ module _ (cw q w : List ℕ) (m : Tables) (b : ℕ) {s : Scanned} {c : Counters}
       let f = ne-eqb ((scannedAnswer s) .result) 0 (λ e. ne (ap (λ (x : ScanReply). x .result) ea ∙ e)) in
       simp (z, f, ea) (any-room cw cursorWords q scanReplyWords w _ _ h i k)
 
-  pub next-answered : {k : ScanCursor} {q′ : List ℕ} → a .result ≡ 0 → k ≡ (scannedValues s) .cursor → q′ ≡ withCursor q k
+  -- the code writes one word of the cursor, its record
+  pub next-answered : {k : ScanCursor} → a .result ≡ 0 → k ≡ (scannedValues s) .cursor
       → counterWords ≤ length cw → cursorWords ≤ length q → scanReplyWords ≤ length w
-      → beside 0 q′ (withScan w a) ≡ nextCall cw m q b w
+      → beside 0 (set q 4 (k .next .0)) (withScan w a) ≡ nextCall cw m q b w
   unfolding nextCall
-  next-answered eo ek eq h i l =
+  next-answered eo ek h i l =
       let z : nextFrom (countersOf cw) m q b ≡ s = cc in
       let f : (scannedAnswer s) .result ≡ 0 = sym (ap (λ (x : ScanReply). x .result) ea) ∙ eo in
-      simp (z, eq, ek, ea, f) (any-room cw cursorWords q scanReplyWords w _ _ h i l)
+      let o = subst (OneWord q) z (next-one-word q (countersOf cw) m b) f in
+      simp (z, o, ek, ea, f) (any-room cw cursorWords q scanReplyWords w _ _ h i l)
 
 -- ---- enter
 

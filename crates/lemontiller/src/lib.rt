@@ -289,8 +289,10 @@ pub extern "C" fn lt_scan_next(
     if a.result != 0 {
         return a.result;
     }
+    // One word is enough: an answered next moves the cursor's record, word 4, and leaves its pattern, chain and number
+    // of reclaims as they were read.
     let q = scanned_cursor(next);
-    put_cursor(cursor, q);
+    cursor[4] = q.next.0;
     0
 }
 

@@ -11,7 +11,6 @@ use Rattle.lemontiller.proofs.lt_scan_next.Reads as reads
 use Rattle.lemontiller.proofs.lt_scan_next.Lts as lts
 use Rattle.capi_words.proofs.words.counters_of.Reads as counters-of-reads
 use Rattle.capi_words.proofs.words.next_from.Reads as next-from-reads
-use Rattle.capi_words.proofs.words.put_cursor.Reads as put-cursor-reads
 use Rattle.capi_words.proofs.replies.scanned_answer.Reads as scanned-answer-reads
 use Rattle.capi_words.proofs.replies.scanned_cursor.Reads as scanned-cursor-reads
 
@@ -66,8 +65,8 @@ returns-4 c =
 scanned-cursor-requires : tie.Need-scanned-cursor-requires
 scanned-cursor-requires c κs = search needs
 
-put-cursor-requires : tie.Need-put-cursor-requires
-put-cursor-requires c κs = search needs
+slice-write-cursor : tie.Need-slice-write-cursor
+slice-write-cursor c = search needs
 
 same-length-3 : tie.Need-same-length-3
 same-length-3 c = search needs
@@ -77,16 +76,14 @@ same-length-4 c = search needs
 
 returns-5 : tie.Need-returns-5
 returns-5 c =
-    let put = c .before .before in
-    let cursor = put .before .before in
-    let tested = cursor .before in
+    let tested = c .before in
     let told = tested .before .before in
     let walked = told .before in
     let read = walked .before .before in
     let long = read .before in
     next-answered _ _ _ _ _ (read .counters-of .ensures)
     (walked .next-from .ensures) (told .scanned-answer .ensures) (tested .if4 .left)
-    (cursor .scanned-cursor .ensures) (put .put-cursor .ensures)
+    (c .scanned-cursor .ensures)
     (long .before .before .if1 .left) (long .before .if2 .left) (long .if3 .left)
 
 pub lt-scan-next-spec : {M : Type 1} → statement M
@@ -106,7 +103,7 @@ lt-scan-next-spec =
     same-length-2
     returns-4
     scanned-cursor-requires
-    put-cursor-requires
+    slice-write-cursor
     same-length-3
     same-length-4
     returns-5)
