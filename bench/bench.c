@@ -37,6 +37,7 @@ const char *bench_folder;
 static const char *workload;
 static int counting;
 static join_shape shape;
+static char *walked; /* the predicate of the walk, in a workload that has one */
 
 /* Processor time, not the clock's: what the machine gives to others is left out. */
 static double now(void)
@@ -90,6 +91,7 @@ static void read_questions(char *text, size_t len)
             shape = (join_shape){f[1], f[2], f[3], atoi(f[4])};
             continue;
         }
+        if (!strcmp(f[0], "W")) walked = f[1];
         for (int g = 0; g < KINDS; g++) {
             if (strcmp(f[0], tag[g])) continue;
             question *q = &group[g].q[group[g].n++];
@@ -149,6 +151,9 @@ static size_t do_retract(void)
     peer_retract_end(st);
     return n;
 }
+
+static node chain;
+static size_t do_walk(void) { return peer_walk(st, chain); }
 
 static int kind;
 static size_t do_questions(void)
@@ -243,6 +248,28 @@ static void reclaims(size_t statements)
     }
 }
 
+/* The one operation of a workload with a walk: a listing opened and one next call, on a store with every statement retracted. Loading and
+ * retracting are long beside it: callgrind may be started with its instrumentation off, which begins here. */
+static int walk(void)
+{
+    size_t visits;
+    st = peer_open();
+    size_t statements = peer_load(st, nt, nt_len);
+    peer_retract_each(st, 1, 1);
+    chain = peer_node(st, walked, strlen(walked));
+    CALLGRIND_START_INSTRUMENTATION;
+    double t = least("walk", do_walk, &visits);
+    if (visits != statements) {
+        fprintf(stderr, "%s %s: %zu visits, %zu expected\n", peer_name, workload, visits, statements);
+        return 1;
+    }
+    report("walk", t, visits);
+    out_sum("walk", visits);
+    peer_node_free(st, chain);
+    peer_close(st);
+    return 0;
+}
+
 int main(int argc, char **argv)
 {
     if (argc < 3) { fprintf(stderr, "usage: %s FOLDER WORKLOAD [--count]\n", argv[0]); return 2; }
@@ -253,6 +280,7 @@ int main(int argc, char **argv)
     nt = slurp("nt", &nt_len);
     char *questions = slurp("q", &len);
     read_questions(questions, len);
+    if (walked) return walk();
 
     double t = least("parse", do_parse, &units);
     if (units) {

@@ -34,6 +34,7 @@ int peer_check(void *st);                                 /* 1 sound, 0 not, -1 
 void *peer_copy(void *st);                                /* a store with the same content; NULL: no reclaim is offered */
 void peer_retract_each(void *st, size_t n, size_t step);  /* statements n, n + step, ...; this and the next only with a copy */
 size_t peer_reclaim(void *st);                            /* statements left */
+size_t peer_walk(void *st, node p);                       /* visits of the next call that ends (? p ?); 0: it did not. Only with a copy */
 size_t peer_bytes(void *st);                              /* memory by its own account; 0: what malloc gave */
 
 #endif

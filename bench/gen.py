@@ -1,7 +1,7 @@
 #!/usr/bin/python3
 """Write workloads and the questions asked of them, the same at every run.
 
-    gen.py FOLDER WORKLOAD...      WORKLOAD: relay-T, typed-T, wide-T or cross-T
+    gen.py FOLDER WORKLOAD...      WORKLOAD: relay-T, typed-T, wide-T, cross-T or bay-T
 
   FOLDER/WORKLOAD.nt   exactly T distinct statements, in the order a site would load them
   FOLDER/WORKLOAD.q    questions, a line each, its fields separated by tabs:
@@ -11,6 +11,7 @@
     L s p o hit           all bound; hit is 1 if the statement is there (an absent one is made of names that are)
     S s, P p, O o         one bound
     SP s p, PO p o, SO s o   two bound
+    W p                   every statement retracted, all of them on the chain of p: one walk along it, and no other question
 
 Every workload stays within the limits of the store: 65,535 resources and statements, 1,048,576 bytes of text.
 """
@@ -119,7 +120,14 @@ def cross(T, rng):
     return every[:T], ('<p:0>', '<p:1>', '<p:2>', 1), ['<o:%d>' % c for c in range(5)]
 
 
+def bay(T, rng):
+    """One predicate between 256 relays and 256 breakers of a busy bay: every statement is on its chain. No join is asked."""
+    return [('<r:%d>' % (i // 256 + 1), '<p:trips>', '<b:%d>' % (i % 256 + 1)) for i in range(T)], None, None
+
+
 def queries(triples, join, ks, rng):
+    if join is None:
+        return ['W\t%s' % triples[0][1]]
     q = ['JOIN\t%s\t%s\t%s\t%d' % join]
     subj = sorted({t[0] for t in triples})
     pred = sorted({t[1] for t in triples})
@@ -153,7 +161,7 @@ def queries(triples, join, ks, rng):
     return q
 
 
-MAKERS = {'relay': relay, 'typed': typed, 'wide': wide, 'cross': cross}
+MAKERS = {'relay': relay, 'typed': typed, 'wide': wide, 'cross': cross, 'bay': bay}
 SEED_OF = {'typed': 'relay'}
 
 

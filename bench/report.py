@@ -6,6 +6,7 @@
 ROUNDS.csv   round,peer,workload,metric,value           nanoseconds for each unit; bytes; sums
 COUNTS.csv   workload,instructions,peer,metric,number   and workload,units,peer,metric,number
              workload,endings,,metric,number             literals with the string ending; the last workload is the first one so written
+             the walk's workload has no endings
 """
 import collections
 import csv
@@ -21,6 +22,7 @@ import growth
 PEERS = ['library', 'reference', 'serd+sord', 'sqlite', 'lmdb']
 TITLES = {'library': 'library', 'reference': 'C reference', 'serd+sord': 'serd+sord', 'sqlite': 'SQLite', 'lmdb': 'LMDB'}
 COUNTED = ['library', 'reference', 'refusing']
+COUNTS_HEAD = ['', 'library', 'C reference', 'ratio', 'with refusals', 'ratio']
 OPERATIONS = [
     ('parse', 'parse', 'a line'),
     ('load', 'load', 'a statement'),
@@ -42,6 +44,8 @@ OPERATIONS = [
     ('sweep-half', 'reclaim without the check, half retracted', 'a statement'),
     ('sweep-all', 'reclaim without the check, all retracted', 'a statement'),
 ]
+# The one operation of a workload of its own, which stands in no table of the others.
+WALK = 'walk'
 # A time that is the difference of two is told where it is at least this part of the greater.
 TOLD = 0.05
 
@@ -116,13 +120,15 @@ def main():
         sys.exit('bench: the peers disagree\n' + '\n'.join(wrong))
     least = {k: min(v) for k, v in values.items()}
     less_checks(least, TOLD)
-    timed = [(p, w, m) for (p, w, m) in values if m in {o[0] for o in OPERATIONS}]
+    timed = [(p, w, m) for (p, w, m) in values if m in {o[0] for o in OPERATIONS} | {WALK}]
+    walked = next(w for w in workloads if ('library', w, WALK) in values)
+    workloads = [w for w in workloads if w != walked]
 
     spread = sorted(statistics.median(values[k]) / least[k] for k in timed)
     twice = sorted(least['again', w, m] / least['reference', w, m] for (p, w, m) in timed if p == 'again')
     out = ['# Results', '', 'Written by `bench/run`; README.md beside this file says what is measured.', '', 'Machine: %s.' % machine(), '']
-    out += ['Every figure is the least of %d rounds; a round measures every peer once on every workload. All peers gave the same counts of statements, matches and '
-            'solutions.' % rounds, '']
+    out += ['Every figure is the least of %d rounds; a round measures every peer once on every workload. All peers gave the same counts of statements, matches, '
+            'solutions and visits.' % rounds, '']
     out += ['**Noise.** A figure\'s median round was %.2f times its least in the middle, %.2f times for the worst twentieth. The same reference program '
             'measured a second time in every round: its least was %.2f to %.2f times the first one\'s, %.2f in the middle. A ratio as near to 1 as that says nothing.'
             % (statistics.median(spread), spread[int(0.95 * len(spread))], twice[0], twice[-1], statistics.median(twice)), '']
@@ -140,7 +146,8 @@ def main():
     out += table([''] + workloads + ['reference against itself'], rows)
 
     if counts:
-        out += instructions(counts)
+        out += instructions([c for c in counts if c[0] != walked])
+    out += chain(walked, {p: least[p, walked, WALK] for p in ('library', 'reference', 'again')}, [c for c in counts if c[0] == walked])
 
     for w in workloads:
         out += ['## %s' % w, '', 'Time, and in parentheses the ratio to the C reference.', '']
@@ -162,6 +169,14 @@ def main():
         f.write(growth.picture(least, [w for w in workloads if w.startswith('relay-')], PEERS, TITLES))
 
 
+def by_kind(counts):
+    """What COUNTS.csv has of instructions, units and endings, each {(workload, peer, metric): number}."""
+    kept = {'instructions': {}, 'units': {}, 'endings': {}}
+    for workload, what, peer, metric, value in counts:
+        kept[what][workload, peer, metric] = float(value)
+    return kept.values()
+
+
 def against(each):
     """Cells for a figure of the library, and of the two references with the ratio to each."""
     cells = ['%.0f' % each['library']]
@@ -172,12 +187,8 @@ def against(each):
 
 def instructions(counts):
     """The tables of instruction counts: each operation on the first workload, and what the string ending costs on the last."""
-    kept = {'instructions': {}, 'units': {}, 'endings': {}}
-    for workload, what, peer, metric, value in counts:
-        kept[what][workload, peer, metric] = float(value)
-    number, units, endings = kept.values()
+    number, units, endings = by_kind(counts)
     plain, typed = counts[0][0], counts[-1][0]
-    head = ['', 'library', 'C reference', 'ratio', 'with refusals', 'ratio']
 
     out = ['## Instructions, %s' % plain, '',
            'Counted by callgrind: no other work on the machine changes them. "With refusals" is the reference compiled with the tests of refusals 1, 6, 7, 9 and 13 and '
@@ -188,7 +199,7 @@ def instructions(counts):
     for metric, title, unit in OPERATIONS:
         each = {p: by_unit[plain, p, metric] for p in COUNTED if (plain, p, metric) in by_unit}
         rows.append(['%s, %s' % (title, unit)] + against(each))
-    out += table(head, rows)
+    out += table(COUNTS_HEAD, rows)
 
     lines, names = endings[typed, '', 'parse'], endings[typed, '', 'find']
     out += ['## Instructions, the string ending', '',
@@ -198,7 +209,20 @@ def instructions(counts):
     for metric, title, _ in OPERATIONS[:3]:
         each = {p: (number[typed, p, metric] - number[plain, p, metric]) / endings[typed, '', metric] for p in COUNTED}
         rows.append(['%s, a literal' % title] + against(each))
-    return out + table(head, rows)
+    return out + table(COUNTS_HEAD, rows)
+
+
+def chain(workload, ns, counts):
+    """The walk along one chain of retracted records: its times, and its instructions where they were counted."""
+    out = ['## A chain of retracted records', '',
+           '%s with every statement retracted: a listing with the predicate bound is opened, and one next call walks the whole chain and ends. For each record visited.'
+           % workload, '']
+    out += table(['', 'library', 'C reference', 'ratio', 'reference against itself'],
+                 [['time', span(ns['library']), span(ns['reference']), ratio(ns['library'] / ns['reference']), '%.2f' % (ns['again'] / ns['reference'])]])
+    if counts:
+        number, units, _ = by_kind(counts)
+        out += table(COUNTS_HEAD, [['instructions'] + against({p: number[workload, p, WALK] / units[workload, p, WALK] for p in COUNTED})])
+    return out
 
 
 main()

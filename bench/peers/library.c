@@ -188,6 +188,15 @@ size_t peer_reclaim(void *st)
     return s->counters[1];
 }
 
+size_t peer_walk(void *st, node p)
+{
+    const store *s = st;
+    uint32_t cursor[LT_CURSOR_WORDS], reply[LT_SCAN_REPLY_WORDS];
+    must(lt_scan_open(LENT(s), 0, U(p), 0, cursor, LT_CURSOR_WORDS));
+    must(lt_scan_next(LENT(s), cursor, LT_CURSOR_WORDS, NO_LIMIT, reply, LT_SCAN_REPLY_WORDS));
+    return reply[0] == LT_ENDED ? reply[2] : 0;
+}
+
 /* What a caller must lend for exactly this content. */
 size_t peer_bytes(void *st)
 {

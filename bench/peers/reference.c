@@ -154,6 +154,14 @@ size_t peer_reclaim(void *st)
     return s->T;
 }
 
+size_t peer_walk(void *st, node p)
+{
+    const store *s = &((db *)st)->s;
+    listing l = store_open(s, 0, U(p), 0);
+    uint32_t n, visits;
+    return store_next(s, &l, UINT32_MAX, &n, &visits) == ENDED ? visits : 0;
+}
+
 /* What a caller must lend for exactly this content. */
 size_t peer_bytes(void *st)
 {
