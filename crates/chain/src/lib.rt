@@ -1,5 +1,6 @@
 // Chains and patterns, before any record of a chain is visited.
 //
 // `pick` has which chain is picked and where it starts. Assert, retract, the scan and the query take the same pick, so
-// each touches the records of the shortest chain only.
+// each touches the records of the shortest chain only. `plan` has what a walk asks of every record of the chain.
 pub mod pick;
+pub mod plan;

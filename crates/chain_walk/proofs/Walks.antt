@@ -18,16 +18,16 @@ use Rattle.store.specs.Tables.{termAt, nextAt, flagAt, tripleAt}
 use Rattle.store.specs.Walk.{entryAt, linkOf, holdsResource, visitable, walk, Step, found, ended, spent, afterVisit, foundIn}
 use Rattle.store.specs.Scan.{recordOk}
 use Rattle.store.proofs.Tests.{and-l, and-r}
-use Rattle.chain_walk.specs.declared.plan.Plan.{Plan}
+use Rattle.chain.specs.declared.plan.Plan.{Plan}
 use Rattle.chain_walk.specs.declared.walk.Sought.{Sought}
 use Rattle.chain_walk.specs.declared.walk.Sought.the-variants.{Same, LiveMatch}
 use Rattle.chain_walk.specs.declared.walk.Followed.the-variants.{Broken, To}
 use Rattle.chain_walk.specs.declared.walk.Tested.{Tested}
 use Rattle.chain_walk.specs.declared.walk.Tested.the-variants.{Damaged as Unfit, Is}
 use Rattle.chain_walk.specs.declared.walk.Visited.the-variants.{Damaged as BadRecord, Hit, Miss}
-use Rattle.chain_walk.specs.Plans.{resourceOf, planOf}
-use Rattle.chain_walk.specs.Walks.{has, recordHas, after, followOf, testedOf, hitsIn, hitsBy, hits, visitOf, locatedIn}
-use Rattle.chain_walk.proofs.Plans.{agrees-by-plan}
+use Rattle.chain.specs.Plans.{resourceOf, has, planOf}
+use Rattle.chain_walk.specs.Walks.{recordHas, after, followOf, testedOf, hitsIn, hitsBy, hits, visitOf, locatedIn}
+use Rattle.chain.proofs.Plans.{agrees-by-plan}
 
 -- ---- visits counted
 

@@ -10,8 +10,8 @@ use Rattle.store.specs.declared.Triple.{Triple}
 use Rattle.store.specs.Shared.{known, same, agrees, matches}
 use Rattle.store.specs.Tables.{termAt, flagAt, tripleAt}
 use Rattle.store.specs.Walk.{entryAt, linkOf, visitable, Step, found, ended, spent, foundIn}
-use Rattle.chain_walk.specs.Plans.{agreesBy}
-use Rattle.chain_walk.specs.declared.plan.Plan.{Plan}
+use Rattle.chain.specs.Plans.{has, agreesBy}
+use Rattle.chain.specs.declared.plan.Plan.{Plan}
 use Rattle.chain_walk.specs.declared.walk.Sought.{Sought}
 use Rattle.chain_walk.specs.declared.walk.Sought.the-variants.{Same, LiveMatch}
 use Rattle.store.specs.declared.StatementId.{StatementId}
@@ -27,11 +27,6 @@ use Rattle.chain_walk.specs.declared.walk.Seen.{Seen}
 use Rattle.chain_walk.specs.declared.walk.Seen.the-variants.{At, Damaged as Unseen}
 
 -- ---- the tests of a record, by the chain's resource y
-
--- entry i has y at the chain's position
-abbrev pub has : List ℕ → Chain → ℕ → ℕ → Bool
-has stm All y i = true
-has stm (By p) y i = eqb (termAt stm p i) y
 
 -- a record other than 0 has it
 abbrev pub recordHas : List ℕ → Chain → ℕ → ℕ → Bool

@@ -4,9 +4,9 @@
 // and retract seek one record, `seek`; both work out their plan first. The query visits record by record. Each function
 // asks that the records it reads lie in the statement table, and nothing of what they hold: a word out of range is an
 // answer.
-use crate::plan::Plan;
-use crate::plan::agrees_by;
-use crate::plan::resource_of;
+use chain::plan::Plan;
+use chain::plan::agrees_by;
+use chain::plan::resource_of;
 use store::Chain;
 use store::ResourceId;
 use store::StatementId;
@@ -26,7 +26,7 @@ ghost use Rattle.store.specs.Walk.{linkOf, visitable, walk};
 ghost use Rattle.store.specs.Scan.{recordOk};
 ghost use Rattle.table.specs.Held.{StatementHeld};
 ghost use Rattle.chain_walk.specs.declared.walk.Sought.the-variants.{Same};
-ghost use Rattle.chain_walk.specs.Plans.{planOf, agreesBy};
+ghost use Rattle.chain.specs.Plans.{planOf, agreesBy};
 ghost use Rattle.chain_walk.specs.Walks.{recordHas, followOf, testedOf, hitsIn, hitsBy, hits, visitOf, stepOf, seenOf, locatedIn};
 
 // What a walk seeks: the record with the pattern's three numbers, retracted or not, or the first live match of a

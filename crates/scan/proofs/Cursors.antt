@@ -17,10 +17,10 @@ use Rattle.store.proofs.Tests.{and-l, and-r, within-high}
 use Rattle.table.proofs.Capacity.{fits-room}
 use Rattle.chain.specs.Chains.{PatternHeld}
 use Rattle.chain.proofs.Chains.{held}
-use Rattle.chain_walk.specs.declared.plan.Plan.{Plan}
+use Rattle.chain.specs.declared.plan.Plan.{Plan}
 use Rattle.chain_walk.specs.declared.walk.Sought.the-variants.{LiveMatch}
-use Rattle.chain_walk.specs.Plans.{planOf}
-use Rattle.chain_walk.proofs.Plans.{plan-chain, plan-pattern, plan-resource}
+use Rattle.chain.specs.Plans.{planOf}
+use Rattle.chain.proofs.Plans.{plan-chain, plan-pattern, plan-resource}
 use Rattle.chain_walk.proofs.Walks.{record-by}
 use Rattle.chain_walk.specs.declared.walk.Walked.{Walked}
 use Rattle.chain_walk.specs.Walks.{recordHas, hits, stepOf}
@@ -60,9 +60,9 @@ module _ (c : Counters) (m : Tables) (q : ScanCursor) where
   unfolding nextOf walkFrom hits
   next-walk a b f g k h p d w =
       let e : stepOf a ≡ walk (linkOf (m .statements) (q .chain))
-          (visitable (c .resources) (m .statements) (q .chain) (q .pattern))
-          (λ i. matches (q .pattern) (entryAt (m .statements) i)) b (q .next .0) =
-          w ∙ rw (plan-chain p (q .chain) (q .pattern) d, plan-pattern p (q .chain) (q .pattern) d) in
+      (visitable (c .resources) (m .statements) (q .chain) (q .pattern))
+      (λ i. matches (q .pattern) (entryAt (m .statements) i)) b (q .next .0) =
+      w ∙ rw (plan-chain p (q .chain) (q .pattern) d, plan-pattern p (q .chain) (q .pattern) d) in
       rw (f, eq-eqb (q .generation) (c .generation) g, k, ne-eqb b 0 h) (ap (scannedAs q) (sym e))
 
 -- ---- a cursor tested by a plan

@@ -6,9 +6,9 @@
 use chain::pick::pick_chain;
 use chain::pick::pickable;
 use chain::pick::start_of;
-use chain_walk::plan::Plan;
-use chain_walk::plan::chain_fits;
-use chain_walk::plan::plan_of;
+use chain::plan::Plan;
+use chain::plan::chain_fits;
+use chain::plan::plan_of;
 use chain_walk::walk::Sought;
 use chain_walk::walk::Walked;
 use chain_walk::walk::record_has;
@@ -27,7 +27,7 @@ ghost use Prim.Native.Nat.{_*_, _≤_};
 ghost use lib.ListN.{length};
 ghost use Rattle.store.specs.Tables.{lent, statementWords};
 ghost use Rattle.store.specs.Scan.{cursorIn, openOf, nextOf};
-ghost use Rattle.chain_walk.specs.Plans.{planOf};
+ghost use Rattle.chain.specs.Plans.{planOf};
 ghost use Rattle.scan.specs.Cursors.{CursorTested};
 
 // Open a pattern scan: a cursor of the store's generation, before the first record of the bound position of least

@@ -22,11 +22,11 @@ use Rattle.table.proofs.Held.{triple-held}
 use Rattle.chain.specs.Chains.{PatternHeld}
 use Rattle.chain.proofs.Chains.{pick-bound, start-within, count-within}
 use Rattle.chain_walk.specs.declared.walk.Sought.the-variants.{Same}
-use Rattle.chain_walk.specs.declared.plan.Plan.{Plan}
+use Rattle.chain.specs.declared.plan.Plan.{Plan}
 use Rattle.chain_walk.specs.declared.walk.Seen.{Seen}
-use Rattle.chain_walk.specs.Plans.{planOf}
+use Rattle.chain.specs.Plans.{planOf}
 use Rattle.chain_walk.specs.Walks.{hits, locatedIn, seenOf}
-use Rattle.chain_walk.proofs.Plans.{plan-chain, plan-pattern}
+use Rattle.chain.proofs.Plans.{plan-chain, plan-pattern}
 use Rattle.chain_walk.proofs.Walks.{numberIn, walk-within, falling, enough}
 
 -- ---- a known triple, where the counters are within capacity
@@ -71,7 +71,7 @@ module _ (c : Counters) (m : Tables) (x : Triple) where
       (λ i. same x (tripleAt (m .statements) i)) (falling (c .resources) (m .statements) ch x) n (c .statements) n
       (omega arith) h in
       let s : seenOf a ≡ locatedIn (seek c m x) =
-          w ∙ rw (plan-chain p ch x q, plan-pattern p ch x q) (f ∙ rw (e, d)) in
+      w ∙ rw (plan-chain p ch x q, plan-pattern p ch x q) (f ∙ rw (e, d)) in
       locate-seek k ∙ sym s
 
   locate-ready : (n : ℕ) → locate c m x ≡ some n → ready (c .statements) (m .resources) x ≡ true

@@ -3,7 +3,7 @@
 use chain::pick::pick_chain;
 use chain::pick::pickable;
 use chain::pick::start_of;
-use chain_walk::plan::plan_of;
+use chain::plan::plan_of;
 use chain_walk::walk::Seen;
 use chain_walk::walk::seek;
 use store::Counters;

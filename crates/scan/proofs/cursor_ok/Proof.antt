@@ -3,7 +3,7 @@ use borrow.Author.Tests.{le-leb}
 use denote.Ref.{now}
 use Rattle.store.specs.Tables.{tables}
 use Rattle.store.specs.Scan.{cursorOk}
-use Rattle.chain_walk.proofs.Plans.{planned}
+use Rattle.chain.proofs.Plans.{planned}
 use Rattle.scan.proofs.Cursors.{past-last, chain-by, record-told}
 use borrow.Author.Needs.{needs}
 use Rattle.scan.proofs.cursor_ok.Statement.{statement}
@@ -59,8 +59,8 @@ returns-4 c =
         passed (chain-by (s .args .plan) (s .args .q .chain) x (s .pre .1) (f .before .chain-fits .ensures)) (f .if3 .left),
         le-leb _ _ (f .before .before .if2 .left),
       )
-      (record-told (s .args .plan) (s .args .q .chain) x (s .pre .1) (now (s .args .statements)) (s .args .q .next .0)
-      (c .record-has .ensures));
+          (record-told (s .args .plan) (s .args .q .chain) x (s .pre .1) (now (s .args .statements)) (s .args .q .next .0)
+          (c .record-has .ensures));
     }
 
 pub cursor-ok-spec : {M : Type 1} → statement M

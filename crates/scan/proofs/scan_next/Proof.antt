@@ -5,7 +5,7 @@ use denote.Ref.{now}
 use borrow.Author.Tests.{eq-eqb, ne-eqb}
 use Rattle.table.proofs.Branches.{passed, failed, first-refuses}
 use Rattle.table.proofs.Capacity.{fits-room}
-use Rattle.chain_walk.proofs.Plans.{planned}
+use Rattle.chain.proofs.Plans.{planned}
 use Rattle.scan.proofs.Cursors.{cursor-within, next-walk}
 use Rattle.chain_walk.specs.Walks.{stepOf}
 use Rattle.chain_walk.specs.declared.walk.Walked.{Walked}

@@ -2,8 +2,8 @@ use mathlib.Core.Path.{_≡_, sym, _∙_}
 use mathlib.Core.Bool.{true, false}
 use denote.Ref.{now}
 use Prim.Native.Nat.{_-_}
-use Rattle.chain_walk.specs.Plans.{resourceOf}
-use Rattle.chain_walk.proofs.Plans.{plan-resource}
+use Rattle.chain.specs.Plans.{resourceOf}
+use Rattle.chain.proofs.Plans.{plan-resource}
 use Rattle.chain_walk.proofs.Walks.{visit-unfit, visit-by-plan}
 use borrow.Author.Needs.{needs}
 use Rattle.chain_walk.proofs.walk.visit_by.Statement.{statement}

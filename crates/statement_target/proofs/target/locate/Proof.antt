@@ -13,7 +13,7 @@ use Rattle.table.proofs.Branches.{failed, passed}
 use Rattle.chain.proofs.Chains.{pick-bound, start-within}
 use Rattle.chain_walk.specs.declared.walk.Seen.{Seen}
 use Rattle.chain_walk.specs.Walks.{seenOf}
-use Rattle.chain_walk.proofs.Plans.{planned}
+use Rattle.chain.proofs.Plans.{planned}
 use Rattle.statement_target.specs.Targets.{locatedAs}
 use Rattle.statement_target.proofs.Locate.{held-pattern, locate-damaged, locate-seen, ready}
 use borrow.Author.Needs.{needs}

@@ -5,7 +5,7 @@ use store::Triple;
 use table::triple::at;
 ghost use mathlib.Core.Path.{_≡_};
 ghost use Rattle.store.specs.Scan.{chainOk};
-ghost use Rattle.chain_walk.specs.Plans.{resourceOf, bound, like, alone, planOf, agreesMarked, agreesBy};
+ghost use Rattle.chain.specs.Plans.{resourceOf, bound, like, alone, planOf, agreesMarked, agreesBy};
 
 // The pattern and the chain; the chain's resource, 0 for all records; for each position whether the pattern binds it,
 // its bound mark; whether it binds none but the chain's.

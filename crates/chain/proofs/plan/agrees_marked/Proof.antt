@@ -1,8 +1,8 @@
 use Rattle.table.proofs.Branches.{first-fails, second-fails, third-tells}
-use Rattle.chain_walk.specs.Plans.{agreesMarked}
+use Rattle.chain.specs.Plans.{agreesMarked}
 use borrow.Author.Needs.{needs}
-use Rattle.chain_walk.proofs.plan.agrees_marked.Statement.{statement}
-use Rattle.chain_walk.proofs.plan.agrees_marked.Tie as tie
+use Rattle.chain.proofs.plan.agrees_marked.Statement.{statement}
+use Rattle.chain.proofs.plan.agrees_marked.Tie as tie
 
 like-requires : tie.Need-like-requires
 like-requires c κs = search needs

@@ -1,7 +1,7 @@
-use Rattle.chain_walk.specs.Plans.{planOf}
+use Rattle.chain.specs.Plans.{planOf}
 use borrow.Author.Needs.{needs}
-use Rattle.chain_walk.proofs.plan.plan_of.Statement.{statement}
-use Rattle.chain_walk.proofs.plan.plan_of.Tie as tie
+use Rattle.chain.proofs.plan.plan_of.Statement.{statement}
+use Rattle.chain.proofs.plan.plan_of.Tie as tie
 
 resource-of-requires : tie.Need-resource-of-requires
 resource-of-requires c κs = search needs

@@ -1,7 +1,7 @@
-use Rattle.chain_walk.proofs.Plans.{fits-all, fits-by}
+use Rattle.chain.proofs.Plans.{fits-all, fits-by}
 use borrow.Author.Needs.{needs}
-use Rattle.chain_walk.proofs.plan.chain_fits.Statement.{statement}
-use Rattle.chain_walk.proofs.plan.chain_fits.Tie as tie
+use Rattle.chain.proofs.plan.chain_fits.Statement.{statement}
+use Rattle.chain.proofs.plan.chain_fits.Tie as tie
 
 enum-told : tie.Need-enum-told
 enum-told c = search needs

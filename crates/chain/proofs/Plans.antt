@@ -16,9 +16,9 @@ use Rattle.store.specs.Shared.{at, agrees}
 use Rattle.store.specs.Tables.{termAt, tripleAt}
 use Rattle.store.specs.Scan.{chainOk}
 use Rattle.store.proofs.Tests.{decide, and-l, and-r}
-use Rattle.chain_walk.specs.declared.plan.Plan.{Plan}
-use Rattle.chain_walk.specs.Plans.{resourceOf, bound, alone, planOf, like, agreesMarked, agreesBy}
-use Rattle.chain_walk.specs.Walks.{has}
+use Rattle.chain.specs.declared.plan.Plan.{Plan}
+use Rattle.chain.specs.Plans.{resourceOf, bound, alone, planOf, like, agreesMarked, agreesBy}
+use Rattle.chain.specs.Plans.{has}
 
 -- ---- a plan that was made
 

@@ -1,7 +1,7 @@
 use mathlib.Core.Path.{sym}
 use borrow.Author.Needs.{needs}
-use Rattle.chain_walk.proofs.plan.like.Statement.{statement}
-use Rattle.chain_walk.proofs.plan.like.Tie as tie
+use Rattle.chain.proofs.plan.like.Statement.{statement}
+use Rattle.chain.proofs.plan.like.Tie as tie
 
 returns : tie.Need-returns
 returns c = search needs

@@ -1,6 +1,6 @@
 use borrow.Author.Needs.{needs}
-use Rattle.chain_walk.proofs.plan.resource_of.Statement.{statement}
-use Rattle.chain_walk.proofs.plan.resource_of.Tie as tie
+use Rattle.chain.proofs.plan.resource_of.Statement.{statement}
+use Rattle.chain.proofs.plan.resource_of.Tie as tie
 
 enum-told : tie.Need-enum-told
 enum-told c = search needs

@@ -1,5 +1,6 @@
 -- What a walk asks of every record of its chain, worked out before the first (paper 02, note 3). Assumes nothing.
-use mathlib.Core.Bool.{Bool, not, _&&_, _||_}
+use mathlib.Core.Bool.{Bool, true, not, _&&_, _||_}
+use mathlib.Core.List.{List}
 use Prim.Native.Nat.{ℕ, _+_}
 use lib.Dec.{eqb}
 use Rattle.store.specs.declared.Chain.{Chain}
@@ -7,12 +8,18 @@ use Rattle.store.specs.declared.Chain.the-variants.{All, By}
 use Rattle.store.specs.declared.Position.the-variants.{Subject, Predicate, Object}
 use Rattle.store.specs.declared.Triple.{Triple}
 use Rattle.store.specs.Shared.{at}
-use Rattle.chain_walk.specs.declared.plan.Plan.{Plan}
+use Rattle.store.specs.Tables.{termAt}
+use Rattle.chain.specs.declared.plan.Plan.{Plan}
 
 -- a chain's resource, 0 for all records
 abbrev pub resourceOf : Chain → Triple → ℕ
 resourceOf All x = 0
 resourceOf (By p) x = at p x
+
+-- entry i has y at the chain's position
+abbrev pub has : List ℕ → Chain → ℕ → ℕ → Bool
+has stm All y i = true
+has stm (By p) y i = eqb (termAt stm p i) y
 
 -- a pattern's number is bound: 0 stands for any
 abbrev pub bound : ℕ → Bool

@@ -1,8 +1,8 @@
 use mathlib.Core.Path.{_∙_}
-use Rattle.chain_walk.proofs.Plans.{unalone}
+use Rattle.chain.proofs.Plans.{unalone}
 use borrow.Author.Needs.{needs}
-use Rattle.chain_walk.proofs.plan.agrees_by.Statement.{statement}
-use Rattle.chain_walk.proofs.plan.agrees_by.Tie as tie
+use Rattle.chain.proofs.plan.agrees_by.Statement.{statement}
+use Rattle.chain.proofs.plan.agrees_by.Tie as tie
 
 returns : tie.Need-returns
 returns c = rw (c .if1 .taken)
