@@ -5,8 +5,8 @@ use mathlib.Core.Bool.{Bool, true, false, not, _&&_, _||_}
 use mathlib.Core.List.{List}
 use Prim.Native.Nat.{ℕ, _+_}
 use native.Mathlib.Omega.{arith}
-use lib.Dec.{eqb, ltb}
-use borrow.Author.Tests.{eqb-true, eq-eqb, ne-eqb, eqb-false, lt-ltb}
+use lib.Dec.{eqb}
+use borrow.Author.Tests.{eqb-true, eq-eqb, eqb-false}
 use Rattle.store.specs.declared.Chain.{Chain}
 use Rattle.store.specs.declared.Chain.the-variants.{All, By}
 use Rattle.store.specs.declared.Position.{Position}
@@ -15,10 +15,10 @@ use Rattle.store.specs.declared.Triple.{Triple}
 use Rattle.store.specs.Shared.{at, agrees}
 use Rattle.store.specs.Tables.{termAt, tripleAt}
 use Rattle.store.specs.Scan.{chainOk}
-use Rattle.store.proofs.Tests.{decide, and-l, and-r}
+use Rattle.store.proofs.Tests.{decide, and-l, and-r, all3-of}
 use Rattle.chain.specs.declared.plan.Plan.{Plan}
-use Rattle.chain.specs.Plans.{resourceOf, bound, alone, planOf, like, agreesMarked, agreesBy}
-use Rattle.chain.specs.Plans.{has}
+use Rattle.chain.specs.Plans.{resourceOf, has, isBound, alone, planOf, admitsMarked, agreesMarked, agreesBy}
+use Rattle.chain.proofs.Chains.{nonzero}
 
 -- ---- a plan that was made
 
@@ -42,8 +42,8 @@ module _ (p : Plan) (ch : Chain) (x : Triple) (e : p ≡ planOf ch x) where
 -- ---- marks
 
 -- where the mark says that the pattern's number is bound
-like-bound : (y z : ℕ) → like (bound y) y z ≡ eqb y 0 || eqb z y
-like-bound y z = twice (eqb y 0)
+marked-admits : (y z : ℕ) → admitsMarked (isBound y) y z ≡ eqb y 0 || eqb z y
+marked-admits y z = twice (eqb y 0)
   where
     twice : (b : Bool) → not (not b) || eqb z y ≡ b || eqb z y
     twice true = refl
@@ -53,9 +53,9 @@ marks-agree : (ch : Chain) (x t : Triple) → agreesMarked (planOf ch x) t ≡ a
 unfolding agreesMarked planOf agrees
 marks-agree ch x t =
     rw (
-      like-bound (at Subject x) (at Subject t),
-      like-bound (at Predicate x) (at Predicate t),
-      like-bound (at Object x) (at Object t),
+      marked-admits (at Subject x) (at Subject t),
+      marked-admits (at Predicate x) (at Predicate t),
+      marked-admits (at Object x) (at Object t),
     )
 
 -- ---- nothing bound but the chain's position
@@ -73,7 +73,7 @@ own y z e = rw (eq-eqb z y e) (second (eqb y 0))
 
 all-admit : (x t : Triple) → ((q : Position) → eqb (at q x) 0 || eqb (at q t) (at q x) ≡ true) → agrees x t ≡ true
 unfolding agrees
-all-admit x t f = rw (f Subject, f Predicate, f Object)
+all-admit x t f = all3-of (λ q. eqb (at q x) 0 || eqb (at q t) (at q x)) f
 
 abbrev sum : Triple → ℕ
 sum x = at Subject x + at Predicate x + at Object x
@@ -128,8 +128,8 @@ agrees-by-plan stm ch x i h =
     (λ e. by-marks ch x t e ∙ marks-agree ch x t)
 
 -- the marks decide where another position is bound
-pub unalone : (p : Plan) (t : Triple) → p .alone ≡ false → agreesMarked p t ≡ agreesBy p t
-unalone p t e = sym (second (p .alone) (agreesMarked p t) e)
+pub marks-decide : (p : Plan) (t : Triple) → p .alone ≡ false → agreesMarked p t ≡ agreesBy p t
+marks-decide p t e = sym (second (p .alone) (agreesMarked p t) e)
   where
     second : (a b : Bool) → a ≡ false → a || b ≡ b
     second true b e = let z : _≡_ {A = ℕ} 0 1 = cc in absurd (omega arith)
@@ -158,16 +158,13 @@ all-fits : (x : Triple) → planOf All x .alone ≡ chainOk All x
 unfolding planOf chainOk
 all-fits x = none-bound (at Subject x) (at Predicate x) (at Object x)
 
-by-fits : (p : Position) (x : Triple) → bound (planOf (By p) x .resource .0) ≡ chainOk (By p) x
+by-fits : (p : Position) (x : Triple) → isBound (planOf (By p) x .resource .0) ≡ chainOk (By p) x
 unfolding planOf chainOk
-by-fits p x =
-    decide (eqb (at p x) 0)
-    (λ e. let z = eqb-true (at p x) 0 e in rw (e, z))
-    (λ e. let z = eqb-false (at p x) 0 e in rw (e, lt-ltb 0 (at p x) (omega arith)))
+by-fits p x = nonzero (at p x)
 
 module _ (p : Plan) (e : p ≡ planOf (p .chain) (p .pattern)) where
   pub fits-all : p .chain ≡ All → p .alone ≡ chainOk (p .chain) (p .pattern)
   fits-all d = ap (λ (p : Plan). p .alone) e ∙ rw d (all-fits (p .pattern))
 
-  pub fits-by : (q : Position) → p .chain ≡ By q → bound (p .resource .0) ≡ chainOk (p .chain) (p .pattern)
-  fits-by q d = ap (λ (p : Plan). bound (p .resource .0)) e ∙ rw d (by-fits q (p .pattern))
+  pub fits-by : (q : Position) → p .chain ≡ By q → isBound (p .resource .0) ≡ chainOk (p .chain) (p .pattern)
+  fits-by q d = ap (λ (p : Plan). isBound (p .resource .0)) e ∙ rw d (by-fits q (p .pattern))

@@ -22,8 +22,8 @@ has stm All y i = true
 has stm (By p) y i = eqb (termAt stm p i) y
 
 -- a pattern's number is bound: 0 stands for any
-abbrev pub bound : ℕ → Bool
-bound y = not (eqb y 0)
+abbrev pub isBound : ℕ → Bool
+isBound y = not (eqb y 0)
 
 -- the pattern binds no position but that of y, one of its numbers or 0: they add up to y
 abbrev pub alone : Triple → ℕ → Bool
@@ -34,22 +34,22 @@ planOf ch x = record {
   pattern = x;
   chain = ch;
   resource = record { 0 = resourceOf ch x };
-  subject = bound (at Subject x);
-  predicate = bound (at Predicate x);
-  object = bound (at Object x);
+  subject = isBound (at Subject x);
+  predicate = isBound (at Predicate x);
+  object = isBound (at Object x);
   alone = alone x (resourceOf ch x);
 }
 
 -- where the mark is set, z is the pattern's number y
-abbrev pub like : Bool → ℕ → ℕ → Bool
-like mark y z = not mark || eqb z y
+abbrev pub admitsMarked : Bool → ℕ → ℕ → Bool
+admitsMarked mark y z = not mark || eqb z y
 
 -- the pattern's number at each position whose mark is set
 unfoldable pub agreesMarked : Plan → Triple → Bool
 agreesMarked p t =
-    like (p .subject) (at Subject (p .pattern)) (at Subject t)
-    && (like (p .predicate) (at Predicate (p .pattern)) (at Predicate t)
-    && like (p .object) (at Object (p .pattern)) (at Object t))
+    admitsMarked (p .subject) (at Subject (p .pattern)) (at Subject t)
+    && (admitsMarked (p .predicate) (at Predicate (p .pattern)) (at Predicate t)
+    && admitsMarked (p .object) (at Object (p .pattern)) (at Object t))
 
 -- nothing is left to compare once the chain's resource was tested, or the marked positions are
 abbrev pub agreesBy : Plan → Triple → Bool

@@ -5,7 +5,7 @@ use store::Triple;
 use table::triple::at;
 ghost use mathlib.Core.Path.{_≡_};
 ghost use Rattle.store.specs.Scan.{chainOk};
-ghost use Rattle.chain.specs.Plans.{resourceOf, bound, like, alone, planOf, agreesMarked, agreesBy};
+ghost use Rattle.chain.specs.Plans.{resourceOf, isBound, admitsMarked, alone, planOf, agreesMarked, agreesBy};
 
 // The pattern and the chain; the chain's resource, 0 for all records; for each position whether the pattern binds it,
 // its bound mark; whether it binds none but the chain's.
@@ -31,12 +31,12 @@ pub fn resource_of(chain: Chain, x: Triple) -> ResourceId
 
 // Whether a number of a pattern is bound.
 fn is_bound(y: ResourceId) -> bool
-    ensures { λ b. ⌜ b ≡ bound (y .0) ⌝ }
+    ensures { λ b. ⌜ b ≡ isBound (y .0) ⌝ }
 {
     y.0 != 0
 }
 
-// Whether a pattern binds no position but that of y, one of its numbers or 0: they then add up to y.
+// Whether a pattern binds no position but that of y, one of its numbers or 0: exactly then they add up to y.
 fn is_alone(x: Triple, y: ResourceId) -> bool
     ensures { λ b. ⌜ b ≡ alone x (y .0) ⌝ }
 {
@@ -61,8 +61,8 @@ pub fn plan_of(chain: Chain, x: Triple) -> Plan
 }
 
 // Whether a position whose mark is set has the pattern's number y.
-fn like(mark: bool, y: ResourceId, z: ResourceId) -> bool
-    ensures { λ b. ⌜ b ≡ like mark (y .0) (z .0) ⌝ }
+fn admits_marked(mark: bool, y: ResourceId, z: ResourceId) -> bool
+    ensures { λ b. ⌜ b ≡ admitsMarked mark (y .0) (z .0) ⌝ }
 {
     if !mark {
         return true;
@@ -75,13 +75,13 @@ fn agrees_marked(plan: Plan, t: Triple) -> bool
     ensures { λ b. ⌜ b ≡ agreesMarked plan t ⌝ }
 {
     let x = plan.pattern;
-    if !like(plan.subject, x.subject, t.subject) {
+    if !admits_marked(plan.subject, x.subject, t.subject) {
         return false;
     }
-    if !like(plan.predicate, x.predicate, t.predicate) {
+    if !admits_marked(plan.predicate, x.predicate, t.predicate) {
         return false;
     }
-    like(plan.object, x.object, t.object)
+    admits_marked(plan.object, x.object, t.object)
 }
 
 // Whether t, which has the chain's resource at the chain's position, has the pattern's number at each bound position.
@@ -94,8 +94,8 @@ pub fn agrees_by(plan: Plan, t: Triple) -> bool
     agrees_marked(plan, t)
 }
 
-// Whether a cursor on the plan's pattern may be on its chain: by a bound position, or all records where nothing is
-// bound.
+// Whether a cursor on the plan's pattern may be on its chain, as `pick::chain_ok` tells without a plan: by a bound
+// position, or all records where nothing is bound.
 pub fn chain_fits(plan: Plan) -> bool
     requires { ⌜ plan ≡ planOf (plan .chain) (plan .pattern) ⌝ }
     ensures { λ b. ⌜ b ≡ chainOk (plan .chain) (plan .pattern) ⌝ }

@@ -1,5 +1,5 @@
--- Laws of the walk: at each way out of a turn, and its next turn; the record found lies at or below the first. Assumes
--- nothing.
+-- Laws of the tests of a record, of a visit by them, and of the walk: at each way out of a turn, and its next turn; the
+-- record found lies at or below the first; seeking one record, turn by turn. Assumes nothing.
 use mathlib.Core.Path.{_≡_, refl, sym, ap, _∙_}
 use mathlib.Core.Bool.{Bool, true, false, not, cond, _&&_}
 use mathlib.Core.List.{List}
@@ -15,7 +15,7 @@ use Rattle.store.specs.declared.Position.{Position}
 use Rattle.store.specs.declared.Triple.{Triple}
 use Rattle.store.specs.Shared.{known, matches}
 use Rattle.store.specs.Tables.{termAt, nextAt, flagAt, tripleAt}
-use Rattle.store.specs.Walk.{entryAt, linkOf, holdsResource, visitable, walk, Step, found, ended, spent, afterVisit, foundIn}
+use Rattle.store.specs.Walk.{entryAt, linkOf, holdsResource, visitable, walk, Step, found, ended, spent, afterVisit}
 use Rattle.store.specs.Scan.{recordOk}
 use Rattle.store.proofs.Tests.{and-l, and-r}
 use Rattle.chain.specs.declared.plan.Plan.{Plan}
@@ -292,44 +292,37 @@ module _ (k : Sought) (r : ℕ) (stm : List ℕ) (ch : Chain) (x : Triple) where
 
 -- ---- the record found
 
--- a walk's record, 0 for none
-abbrev pub numberIn : Option Step → ℕ
-numberIn none = 0
-numberIn (some s) = foundIn s
-
-number-after : (s : Option Step) → numberIn (afterVisit s) ≡ numberIn s
-number-after none = refl
-number-after (some (found n w r)) = refl
-number-after (some (ended w)) = refl
-number-after (some (spent w r)) = refl
-
--- a walk over falling links finds no record above its first
-pub walk-within : (link : ℕ → ℕ) (ok hit : ℕ → Bool) → ((i : ℕ) → ok i ≡ true → link i ≤ i) → (b n : ℕ)
-    → numberIn (walk link ok hit b n) ≤ n
-unfolding walk
-walk-within link ok hit falls zero zero = omega arith
-walk-within link ok hit falls zero (suc i) = omega arith
-walk-within link ok hit falls (suc b) zero = omega arith
-walk-within link ok hit falls (suc b) (suc i) =
-    visited (ok i) (hit i) (falls i) (walk-within link ok hit falls b (link i))
-  where
-    visited : (o h : Bool) → (o ≡ true → link i ≤ i) → numberIn (walk link ok hit b (link i)) ≤ link i
-        → numberIn (elim o [
-          | false ↦ none
-          | true ↦ elim h [ true ↦ some (found (suc i) 1 (link i)) | false ↦ afterVisit (walk link ok hit b (link i)) ]
-        ])
-        ≤ suc i
-    visited false h f d = omega arith
-    visited true true f d = omega arith
-    visited true false f d = let e = f refl in rw (number-after (walk link ok hit b (link i))) (omega arith)
-
--- ---- one record sought
-
 located-after : (s : Option Step) → locatedIn (afterVisit s) ≡ locatedIn s
 located-after none = refl
 located-after (some (found n w r)) = refl
 located-after (some (ended w)) = refl
 located-after (some (spent w r)) = refl
+
+-- a walk over falling links finds no record above its first
+pub walk-within : (link : ℕ → ℕ) (ok hit : ℕ → Bool) → ((i : ℕ) → ok i ≡ true → link i ≤ i) → (b n k : ℕ)
+    → locatedIn (walk link ok hit b n) ≡ some k → k ≤ n
+unfolding walk
+walk-within link ok hit falls zero zero k e = let z : 0 ≡ k = cc in omega arith
+walk-within link ok hit falls zero (suc i) k e = let z : 0 ≡ k = cc in omega arith
+walk-within link ok hit falls (suc b) zero k e = let z : 0 ≡ k = cc in omega arith
+walk-within link ok hit falls (suc b) (suc i) k e =
+    visited (ok i) (hit i) (falls i) (walk-within link ok hit falls b (link i) k) e
+  where
+    visited : (o h : Bool) → (o ≡ true → link i ≤ i) → (locatedIn (walk link ok hit b (link i)) ≡ some k → k ≤ link i)
+        → locatedIn (elim o [
+          | false ↦ none
+          | true ↦ elim h [ true ↦ some (found (suc i) 1 (link i)) | false ↦ afterVisit (walk link ok hit b (link i)) ]
+        ])
+        ≡ some k
+        → k ≤ suc i
+    visited false h f d e = let z : _≡_ {A = ℕ} 0 1 = cc in absurd (omega arith)
+    visited true true f d e = let z : suc i ≡ k = cc in omega arith
+    visited true false f d e =
+        let g = f refl in
+        let m = d (sym (located-after (walk link ok hit b (link i))) ∙ e) in
+        omega arith
+
+-- ---- one record sought
 
 located-plus : (v : ℕ) (s : Option Step) → locatedIn (plus v s) ≡ locatedIn s
 located-plus v none = refl

@@ -1,14 +1,13 @@
--- What the walk's own types say of `store`'s definitions (paper 01, "9 in a chain step"). Assumes nothing.
+-- What the walk's own types say of `store`'s definitions (paper 01, "9 in a chain step"; 02, note 3). Assumes nothing.
 use mathlib.Core.Bool.{Bool, true, not, cond, _&&_}
 use mathlib.Core.List.{List}
 use mathlib.Core.Option.{Option, none, some}
 use Prim.Native.Nat.{ℕ, zero, suc}
 use lib.Dec.{eqb, leb}
 use Rattle.store.specs.declared.Chain.{Chain}
-use Rattle.store.specs.declared.Chain.the-variants.{All, By}
 use Rattle.store.specs.declared.Triple.{Triple}
 use Rattle.store.specs.Shared.{known, same, agrees, matches}
-use Rattle.store.specs.Tables.{termAt, flagAt, tripleAt}
+use Rattle.store.specs.Tables.{flagAt, tripleAt}
 use Rattle.store.specs.Walk.{entryAt, linkOf, visitable, Step, found, ended, spent, foundIn}
 use Rattle.chain.specs.Plans.{has, agreesBy}
 use Rattle.chain.specs.declared.plan.Plan.{Plan}
@@ -23,8 +22,8 @@ use Rattle.chain_walk.specs.declared.walk.Visited.{Visited}
 use Rattle.chain_walk.specs.declared.walk.Visited.the-variants.{Damaged as BadRecord, Hit, Miss}
 use Rattle.chain_walk.specs.declared.walk.Walked.{Walked}
 use Rattle.chain_walk.specs.declared.walk.Walked.the-variants.{Found, Ended, Spent, Damaged}
-use Rattle.chain_walk.specs.declared.walk.Seen.{Seen}
-use Rattle.chain_walk.specs.declared.walk.Seen.the-variants.{At, Damaged as Unseen}
+use Rattle.chain_walk.specs.declared.walk.Searched.{Searched}
+use Rattle.chain_walk.specs.declared.walk.Searched.the-variants.{At, Damaged as Lost}
 
 -- ---- the tests of a record, by the chain's resource y
 
@@ -36,7 +35,7 @@ recordHas stm ch y (suc i) = has stm ch y i
 abbrev pub after : List ℕ → Chain → ℕ → StatementId
 after stm ch i = record { 0 = linkOf stm ch i }
 
--- the record after entry i, where entry i is on the chain and the next falls
+-- the record after entry i, where entry i has y at the chain's position and the next falls
 unfoldable pub followOf : List ℕ → Chain → ℕ → ℕ → Followed
 followOf stm ch y i = cond (has stm ch y i && leb (linkOf stm ch i) i) (To (after stm ch i)) Broken
 
@@ -83,6 +82,6 @@ locatedIn none = none
 locatedIn (some s) = some (foundIn s)
 
 -- the code's answer to seeking a record as the definition's
-abbrev pub seenOf : Seen → Option ℕ
-seenOf (At n) = some (n .0)
-seenOf Unseen = none
+abbrev pub searchedOf : Searched → Option ℕ
+searchedOf (At n) = some (n .0)
+searchedOf Lost = none

@@ -1,9 +1,9 @@
 // What a visit of a record tests, and the walks along a chain (paper 01, "9 in a chain step"; 02, note 3).
 //
 // Every visit makes the same tests, `test_record`. A scan walks within a budget and counts its visits, `walk`; assert
-// and retract seek one record, `seek`; both work out their plan first. The query visits record by record. Each function
-// asks that the records it reads lie in the statement table, and nothing of what they hold: a word out of range is an
-// answer.
+// and retract seek one record, `seek`; both go by a plan that their caller has made. The query visits record by record.
+// Each function asks that the records it reads lie in the statement table, and nothing of what they hold: a word out of
+// range is an answer.
 use chain::plan::Plan;
 use chain::plan::agrees_by;
 use chain::plan::resource_of;
@@ -26,8 +26,8 @@ ghost use Rattle.store.specs.Walk.{linkOf, visitable, walk};
 ghost use Rattle.store.specs.Scan.{recordOk};
 ghost use Rattle.table.specs.Held.{StatementHeld};
 ghost use Rattle.chain_walk.specs.declared.walk.Sought.the-variants.{Same};
-ghost use Rattle.chain.specs.Plans.{planOf, agreesBy};
-ghost use Rattle.chain_walk.specs.Walks.{recordHas, followOf, testedOf, hitsIn, hitsBy, hits, visitOf, stepOf, seenOf, locatedIn};
+ghost use Rattle.chain.specs.Plans.{planOf};
+ghost use Rattle.chain_walk.specs.Walks.{recordHas, followOf, testedOf, hitsIn, hitsBy, hits, visitOf, stepOf, searchedOf, locatedIn};
 
 // What a walk seeks: the record with the pattern's three numbers, retracted or not, or the first live match of a
 // pattern.
@@ -36,8 +36,8 @@ pub enum Sought {
     LiveMatch,
 }
 
-// Where a record's chain leads: nowhere, since the record is not of the chain or its next does not fall; or the next
-// record.
+// Where a chain leads after a record: nowhere, since the record has not the chain's resource at the chain's position or
+// its next does not fall; or to the next record.
 pub enum Followed {
     Broken,
     To(StatementId),
@@ -66,7 +66,7 @@ pub enum Walked {
 }
 
 // What seeking a record comes to: its number, 0 for none; or a damaged record.
-pub enum Seen {
+pub enum Searched {
     At(StatementId),
     Damaged,
 }
@@ -82,7 +82,7 @@ pub fn link_of(statements: &[u32], chain: Chain, n: StatementId) -> StatementId
     }
 }
 
-// The record after n on the chain of resource y, if n is on that chain and the next falls.
+// The record after n on a chain, if n has resource y at the chain's position and the next falls.
 fn follow(statements: &[u32], chain: Chain, y: ResourceId, n: StatementId) -> Followed
     requires { ⌜ StatementHeld (now statements) (n .0) ⌝ }
     ensures { λ f. ⌜ f ≡ followOf (now (statements .entry)) chain (y .0) (n .0 - 1) ⌝ }
@@ -103,7 +103,8 @@ fn follow(statements: &[u32], chain: Chain, y: ResourceId, n: StatementId) -> Fo
     }
 }
 
-// The tests of record n on the chain of resource y, each word read once; where one fails, an operation refuses 9.
+// The tests of record n on a chain of resource y; where one fails, an operation refuses 9. The three resources are read
+// here for whoever compares them.
 fn test_record(statements: &[u32], r: u32, chain: Chain, y: ResourceId, n: StatementId) -> Tested
     requires { ⌜ StatementHeld (now statements) (n .0) ⌝ }
     ensures { λ v. ⌜ v ≡ testedOf r (now (statements .entry)) chain (y .0) (n .0 - 1) ⌝ }
@@ -157,7 +158,7 @@ fn hits_by(plan: Plan, sought: Sought, t: Triple, flag: u32) -> bool
     }
 }
 
-// One visit of record n, for a single one.
+// One visit of record n by a pattern, for a caller whose pattern changes from visit to visit.
 pub fn visit(
     statements: &[u32],
     r: u32,
@@ -245,27 +246,27 @@ pub fn walk(
 
 // The first record from a record on with the pattern's three numbers, retracted or not. Nexts fall, so that every
 // record of the chain is reached.
-pub fn seek(statements: &[u32], r: u32, plan: Plan, from: StatementId) -> Seen
+pub fn seek(statements: &[u32], r: u32, plan: Plan, from: StatementId) -> Searched
     requires { ⌜ (statementWords * (from .0) ≤ length (now statements))
         × (plan ≡ planOf (plan .chain) (plan .pattern)) ⌝ }
-    ensures { λ a. ⌜ seenOf a
+    ensures { λ a. ⌜ searchedOf a
         ≡ locatedIn (walk (linkOf (now (statements .entry)) (plan .chain))
         (visitable r (now (statements .entry)) (plan .chain) (plan .pattern))
         (hits Same (now (statements .entry)) (plan .pattern)) (from .0) (from .0)) ⌝ }
 {
     let mut n = from;
-    // No record from `from` on down to n is damaged or has the three numbers; n is the next on the chain.
+    // No record from `from` on and before n is damaged or has the three numbers; n is the next on the chain.
     while n.0 != 0 {
         match visit_by(statements, r, plan, Sought::Same, n) {
-            Visited::Damaged => return Seen::Damaged,
-            Visited::Hit(_) => return Seen::At(n),
+            Visited::Damaged => return Searched::Damaged,
+            Visited::Hit(_) => return Searched::At(n),
             Visited::Miss(m) => n = m,
         }
     }
-    Seen::At(n)
+    Searched::At(n)
 }
 
-// Whether a cursor's next record, if it has one, is on the chain of resource y.
+// Whether a cursor's next record, if it has one, has resource y at the chain's position.
 pub fn record_has(statements: &[u32], chain: Chain, y: ResourceId, n: StatementId) -> bool
     requires { ⌜ statementWords * (n .0) ≤ length (now statements) ⌝ }
     ensures { λ b. ⌜ b ≡ recordHas (now (statements .entry)) chain (y .0) (n .0) ⌝ }
@@ -282,7 +283,7 @@ pub fn record_has(statements: &[u32], chain: Chain, y: ResourceId, n: StatementI
     }
 }
 
-// Whether a cursor's next record, if it has one, has the chain's resource at the chain's position.
+// The same, by the pattern.
 pub fn record_ok(statements: &[u32], chain: Chain, x: Triple, n: StatementId) -> bool
     requires { ⌜ statementWords * (n .0) ≤ length (now statements) ⌝ }
     ensures { λ b. ⌜ b ≡ recordOk (now (statements .entry)) chain x (n .0) ⌝ }

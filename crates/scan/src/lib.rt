@@ -62,7 +62,8 @@ pub fn scan_open(
     })
 }
 
-// Whether a next call takes a cursor of the store's generation, which the plan is made of; where not, it refuses 6.
+// Whether a next call takes a cursor of the store's generation; where not, it refuses 6. The plan is of its chain and
+// pattern.
 fn cursor_ok(c: Counters, statements: &[u32], q: ScanCursor, plan: Plan) -> bool
     requires { ⌜ (statementWords * c .statements ≤ length (now statements))
         × (plan ≡ planOf (q .chain) (q .pattern)) ⌝ }

@@ -1,6 +1,6 @@
--- Laws of locating a triple's record: a known triple lies in its table; by the walk that code makes; the record lies
+-- Laws of locating a triple's record: a known triple lies in its table; by the search that code makes; the record lies
 -- within T, and so do the counts and live counts of its resources. Assumes nothing.
-use mathlib.Core.Path.{_≡_, refl, sym, ap, _∙_}
+use mathlib.Core.Path.{_≡_, refl, sym, _∙_}
 use mathlib.Core.Bool.{Bool, true, false, cond, _&&_}
 use mathlib.Core.List.{List, []}
 use mathlib.Core.Option.{Option, none, some}
@@ -23,11 +23,11 @@ use Rattle.chain.specs.Chains.{PatternHeld}
 use Rattle.chain.proofs.Chains.{pick-bound, start-within, count-within}
 use Rattle.chain_walk.specs.declared.walk.Sought.the-variants.{Same}
 use Rattle.chain.specs.declared.plan.Plan.{Plan}
-use Rattle.chain_walk.specs.declared.walk.Seen.{Seen}
+use Rattle.chain_walk.specs.declared.walk.Searched.{Searched}
 use Rattle.chain.specs.Plans.{planOf}
-use Rattle.chain_walk.specs.Walks.{hits, locatedIn, seenOf}
+use Rattle.chain_walk.specs.Walks.{hits, locatedIn, searchedOf}
 use Rattle.chain.proofs.Plans.{plan-chain, plan-pattern}
-use Rattle.chain_walk.proofs.Walks.{numberIn, walk-within, falling, enough}
+use Rattle.chain_walk.proofs.Walks.{walk-within, falling, enough}
 
 -- ---- a known triple, where the counters are within capacity
 
@@ -59,18 +59,18 @@ module _ (c : Counters) (m : Tables) (x : Triple) where
   locate-seek e = rw e (opened (seek c m x))
 
   -- the record that code seeks by a plan, on the chain picked and from its first record: T visits find the same
-  pub locate-seen : (a : Seen) (ch : Chain) (n : ℕ) (p : Plan) → p ≡ planOf ch x
+  pub locate-searched : (a : Searched) (ch : Chain) (n : ℕ) (p : Plan) → p ≡ planOf ch x
       → ready (c .statements) (m .resources) x ≡ true → ch ≡ pickChain (m .resources) x
       → n ≡ startOf (c .statements) (m .resources) ch x → n ≤ c .statements
-      → seenOf a ≡ locatedIn (walk (linkOf (m .statements) (p .chain))
+      → searchedOf a ≡ locatedIn (walk (linkOf (m .statements) (p .chain))
       (visitable (c .resources) (m .statements) (p .chain) (p .pattern)) (hits Same (m .statements) (p .pattern)) n n)
-      → locate c m x ≡ seenOf a
+      → locate c m x ≡ searchedOf a
   unfolding seek hits
-  locate-seen a ch n p q k d e h w =
+  locate-searched a ch n p q k d e h w =
       let f = enough (linkOf (m .statements) ch) (visitable (c .resources) (m .statements) ch x)
       (λ i. same x (tripleAt (m .statements) i)) (falling (c .resources) (m .statements) ch x) n (c .statements) n
       (omega arith) h in
-      let s : seenOf a ≡ locatedIn (seek c m x) =
+      let s : searchedOf a ≡ locatedIn (seek c m x) =
       w ∙ rw (plan-chain p ch x q, plan-pattern p ch x q) (f ∙ rw (e, d)) in
       locate-seek k ∙ sym s
 
@@ -106,13 +106,8 @@ module _ (c : Counters) (m : Tables) (x : Triple) where
       let s = start-within (c .statements) (m .resources) x p ch (pick-bound (m .resources) x) in
       let w = walk-within (linkOf (m .statements) ch) (visitable (c .resources) (m .statements) ch x)
       (λ i. same x (tripleAt (m .statements) i)) (falling (c .resources) (m .statements) ch x) (c .statements)
-      (startOf (c .statements) (m .resources) ch x) in
-      let d = number (seek c m x) (sym (locate-seek (locate-ready n e)) ∙ e) in
+      (startOf (c .statements) (m .resources) ch x) n (sym (locate-seek (locate-ready n e)) ∙ e) in
       omega arith
-    where
-      number : (s : Option Step) → locatedIn s ≡ some n → numberIn s ≡ n
-      number none e = let z : _≡_ {A = ℕ} 0 1 = cc in absurd (omega arith)
-      number (some s) e = cc
 
 -- the index and the text are not read
 pub locate-any : (c : Counters) (res stm index text : List ℕ) (x : Triple)

@@ -4,7 +4,7 @@ use chain::pick::pick_chain;
 use chain::pick::pickable;
 use chain::pick::start_of;
 use chain::plan::plan_of;
-use chain_walk::walk::Seen;
+use chain_walk::walk::Searched;
 use chain_walk::walk::seek;
 use store::Counters;
 use store::Position;
@@ -85,8 +85,8 @@ pub fn locate(c: Counters, resources: &[u32], statements: &[u32], x: Triple) -> 
     let first = start_of(c.statements, resources, chain, x);
     let plan = plan_of(chain, x);
     match seek(statements, c.resources, plan, first) {
-        Seen::At(n) => Located::At(n),
-        Seen::Damaged => Located::Refused(Refusal::Damaged),
+        Searched::At(n) => Located::At(n),
+        Searched::Damaged => Located::Refused(Refusal::Damaged),
     }
 }
 

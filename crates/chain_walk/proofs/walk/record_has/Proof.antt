@@ -1,5 +1,4 @@
 use Rattle.store.specs.declared.Chain.the-variants.{All, By}
-use mathlib.Core.Path.{_≡_, _∙_}
 use denote.Ref.{now}
 use Rattle.chain_walk.proofs.Walks.{record-none, record-some}
 use borrow.Author.Needs.{needs}

@@ -11,11 +11,11 @@ use Rattle.store.specs.Tables.{Tables, tables}
 use Rattle.store.proofs.Tests.{and-l}
 use Rattle.table.proofs.Branches.{failed, passed}
 use Rattle.chain.proofs.Chains.{pick-bound, start-within}
-use Rattle.chain_walk.specs.declared.walk.Seen.{Seen}
-use Rattle.chain_walk.specs.Walks.{seenOf}
+use Rattle.chain_walk.specs.declared.walk.Searched.{Searched}
+use Rattle.chain_walk.specs.Walks.{searchedOf}
 use Rattle.chain.proofs.Plans.{planned}
 use Rattle.statement_target.specs.Targets.{locatedAs}
-use Rattle.statement_target.proofs.Locate.{held-pattern, locate-damaged, locate-seen, ready}
+use Rattle.statement_target.proofs.Locate.{held-pattern, locate-damaged, locate-searched, ready}
 use borrow.Author.Needs.{needs}
 use Rattle.statement_target.proofs.target.locate.Statement.{statement}
 use Rattle.statement_target.proofs.target.locate.Tie as tie
@@ -44,18 +44,18 @@ first-within c =
     rw (c .start-of .ensures) s
 
 -- the answer to what seeking came to
-answered : (c : tie.After-seek) (w : Seen) → c .seek .result ≡ w
+answered : (c : tie.After-seek) (w : Searched) → c .seek .result ≡ w
     → (let s = start (c .before .before .before .before) in
-    locatedAs (seenOf w) ≡ locatedAs (locate (s .args .c) (tablesOf s) (s .args .x)))
+    locatedAs (searchedOf w) ≡ locatedAs (locate (s .args .c) (tablesOf s) (s .args .x)))
 answered c w e =
     let f = c .before .before in
     let d = f .before .before in
     let s = start d in
     let q = c .before .plan-of in
-    sym (ap (λ (o : Option ℕ). locatedAs o) (locate-seen (s .args .c) (tablesOf s) (s .args .x) (c .seek .result)
+    sym (ap (λ (o : Option ℕ). locatedAs o) (locate-searched (s .args .c) (tablesOf s) (s .args .x) (c .seek .result)
     (f .before .pick-chain .result) (f .start-of .result .0) (q .result) (q .ensures) (can-begin d)
     (f .before .pick-chain .ensures) (f .start-of .ensures) (first-within f) (c .seek .ensures))
-    ∙ ap (λ (w : Seen). locatedAs (seenOf w)) e)
+    ∙ ap (λ (w : Searched). locatedAs (searchedOf w)) e)
 
 -- ---- the needs
 
