@@ -91,7 +91,10 @@ static void read_questions(char *text, size_t len)
             shape = (join_shape){f[1], f[2], f[3], atoi(f[4])};
             continue;
         }
-        if (!strcmp(f[0], "W")) walked = f[1];
+        if (!strcmp(f[0], "W")) {
+            walked = f[1];
+            continue;
+        }
         for (int g = 0; g < KINDS; g++) {
             if (strcmp(f[0], tag[g])) continue;
             question *q = &group[g].q[group[g].n++];

@@ -127,7 +127,7 @@ def main():
     spread = sorted(statistics.median(values[k]) / least[k] for k in timed)
     twice = sorted(least['again', w, m] / least['reference', w, m] for (p, w, m) in timed if p == 'again')
     out = ['# Results', '', 'Written by `bench/run`; README.md beside this file says what is measured.', '', 'Machine: %s.' % machine(), '']
-    out += ['Every figure is the least of %d rounds; a round measures every peer once on every workload. All peers gave the same counts of statements, matches, '
+    out += ['Every figure is the least of %d rounds; a round measures every peer once on every workload, on the chain of retracted records the library and the reference alone. All peers gave the same counts of statements, matches, '
             'solutions and visits.' % rounds, '']
     out += ['**Noise.** A figure\'s median round was %.2f times its least in the middle, %.2f times for the worst twentieth. The same reference program '
             'measured a second time in every round: its least was %.2f to %.2f times the first one\'s, %.2f in the middle. A ratio as near to 1 as that says nothing.'
