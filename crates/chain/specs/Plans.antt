@@ -51,6 +51,6 @@ agreesMarked p t =
     && (admitsMarked (p .predicate) (at Predicate (p .pattern)) (at Predicate t)
     && admitsMarked (p .object) (at Object (p .pattern)) (at Object t))
 
--- nothing is left to compare once the chain's resource was tested, or the marked positions are
+-- nothing is bound but the chain's position, which every visit tests; or the marked positions agree
 abbrev pub agreesBy : Plan → Triple → Bool
 agreesBy p t = p .alone || agreesMarked p t
