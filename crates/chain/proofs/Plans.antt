@@ -16,6 +16,7 @@ use Rattle.store.specs.Shared.{at, agrees}
 use Rattle.store.specs.Tables.{termAt, tripleAt}
 use Rattle.store.specs.Scan.{chainOk}
 use Rattle.store.proofs.Tests.{decide, and-l, and-r, all3-of}
+use Rattle.store.proofs.Words.{triple-at}
 use Rattle.chain.specs.declared.plan.Plan.{Plan}
 use Rattle.chain.specs.Plans.{resourceOf, has, isBound, alone, planOf, admitsMarked, agreesMarked, agreesBy}
 use Rattle.chain.proofs.Chains.{nonzero}
@@ -95,37 +96,20 @@ by-none x t e Subject = any (at Subject x) (at Subject t) (omega arith)
 by-none x t e Predicate = any (at Predicate x) (at Predicate t) (omega arith)
 by-none x t e Object = any (at Object x) (at Object t) (omega arith)
 
-term-of : (stm : List ℕ) (p : Position) (i : ℕ) → at p (tripleAt stm i) ≡ termAt stm p i
-unfolding tripleAt
-term-of stm Subject i = refl
-term-of stm Predicate i = refl
-term-of stm Object i = refl
-
 alone-agrees : (stm : List ℕ) (ch : Chain) (x : Triple) (i : ℕ) → has stm ch (resourceOf ch x) i ≡ true
     → alone x (resourceOf ch x) ≡ true → agrees x (tripleAt stm i) ≡ true
 alone-agrees stm All x i h e = all-admit x (tripleAt stm i) (by-none x (tripleAt stm i) (eqb-true (sum x) 0 e))
 alone-agrees stm (By p) x i h e =
     all-admit x (tripleAt stm i)
     (by-one p x (tripleAt stm i) (eqb-true (sum x) (at p x) e)
-    (term-of stm p i ∙ eqb-true (termAt stm p i) (at p x) h))
+    (triple-at stm p i ∙ eqb-true (termAt stm p i) (at p x) h))
+
+plan-alone : (ch : Chain) (x : Triple) → planOf ch x .alone ≡ alone x (resourceOf ch x)
+unfolding planOf
+plan-alone ch x = refl
 
 by-alone : (ch : Chain) (x t : Triple) → alone x (resourceOf ch x) ≡ true → agreesBy (planOf ch x) t ≡ true
-unfolding planOf
-by-alone ch x t e = rw e
-
-by-marks : (ch : Chain) (x t : Triple) → alone x (resourceOf ch x) ≡ false
-    → agreesBy (planOf ch x) t ≡ agreesMarked (planOf ch x) t
-unfolding planOf
-by-marks ch x t e = rw e
-
--- a record of the chain agrees by the plan as by the pattern
-pub agrees-by-plan : (stm : List ℕ) (ch : Chain) (x : Triple) (i : ℕ) → has stm ch (resourceOf ch x) i ≡ true
-    → agreesBy (planOf ch x) (tripleAt stm i) ≡ agrees x (tripleAt stm i)
-agrees-by-plan stm ch x i h =
-    let t = tripleAt stm i in
-    decide (alone x (resourceOf ch x))
-    (λ e. by-alone ch x t e ∙ sym (alone-agrees stm ch x i h e))
-    (λ e. by-marks ch x t e ∙ marks-agree ch x t)
+by-alone ch x t e = rw (plan-alone ch x, e)
 
 -- the marks decide where another position is bound
 pub marks-decide : (p : Plan) (t : Triple) → p .alone ≡ false → agreesMarked p t ≡ agreesBy p t
@@ -134,6 +118,15 @@ marks-decide p t e = sym (second (p .alone) (agreesMarked p t) e)
     second : (a b : Bool) → a ≡ false → a || b ≡ b
     second true b e = let z : _≡_ {A = ℕ} 0 1 = cc in absurd (omega arith)
     second false b e = refl
+
+-- a record of the chain agrees by the plan as by the pattern
+pub agrees-by-plan : (stm : List ℕ) (ch : Chain) (x : Triple) (i : ℕ) → has stm ch (resourceOf ch x) i ≡ true
+    → agreesBy (planOf ch x) (tripleAt stm i) ≡ agrees x (tripleAt stm i)
+agrees-by-plan stm ch x i h =
+    let t = tripleAt stm i in
+    decide (alone x (resourceOf ch x))
+    (λ e. by-alone ch x t e ∙ sym (alone-agrees stm ch x i h e))
+    (λ e. sym (marks-decide (planOf ch x) t (plan-alone ch x ∙ e)) ∙ marks-agree ch x t)
 
 -- ---- the chain of a cursor
 
