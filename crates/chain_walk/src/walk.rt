@@ -38,13 +38,13 @@ pub enum Sought {
 
 // Where a chain leads after a record: nowhere, since the record has not the chain's resource at the chain's position or
 // its next does not fall; or to the next record.
-pub enum Followed {
+enum Followed {
     Broken,
     To(StatementId),
 }
 
 // What the tests of a record give: it is damaged; or the next record on the chain, its three resources and its flag.
-pub enum Tested {
+enum Tested {
     Damaged,
     Is(StatementId, Triple, u32),
 }
