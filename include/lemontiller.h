@@ -83,7 +83,7 @@ enum {
     LT_MAX_TEXT = 1048576, /* bytes of all names, a closing zero for each included */
     LT_MAX_NAME = 255,     /* bytes of one name as it is spelled, its closing zero not included */
     LT_MAX_RECLAIMS = 65535,
-    LT_MAX_PATTERNS = 8,   /* of a query, and so the levels of its cursor */
+    LT_MAX_PATTERNS = 6,   /* of a query, and so the levels of its cursor */
     LT_VARIABLES = 16      /* of a query: 0 to 15 */
 };
 

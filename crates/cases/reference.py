@@ -8,7 +8,7 @@ import re
 import sys
 
 LIMIT, TEXT_LIMIT, NAME_LIMIT, RECLAIMS = 65535, 1048576, 255, 65535
-PATTERNS, VARIABLES, VARIABLE = 8, 16, 2**31
+PATTERNS, VARIABLES, VARIABLE = 6, 16, 2**31
 PLACES = ["subject", "predicate", "object"]
 
 # The fields of a record, in order, and how many words each has.

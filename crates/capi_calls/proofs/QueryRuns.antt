@@ -51,6 +51,10 @@ two = tables
 abbrev about : List ℕ
 about = 1 ∷ v 0 ∷ v 1 ∷ []
 
+-- the same, asked six times
+abbrev six : List ℕ
+six = about ++ about ++ about ++ about ++ about ++ about
+
 -- two words, g reclaims, then the slots of the first two levels, x in each slot past them; a word past the cursor's
 abbrev cursorIn : ℕ → ℕ → ℕ → ℕ → ℕ → ℕ → ℕ → ℕ → List ℕ
 cursorIn g p d a b e f x = p ∷ d ∷ g ∷ a ∷ b ∷ e ∷ f ∷ (replicate (queryCursorWords - 7) x ++ (55 ∷ []))
@@ -139,11 +143,16 @@ pub record Calling : Type 0 where
   pub over : next about (cursor 1 1 1 0 0 0 0) 5 ≡ beside 0 (cursor 2 0 0 0 0 0 0) (reply 2 0 0 0)
   pub at-end : next about (cursor 2 9 9 9 9 9 9) 5 ≡ beside 0 (cursor 2 0 0 0 0 0 0) (reply 2 0 0 0)
   pub spent : next (1 ∷ v 0 ∷ 3 ∷ []) (cursor 1 1 1 2 9 9 9) 1 ≡ beside 0 (cursor 1 1 1 1 0 0 0) (reply 3 1 0 0)
+  -- six patterns, and a cursor of fifteen words that tells six levels; seven patterns; seven levels
+  pub six-patterns : opened six (cursor 9 9 9 9 9 9 9) ≡ (0, cursor 0 0 0 0 0 0 0)
+  pub six-levels : next six (cursor 1 6 1 1 1 1 1) 1 ≡ beside 0 (1 ∷ 6 ∷ 5 ∷ replicate 11 1 ++ 0 ∷ 55 ∷ []) (reply 1 1 2 3)
+  pub seven-patterns : opened (about ++ six) (cursor 9 9 9 9 9 9 9) ≡ (8, cursor 9 9 9 9 9 9 9)
+  pub seven-levels : next six (cursor 1 7 1 1 1 1 1) 1 ≡ refusal 6 (cursor 1 7 1 1 1 1 1)
   -- 8 before 6, 6 before 7
   pub no-query : next (1 ∷ 0 ∷ 1 ∷ []) (cursor 3 0 0 0 0 0 0) 0 ≡ refusal 8 (cursor 3 0 0 0 0 0 0)
   pub first-word : next about (cursor 3 0 0 0 0 0 0) 0 ≡ refusal 6 (cursor 3 0 0 0 0 0 0)
   pub chain-word : next about (cursor 1 1 4 1 0 0 0) 0 ≡ refusal 6 (cursor 1 1 4 1 0 0 0)
-  pub levels : next about (cursor 1 (suc maxPatterns) 1 1 1 1 1) 0 ≡ refusal 6 (cursor 1 (suc maxPatterns) 1 1 1 1 1)
+  pub levels : next six (cursor 1 7 1 1 1 1 1) 0 ≡ refusal 6 (cursor 1 7 1 1 1 1 1)
   pub no-budget : next about (cursor 1 1 1 1 4 4 4) 0 ≡ refusal 7 (cursor 1 1 1 1 4 4 4)
   -- a cursor of another number of reclaims, at the start and at the end too: 13, before 6 in each of its ways, and
   -- before 7
@@ -185,6 +194,10 @@ calls =
       over = refl;
       at-end = refl;
       spent = refl;
+      six-patterns = refl;
+      six-levels = refl;
+      seven-patterns = refl;
+      seven-levels = refl;
       no-query = refl;
       first-word = refl;
       chain-word = refl;

@@ -33,7 +33,7 @@ use Rattle.capi_calls.specs.QueryCalls.{queryOpenCall, queryNextCall}
 abbrev pub WidthsAre : Type 0
 WidthsAre = counterWords ∷ cursorWords ∷ queryCursorWords
     ∷ numberReplyWords ∷ nameReplyWords ∷ statementReplyWords ∷ assertReplyWords ∷ scanReplyWords ∷ lineWords ∷ queryReplyWords ∷ []
-    ≡ 4 ∷ 6 ∷ 19 ∷ 1 ∷ 2 ∷ 4 ∷ 2 ∷ 3 ∷ 8 ∷ 18 ∷ []
+    ≡ 4 ∷ 6 ∷ 15 ∷ 1 ∷ 2 ∷ 4 ∷ 2 ∷ 3 ∷ 8 ∷ 18 ∷ []
 
 -- ---- counters
 

@@ -1,4 +1,4 @@
-// Runs the script of `stdin` on every operation of the store (paper 01; 02, notes 5 to 7). A line is words with one space between them;
+// Runs the script of `stdin` on every operation of the store (paper 01; 02, notes 5 to 8). A line is words with one space between them;
 // a line that begins with `# ` and an empty line are passed over. `reference.py` reads the same script and follows the papers with plain
 // Python lists.
 //

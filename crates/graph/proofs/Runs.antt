@@ -246,12 +246,23 @@ no-patterns = record {
   due = found 0 (sol 0 0) end ∷ ended 0 ∷ refusedWith 7 ∷ refusedWith 6 ∷ [];
 }
 
--- as many patterns as there may be, and one more: a visit at each level
-most-patterns : Case
-most-patterns = record {
-  given = next two (copies maxPatterns) none 99 ∷ next two (copies (maxPatterns + 1)) none 99 ∷ [];
-  due = found maxPatterns (sol 0 0) (standing Within maxPatterns (replicate (maxPatterns - 1) (O 1) ++ O 0 ∷ []))
-      ∷ refusedWith 8 ∷ [];
+-- six patterns, a visit at each level; seven, and a word past the sixth; seven levels: the paper's numbers, whatever
+-- the limit's name stands for
+six-patterns : Case
+six-patterns = record {
+  given = open′ two (copies 6)
+      ∷ read two (copies 6) (99 ∷ 99 ∷ [])
+      ++ open′ two (copies 7)
+      ∷ next two (copies 7) none 99
+      ∷ open′ two (copies 6 ++ 1 ∷ [])
+      ∷ next two (copies 6) (standing Within 7 (replicate 6 (O 1))) 99 ∷ [];
+  due = atStart
+      ∷ found 6 (sol 0 0) (standing Within 6 (O 1 ∷ O 1 ∷ O 1 ∷ O 1 ∷ O 1 ∷ O 0 ∷ []))
+      ∷ ended 0
+      ∷ refusedWith 8
+      ∷ refusedWith 8
+      ∷ refusedWith 8
+      ∷ refusedWith 6 ∷ [];
 }
 
 -- what stands past the levels is ignored, and within with no levels is the start
@@ -412,7 +423,7 @@ reclaimed-between = record {
 
 cases : List Case
 cases =
-    paper ∷ opened ∷ no-patterns ∷ most-patterns ∷ slots-ignored ∷ variable-thrice ∷ places-accepted ∷
+    paper ∷ opened ∷ no-patterns ∷ six-patterns ∷ slots-ignored ∷ variable-thrice ∷ places-accepted ∷
     retracted-since ∷ enter-refused ∷ run-out-stays ∷ nothing-remains ∷ found-run-out ∷ damaged-below ∷
     large-budget ∷ stale-places ∷ refusals-in-order ∷ carried ∷ reclaimed-between ∷ []
 
@@ -470,7 +481,7 @@ scans-due = due [] 1 false true
 
 all-as-due : (map (λ (x : Case). x .given) cases ≡ map (λ (x : Case). x .due) cases)
     × (queries-heard ≡ queries-due) × (scans-heard ≡ scans-due)
-unfolding cases paper opened no-patterns most-patterns slots-ignored variable-thrice places-accepted retracted-since
+unfolding cases paper opened no-patterns six-patterns slots-ignored variable-thrice places-accepted retracted-since
     enter-refused run-out-stays nothing-remains found-run-out damaged-below large-budget stale-places refusals-in-order
     carried reclaimed-between queries-heard queries-due scans-heard scans-due two three latest-retracted lone much odd
     copies wordOk allOk wordsOk patternsOf valueOf under bindWord match recordAt past levelRetracted intact

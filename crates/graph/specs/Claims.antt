@@ -135,7 +135,7 @@ ReadingClaim = (c : Counters) (m : Tables) → Sound c m → (ws : List ℕ) →
 pub record Accepts (r : ℕ) (ws : List ℕ) : Type 0 where
   pub patterns : ℕ
   pub three-each : length ws ≡ 3 * patterns
-  pub few : patterns ≤ 8
+  pub few : patterns ≤ 6
   pub each : (w : ℕ) → List·Memᴰ w ws → ((0 < w) × (w ≤ r)) ⊎ ((v : ℕ) × (v < 16) × (w ≡ 2147483648 + v))
 
 abbrev pub WordsClaim : Type 0

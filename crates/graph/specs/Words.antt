@@ -8,7 +8,7 @@ use Rattle.store.specs.Shared.{triple}
 
 -- the limits, each named once; the word of variable 0
 abbrev pub maxPatterns : ℕ
-maxPatterns = 8
+maxPatterns = 6
 
 abbrev pub variables : ℕ
 variables = 16

@@ -9,7 +9,7 @@ use store::ResourceId;
 use store::StatementId;
 
 // How many patterns a query has at most.
-pub const MAX_PATTERNS: usize = 8;
+pub const MAX_PATTERNS: usize = 6;
 
 // How many variables there are.
 pub const VARIABLES: usize = 16;

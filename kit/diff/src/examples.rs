@@ -127,6 +127,24 @@ fn no_patterns() {
     assert_eq!(call(&mut lent, next(1)).0, 6);
 }
 
+/// Paper 02, six patterns: the seventh is refused 8, and so is a word past the sixth; six take a visit each. A place of seven levels is 6.
+#[test]
+fn six_patterns() {
+    let mut lent = bay();
+    let copies = |words: usize| [1, 2, 3].into_iter().cycle().take(words).collect::<Vec<u32>>();
+    for (length, refused) in [(0, 0), (17, 8), (18, 0), (19, 8), (21, 8), (24, 8)] {
+        assert_eq!(call(&mut lent, Call::QueryOpen { words: copies(length) }).0, refused);
+        assert_eq!(call(&mut lent, Call::QueryNext { words: copies(length), budget: 9 }).0, refused);
+    }
+    let next = |budget| Call::QueryNext { words: copies(18), budget };
+    lent.cursor = vec![0; 15];
+    assert_eq!(call(&mut lent, next(9)).1[..2], [1, 6]);
+    assert_eq!(lent.cursor, [1, 6, 0, 3, 1, 3, 1, 3, 1, 3, 1, 3, 1, 3, 0]);
+    lent.cursor[1] = 7;
+    assert_eq!(call(&mut lent, next(9)).0, 6);
+    assert_eq!(call(&mut lent, next(0)).0, 6);
+}
+
 /// Decision 19.
 #[test]
 fn names() {

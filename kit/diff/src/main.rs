@@ -1,6 +1,6 @@
 //! The differential test: random calls through the C interface against the plain implementation in `plain.rs` and `names.rs`, which is
-//! written from paper 01, what paper 02 says of live counts, of getting room back and of the same label typed two ways, and
-//! `docs/DECISIONS.md` alone.
+//! written from paper 01, what paper 02 says of live counts, of getting room back, of the same label typed two ways and of six patterns,
+//! and `docs/DECISIONS.md` alone.
 //!
 //!     diff SEED CALLS SECONDS
 //!
@@ -9,7 +9,7 @@
 //! enter meet a dictionary that is not sound, what the paper leaves open is bounded. The first difference is told with the seed, the
 //! call's number and both answers, and ends the run with status 1. A run that made fewer calls than it was to make, and fewer than a
 //! million, has failed too. At the end stands how many calls of each kind had each result, and how many met the string ending, live
-//! counts and reclaims in which way; a run of 300,000 calls or more must have met all of these.
+//! counts, reclaims and the limit of patterns in which way; a run of 300,000 calls or more must have met all of these.
 
 mod damage;
 #[cfg(test)]
@@ -18,6 +18,7 @@ mod library;
 mod limits;
 mod live;
 mod names;
+mod patterns;
 mod plain;
 mod random;
 mod reclaims;
@@ -44,7 +45,8 @@ const MIDDLE: usize = 300;
 /// A run that is to make so many calls or more has failed with fewer, also where its time is over.
 const LEAST: u64 = 1_000_000;
 
-/// Calls after which every result, and everything of the string ending, of live counts and of reclaims, must have been met.
+/// Calls after which every result, and everything of the string ending, of live counts, of reclaims and of the limit of patterns, must
+/// have been met.
 const ENOUGH: u64 = 300_000;
 
 struct Run {

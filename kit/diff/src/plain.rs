@@ -1,6 +1,6 @@
-//! The store, plainly: paper 01, "Tables and counters" and "Operations and refusals", and paper 02 on live counts, on getting room back and
-//! on the same label typed two ways, as read in `docs/DECISIONS.md`. Nothing here is meant to be fast. Every operation works on what is
-//! lent, as the library's does, so that the two can be compared byte by byte.
+//! The store, plainly: paper 01, "Tables and counters" and "Operations and refusals", and paper 02 on live counts, on getting room back, on
+//! the same label typed two ways and on six patterns, as read in `docs/DECISIONS.md`. Nothing here is meant to be fast. Every operation works
+//! on what is lent, as the library's does, so that the two can be compared byte by byte.
 //! Refusals are the `Err` of a `Result`, by their number.
 
 use crate::names::{has_ending, kind_of, read_line, without_ending, Line, MAX_NAME};
@@ -8,7 +8,7 @@ use crate::names::{has_ending, kind_of, read_line, without_ending, Line, MAX_NAM
 pub const MAX_RECORDS: usize = 65_535;
 pub const MAX_TEXT: usize = 1_048_576;
 pub const MAX_RECLAIMS: u32 = 65_535;
-pub const MAX_PATTERNS: usize = 8;
+pub const MAX_PATTERNS: usize = 6;
 pub const VARIABLES: usize = 16;
 pub const FIRST_VARIABLE: u32 = 1 << 31;
 
@@ -552,9 +552,12 @@ impl Lent {
         }
     }
 
+    pub fn word_fits(&self, w: u32) -> bool {
+        self.is_resource(w) || (w >= FIRST_VARIABLE && w - FIRST_VARIABLE < VARIABLES as u32)
+    }
+
     fn words_refused(&self, words: &[u32]) -> bool {
-        let word_fits = |&w: &u32| self.is_resource(w) || (w >= FIRST_VARIABLE && w - FIRST_VARIABLE < VARIABLES as u32);
-        words.len() % PLACES != 0 || words.len() > PLACES * MAX_PATTERNS || !words.iter().all(word_fits)
+        words.len() % PLACES != 0 || words.len() > PLACES * MAX_PATTERNS || !words.iter().all(|&w| self.word_fits(w))
     }
 
     fn query_open(&self, words: &[u32]) -> Result<QueryCursor, u32> {

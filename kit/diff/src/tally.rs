@@ -1,9 +1,10 @@
-//! How many calls of each kind had each result, and of them by the structs, and how many met the string ending, live counts and reclaims
-//! in which way.
+//! How many calls of each kind had each result, and of them by the structs, and how many met the string ending, live counts, reclaims and
+//! the limit of patterns in which way.
 
 use crate::library::Way;
 use crate::live;
 use crate::names::{quoted_and_suffix, MAX_NAME, STRING_ENDING};
+use crate::patterns;
 use crate::plain::{Call, Lent};
 use crate::reclaims;
 use std::collections::BTreeMap;
@@ -12,7 +13,7 @@ use std::fmt;
 type Counts = BTreeMap<(&'static str, String), u64>;
 
 /// Calls by function and result, where the paper only bounds the answer apart from the others; those of them by the structs. Then those
-/// that meet the string ending, those that meet live counts and those that meet reclaims, by function and how.
+/// that meet the string ending, live counts, reclaims and the limit of patterns, by function and how.
 #[derive(Default)]
 pub struct Tally {
     calls: Counts,
@@ -20,6 +21,7 @@ pub struct Tally {
     endings: Counts,
     live_counts: Counts,
     reclaims: Counts,
+    patterns: Counts,
 }
 
 /// Every function with the results that the paper gives it. Find and enter may answer 9, and need not.
@@ -214,6 +216,7 @@ impl Tally {
             met(call, result, before, after, bounded).into_iter().for_each(|label| one_more(&mut self.endings, label));
             let ways = live::met(call, result, &own, before, after, bounded);
             ways.into_iter().for_each(|label| one_more(&mut self.live_counts, label));
+            patterns::met(call, &own, before).into_iter().for_each(|label| one_more(&mut self.patterns, label));
         }
         if call.takes_tables() && result != 100 {
             reclaims::met(call, result, &own, before, after).into_iter().for_each(|label| one_more(&mut self.reclaims, label));
@@ -232,8 +235,10 @@ impl Tally {
         let endings = ENDINGS.iter().map(|row| (row, &self.endings, "with the string ending "));
         let live_counts = live::WAYS.iter().map(|row| (row, &self.live_counts, "with a live count "));
         let reclaims = reclaims::WAYS.iter().map(|row| (row, &self.reclaims, "with reclaims "));
+        let patterns = patterns::WAYS.iter().map(|row| (row, &self.patterns, "at the limit of patterns "));
+        let ways = endings.chain(live_counts).chain(reclaims).chain(patterns);
         let mut missing = vec![];
-        for (&(function, labels), counts, with) in results.chain(by_structs).chain(endings).chain(live_counts).chain(reclaims) {
+        for (&(function, labels), counts, with) in results.chain(by_structs).chain(ways) {
             let due = labels.iter().filter(|&&label| with != BY_STRUCTS || label != TOO_SHORT);
             let absent = due.filter(|label| !counts.contains_key(&(function, label.to_string())));
             missing.extend(absent.map(|label| format!("{function} {with}{label}")));
@@ -262,6 +267,8 @@ impl fmt::Display for Tally {
         writeln!(f, "with live counts:")?;
         table(f, &live::WAYS, &self.live_counts)?;
         writeln!(f, "with reclaims:")?;
-        table(f, &reclaims::WAYS, &self.reclaims)
+        table(f, &reclaims::WAYS, &self.reclaims)?;
+        writeln!(f, "at the limit of patterns:")?;
+        table(f, &patterns::WAYS, &self.patterns)
     }
 }

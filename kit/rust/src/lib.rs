@@ -24,7 +24,7 @@ pub const STATEMENT_WORDS: usize = 7;
 const LIVE: usize = 8;
 
 /// The most patterns of a question, and its variables: 0 to 15.
-pub const MAX_PATTERNS: usize = 8;
+pub const MAX_PATTERNS: usize = 6;
 pub const VARIABLES: usize = 16;
 const FIRST_VARIABLE: u32 = 1 << 31;
 

@@ -221,6 +221,16 @@ fn a_question_is_answered() {
 }
 
 #[test]
+fn a_question_has_up_to_six_patterns() {
+    with_bay(|store, [relay, trips, b4, _]| {
+        let pattern = [relay, trips, b4].map(Term::Resource);
+        assert_eq!(store.ask(&Question::new(&[pattern; 6])).unwrap().count(), 1);
+        assert_eq!(store.ask(&Question::new(&[pattern; 7])).err(), Some(Error::BadQuery));
+    });
+    assert_eq!((MAX_PATTERNS, QUERY_CURSOR_WORDS), (6, 15));
+}
+
+#[test]
 fn refusals_are_values() {
     with_bay(|store, [relay, trips, b4, _]| {
         assert_eq!(store.find(b"trips"), Err(Error::Malformed));
@@ -235,8 +245,6 @@ fn refusals_are_values() {
         assert_eq!(store.scan_next(&mut cursor, 0), Err(Error::NoBudget));
         cursor[4] = 9;
         assert_eq!(store.scan_next(&mut cursor, 1), Err(Error::BadCursor));
-        let nine = Question::new(&[[Term::Variable(0); 3]; MAX_PATTERNS + 1]);
-        assert_eq!(store.ask(&nine).err(), Some(Error::BadQuery));
         let beyond = Question::new(&[[Term::Variable(LAST + 1); 3]]);
         assert_eq!(store.query_open(&beyond), Err(Error::BadQuery));
         assert_eq!(store.query_open(&Question::from_words(&[1, 2])), Err(Error::BadQuery));
