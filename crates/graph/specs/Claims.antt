@@ -1,4 +1,4 @@
--- The claims of demand 2 (paper 01; 02, note 6) as types, each with soundness as its only hypothesis on the tables, but
+-- The claims of demand 2 (paper 01; 02, notes 6 and 8) as types, each with soundness as its only hypothesis on the tables, but
 -- those that say "on any tables": the live statements are an RDF graph; a query read through gives exactly the solution
 -- mappings of SPARQL 1.1; a call from any accepted cursor answers from the solutions that hold; budgets add up; a
 -- pattern scan read through gives exactly the live triples that match; what each write does to the graph.
@@ -131,7 +131,7 @@ ReadingClaim = (c : Counters) (m : Tables) → Sound c m → (ws : List ℕ) →
     × ((ss : List Bindings) × AllInOrder c m ws ss × ((bs : List ℕ) → AllPositive bs → Read (reading c m ws bs) ss))
     × Ends (reading c m ws) (workOf c m ws)
 
--- the words that are accepted: three a pattern, no more patterns than the limit, each a number in 1..R or a variable
+-- the words that are accepted: three a pattern, at most six patterns, so 18 words, each a number in 1..R or a variable
 pub record Accepts (r : ℕ) (ws : List ℕ) : Type 0 where
   pub patterns : ℕ
   pub three-each : length ws ≡ 3 * patterns

@@ -1,5 +1,5 @@
--- The words of a query, the paper's question (paper 01, "Open a question"): its limits, its patterns, refusal 8, what
--- is bound to its variables, and a pattern under what is bound. Assumes nothing.
+-- The words of a query, the paper's question (paper 01, "Open a question"; 02, note 8): its limits, its patterns,
+-- refusal 8, what is bound to its variables, and a pattern under what is bound. Assumes nothing.
 use Rattle.store.specs.Prelude.{Bool, true, cond, _&&_, _||_, List, [], _∷_, ℕ, _+_, _*_, _-_, length, getD, replicate, eqb, leb, ltb}
 use Rattle.graph.specs.Prelude.{Position, Subject, Predicate, Object, ResourceId, Triple, QueryPattern}
 use Rattle.store.specs.Shared.{triple}
