@@ -1,10 +1,10 @@
 -- Closed runs of what words tell a query's cursor, which of them are refused, and what is written: whole slices
--- compared. Slots past the second, and numbers past the second, are as many as the limits of `graph` say. Assumes
--- nothing.
+-- compared. Slots past the second, and numbers past the second, are as many as the limits of `graph` say, but in the
+-- run of six levels, where the words stand by number. Assumes nothing.
 use mathlib.Core.Path.{_≡_, refl}
 use mathlib.Core.Bool.{true, false}
 use mathlib.Core.List.{List, [], _∷_, _++_}
-use Prim.Native.Nat.{ℕ, suc, _+_, _-_}
+use Prim.Native.Nat.{ℕ, _+_, _-_}
 use lib.ListN.{replicate}
 use Rattle.store.specs.declared.Chain.the-variants.{All, By}
 use Rattle.store.specs.declared.Position.the-variants.{Object}

@@ -1,5 +1,5 @@
--- Closed runs of a query over the tables: the paper's example, the edges of its rules and the number of reclaims (paper
--- 02, note 6), whole answers and cursors compared; and the words of the claims for a reading, of queries and of scans.
+-- Closed runs of a query over the tables: the paper's example, the edges of its rules, the number of reclaims and the
+-- limit of patterns (paper 02, notes 6 and 8), whole answers and cursors compared; and the words of the claims for a reading, of queries and of scans.
 -- Assumes nothing.
 use mathlib.Core.Path.{_≡_, refl}
 use mathlib.Core.Bool.{Bool, true, false}
@@ -246,8 +246,8 @@ no-patterns = record {
   due = found 0 (sol 0 0) end ∷ ended 0 ∷ refusedWith 7 ∷ refusedWith 6 ∷ [];
 }
 
--- six patterns, a visit at each level; seven, and a word past the sixth; seven levels: the paper's numbers, whatever
--- the limit's name stands for
+-- six patterns, a visit at each level; seven, and a word past the sixth; seven levels: written as the paper's numbers,
+-- not by the limit's name
 six-patterns : Case
 six-patterns = record {
   given = open′ two (copies 6)

@@ -131,7 +131,7 @@ ReadingClaim = (c : Counters) (m : Tables) → Sound c m → (ws : List ℕ) →
     × ((ss : List Bindings) × AllInOrder c m ws ss × ((bs : List ℕ) → AllPositive bs → Read (reading c m ws bs) ss))
     × Ends (reading c m ws) (workOf c m ws)
 
--- the words that are accepted: three a pattern, at most six patterns, so 18 words, each a number in 1..R or a variable
+-- the words that are accepted: three a pattern, at most six patterns and so 18 words, each a number in 1..R or a variable
 pub record Accepts (r : ℕ) (ws : List ℕ) : Type 0 where
   pub patterns : ℕ
   pub three-each : length ws ≡ 3 * patterns

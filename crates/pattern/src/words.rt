@@ -1,4 +1,4 @@
-// The words of a query: three a pattern, each a resource's number or a variable (paper 01, "Open a question").
+// The words of a query: three a pattern, each a resource's number or a variable (paper 01, "Open a question"; 02, note 8).
 use graph::FIRST_VARIABLE;
 use graph::MAX_PATTERNS;
 use graph::QueryPattern;

@@ -552,6 +552,7 @@ impl Lent {
         }
     }
 
+    /// Whether a word of a question is a resource's number or a variable's.
     pub fn word_fits(&self, w: u32) -> bool {
         self.is_resource(w) || (w >= FIRST_VARIABLE && w - FIRST_VARIABLE < VARIABLES as u32)
     }

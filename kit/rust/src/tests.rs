@@ -23,6 +23,11 @@ fn with_bay(body: impl FnOnce(&mut Store, [ResourceId; 4])) {
     })
 }
 
+/// What a scan or a question answers, none of it a refusal.
+fn answers<T>(asked: Result<impl Iterator<Item = Result<T, Error>>, Error>) -> Vec<T> {
+    asked.unwrap().map(Result::unwrap).collect()
+}
+
 #[test]
 fn names_come_back() {
     with_bay(|store, ids| {
@@ -46,7 +51,7 @@ fn statements_live_and_die() {
         assert_eq!(store.assert(relay, trips, b4), Ok(Asserted::Revived(StatementId(1))));
         let scan = store.scan([Some(relay), None, None]).unwrap();
         assert_eq!(scan.collect::<Vec<_>>(), [Ok(StatementId(2)), Ok(StatementId(1))]);
-        assert_eq!(store.scan([None, None, Some(b7)]).unwrap().count(), 1);
+        assert_eq!(answers(store.scan([None, None, Some(b7)])).len(), 1);
     })
 }
 
@@ -177,7 +182,7 @@ fn cursors_end_with_a_reclaim() {
         let mut again = store.query_open(&question).unwrap();
         assert_eq!(again[..4], [0, 0, 1, 0]);
         assert!(store.query_next(&question, &mut again, 9).is_ok());
-        assert_eq!((store.ask(&question).unwrap().count(), store.scan([None; 3]).unwrap().count()), (2, 2));
+        assert_eq!((answers(store.ask(&question)).len(), answers(store.scan([None; 3])).len()), (2, 2));
     })
 }
 
@@ -211,12 +216,12 @@ fn a_question_is_answered() {
         let trips = Term::Resource(trips);
         let question =
             Question::new(&[[Term::Variable(0), trips, Term::Resource(b4)], [Term::Variable(0), trips, Term::Variable(LAST)]]);
-        let solutions: Vec<_> = store.ask(&question).unwrap().map(|s| s.unwrap()).collect();
+        let solutions = answers(store.ask(&question));
         assert_eq!(solutions.iter().map(|s| s.get(LAST)).collect::<Vec<_>>(), [Some(b7), Some(b4)]);
         assert_eq!(solutions[0].get(0), Some(ResourceId(1)));
         assert_eq!((solutions[0].get(1), solutions[0].get(LAST + 1)), (None, None));
         let empty = Question::new(&[]);
-        assert_eq!(store.ask(&empty).unwrap().count(), 1);
+        assert_eq!(answers(store.ask(&empty)).len(), 1);
     })
 }
 
@@ -224,7 +229,7 @@ fn a_question_is_answered() {
 fn a_question_has_up_to_six_patterns() {
     with_bay(|store, [relay, trips, b4, _]| {
         let pattern = [relay, trips, b4].map(Term::Resource);
-        assert_eq!(store.ask(&Question::new(&[pattern; 6])).unwrap().count(), 1);
+        assert_eq!(answers(store.ask(&Question::new(&[pattern; 6]))).len(), 1);
         assert_eq!(store.ask(&Question::new(&[pattern; 7])).err(), Some(Error::BadQuery));
     });
     assert_eq!((MAX_PATTERNS, QUERY_CURSOR_WORDS), (6, 15));
@@ -262,7 +267,7 @@ fn a_number_of_0_is_not_any() {
             assert_eq!(store.scan(pattern).err(), Some(Error::UnknownNumber));
         }
         assert_eq!(store.scan_open([Some(relay), Some(trips), Some(ResourceId(0))]), Err(Error::UnknownNumber));
-        assert_eq!(store.scan([Some(relay), Some(trips), None]).unwrap().count(), 2);
+        assert_eq!(answers(store.scan([Some(relay), Some(trips), None])).len(), 2);
     });
     let mut over = [1, 0, 0, 0];
     let store = Store::new(&mut over, &mut [], &mut [], &mut [], &mut []).unwrap();
@@ -286,7 +291,7 @@ fn a_resource_is_not_a_variable() {
             assert_eq!(store.query_open(&asked(number)), Err(Error::BadQuery));
             assert_eq!(store.query_next(&asked(number), &mut [0; QUERY_CURSOR_WORDS], 1), Err(Error::BadQuery));
         }
-        assert_eq!(store.ask(&asked(b4.0)).unwrap().count(), 1);
+        assert_eq!(answers(store.ask(&asked(b4.0))).len(), 1);
     })
 }
 
@@ -327,7 +332,7 @@ fn empty_tables_have_pointers() {
     assert!(store.is_sound());
     assert_eq!(store.enter(b"<a>"), Err(Error::Full));
     assert_eq!(store.find(&[]), Err(Error::Malformed));
-    assert_eq!(store.scan([None; 3]).unwrap().count(), 0);
+    assert_eq!(answers(store.scan([None; 3])).len(), 0);
     let mut over = [1, 0, 0, 0];
     let store = Store::new(&mut over, &mut [], &mut [], &mut [], &mut []).unwrap();
     assert_eq!(store.find(b"<a>"), Err(Error::Capacity));
