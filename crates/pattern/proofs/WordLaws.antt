@@ -1,6 +1,6 @@
 -- Laws of a query's words: one word, all of them, how many patterns they are. Assumes nothing.
 use mathlib.Core.Path.{_≡_, refl}
-use mathlib.Core.Bool.{Bool, true, false, _&&_}
+use mathlib.Core.Bool.{Bool, true, false, _&&_, and-false}
 use mathlib.Core.List.{List, [], _∷_}
 use Prim.Native.Nat.{ℕ, zero, suc, _+_, _*_, _%_, _≤_, _<_}
 use native.Mathlib.Omega.{arith}
@@ -63,6 +63,15 @@ module _ (r : ℕ) (ws : List ℕ) where
           let q = eqb-true (patternWords * length (patternsOf ws)) (length ws) e in
           rw (lt-leb (length (patternsOf ws)) maxPatterns (omega arith))
       decide false e = refl
+
+  pub bad-word : allOk r ws ≡ false → wordsOk r ws ≡ false
+  unfolding wordsOk
+  bad-word e =
+      rw (
+        e,
+        and-false (leb (length (patternsOf ws)) maxPatterns),
+        and-false (eqb (patternWords * length (patternsOf ws)) (length ws)),
+      )
 
   pub by-words : length ws % patternWords ≡ 0 → length ws ≤ patternWords * maxPatterns → wordsOk r ws ≡ allOk r ws
   unfolding wordsOk

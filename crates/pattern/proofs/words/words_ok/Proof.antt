@@ -4,7 +4,7 @@ use native.Mathlib.Omega.{arith}
 use lib.ListN.{drop}
 use borrow.Author.Tests.{not-true, not-false}
 use Rattle.graph.specs.Words.{allOk}
-use Rattle.pattern.proofs.WordLaws.{broken-off, too-many, by-words, all-none, all-step}
+use Rattle.pattern.proofs.WordLaws.{broken-off, too-many, bad-word, by-words, all-none, all-step}
 use borrow.Author.Needs.{needs}
 use Rattle.pattern.proofs.words.words_ok.Statement.{statement}
 use Rattle.pattern.proofs.words.words_ok.Tie as tie
@@ -23,7 +23,7 @@ mul-if2 c = search needs
 
 returns-2 : tie.Need-returns-2 Inv-loop μ-loop
 returns-2 c = sym (too-many (c .before .before .before .args .r) (c .before .before .before .args .words .now)
-    (c .if2 .taken))
+    (omega (arith, c .if2 .taken)))
 
 loop-holds : tie.Need-loop-holds Inv-loop μ-loop
 loop-holds c = search needs
@@ -41,10 +41,9 @@ returns-3 : tie.Need-returns-3 Inv-loop μ-loop
 returns-3 c =
     let a = c .before .before .before .before .before .before .before .before .args in
     let l = c .before .before .before .before .loop in
-    sym (by-words (a .r) (a .words .now) (c .before .before .before .before .before .before .if1 .left)
-    (c .before .before .before .before .before .if2 .left) ∙ l .inv .1
+    sym (bad-word (a .r) (a .words .now) (l .inv .1
     ∙ all-step (a .r) (a .words .now) (l .i) (c .before .before .before .loop-test .taken)
-    ∙ rw (← c .before .word-ok .ensures, not-true (c .before .word-ok .result) (c .if3 .taken)))
+    ∙ rw (← c .before .word-ok .ensures, not-true (c .before .word-ok .result) (c .if3 .taken))))
 
 add-i : tie.Need-add-i Inv-loop μ-loop
 add-i c = search needs
