@@ -23,16 +23,14 @@ pub const WAYS: [(&str, &[&str]); 2] = [
             "19 words: refused 8",
             "21 words: refused 8",
             "24 words: refused 8",
-            "6 levels: found",
-            "6 levels: ended",
-            "6 levels: spent",
+            "6 levels: answered",
             "7 levels: refused 6",
         ],
     ),
 ];
 
 /// How a call meets the limit, if it is refused neither 1 nor 100. `own` is its result in words.
-pub fn met(call: &Call, own: &str, before: &Lent) -> Vec<String> {
+pub fn met(call: &Call, result: u32, own: &str, before: &Lent) -> Vec<String> {
     let (words, levels) = match call {
         Call::QueryOpen { words } => (words, 0),
         Call::QueryNext { words, .. } => (words, if before.cursor[0] == WITHIN { before.cursor[1] } else { 0 }),
@@ -42,7 +40,7 @@ pub fn met(call: &Call, own: &str, before: &Lent) -> Vec<String> {
     if WORDS.contains(&words.len()) && words.iter().all(|&word| before.word_fits(word)) {
         met.push(format!("{} words: {own}", words.len()));
         if words.len() == 18 && LEVELS.contains(&levels) {
-            met.push(format!("{levels} levels: {own}"));
+            met.push(format!("{levels} levels: {}", if result == 0 { "answered" } else { own }));
         }
     }
     met

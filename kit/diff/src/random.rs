@@ -73,11 +73,16 @@ impl Random {
         }
     }
 
+    /// The triple of a statement, if the table holds it.
+    fn stated(&mut self, lent: &Lent) -> Option<[u32; 3]> {
+        let at = STATEMENT_WORDS * (self.statement(lent) as usize).saturating_sub(1);
+        lent.statements.get(at..at + PLACES).map(|words| [words[0], words[1], words[2]])
+    }
+
     /// A triple, often that of a statement, so that it is met again.
     pub fn triple(&mut self, lent: &Lent) -> [u32; 3] {
-        let at = STATEMENT_WORDS * (self.statement(lent) as usize).saturating_sub(1);
-        match lent.statements.get(at..at + PLACES) {
-            Some(words) if self.one_in(2) => [words[0], words[1], words[2]],
+        match self.stated(lent) {
+            Some(triple) if self.one_in(2) => triple,
             _ => [0; 3].map(|_| self.resource(lent)),
         }
     }
@@ -103,14 +108,21 @@ impl Random {
 
     /// The words of a question, mostly right.
     pub fn words(&mut self, lent: &Lent) -> Vec<u32> {
-        let patterns = if self.one_in(5) { self.from_to(0, MAX_PATTERNS) } else { self.from_to(1, 3) };
-        let variables = self.of(&[1, 2, 3, 4, VARIABLES]);
+        // A variable stands for one resource throughout at times, so that statements that are there make a solution; and at times every
+        // pattern is such a statement, so that six of them have one too.
+        let stated = self.one_in(3);
+        let consistent = stated || self.one_in(2);
+        let patterns = match self.below(10) {
+            0 | 1 if stated => MAX_PATTERNS,
+            0..=2 => self.from_to(0, MAX_PATTERNS),
+            _ => self.from_to(1, 3),
+        };
+        let variables = if stated { VARIABLES } else { self.of(&[1, 2, 3, 4, VARIABLES]) };
         let sparse = self.of(&[2, 3, 4]);
-        // A variable stands for one resource throughout at times, so that statements that are there make a solution.
-        let consistent = self.one_in(2);
         let mut words = vec![];
         for _ in 0..patterns {
-            for number in self.triple(lent) {
+            let triple = if stated { self.stated(lent) } else { None };
+            for number in triple.unwrap_or_else(|| self.triple(lent)) {
                 let variable = if consistent { number as usize % variables } else { self.below(variables) };
                 let constant = self.one_in(sparse);
                 words.push(if constant { number } else { FIRST_VARIABLE + variable as u32 });

@@ -216,7 +216,7 @@ impl Tally {
             met(call, result, before, after, bounded).into_iter().for_each(|label| one_more(&mut self.endings, label));
             let ways = live::met(call, result, &own, before, after, bounded);
             ways.into_iter().for_each(|label| one_more(&mut self.live_counts, label));
-            patterns::met(call, &own, before).into_iter().for_each(|label| one_more(&mut self.patterns, label));
+            patterns::met(call, result, &own, before).into_iter().for_each(|label| one_more(&mut self.patterns, label));
         }
         if call.takes_tables() && result != 100 {
             reclaims::met(call, result, &own, before, after).into_iter().for_each(|label| one_more(&mut self.reclaims, label));
