@@ -1,6 +1,6 @@
 -- Closed runs of a query over the tables: the paper's example, the edges of its rules, the number of reclaims and the
--- limit of patterns (paper 02, notes 6 and 8), whole answers and cursors compared; and the words of the claims for a reading, of queries and of scans.
--- Assumes nothing.
+-- limit of patterns (paper 02, notes 6 and 8), whole answers and cursors compared; and the words of the claims for a
+-- reading, of queries and of scans. Assumes nothing.
 use mathlib.Core.Path.{_≡_, refl}
 use mathlib.Core.Bool.{Bool, true, false}
 use mathlib.Core.List.{List, [], _∷_, _++_, map}

@@ -1,6 +1,6 @@
-//! The store, plainly: paper 01, "Tables and counters" and "Operations and refusals", and paper 02 on live counts, on getting room back, on
-//! the same label typed two ways and on six patterns, as read in `docs/DECISIONS.md`. Nothing here is meant to be fast. Every operation works
-//! on what is lent, as the library's does, so that the two can be compared byte by byte.
+//! The store, plainly: paper 01, "Tables and counters" and "Operations and refusals", and paper 02 on live counts, on getting room back,
+//! on the same label typed two ways and on six patterns, as read in `docs/DECISIONS.md`. Nothing here is meant to be fast. Every operation
+//! works on what is lent, as the library's does, so that the two can be compared byte by byte.
 //! Refusals are the `Err` of a `Result`, by their number.
 
 use crate::names::{has_ending, kind_of, read_line, without_ending, Line, MAX_NAME};
