@@ -63,8 +63,8 @@ enum lt_result {
     LT_BAD_CURSOR = 6,         /* a cursor with a number out of range, a chain that is no bound position, more levels than patterns,
                                   or a record that lacks the bound resource or does not match its pattern */
     LT_NO_BUDGET = 7,          /* a budget of 0 */
-    LT_BAD_QUERY = 8,          /* words that are no query: not three a pattern, more than LT_MAX_PATTERNS patterns, or one that is
-                                  neither a resource's number nor a variable's */
+    LT_BAD_QUERY = 8,          /* words that are no query: not three a pattern, more than LT_MAX_PATTERNS patterns, or a word that
+                                  is neither a resource's number nor a variable's */
     LT_DAMAGED = 9,            /* a word that a step needs is out of range; for lt_reclaim: the store is not sound */
     LT_BAD_LINE = 10,          /* bytes that are no line */
     LT_EXPORT_SPACE = 11,      /* memory too short for the canonical file; no function gives it yet, nor 12 and 15 to 17 */

@@ -1,6 +1,6 @@
 -- Closed runs of what words tell a query's cursor, which of them are refused, and what is written: whole slices
--- compared. Slots past the second, and numbers past the second, are as many as the limits of `graph` say, but in the
--- run of six levels, where the words stand by number. Assumes nothing.
+-- compared. Slots past the second, and numbers past the second, are as many as the limits of `graph` say, but in what
+-- the run of six levels writes: fifteen words. Assumes nothing.
 use mathlib.Core.Path.{_≡_, refl}
 use mathlib.Core.Bool.{true, false}
 use mathlib.Core.List.{List, [], _∷_, _++_}
@@ -88,9 +88,9 @@ pub record Spelling : Type 0 where
   pub entered : spelt (cursor 1 2 3 7 4 9 0) ≡ false
   pub past-entered : spelt (cursor 1 1 3 7 4 9 4) ≡ true
   pub none-entered : spelt (cursor 1 0 4 7 4 9 4) ≡ true
-  pub at-start : spelt (cursor 0 maxPatterns 4 7 4 9 4) ≡ true
-  pub at-end : spelt (cursor 2 maxPatterns 4 7 4 9 4) ≡ true
-  pub last-slot : spelt (cursor 1 maxPatterns 3 7 3 9 4) ≡ false
+  pub at-start : spelt (cursor 0 6 4 7 4 9 4) ≡ true
+  pub at-end : spelt (cursor 2 6 4 7 4 9 4) ≡ true
+  pub last-slot : spelt (cursor 1 6 3 7 3 9 4) ≡ false
   pub more-than-slots : spelt (cursor 1 4294967295 3 7 3 9 3) ≡ true
 
 spellings : Spelling
@@ -143,7 +143,7 @@ pub record Calling : Type 0 where
   pub over : next about (cursor 1 1 1 0 0 0 0) 5 ≡ beside 0 (cursor 2 0 0 0 0 0 0) (reply 2 0 0 0)
   pub at-end : next about (cursor 2 9 9 9 9 9 9) 5 ≡ beside 0 (cursor 2 0 0 0 0 0 0) (reply 2 0 0 0)
   pub spent : next (1 ∷ v 0 ∷ 3 ∷ []) (cursor 1 1 1 2 9 9 9) 1 ≡ beside 0 (cursor 1 1 1 1 0 0 0) (reply 3 1 0 0)
-  -- six patterns, and a cursor of fifteen words that tells six levels; seven patterns; seven levels
+  -- six patterns; a cursor that tells six levels, fifteen words written; seven patterns; seven levels
   pub six-patterns : opened six (cursor 9 9 9 9 9 9 9) ≡ (0, cursor 0 0 0 0 0 0 0)
   pub six-levels : next six (cursor 1 6 1 1 1 1 1) 1 ≡ beside 0 (1 ∷ 6 ∷ 5 ∷ replicate 11 1 ++ 0 ∷ 55 ∷ []) (reply 1 1 2 3)
   pub seven-patterns : opened (about ++ six) (cursor 9 9 9 9 9 9 9) ≡ (8, cursor 9 9 9 9 9 9 9)

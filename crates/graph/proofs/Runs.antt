@@ -246,8 +246,8 @@ no-patterns = record {
   due = found 0 (sol 0 0) end ∷ ended 0 ∷ refusedWith 7 ∷ refusedWith 6 ∷ [];
 }
 
--- six patterns, a visit at each level; seven, and a word past the sixth; seven levels: written as the paper's numbers,
--- not by the limit's name
+-- six patterns, a visit at each level; seven, and a word past the sixth; seven levels. How many patterns and levels
+-- there are stands as the paper's number, not by the limit's name
 six-patterns : Case
 six-patterns = record {
   given = open′ two (copies 6)

@@ -7,6 +7,9 @@
 
 enum { JUNK = 0x5A };
 
+/* Six patterns, and so a cursor of fifteen words: a header that says otherwise is not compiled. */
+typedef char limit_of_patterns[LT_MAX_PATTERNS == 6 && LT_QUERY_CURSOR_WORDS == 15 ? 1 : -1];
+
 #define STORE                                                                                             \
     uint32_t *counters, uint32_t *resources, size_t resources_len, uint32_t *statements, size_t statements_len, \
         uint32_t *index, size_t index_len, uint8_t *text, size_t text_len
