@@ -16,11 +16,11 @@
 #include <time.h>
 #include <valgrind/callgrind.h>
 
-enum { LOOKUP, JOIN, LIST_S, LIST_P, LIST_O, LIST_SP, LIST_PO, LIST_SO, KINDS };
-static const char *const tag[KINDS] = {"L", "J", "S", "P", "O", "SP", "PO", "SO"};
-static const char *const metric[KINDS] = {"lookup", "join", "list-s", "list-p", "list-o", "list-sp", "list-po", "list-so"};
+enum { LOOKUP, JOIN, LIST_S, LIST_P, LIST_O, LIST_SP, LIST_PO, LIST_SO, NAMES, KINDS };
+static const char *const tag[KINDS] = {"L", "J", "S", "P", "O", "SP", "PO", "SO", "B"};
+static const char *const metric[KINDS] = {"lookup", "join", "list-s", "list-p", "list-o", "list-sp", "list-po", "list-so", "names"};
 
-/* A question of the query file: its names, and their handles in the store being measured. */
+/* A question of the query file: its names, or the beginning of some; their handles in the store being measured; how many there are. */
 typedef struct {
     char *name[3];
     size_t len[3];
@@ -103,6 +103,7 @@ static void read_questions(char *text, size_t len)
                 q->len[i] = strlen(f[i + 1]);
             }
             if (g == LOOKUP) q->hit = atoi(f[4]);
+            if (g == NAMES) q->hit = atoi(f[2]);
         }
     }
 }
@@ -131,6 +132,7 @@ static size_t do_parse(void) { return peer_parse(nt, nt_len); }
 static size_t do_load(void) { return peer_load(st, nt, nt_len); }
 static size_t do_check(void) { return (size_t)peer_check(st); }
 static size_t do_reclaim(void) { return peer_reclaim(st); }
+static size_t do_all_names(void) { return peer_names(st, "", 0); }
 
 static size_t do_find(void)
 {
@@ -172,6 +174,7 @@ static size_t do_questions(void)
         case LIST_SP: n += peer_list(st, q->n[0], q->n[1], NULL); break;
         case LIST_PO: n += peer_list(st, NULL, q->n[0], q->n[1]); break;
         case LIST_SO: n += peer_list(st, q->n[0], NULL, q->n[1]); break;
+        case NAMES: n += peer_names(st, q->name[0], q->len[0]); break;
         }
     return n;
 }
@@ -227,6 +230,22 @@ static size_t in_use(void)
 {
     struct mallinfo2 m = mallinfo2();
     return m.uordblks + m.hblkhd;
+}
+
+/* What the questions of a kind are to find, by the query file. */
+static size_t expected(int k)
+{
+    size_t hits = 0;
+    for (size_t i = 0; i < group[k].n; i++) hits += (size_t)group[k].q[i].hit;
+    return hits;
+}
+
+/* Ends the run if a kind's questions found something else. */
+static void as_expected(int k, size_t found)
+{
+    if (found == expected(k)) return;
+    fprintf(stderr, "%s %s: %s found %zu, %zu expected\n", peer_name, workload, metric[k], found, expected(k));
+    exit(1);
 }
 
 /* Reclaim, with none of the statements retracted, every second one, and all. A peer with a soundness check makes it first in every reclaim:
@@ -293,8 +312,7 @@ int main(int argc, char **argv)
 
     /* Load, and retract from the store that is then given up; the last one loaded is kept for the rest. */
     double load = 1e9, retract = 1e9, spent = 0;
-    size_t bytes = 0, retracted = 0, hits = 0;
-    for (size_t i = 0; i < group[LOOKUP].n; i++) hits += (size_t)group[LOOKUP].q[i].hit;
+    size_t bytes = 0, retracted = 0, hits = expected(LOOKUP);
     for (int k = 0;; k++) {
         malloc_trim(0);
         size_t before = in_use();
@@ -319,17 +337,20 @@ int main(int argc, char **argv)
 
     t = least("find", do_find, &units);
     report("find", t, units);
-    for (kind = 0; kind < KINDS; kind++) {
-        if (kind == JOIN) peer_join_open(st, &shape);
-        else handles(st, kind);
-        t = least(metric[kind], do_questions, &units);
-        out_sum(metric[kind], units);
-        report(metric[kind], t, kind == LOOKUP || kind == JOIN ? group[kind].n : units);
+    int names = do_all_names() != 0;
+    if (names) {
+        t = least("names-all", do_all_names, &units);
+        out_sum("names-all", units);
+        report("names-all", t, units);
     }
-    if (group[LOOKUP].n) {
-        kind = LOOKUP;
-        size_t found = do_questions();
-        if (found != hits) { fprintf(stderr, "%s %s: %zu lookups hit, %zu expected\n", peer_name, workload, found, hits); return 1; }
+    for (kind = 0; kind < KINDS; kind++) {
+        if (kind == NAMES && !names) continue;
+        if (kind == JOIN) peer_join_open(st, &shape);
+        else if (kind != NAMES) handles(st, kind);
+        t = least(metric[kind], do_questions, &units);
+        if (kind == LOOKUP || kind == NAMES) as_expected(kind, units);
+        out_sum(metric[kind], units);
+        report(metric[kind], t, kind == LOOKUP || kind == JOIN || kind == NAMES ? group[kind].n : units);
     }
     if (peer_check(st) >= 0) {
         t = least("check", do_check, &units);

@@ -23,6 +23,8 @@ size_t peer_parse(const char *text, size_t len);          /* triples read, nothi
 size_t peer_load(void *st, const char *text, size_t len); /* statements stored */
 node peer_node(void *st, const char *name, size_t len);   /* NULL if the store does not have it */
 void peer_node_free(void *st, node n);
+size_t peer_names(void *st, const char *prefix, size_t len); /* names that begin so, by byte order, the number of each one read; 0 for the
+                                                                empty beginning: not offered */
 int peer_contains(void *st, node s, node p, node o);
 size_t peer_list(void *st, node s, node p, node o);       /* matches, the subject of each one read */
 void peer_join_open(void *st, const join_shape *j);

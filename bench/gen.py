@@ -11,10 +11,12 @@
     L s p o hit           all bound; hit is 1 if the statement is there (an absent one is made of names that are)
     S s, P p, O o         one bound
     SP s p, PO p o, SO s o   two bound
+    B beginning n         the names that begin so, n of them
     W p                   every statement retracted, all of them on the chain of p: one walk along it, and no other question
 
 Every workload stays within the limits of the store: 65,535 resources and statements, 1,048,576 bytes of text.
 """
+import bisect
 import random
 import sys
 
@@ -22,6 +24,7 @@ SEED = 20090926
 MAX_RESOURCES, MAX_TEXT, MAX_NAME = 65535, 1048576, 255
 INT = '^^<http://www.w3.org/2001/XMLSchema#integer>'
 STRING = '^^<http://www.w3.org/2001/XMLSchema#string>'
+SCREENFUL = 25
 
 
 def relay(T, rng):
@@ -158,7 +161,18 @@ def queries(triples, join, ks, rng):
         q.append('PO\t%s\t%s' % (t[1], t[2]))
         t = rng.choice(triples)
         q.append('SO\t%s\t%s' % (t[0], t[2]))
+    names = sorted({x.removesuffix(STRING) for t in triples for x in t})
+    for _ in range(1500):
+        q.append('B\t%s\t%d' % screenful(rng.choice(names), names))
     return q
+
+
+def screenful(name, names):
+    """The shortest beginning of a name that no more than a screenful of the names has, and how many have it. No name has a byte above 126."""
+    for cut in range(1, len(name) + 1):
+        n = bisect.bisect(names, name[:cut] + '\x7f') - bisect.bisect_left(names, name[:cut])
+        if n <= SCREENFUL:
+            return name[:cut], n
 
 
 MAKERS = {'relay': relay, 'typed': typed, 'wide': wide, 'cross': cross, 'bay': bay}

@@ -27,6 +27,8 @@ OPERATIONS = [
     ('parse', 'parse', 'a line'),
     ('load', 'load', 'a statement'),
     ('find', 'find a name', 'a name'),
+    ('names', 'names by a beginning', 'a listing'),
+    ('names-all', 'all names in byte order', 'a name'),
     ('lookup', 'bound lookup', 'a lookup'),
     ('list-s', 'list, subject bound', 'a record'),
     ('list-p', 'list, predicate bound', 'a record'),
@@ -127,8 +129,8 @@ def main():
     spread = sorted(statistics.median(values[k]) / least[k] for k in timed)
     twice = sorted(least['again', w, m] / least['reference', w, m] for (p, w, m) in timed if p == 'again')
     out = ['# Results', '', 'Written by `bench/run`; README.md beside this file says what is measured.', '', 'Machine: %s.' % machine(), '']
-    out += ['Every figure is the least of %d rounds; a round measures every peer once on every workload, on the chain of retracted records the library and the reference alone. All peers gave the same counts of statements, matches, '
-            'solutions and visits.' % rounds, '']
+    out += ['Every figure is the least of %d rounds; a round measures every peer once on every workload, on the chain of retracted records the library and the reference alone. All peers gave the same counts of statements, names, '
+            'matches, solutions and visits.' % rounds, '']
     out += ['**Noise.** A figure\'s median round was %.2f times its least in the middle, %.2f times for the worst twentieth. The same reference program '
             'measured a second time in every round: its least was %.2f to %.2f times the first one\'s, %.2f in the middle. A ratio as near to 1 as that says nothing.'
             % (statistics.median(spread), spread[int(0.95 * len(spread))], twice[0], twice[-1], statistics.median(twice)), '']

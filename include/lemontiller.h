@@ -3,8 +3,8 @@
  * Every slice is a pointer and a length in elements: the pointer is aligned, and that many elements stand there. It may not be null,
  * also where the length is 0; slices of one call must not overlap where one of them is written. All memory is the caller's: it is lent
  * for the duration of one call, nothing of it is kept or freed, and no memory is asked for. Two calls on the same tables must not run
- * at once where one of them writes tables (lt_enter, lt_assert, lt_retract, lt_reclaim); reading calls may, each with its own cursor
- * and reply.
+ * at once where one of them writes tables (lt_enter, lt_assert, lt_retract, lt_reclaim); reading calls may, each with its own cursor,
+ * reply and list.
  *
  * Every store function begins with the same five slices:
  *   counters    LT_COUNTER_WORDS words: resources R, statements T, text bytes B, reclaims so far; all 0 for a fresh store, whose tables
@@ -31,8 +31,8 @@
  * store has it.
  *
  * What a function gives back is an `lt_result`. Beside a refusal the reply's words are 0 (except LT_BAD_LINE, see lt_read_line), and
- * counters, cursor and tables stay as they were. LT_TOO_SHORT comes before every refusal, and nothing at all is written with it. Words
- * past those that counters, a reply or a cursor name keep their values.
+ * counters, cursor, tables and a list's words stay as they were. LT_TOO_SHORT comes before every refusal, and nothing at all is written
+ * with it. Words past those that counters, a reply or a cursor name, and past a list, keep their values.
  * The refusals of a function are tested in the order in which its sentence names them.
  *
  * The library has the functions on slices. After them stand inline functions on a `struct lt_store`, with structs for replies and cursors.
@@ -56,7 +56,7 @@ extern "C" {
 enum lt_result {
     LT_ANSWERED = 0,
     LT_CAPACITY = 1,           /* a counter exceeds its capacity, or the reclaims LT_MAX_RECLAIMS */
-    LT_MALFORMED = 2,          /* a name that is not well formed, or over LT_MAX_NAME bytes */
+    LT_MALFORMED = 2,          /* a name that is not well formed, or over LT_MAX_NAME bytes; a name's beginning over LT_MAX_NAME bytes */
     LT_FULL = 3,               /* no room for one more */
     LT_UNKNOWN_NUMBER = 4,     /* a number that names nothing */
     LT_KIND_NOT_PERMITTED = 5, /* a literal as subject, or a predicate that is no IRI */
@@ -82,7 +82,7 @@ enum {
     LT_MAX_RESOURCES = 65535,
     LT_MAX_STATEMENTS = 65535,
     LT_MAX_TEXT = 1048576, /* bytes of all names, a closing zero for each included */
-    LT_MAX_NAME = 255,     /* bytes of one name as it is spelled, its closing zero not included */
+    LT_MAX_NAME = 255,     /* bytes of one name as it is spelled, its closing zero not included; and of a name's beginning */
     LT_MAX_RECLAIMS = 65535,
     LT_MAX_PATTERNS = 6,   /* of a query, and so the levels of its cursor */
     LT_VARIABLES = 16      /* of a query: 0 to 15 */
@@ -173,9 +173,17 @@ uint32_t lt_read_line(const uint8_t *text, size_t text_len, size_t at, uint64_t 
  * nothing. */
 uint32_t lt_check(LT_STORE, uint32_t *reply, size_t reply_len);
 
-/* Finds a name, without the string ending. LT_CAPACITY, LT_MALFORMED (by the name as it is spelled), LT_DAMAGED. reply 1: its number, or
- * 0. Where names or index are not sound, LT_DAMAGED is not certain: the answer may also be 0 or any number up to R. */
+/* Finds a name, without the string ending. LT_CAPACITY, LT_MALFORMED (by the name as it is spelled), LT_DAMAGED. reply 2: its number, or
+ * 0; its position in the index, from 0, where it stands or would stand, so how many names are below it. Entering the name puts its number
+ * there. Where names or index are not sound, LT_DAMAGED is not certain: number and position may also be 0 or any numbers up to R. */
 uint32_t lt_find(LT_STORE, const uint8_t *name, size_t name_len, uint32_t *reply, size_t reply_len);
+
+/* Lists the resources whose names begin with `prefix`, 0 to LT_MAX_NAME bytes of any value, in rising byte order of name. LT_CAPACITY,
+ * LT_MALFORMED if it is longer, LT_DAMAGED. reply 1: the total, how many there are; as many of the first ones as fit stand in `numbers`,
+ * which may have any length and keeps its words past the list. The bytes are taken as they are, the string ending too. Where names or
+ * index are not sound, LT_DAMAGED is not certain: the total may also be any number up to R, and the list any words. */
+uint32_t lt_names_with_prefix(LT_STORE, const uint8_t *prefix, size_t prefix_len, uint32_t *numbers, size_t numbers_len, uint32_t *reply,
+                              size_t reply_len);
 
 /* Enters a name: finds it, or gives it the next number and stores it without the string ending. LT_CAPACITY, LT_MALFORMED (by the name
  * as it is spelled), LT_DAMAGED, LT_FULL (by what is stored). reply 1: its number. Writes counters, resources, index, text. Where names or
@@ -234,9 +242,9 @@ uint32_t lt_query_next(LT_STORE, const uint32_t *words, size_t words_len, uint32
 
 /* The same with a struct for a store, and with named fields for replies and cursors. Each lt_store_… function makes one call of the
  * function above with the rest of its name (lt_store_find of lt_find), lt_kind_of of lt_name_kind, lt_line_read of lt_read_line, and gives
- * back its result. All that is said there holds: beside a refusal
- * the reply's fields are 0 (except LT_BAD_LINE), and counters, cursor and tables stay as they were. LT_TOO_SHORT cannot come. Words are
- * copied to fields and back one by one, so nothing depends on how a struct is laid out. */
+ * back its result. All that is said there holds: beside a refusal the reply's fields are 0 (except LT_BAD_LINE), and counters, cursor,
+ * tables and a list's words stay as they were. LT_TOO_SHORT cannot come. Words are copied to fields and back one by one, so nothing
+ * depends on how a struct is laid out. */
 
 struct lt_counters {
     uint32_t resources, statements, text, reclaims;
@@ -259,6 +267,11 @@ struct lt_store {
 /* A part of a text. */
 struct lt_span {
     size_t start, length;
+};
+
+/* A name's number, or 0, and its position in the index, from 0, where it stands or would stand. */
+struct lt_lookup {
+    uint32_t number, position;
 };
 
 /* A line: an `lt_line_kind`; the position after it; its names in the text, 0 if there is no triple. `fault` is 0, and with LT_BAD_LINE the
@@ -398,11 +411,22 @@ static inline uint32_t lt_store_check(const struct lt_store *store, uint32_t *so
     return lt_check(LT_SLICES, sound, 1);
 }
 
-static inline uint32_t lt_store_find(const struct lt_store *store, const uint8_t *name, size_t name_len, uint32_t *number)
+static inline uint32_t lt_store_find(const struct lt_store *store, const uint8_t *name, size_t name_len, struct lt_lookup *lookup)
+{
+    uint32_t counters[LT_COUNTER_WORDS], words[2], result;
+    lt_counters_to_words(&store->counters, counters);
+    result = lt_find(LT_SLICES, name, name_len, words, 2);
+    lookup->number = words[0];
+    lookup->position = words[1];
+    return result;
+}
+
+static inline uint32_t lt_store_names_with_prefix(const struct lt_store *store, const uint8_t *prefix, size_t prefix_len,
+                                                  uint32_t *numbers, size_t numbers_len, uint32_t *total)
 {
     uint32_t counters[LT_COUNTER_WORDS];
     lt_counters_to_words(&store->counters, counters);
-    return lt_find(LT_SLICES, name, name_len, number, 1);
+    return lt_names_with_prefix(LT_SLICES, prefix, prefix_len, numbers, numbers_len, total, 1);
 }
 
 static inline uint32_t lt_store_enter(struct lt_store *store, const uint8_t *name, size_t name_len, uint32_t *number)

@@ -14,6 +14,7 @@ typedef struct {
     uint32_t counters[LT_COUNTER_WORDS];
     uint32_t *resources, *statements, *index;
     uint8_t *text;
+    uint32_t *numbers; /* lent for lists of names */
     uint32_t p1, p2, p3;
     int into;
 } store;
@@ -39,6 +40,7 @@ void *peer_open(void)
     s->statements = malloc(LT_MAX_STATEMENTS * LT_STATEMENT_WORDS * sizeof *s->statements);
     s->index = malloc(LT_MAX_RESOURCES * sizeof *s->index);
     s->text = malloc(LT_MAX_TEXT);
+    s->numbers = malloc(LT_MAX_RESOURCES * sizeof *s->numbers);
     return s;
 }
 
@@ -49,6 +51,7 @@ void peer_close(void *st)
     free(s->statements);
     free(s->index);
     free(s->text);
+    free(s->numbers);
     free(s);
 }
 
@@ -83,14 +86,24 @@ size_t peer_load(void *st, const char *text, size_t len)
 
 static uint32_t find(const store *s, const char *name, size_t len)
 {
-    uint32_t number;
-    must(lt_find(LENT(s), (const uint8_t *)name, len, &number, 1));
-    return number;
+    uint32_t reply[2];
+    must(lt_find(LENT(s), (const uint8_t *)name, len, reply, 2));
+    return reply[0];
 }
 
 node peer_node(void *st, const char *name, size_t len) { return (node)(uintptr_t)find(st, name, len); }
 
 void peer_node_free(void *st, node n) { (void)st, (void)n; }
+
+size_t peer_names(void *st, const char *prefix, size_t len)
+{
+    const store *s = st;
+    uint32_t total;
+    size_t n = 0;
+    must(lt_names_with_prefix(LENT(s), (const uint8_t *)prefix, len, s->numbers, LT_MAX_RESOURCES, &total, 1));
+    for (uint32_t i = 0; i < total; i++) n += s->numbers[i] != 0;
+    return n;
+}
 
 int peer_contains(void *st, node a, node b, node c)
 {

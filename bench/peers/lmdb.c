@@ -19,6 +19,7 @@ typedef struct {
     MDB_txn *txn;
     MDB_dbi name, triples[ORDERS];
     MDB_cursor *cursor[DEPTHS][ORDERS]; /* depth 0 for a listing, 1 to 3 for a join */
+    MDB_cursor *by_name;
     uint32_t names, p1, p2, p3;
     int into;
 } db;
@@ -111,6 +112,7 @@ size_t peer_load(void *st, const char *text, size_t len)
     }
     must(mdb_txn_commit(d->txn));
     must(mdb_txn_begin(d->env, NULL, MDB_RDONLY, &d->txn));
+    must(mdb_cursor_open(d->txn, d->name, &d->by_name));
     for (int i = 0; i < DEPTHS; i++)
         for (int o = 0; o < ORDERS; o++) must(mdb_cursor_open(d->txn, d->triples[o], &d->cursor[i][o]));
     return n;
@@ -121,6 +123,21 @@ size_t peer_load(void *st, const char *text, size_t len)
 node peer_node(void *st, const char *name, size_t len) { return (node)(uintptr_t)find(st, name, len); }
 
 void peer_node_free(void *st, node n) { (void)st, (void)n; }
+
+/* A walk over the names that begin so; no key may be empty, so the empty beginning is where the first one stands. */
+size_t peer_names(void *st, const char *prefix, size_t len)
+{
+    db *d = st;
+    MDB_val k = {len, (void *)prefix}, v;
+    size_t n = 0;
+    for (int op = len ? MDB_SET_RANGE : MDB_FIRST; !mdb_cursor_get(d->by_name, &k, &v, op); op = MDB_NEXT) {
+        uint32_t number;
+        if (k.mv_size < len || memcmp(k.mv_data, prefix, len)) break;
+        memcpy(&number, v.mv_data, 4);
+        n += number != 0;
+    }
+    return n;
+}
 
 /* A walk over the keys that begin with what is bound. */
 typedef struct {

@@ -14,6 +14,7 @@ const char *peer_name = NAME;
 
 typedef struct {
     store s;
+    uint32_t *numbers; /* lent for lists of names */
     uint32_t p1, p2, p3;
     int into;
 } db;
@@ -26,6 +27,7 @@ void *peer_open(void)
     d->s.st = malloc((MAX_STATEMENTS + 1) * sizeof *d->s.st);
     d->s.index = malloc(MAX_RESOURCES * sizeof *d->s.index);
     d->s.text = malloc(MAX_TEXT);
+    d->numbers = malloc(MAX_RESOURCES * sizeof *d->numbers);
     return d;
 }
 
@@ -36,6 +38,7 @@ void peer_close(void *st)
     free(d->s.st);
     free(d->s.index);
     free(d->s.text);
+    free(d->numbers);
     free(d);
 }
 
@@ -68,6 +71,15 @@ static uint32_t find(const db *d, const char *name, size_t len) { return store_f
 node peer_node(void *st, const char *name, size_t len) { return (node)(uintptr_t)find(st, name, len); }
 
 void peer_node_free(void *st, node n) { (void)st, (void)n; }
+
+size_t peer_names(void *st, const char *prefix, size_t len)
+{
+    const db *d = st;
+    size_t n = 0;
+    uint32_t total = store_names(&d->s, prefix, (uint32_t)len, d->numbers, MAX_RESOURCES);
+    for (uint32_t i = 0; i < total; i++) n += d->numbers[i] != 0;
+    return n;
+}
 
 int peer_contains(void *st, node a, node b, node c)
 {

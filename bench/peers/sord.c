@@ -77,6 +77,13 @@ node peer_node(void *st, const char *name, size_t len)
 
 void peer_node_free(void *st, node n) { sord_node_free(((db *)st)->world, n); }
 
+/* Names are found by their hash, no order of them is kept. */
+size_t peer_names(void *st, const char *prefix, size_t len)
+{
+    (void)st, (void)prefix, (void)len;
+    return 0;
+}
+
 int peer_contains(void *st, node s, node p, node o) { return sord_ask(((db *)st)->model, s, p, o, NULL); }
 
 size_t peer_list(void *st, node s, node p, node o)

@@ -8,7 +8,7 @@
 
 const char *peer_name = "sqlite";
 
-enum { FIND, ENTER, ASSERT, HAS, BY_S, BY_P, BY_O, BY_SP, BY_PO, BY_SO, RETRACT, JOIN, PREPARED };
+enum { FIND, ENTER, ASSERT, HAS, BY_S, BY_P, BY_O, BY_SP, BY_PO, BY_SO, RETRACT, NAMES, JOIN, PREPARED };
 
 static const char *const sql[JOIN] = {
     "SELECT id FROM name WHERE text=?1",
@@ -22,6 +22,7 @@ static const char *const sql[JOIN] = {
     "SELECT s,p,o FROM t WHERE p=?2 AND o=?3",
     "SELECT s,p,o FROM t WHERE s=?1 AND o=?3",
     "DELETE FROM t WHERE s=?1 AND p=?2 AND o=?3",
+    "SELECT id FROM name WHERE text>=?1 AND text<?2 ORDER BY text",
 };
 
 typedef struct {
@@ -122,6 +123,18 @@ static size_t rows(db *d, int which, node s, node p, node o)
     must(d, result);
     sqlite3_reset(q);
     return n;
+}
+
+/* A range of the index of names: no name has a byte above 126, so those that begin so are below the beginning with 127 after it. */
+size_t peer_names(void *st, const char *prefix, size_t len)
+{
+    db *d = st;
+    char above[256];
+    memcpy(above, prefix, len);
+    above[len] = 127;
+    sqlite3_bind_text(d->q[NAMES], 1, prefix, (int)len, SQLITE_STATIC);
+    sqlite3_bind_text(d->q[NAMES], 2, above, (int)len + 1, SQLITE_STATIC);
+    return rows(d, NAMES, NULL, NULL, NULL);
 }
 
 int peer_contains(void *st, node s, node p, node o) { return rows(st, HAS, s, p, o) != 0; }

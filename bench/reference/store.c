@@ -1,4 +1,4 @@
-/* Paper 01's tables, with the live counts and the reclaim of paper 02, in plain C.
+/* Paper 01's tables, with the names by their beginning, the live counts and the reclaim of paper 02, in plain C.
  *
  * By itself it tests only what an answer depends on: refusals 2, 3, 4, 5 and 14. With -DREFUSALS it makes the tests of refusals 1, 6, 7, 9
  * and 13 as well, by abort, so that what they cost can be told from what the language costs. Reclaim's 9, which is the whole soundness
@@ -74,6 +74,38 @@ uint32_t store_enter(store *s, const char *name, uint32_t len)
     s->text[s->B + len] = 0;
     s->B += len + 1;
     return r;
+}
+
+/* <0, 0, >0 as the stored name is below those that begin so, begins so, or is above them. Its closing zero is below any byte. */
+static int compare_beginning(const char *stored, const char *prefix, uint32_t len)
+{
+    for (uint32_t i = 0; i < len; i++) {
+        if (!stored[i]) return -1;
+        int d = (unsigned char)stored[i] - (unsigned char)prefix[i];
+        if (d) return d;
+    }
+    return 0;
+}
+
+/* Where in the index, from `lo` on, the names that begin so start, or, where `after` is 1, end. */
+static uint32_t boundary(const store *s, const char *prefix, uint32_t len, uint32_t lo, int after)
+{
+    uint32_t hi = s->R;
+    while (lo < hi) {
+        uint32_t mid = lo + (hi - lo) / 2, r = s->index[mid];
+        REFUSE(r == 0 || r > s->R || s->res[r].offset >= s->B);
+        if (compare_beginning(s->text + s->res[r].offset, prefix, len) < after) lo = mid + 1; else hi = mid;
+    }
+    return lo;
+}
+
+uint32_t store_names(const store *s, const char *prefix, uint32_t len, uint32_t *numbers, uint32_t words)
+{
+    REFUSE(over(s));
+    if (len > MAX_NAME) return 0;
+    uint32_t first = boundary(s, prefix, len, 0, 0), total = boundary(s, prefix, len, first, 1) - first;
+    memcpy(numbers, s->index + first, (total < words ? total : words) * sizeof *numbers);
+    return total;
 }
 
 /* The chain of the bound place with least count. */

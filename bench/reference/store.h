@@ -1,5 +1,5 @@
-/* Paper 01's chained store, with the live counts and the reclaim of paper 02, in plain C: what this structure can do at best. Nothing of it
- * is proved. */
+/* Paper 01's chained store, with the names by their beginning, the live counts and the reclaim of paper 02, in plain C: what this structure
+ * can do at best. Nothing of it is proved. */
 #ifndef STORE_H
 #define STORE_H
 
@@ -26,6 +26,8 @@ enum { FOUND, ENDED, SPENT };
 /* A name is tested as spelled, then searched for and stored without the string ending. */
 uint32_t store_find(const store *s, const char *name, uint32_t len); /* 0 if absent or malformed */
 uint32_t store_enter(store *s, const char *name, uint32_t len);      /* 0 if refused */
+/* The total, 0 if refused; the numbers of the names that begin so, in byte order, as many as there are words for. */
+uint32_t store_names(const store *s, const char *prefix, uint32_t len, uint32_t *numbers, uint32_t words);
 uint32_t store_assert(store *s, const uint32_t t[3]);                /* 0 if refused */
 uint32_t store_retract(store *s, const uint32_t t[3]);               /* 0 if not live */
 int store_reclaim(store *s);                                         /* 0 if refused; soundness is not checked */

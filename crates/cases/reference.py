@@ -166,8 +166,27 @@ class Store:
         assert not any(TYPED_STRING.fullmatch(n) for n in names)
         return entries[names.index(shortened(name))] if shortened(name) in names else 0
 
+    # The position is the number of names below it. On an unsound store it is left to the program: scripts ask only where 9 is certain.
     def find(self, name):
-        return self.search(name) or "absent"
+        n = self.search(name)
+        names = [self.spelling(y) for y in self.index[: self.counters[0]]]
+        return n or "absent", sum(other < shortened(name) for other in names)
+
+    # 1, 2 over 255 bytes, 9; then how many names begin so, their numbers in byte order in the words lent, as many as fit, the others kept.
+    def prefix(self, lent, beginning):
+        words = [77] * lent
+        try:
+            self.test_counters()
+            if len(beginning) > 255:
+                refuse(2)
+            R = self.counters[0]
+            if any(y < 1 or y > R for y in self.index[:R]):
+                refuse(9)
+            listed = sorted((self.spelling(y), y) for y in range(1, R + 1) if self.spelling(y).startswith(beginning))
+        except Refused as e:
+            return "refused", e.args[0], *words
+        words[: len(listed)] = [y for _, y in listed][:lent]
+        return len(listed), *words
 
     # Room and the stored bytes go by the shortened name.
     def enter(self, spelled):
@@ -579,6 +598,8 @@ def set_up(store, verb, words, line):
 def call(store, verb, words, rest):
     if verb in ("enter", "find"):
         return getattr(store, verb)(rest.encode("latin-1"))
+    if verb == "prefix":
+        return store.prefix(int(words[0]), to_bytes(rest.partition(" ")[2]))
     if verb == "show":
         return store.show(words[0], *[int(w) for w in words[1:]])
     operations = {

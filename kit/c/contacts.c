@@ -1,11 +1,12 @@
-/* A relay's live count, its contacts by name, a question, and a rewired relay: what an embedder of the store does, in the order in which a
- * test set does it.
+/* The relays by the beginning of their names, a relay's live count, its contacts by name, a question, and a rewired relay: what an embedder
+ * of the store does, in the order in which a test set does it.
  *
  *     contacts FILE
  *
- * reads a file of N-Triples into tables of its own, tells how many live statements relay <r:21> is the subject of, lists what it trips,
- * and asks which breakers are tripped by a relay that trips <b:4>. Then it rewires the relay from <b:4> to <b:9>, gets the room of the
- * retracted statement back and lists again. Refused lines are told and passed over; any other refusal ends the program with status 1.
+ * reads a file of N-Triples into tables of its own, lists the names that begin with <r:, tells how many live statements relay <r:21> is
+ * the subject of, lists what it trips, and asks which breakers are tripped by a relay that trips <b:4>. Then it rewires the relay from
+ * <b:4> to <b:9>, gets the room of the retracted statement back and lists again, the names that begin with <b: too. Refused lines are told
+ * and passed over; any other refusal ends the program with status 1.
  */
 #include <stdio.h>
 #include <stdlib.h>
@@ -33,6 +34,9 @@ static struct lt_store store = {
 /* The records that one call may visit. A screen picks what its frame allows and comes back with the cursor for more. */
 enum { BUDGET = 1 };
 
+/* The names that a screen has lines for. */
+enum { LINES = 20 };
+
 static void must(uint32_t result, const char *doing)
 {
     if (result != LT_ANSWERED) {
@@ -43,13 +47,13 @@ static void must(uint32_t result, const char *doing)
 
 static uint32_t number_of(const char *name)
 {
-    uint32_t number;
-    must(lt_store_find(&store, (const uint8_t *)name, strlen(name), &number), name);
-    if (number == 0) {
+    struct lt_lookup lookup;
+    must(lt_store_find(&store, (const uint8_t *)name, strlen(name), &lookup), name);
+    if (lookup.number == 0) {
         fprintf(stderr, "%s is in no statement\n", name);
         exit(1);
     }
-    return number;
+    return lookup.number;
 }
 
 /* The reply is a part of our own text, so there is nothing to copy or to free. */
@@ -92,6 +96,20 @@ static void load(const uint8_t *input, size_t length)
             return;
         if (line.what == LT_LINE_TRIPLE && (result = load_triple(input, &line)) != LT_ANSWERED)
             printf("line %zu: %s\n", count, lt_strerror(result));
+    }
+}
+
+/* Lists the names with a beginning in byte order, as many as there are lines, and tells how many there are. Nothing is walked for it, so a
+ * screen may ask at every key that is typed. */
+static void list_names(const char *beginning)
+{
+    uint32_t numbers[LINES], total, line;
+    must(lt_store_names_with_prefix(&store, (const uint8_t *)beginning, strlen(beginning), numbers, LINES, &total), beginning);
+    printf("names that begin with %s, %u in all\n", beginning, (unsigned)total);
+    for (line = 0; line < total && line < LINES; line++) {
+        printf("  ");
+        print_name(numbers[line]);
+        printf("\n");
     }
 }
 
@@ -181,11 +199,13 @@ int main(int argc, char **argv)
     load(input, length);
     printf("%u resources, %u statements\n", (unsigned)store.counters.resources,
            (unsigned)store.counters.statements);
+    list_names("<r:");
     tell_live("<r:21>");
     list_contacts("<r:21>", "<p:trips>");
     ask_tripped_with("<b:4>", "<p:trips>");
     rewire("<r:21>", "<p:trips>", "<b:4>", "<b:9>");
     list_contacts("<r:21>", "<p:trips>");
+    list_names("<b:");
 
     /* A store that comes from a file or a wire is checked once; one made by this library's own calls is sound. */
     must(lt_store_check(&store, &sound), "checking");

@@ -2,7 +2,9 @@ pub mod ReadBack
 pub mod Unanswered
 pub mod Runs
 pub mod SpelledRuns
+pub mod PrefixRuns
 pub mod QueryRuns
 pub mod QueryBack
 pub mod QuerySlots
 pub mod Stale
+pub mod Answered

@@ -109,7 +109,7 @@ pub record Calling : Type 0 where
   pub reads-statement : statementCall (counters 1) (holding 1) 1 (5 ∷ 5 ∷ 5 ∷ 5 ∷ 66 ∷ []) ≡ done 0 (1 ∷ 2 ∷ 1 ∷ 1 ∷ 66 ∷ [])
   pub reads-name : nameCall (counters 1) (holding 0) 2 (5 ∷ 5 ∷ 66 ∷ []) ≡ done 0 (4 ∷ 3 ∷ 66 ∷ [])
   -- find and enter as answered
-  pub finds : findAs (counters 1) (5 ∷ 66 ∷ []) (Number (record { 0 = 2 })) ≡ done 0 (2 ∷ 66 ∷ [])
+  pub finds : findAs (counters 1) (5 ∷ 5 ∷ 66 ∷ []) (Number (record { 0 = 2 }) 1) ≡ done 0 (2 ∷ 1 ∷ 66 ∷ [])
   pub enters : enterAs (counters 1) (5 ∷ 66 ∷ [])
       (Id (record { 0 = 3 }) (record { resources = 3; statements = 1; text = 12; generation = 3 }))
       ≡ beside 0 (3 ∷ 1 ∷ 12 ∷ 3 ∷ 77 ∷ []) (3 ∷ 66 ∷ [])

@@ -8,6 +8,7 @@ use Rattle.term.specs.Scanner.{isBad}
 use Rattle.term.specs.Canonical.{stringEnding}
 use Rattle.store.specs.Tables.{Tables, tables, resourceWords}
 use Rattle.store.specs.Dictionary.{findOf, internOf}
+use Rattle.store.specs.Prefix.{prefixOf}
 use Rattle.store.proofs.Opened.{shared-definitions, table-definitions}
 use Rattle.ntriples.specs.Grammar.{white, commentByte}
 use Rattle.ntriples.specs.Reader.{kindAllowed, isDot, opens, dotted, afterOf, enterOf, gapOf, goesOnOf, leaveOf}
@@ -16,7 +17,7 @@ use Rattle.ntriples.specs.Reader.{endOf, lineOf}
 use Rattle.ntriples.specs.Reader.{untilLf, hasLf, dropCr, firstLineOf, takenOf, answerOf, readSpelled, shortLine}
 use Rattle.ntriples.specs.Reader.{readOf}
 use Rattle.capi_calls.specs.Words.{ifShort, done, countersOf}
-use Rattle.capi_calls.specs.Calls.{kindCall, findAs, enterAs, lineCall}
+use Rattle.capi_calls.specs.Calls.{kindCall, findAs, prefixAs, enterAs, lineCall}
 
 abbrev plainA : List ℕ
 plainA = 34 ∷ 65 ∷ 34 ∷ []
@@ -38,7 +39,11 @@ abbrev holding : Tables
 holding = tables (0 ∷ 0 ∷ 0 ∷ 0 ∷ 0 ∷ 0 ∷ 0 ∷ 3 ∷ 0 ∷ 0 ∷ 0 ∷ []) [] (1 ∷ []) (34 ∷ 65 ∷ 34 ∷ 0 ∷ [])
 
 abbrev finds : List ℕ → ℕ × List ℕ
-finds w = findAs one (5 ∷ 66 ∷ []) (findOf (countersOf one) holding w)
+finds w = findAs one (5 ∷ 5 ∷ 66 ∷ []) (findOf (countersOf one) holding w)
+
+-- the lent numbers, the result and the reply
+abbrev lists : List ℕ → List ℕ × (ℕ × List ℕ)
+lists w = let a = prefixOf (countersOf one) holding w (7 ∷ []) in (a .0, prefixAs one (5 ∷ 66 ∷ []) (a .1))
 
 -- the tables, the result, the counters and the reply
 abbrev enters : List ℕ → Tables → List ℕ → Tables × (ℕ × (List ℕ × List ℕ))
@@ -53,9 +58,14 @@ kinds-either : kindCall plainA (5 ∷ 66 ∷ []) ∷ kindCall longA (5 ∷ 66 �
 unfolding shared-definitions kindCall
 kinds-either = refl
 
-finds-either : finds plainA ∷ finds longA ∷ [] ≡ done 0 (1 ∷ 66 ∷ []) ∷ done 0 (1 ∷ 66 ∷ []) ∷ []
+finds-either : finds plainA ∷ finds longA ∷ [] ≡ done 0 (1 ∷ 0 ∷ 66 ∷ []) ∷ done 0 (1 ∷ 0 ∷ 66 ∷ []) ∷ []
 unfolding table-definitions ifShort findAs
 finds-either = refl
+
+-- a prefix is taken as spelled: the name begins with its own bytes, not with the ending
+lists-as-spelled : lists plainA ∷ lists longA ∷ [] ≡ (1 ∷ [], (0, 1 ∷ 66 ∷ [])) ∷ (7 ∷ [], (0, 0 ∷ 66 ∷ [])) ∷ []
+unfolding table-definitions ifShort prefixAs
+lists-as-spelled = refl
 
 -- the first time and again, in each order of the spellings
 enters-either : enters none empty plainA ∷ enters none empty longA ∷ enters one holding plainA ∷ enters one holding longA ∷ []

@@ -1,16 +1,20 @@
 -- A call that is not answered leaves counters, cursor and tables as they were, and zeros in its reply, or the reply too
 -- where it is lent too little. Assumes nothing.
 use mathlib.Core.Path.{_≡_, refl, ap, _∙_}
-use mathlib.Core.Logic.{_≢_}
+use mathlib.Core.Logic.{_≢_, ⊎-elim}
 use mathlib.Core.Bool.{Bool, true, false, cond}
 use mathlib.Core.List.{List}
 use Prim.Native.Nat.{ℕ}
 use lib.ListN.{length}
-use lib.Dec.{eqb, ltb}
+use lib.Dec.{eqb, leb, ltb}
+use Rattle.term.specs.Grammar.{nameLimit}
+use Rattle.store.specs.declared.Counters.{Counters}
 use Rattle.store.specs.declared.Refusal.{Refusal}
 use Rattle.store.specs.declared.Refusal.the-variants.{StaleCursor}
 use Rattle.store.specs.declared.Lookup.{Lookup}
 use Rattle.store.specs.declared.Lookup.the-variants.{Number, Absent, Refused as NotFound}
+use Rattle.store.specs.declared.Prefixed.{Prefixed}
+use Rattle.store.specs.declared.Prefixed.the-variants.{Total, Refused as NotListed}
 use Rattle.store.specs.declared.NameRead.{NameRead}
 use Rattle.store.specs.declared.NameRead.the-variants.{Span, Refused as NotNamed}
 use Rattle.store.specs.declared.StatementRead.{StatementRead}
@@ -27,7 +31,8 @@ use Rattle.store.specs.declared.ScanOpened.{ScanOpened}
 use Rattle.store.specs.declared.ScanOpened.the-variants.{Cursor, Refused as NotOpened}
 use Rattle.store.specs.declared.Scanned.{Scanned}
 use Rattle.store.specs.declared.Scanned.the-variants.{Found, Ended, Spent, Refused as NotScanned}
-use Rattle.store.specs.Tables.{Tables, after}
+use Rattle.store.specs.Tables.{Tables, after, fits}
+use Rattle.store.specs.Prefix.{PrefixAnswer}
 use Rattle.store.specs.Statement.{assertOf, retractOf}
 use Rattle.store.specs.Scan.{openOf}
 use Rattle.store.specs.Reading.{nameSpanOf, statementOf}
@@ -39,21 +44,21 @@ use Rattle.graph.specs.Query.{Answer, refused, found, ended, spent, packed, ans
 use Rattle.graph.specs.Place.{placeOf}
 use Rattle.graph.specs.Values.{queryOpenedValues}
 use native.Mathlib.Omega.{arith}
-use borrow.Author.Tests.{ltb-true, ltb-false, ne-eqb}
+use borrow.Author.Tests.{leb-true, leb-false, ltb-true, ltb-false, ne-eqb}
 use Rattle.store.proofs.Cases.{assert-refused, retract-refused}
 use Rattle.store.proofs.Limits.{reclaim-refuses}
 use Rattle.store.proofs.Numbers.{refuses, not-beyond}
 use Rattle.capi_calls.proofs.Runs as runs
-use Rattle.capi_calls.specs.Words.{tooShort, counterWords, cursorWords, numberReplyWords, nameReplyWords}
+use Rattle.capi_calls.specs.Words.{tooShort, counterWords, cursorWords, numberReplyWords, findReplyWords, nameReplyWords}
 use Rattle.capi_calls.specs.Words.{statementReplyWords, assertReplyWords, scanReplyWords, countersOf, ifShort}
 use Rattle.capi_calls.specs.Words.{ifAnyShort}
-use Rattle.capi_calls.specs.Words.{longEnough, numberAs, nameAs, statementAs, lookupAnswer, nameAnswer}
+use Rattle.capi_calls.specs.Words.{longEnough, numberAs, foundAs, nameAs, statementAs, lookupAnswer, prefixAnswer, nameAnswer}
 use Rattle.capi_calls.specs.Words.{statementAnswer}
 use Rattle.capi_calls.specs.Words.{retractAs, openedAs, scannedAs, assertAs, enteredAs, reclaimedAs, nextFrom}
-use Rattle.capi_calls.specs.Calls.{findAs, nameCall, statementCall, retractCall, openCall, nextCall, assertCall}
+use Rattle.capi_calls.specs.Calls.{findAs, prefixAs, nameCall, statementCall, retractCall, openCall, nextCall, assertCall}
 use Rattle.capi_calls.specs.Calls.{enterAs, reclaimAs}
 use Rattle.capi_calls.specs.Claims.{bare, bareTables, bareBeside, bareStore, kept, Unanswered, UnansweredFind}
-use Rattle.capi_calls.specs.Claims.{UnansweredName, UnansweredStatement, UnansweredRetract, UnansweredAssert}
+use Rattle.capi_calls.specs.Claims.{UnansweredPrefix, UnansweredName, UnansweredStatement, UnansweredRetract, UnansweredAssert}
 use Rattle.capi_calls.specs.Claims.{UnansweredEnter}
 use Rattle.capi_calls.specs.Claims.{UnansweredReclaim, UnansweredOpen, UnansweredNext, UnansweredQueryOpen}
 use Rattle.capi_calls.specs.Claims.{UnansweredQueryNext}
@@ -99,10 +104,14 @@ long-enough-is cw n w s a e = inside (ltb (length cw) counterWords) (ltb (length
 
 -- ---- replies alone
 
-found-bare : (w : List ℕ) (a : Lookup) → Unanswered (numberAs w (lookupAnswer a)) (bare numberReplyWords w)
-found-bare w (Number n) h = absurd (h refl)
-found-bare w Absent h = absurd (h refl)
+found-bare : (w : List ℕ) (a : Lookup) → Unanswered (foundAs w (lookupAnswer a)) (bare findReplyWords w)
+found-bare w (Number n k) h = absurd (h refl)
+found-bare w (Absent k) h = absurd (h refl)
 found-bare w (NotFound e) h = rw (not-short e)
+
+listed-bare : (w : List ℕ) (a : Prefixed) → Unanswered (numberAs w (prefixAnswer a)) (bare numberReplyWords w)
+listed-bare w (Total n) h = absurd (h refl)
+listed-bare w (NotListed e) h = rw (not-short e)
 
 named-bare : (w : List ℕ) (a : NameRead) → Unanswered (nameAs w (nameAnswer a)) (bare nameReplyWords w)
 named-bare w (Span a n) h = absurd (h refl)
@@ -115,7 +124,33 @@ read-bare w (NotRead e) h = rw (not-short e)
 pub unanswered-find : UnansweredFind
 unfolding findAs
 unanswered-find cw m name w z f =
-    rw (f .told) (or-short (bare numberReplyWords w) cw w numberReplyWords refl (found-bare w (f .found)))
+    rw (f .told) (or-short (bare findReplyWords w) cw w findReplyWords refl (found-bare w (f .found)))
+
+-- a listing that is refused writes no number
+module _ {c : Counters} {m : Tables} {prefix out out′ : List ℕ} {a : Prefixed} (f : PrefixAnswer c m prefix out out′ a) where
+  listed-kept : (r : ℕ) → r ≡ (prefixAnswer a) .result → r ≢ 0 → out′ ≡ out
+  listed-kept r e h =
+      decide (fits c m)
+      (λ fit. decide (leb (length prefix) nameLimit)
+      (λ few. ⊎-elim (λ d. ap (λ (z : List ℕ × Prefixed). z .0) d)
+      (λ l. absurd (h (e ∙ ap (λ (z : List ℕ × Prefixed). (prefixAnswer (z .1)) .result) (l .1))))
+      (f .bounded fit (leb-true (length prefix) nameLimit few)))
+      (λ many. ap (λ (z : List ℕ × Prefixed). z .0) (f .malformed fit (leb-false (length prefix) nameLimit many))))
+      (λ over. ap (λ (z : List ℕ × Prefixed). z .0) (f .capacity over))
+
+pub unanswered-prefix : UnansweredPrefix
+unfolding prefixAs
+unanswered-prefix cw m prefix out out′ w z f h =
+    let a = f .listed in
+    let b = bare numberReplyWords w in
+    let g : Unanswered z b = rw (f .told) (or-short b cw w numberReplyWords refl (listed-bare w a)) in (
+      g h,
+      decide (longEnough cw numberReplyWords w)
+          (λ r. let k : z ≡ numberAs w (prefixAnswer a) =
+          f .told ∙ long-enough-is cw numberReplyWords w (b tooShort) (numberAs w (prefixAnswer a)) r in
+          listed-kept (f .exact r) (z .0) (ap (λ (y : ℕ × List ℕ). y .0) k) h)
+          (f .kept),
+    )
 
 pub unanswered-name : UnansweredName
 unfolding nameCall

@@ -10,6 +10,7 @@ use lib.Dec.{ltb}
 use Rattle.term.specs.Grammar.{nameLimit}
 use Rattle.term.specs.Scanner.{kindOf}
 use Rattle.store.specs.declared.Lookup.{Lookup}
+use Rattle.store.specs.declared.Prefixed.{Prefixed}
 use Rattle.store.specs.declared.Interned.{Interned}
 use Rattle.store.specs.declared.Reclaimed.{Reclaimed}
 use Rattle.store.specs.declared.Triple.{Triple}
@@ -20,12 +21,13 @@ use Rattle.ntriples.specs.Reader.{readOf}
 use Rattle.store.specs.Soundness.{Sound}
 use Rattle.store.specs.Reading.{nameSpanOf, statementOf}
 use Rattle.store.specs.Dictionary.{FindAnswer, InternAnswer}
+use Rattle.store.specs.Prefix.{PrefixAnswer}
 use Rattle.store.specs.Reclaim.{ReclaimAnswer}
 use Rattle.capi_calls.specs.Words.{counterWords, cursorWords, tooShort, ifShort, ifAnyShort, longEnough, countersOf, numberReplyWords}
 use Rattle.capi_calls.specs.Words.{nameReplyWords, statementReplyWords, assertReplyWords, scanReplyWords, lineWords, done, beside}
 use Rattle.capi_calls.specs.Words.{wrote, changed, kindAnswer, checkAnswer, lookupAnswer, nameAnswer, statementAnswer, readAnswer}
 use Rattle.capi_calls.specs.Words.{nextFrom, numberAs, nameAs, statementAs, lineAs, openedAs, scannedAs, retractAs, assertAs}
-use Rattle.capi_calls.specs.Words.{enteredAs, reclaimedAs}
+use Rattle.capi_calls.specs.Words.{enteredAs, reclaimedAs, findReplyWords, foundAs, prefixAnswer}
 
 -- `lt_name_kind`: the name, the reply
 unfoldable pub kindCall : List ℕ → List ℕ → ℕ × List ℕ
@@ -43,12 +45,22 @@ pub record CheckCall (cw : List ℕ) (m : Tables) (w : List ℕ) (z : ℕ × Lis
 
 -- `lt_find`: the reply tells what find answers
 unfoldable pub findAs : List ℕ → List ℕ → Lookup → ℕ × List ℕ
-findAs cw w a = ifShort cw numberReplyWords w (done tooShort w) (numberAs w (lookupAnswer a))
+findAs cw w a = ifShort cw findReplyWords w (done tooShort w) (foundAs w (lookupAnswer a))
 
 pub record FindCall (cw : List ℕ) (m : Tables) (name w : List ℕ) (z : ℕ × List ℕ) : Type 0 where
   pub found : Lookup
   pub told : z ≡ findAs cw w found
-  pub exact : longEnough cw numberReplyWords w ≡ true → FindAnswer (countersOf cw) m name found
+  pub exact : longEnough cw findReplyWords w ≡ true → FindAnswer (countersOf cw) m name found
+
+-- `lt_names_with_prefix`: out′ are the lent numbers after it; the reply tells the total
+unfoldable pub prefixAs : List ℕ → List ℕ → Prefixed → ℕ × List ℕ
+prefixAs cw w a = ifShort cw numberReplyWords w (done tooShort w) (numberAs w (prefixAnswer a))
+
+pub record PrefixCall (cw : List ℕ) (m : Tables) (prefix out out′ w : List ℕ) (z : ℕ × List ℕ) : Type 0 where
+  pub listed : Prefixed
+  pub told : z ≡ prefixAs cw w listed
+  pub exact : longEnough cw numberReplyWords w ≡ true → PrefixAnswer (countersOf cw) m prefix out out′ listed
+  pub kept : longEnough cw numberReplyWords w ≡ false → out′ ≡ out
 
 -- `lt_name`: the resource's number
 unfoldable pub nameCall : List ℕ → Tables → ℕ → List ℕ → ℕ × List ℕ

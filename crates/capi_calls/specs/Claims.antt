@@ -2,7 +2,7 @@
 -- are kept. A call that is not answered leaves counters, cursor and tables as they were, and its reply's words are 0;
 -- one that is lent too little leaves the reply too. The definitions of `Words`, `Calls` and `QueryCalls` stand on both
 -- sides of the contracts, so these say of them what they come to. Declared in `proofs/ReadBack.antt`,
--- `proofs/Unanswered.antt` and `proofs/Stale.antt`. Assumes nothing.
+-- `proofs/Unanswered.antt`, `proofs/Stale.antt` and `proofs/Answered.antt`. Assumes nothing.
 use mathlib.Core.Path.{_≡_}
 use mathlib.Core.Logic.{_≢_, _↔_}
 use mathlib.Core.Bool.{true, cond}
@@ -18,12 +18,16 @@ use Rattle.store.specs.declared.Reclaimed.the-variants.{Done}
 use Rattle.store.specs.Tables.{Tables, word, fits, after}
 use Rattle.store.specs.Soundness.{Sound}
 use Rattle.store.specs.Reclaim.{reclaimOf}
+use Rattle.store.specs.Shared.{wellFormed}
+use Rattle.store.specs.Values.{lookupValues, lookupPosition, prefixedValues}
+use Rattle.store.specs.Dictionary.{findOf}
+use Rattle.store.specs.Prefix.{prefixOf}
 use Rattle.graph.specs.Words.{wordsOk}
 use Rattle.capi_calls.specs.Words.{counterWords, cursorWords, tooShort, countersOf, withCounters, cursorFrom, withCursor}
 use Rattle.capi_calls.specs.Words.{numberReplyWords, nameReplyWords, statementReplyWords, assertReplyWords, scanReplyWords, chainOf}
-use Rattle.capi_calls.specs.Words.{lineWords, chainWord, done, beside, wrote, changed}
+use Rattle.capi_calls.specs.Words.{findReplyWords, lineWords, chainWord, done, beside, wrote, changed}
 use Rattle.capi_calls.specs.Calls.{FindCall, nameCall, statementCall, retractCall, openCall, nextCall, assertCall, EnterCall}
-use Rattle.capi_calls.specs.Calls.{ReclaimCall}
+use Rattle.capi_calls.specs.Calls.{ReclaimCall, PrefixCall}
 use Rattle.capi_calls.specs.QueryWords.{queryCursorWords, queryReplyWords}
 use Rattle.capi_calls.specs.QueryCalls.{queryOpenCall, queryNextCall}
 
@@ -32,8 +36,9 @@ use Rattle.capi_calls.specs.QueryCalls.{queryOpenCall, queryNextCall}
 -- The header's words are these: of counters, of a scan's and a query's cursor, then of replies.
 abbrev pub WidthsAre : Type 0
 WidthsAre = counterWords ∷ cursorWords ∷ queryCursorWords
-    ∷ numberReplyWords ∷ nameReplyWords ∷ statementReplyWords ∷ assertReplyWords ∷ scanReplyWords ∷ lineWords ∷ queryReplyWords ∷ []
-    ≡ 4 ∷ 6 ∷ 15 ∷ 1 ∷ 2 ∷ 4 ∷ 2 ∷ 3 ∷ 8 ∷ 18 ∷ []
+    ∷ numberReplyWords ∷ findReplyWords ∷ nameReplyWords ∷ statementReplyWords ∷ assertReplyWords ∷ scanReplyWords ∷ lineWords
+    ∷ queryReplyWords ∷ []
+    ≡ 4 ∷ 6 ∷ 15 ∷ 1 ∷ 2 ∷ 2 ∷ 4 ∷ 2 ∷ 3 ∷ 8 ∷ 18 ∷ []
 
 -- ---- counters
 
@@ -74,7 +79,12 @@ Unanswered z b = z .0 ≢ 0 → z ≡ b (z .0)
 
 abbrev pub UnansweredFind : Type 0
 UnansweredFind = (cw : List ℕ) (m : Tables) (name w : List ℕ) (z : ℕ × List ℕ)
-    → FindCall cw m name w z → Unanswered z (bare numberReplyWords w)
+    → FindCall cw m name w z → Unanswered z (bare findReplyWords w)
+
+-- the lent numbers as they were too
+abbrev pub UnansweredPrefix : Type 0
+UnansweredPrefix = (cw : List ℕ) (m : Tables) (prefix out out′ w : List ℕ) (z : ℕ × List ℕ) → PrefixCall cw m prefix out out′ w z
+    → z .0 ≢ 0 → (z ≡ bare numberReplyWords w (z .0)) × (out′ ≡ out)
 
 abbrev pub UnansweredName : Type 0
 UnansweredName = (cw : List ℕ) (m : Tables) (n : ℕ) (w : List ℕ) → Unanswered (nameCall cw m n w) (bare nameReplyWords w)
@@ -153,3 +163,19 @@ pub record Reclaims (cw : List ℕ) (m m′ : Tables) (z : ℕ × List ℕ) : Ty
 abbrev pub AnsweredReclaim : Type 0
 AnsweredReclaim = (cw : List ℕ) (m m′ : Tables) (z : ℕ × List ℕ) → ReclaimCall cw m m′ z → 4 ≤ length cw
     → Sound (countersOf cw) m → word cw 3 < 65535 → Reclaims cw m m′ z
+
+-- ---- names
+
+-- `lt_find` on a sound store: the first word is find's number, the second the position,
+abbrev pub AnsweredFind : Type 0
+AnsweredFind = (cw : List ℕ) (m : Tables) (name w : List ℕ) (z : ℕ × List ℕ) → FindCall cw m name w z → 4 ≤ length cw → 2 ≤ length w
+    → Sound (countersOf cw) m → wellFormed name ≡ true
+    → let a = findOf (countersOf cw) m name in
+    (z .0 ≡ 0) × (word (z .1) 0 ≡ (lookupValues a) .number) × (word (z .1) 1 ≡ lookupPosition a)
+
+-- and of `lt_names_with_prefix` the word is the total, and the lent numbers are the listing's.
+abbrev pub AnsweredPrefix : Type 0
+AnsweredPrefix = (cw : List ℕ) (m : Tables) (prefix out out′ w : List ℕ) (z : ℕ × List ℕ) → PrefixCall cw m prefix out out′ w z
+    → 4 ≤ length cw → 1 ≤ length w → Sound (countersOf cw) m → length prefix ≤ 255
+    → let a = prefixOf (countersOf cw) m prefix out in
+    (z .0 ≡ 0) × (word (z .1) 0 ≡ (prefixedValues (a .1)) .number) × (out′ ≡ a .0)

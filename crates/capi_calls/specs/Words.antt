@@ -10,6 +10,7 @@ use Rattle.ntriples.specs.declared.Line.the-variants.{End, Nothing, Triple, Ref
 use lib.Dec.{eqb, leb, ltb}
 use Rattle.store.specs.declared.Counters.{Counters}
 use Rattle.store.specs.declared.Lookup.{Lookup}
+use Rattle.store.specs.declared.Prefixed.{Prefixed}
 use Rattle.store.specs.declared.NameRead.{NameRead}
 use Rattle.store.specs.declared.StatementRead.{StatementRead}
 use Rattle.store.specs.declared.Retracted.{Retracted}
@@ -29,8 +30,9 @@ use Rattle.store.specs.declared.Chain.the-variants.{All, By}
 use Rattle.store.specs.declared.ScanCursor.{ScanCursor}
 use Rattle.store.specs.Tables.{Tables, word, fits}
 use Rattle.store.specs.Values.{lookupValues, nameValues, statementValues, assertedValues, retractedValues, openedValues, scannedValues}
-use Rattle.store.specs.Values.{internedValues, reclaimedValues}
+use Rattle.store.specs.Values.{internedValues, reclaimedValues, lookupPosition, prefixedValues}
 use Rattle.capi_calls.specs.declared.NumberReply.{NumberReply}
+use Rattle.capi_calls.specs.declared.FindReply.{FindReply}
 use Rattle.capi_calls.specs.declared.NameReply.{NameReply}
 use Rattle.capi_calls.specs.declared.StatementReply.{StatementReply}
 use Rattle.capi_calls.specs.declared.AssertReply.{AssertReply}
@@ -47,10 +49,13 @@ counterWords = 4
 abbrev pub cursorWords : ℕ
 cursorWords = 6
 
--- the words of replies: a number alone; a name's start and size; a statement and its flag; what asserting did and a
--- number; what a scan did, a number and visits; a line
+-- the words of replies: a number alone; a number and a position; a name's start and size; a statement and its flag; what
+-- asserting did and a number; what a scan did, a number and visits; a line
 abbrev pub numberReplyWords : ℕ
 numberReplyWords = 1
+
+abbrev pub findReplyWords : ℕ
+findReplyWords = 2
 
 abbrev pub nameReplyWords : ℕ
 nameReplyWords = 2
@@ -91,8 +96,14 @@ abbrev pub checkAnswer : Bool → NumberReply
 checkAnswer true = numbered 0 1
 checkAnswer false = numbered 0 0
 
-abbrev pub lookupAnswer : Lookup → NumberReply
-lookupAnswer a = numbered ((lookupValues a) .refusal) ((lookupValues a) .number)
+abbrev pub lookedUp : ℕ → ℕ → ℕ → FindReply
+lookedUp r n k = record { result = r; number = n; position = k }
+
+abbrev pub lookupAnswer : Lookup → FindReply
+lookupAnswer a = lookedUp ((lookupValues a) .refusal) ((lookupValues a) .number) (lookupPosition a)
+
+abbrev pub prefixAnswer : Prefixed → NumberReply
+prefixAnswer a = numbered ((prefixedValues a) .refusal) ((prefixedValues a) .number)
 
 abbrev pub retractAnswer : Retracted → NumberReply
 retractAnswer a = numbered ((retractedValues a) .refusal) ((retractedValues a) .number)
@@ -205,6 +216,9 @@ ifAnswered r w′ w = cond (eqb r 0) w′ w
 abbrev pub withNumber : List ℕ → NumberReply → List ℕ
 withNumber w a = set w 0 (a .number)
 
+abbrev pub withFind : List ℕ → FindReply → List ℕ
+withFind w a = set (set w 0 (a .number)) 1 (a .position)
+
 abbrev pub withName : List ℕ → NameReply → List ℕ
 withName w a = set (set w 0 (a .start)) 1 (a .size)
 
@@ -224,6 +238,9 @@ withLine w a =
 
 abbrev pub numberAs : List ℕ → NumberReply → ℕ × List ℕ
 numberAs w a = done (a .result) (withNumber w a)
+
+abbrev pub foundAs : List ℕ → FindReply → ℕ × List ℕ
+foundAs w a = done (a .result) (withFind w a)
 
 abbrev pub nameAs : List ℕ → NameReply → ℕ × List ℕ
 nameAs w a = done (a .result) (withName w a)

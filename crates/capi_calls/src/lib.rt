@@ -20,6 +20,8 @@ pub const QUERY_CURSOR_WORDS: usize = 3 + 2 * MAX_PATTERNS;
 // The words of replies, as the structs below name them; of a line, with words of 64 bits; of a query.
 pub const NUMBER_REPLY_WORDS: usize = 1;
 
+pub const FIND_REPLY_WORDS: usize = 2;
+
 pub const NAME_REPLY_WORDS: usize = 2;
 
 pub const STATEMENT_REPLY_WORDS: usize = 4;
@@ -37,10 +39,17 @@ pub const TOO_SHORT: u32 = 100;
 
 // What a call gives back, and its reply in the order of the words, each 0 beside a refusal.
 
-// A kind, 1 or 0 for sound or not, the number of a resource or of a statement.
+// A kind, 1 or 0 for sound or not, the number of a resource or of a statement, a total.
 pub struct NumberReply {
     pub result: u32,
     pub number: u32,
+}
+
+// The number of a resource, or 0, and the position of its name in the index, from 0.
+pub struct FindReply {
+    pub result: u32,
+    pub number: u32,
+    pub position: u32,
 }
 
 // Where a name starts in the text, and how many bytes it has.

@@ -1,5 +1,6 @@
 // Each operation's reply as numbers: the refusal's number or 0, and the words that the reply names, 0 beside a refusal.
 use capi_calls::AssertReply;
+use capi_calls::FindReply;
 use capi_calls::LineReply;
 use capi_calls::NameReply;
 use capi_calls::NumberReply;
@@ -14,6 +15,7 @@ use store::Counters;
 use store::Interned;
 use store::Lookup;
 use store::NameRead;
+use store::Prefixed;
 use store::ResourceId;
 use store::Retracted;
 use store::ScanCursor;
@@ -24,7 +26,8 @@ use store::Triple;
 use store::refusal_number;
 ghost use mathlib.Core.Path.{_≡_};
 ghost use Rattle.store.specs.Values.{scannedValues, assertedValues, internedValues, noCursor};
-ghost use Rattle.capi_calls.specs.Words.{numbered, kindAnswer, checkAnswer, lookupAnswer, retractAnswer, enterAnswer};
+ghost use Rattle.capi_calls.specs.Words.{numbered, kindAnswer, checkAnswer, lookedUp, lookupAnswer, prefixAnswer};
+ghost use Rattle.capi_calls.specs.Words.{retractAnswer, enterAnswer};
 ghost use Rattle.capi_calls.specs.Words.{nameAnswer, statementAnswer, assertAnswer, scannedAnswer, assertedWith};
 ghost use Rattle.capi_calls.specs.Words.{scannedWith};
 ghost use Rattle.capi_calls.specs.Words.{sizeOf, part, noParts, readAnswer};
@@ -57,13 +60,33 @@ pub fn check_answer(sound: bool) -> NumberReply
     number(0, 0)
 }
 
-pub fn lookup_answer(a: Lookup) -> NumberReply
+// A result, a number and a position in the index.
+fn looked_up(result: u32, n: u32, position: u32) -> FindReply
+    ensures { λ r. ⌜ r ≡ lookedUp result n position ⌝ }
+{
+    FindReply {
+        result: result,
+        number: n,
+        position: position,
+    }
+}
+
+pub fn lookup_answer(a: Lookup) -> FindReply
     ensures { λ r. ⌜ r ≡ lookupAnswer a ⌝ }
 {
     match a {
-        Lookup::Number(n) => number(0, n.0),
-        Lookup::Absent => number(0, 0),
-        Lookup::Refused(e) => number(refusal_number(e), 0),
+        Lookup::Number(n, at) => looked_up(0, n.0, at),
+        Lookup::Absent(at) => looked_up(0, 0, at),
+        Lookup::Refused(e) => looked_up(refusal_number(e), 0, 0),
+    }
+}
+
+pub fn prefix_answer(a: Prefixed) -> NumberReply
+    ensures { λ r. ⌜ r ≡ prefixAnswer a ⌝ }
+{
+    match a {
+        Prefixed::Total(n) => number(0, n),
+        Prefixed::Refused(e) => number(refusal_number(e), 0),
     }
 }
 

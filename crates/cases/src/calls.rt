@@ -2,12 +2,19 @@
 use cases_script::print;
 use cases_script::reply;
 use cases_script::script;
+use cases_script::setup;
 use cases_script::state;
 use cases_script::state::State;
 use store::Counters;
 use store::ResourceId;
 use store::StatementId;
 use store::Triple;
+
+// As many words as the script may lend for the numbers of names.
+const WORDS: usize = 16;
+
+// As many bytes as a beginning may have in the script.
+const BEGINNING: usize = 300;
 
 // The three numbers of a call.
 fn triple(line: &[u8]) -> Triple {
@@ -101,6 +108,7 @@ fn others(
 ) {
     match verb {
         script::FIND | script::NAME => names(c, verb, line, resources, statements, index, text),
+        script::PREFIX => prefixed(c, line, resources, statements, index, text),
         script::READ => reply::read(table::read_statement(
             c,
             resources,
@@ -131,6 +139,47 @@ fn names(
     let n = ResourceId(script::number(line, 2));
     reply::spanned(table::name_span(c, resources, statements, index, text, n));
     named(c, resources, statements, index, text, n);
+}
+
+// A listing by prefix, into words that hold 77; a bar in the beginning stands for a zero byte.
+fn prefixed(
+    c: Counters,
+    line: &[u8],
+    resources: &[u32],
+    statements: &[u32],
+    index: &[u32],
+    text: &[u8],
+) {
+    let beginning = script::rest(line, 3);
+    let mut bytes = [0u8; BEGINNING];
+    let mut words = [77u32; WORDS];
+    let k = table::word::lesser(beginning.len(), BEGINNING);
+    let n = table::word::lesser(script::number(line, 2) as usize, WORDS);
+    list(
+        c,
+        beginning,
+        resources,
+        statements,
+        index,
+        text,
+        &mut bytes[0..k],
+        &mut words[0..n],
+    );
+}
+
+fn list(
+    c: Counters,
+    beginning: &[u8],
+    resources: &[u32],
+    statements: &[u32],
+    index: &[u32],
+    text: &[u8],
+    bytes: &mut [u8],
+    words: &mut [u32],
+) {
+    setup::bytes(bytes, 0, beginning);
+    let a = prefix::names_with_prefix(c, resources, statements, index, text, bytes, words);
+    reply::prefixed(a, words);
 }
 
 // A name's reply, printed. Proved by a walk of its code, since it holds the reply.

@@ -241,7 +241,7 @@ fn field(name: u32, table: &[u32], first: usize, at: usize, n: usize) {
 }
 
 // The words from `first` on, n of them.
-fn numbers(table: &[u32], first: usize, n: usize) {
+pub fn numbers(table: &[u32], first: usize, n: usize) {
     let mut k = 0;
     // The first k of them are written.
     while k < n {

@@ -12,6 +12,7 @@ use store::Counters;
 use store::Interned;
 use store::Lookup;
 use store::NameRead;
+use store::Prefixed;
 use store::Reclaimed;
 use store::Retracted;
 use store::ScanCursor;
@@ -44,12 +45,26 @@ fn counted(s: State, d: Counters) -> State {
 
 pub fn looked_up(a: Lookup) {
     match a {
-        Lookup::Number(n) => print::number(n.0),
-        Lookup::Absent => print::token(print::ABSENT),
+        Lookup::Number(n, at) => {
+            print::number(n.0);
+            print::number(at);
+        }
+        Lookup::Absent(at) => print::labelled(print::ABSENT, at),
         Lookup::Refused(e) => {
             print::refused(e);
         }
     }
+}
+
+// The total, then every word lent for the numbers, beside a refusal too.
+pub fn prefixed(a: Prefixed, words: &[u32]) {
+    match a {
+        Prefixed::Total(n) => print::number(n),
+        Prefixed::Refused(e) => {
+            print::refused(e);
+        }
+    }
+    print::numbers(words, 0, words.len());
 }
 
 // Where a name's bytes start and how many they are; nothing beside a refusal.

@@ -142,7 +142,7 @@ fn group(n: u32) -> usize {
 }
 
 // Bytes into the text from `first` on, a zero byte for a bar.
-fn bytes(text: &mut [u8], first: usize, from: &[u8]) {
+pub fn bytes(text: &mut [u8], first: usize, from: &[u8]) {
     let mut at = first;
     let mut i = 0;
     // The first i bytes are written; the next one goes to `at`.

@@ -22,13 +22,13 @@ use Rattle.store.specs.declared.Interned.the-variants.{Number as Id, Refused as
 use Rattle.store.specs.Tables.{Tables, tables, after, fits, word, resourceCapacity, statementCapacity, textCapacity}
 use Rattle.store.specs.Shared.{maxReclaims, wellFormed, lookupName}
 use Rattle.store.specs.Reading.{inRange}
-use Rattle.store.specs.Dictionary.{PlaceWithin, indexPlaceOf, foundAt, findOf, FindAnswer, roomFor, oneNameMore}
+use Rattle.store.specs.Dictionary.{PlaceWithin, positionOf, indexPlaceOf, foundAt, findOf, FindAnswer, roomFor, oneNameMore}
 use Rattle.store.specs.Names.{Named, namesUpTo}
 use Rattle.store.specs.Dictionary.{internAs, internOf, InternWrites, InternAnswer}
 use Rattle.store.proofs.Tests.{decide, and-l, and-r}
 use Rattle.store.proofs.Form.{form-clean, form-short, canonical-formed, canonical-kind}
 use Rattle.store.proofs.Interning.{writes-nothing, intern-as-writes, intern-as-refused}
-use Rattle.store.proofs.NamesAgree.{place-listed, place-unlisted}
+use Rattle.store.proofs.NamesAgree.{rank-at, place-listed, place-unlisted}
 use Rattle.store.proofs.Held.{named-names}
 use Rattle.table.proofs.Capacity.{fits-room}
 use Rattle.table.proofs.Held.{from-one, up-to}
@@ -134,12 +134,12 @@ module _ (c : Counters) (m : Tables) where
 
 -- on a sound dictionary the place in the index is the position among the names
 found-is : (ns : List (List ℕ)) (c : Counters) (m : Tables) → Named ns c m → (w : List ℕ)
-    → foundAs (indexPlaceOf c m w) ≡ foundAt (lookupName w (namesUpTo m (c .resources)))
+    → foundAs (indexPlaceOf c m w) ≡ foundAt (lookupName w (namesUpTo m (c .resources))) (positionOf c m w)
 found-is ns c m N w = rw (named-names ns c m N) (go (lookupName w ns) refl)
   where
-    go : (n : ℕ) → lookupName w ns ≡ n → foundAs (indexPlaceOf c m w) ≡ foundAt (lookupName w ns)
-    go zero e = rw (place-unlisted ns c m N w e, e)
-    go (suc i) e = rw (place-listed ns c m N w i e, e)
+    go : (n : ℕ) → lookupName w ns ≡ n → foundAs (indexPlaceOf c m w) ≡ foundAt (lookupName w ns) (positionOf c m w)
+    go zero e = rw (place-unlisted ns c m N w e, e, rank-at ns c m N w)
+    go (suc i) e = rw (place-listed ns c m N w i e, e, rank-at ns c m N w)
 
 place-is : (ns : List (List ℕ)) (c : Counters) (m : Tables) → Named ns c m → (w : List ℕ) → fits c m ≡ true
     → wellFormed w ≡ true → place c m (canonical w) ≡ indexPlaceOf c m (canonical w)
@@ -147,17 +147,17 @@ place-is ns c m N w f b =
     searched-is ns c m N (canonical w) (form-clean (canonical w) (canonical-formed w b))
     (fits-room c m f .few-resources)
 
--- on any tables a number found is in 1..R
+-- on any tables a number found is in 1..R, and its position within the index
 abbrev WithinNumbers : ℕ → Lookup → Type 0
-WithinNumbers r a = (a ≡ NotFound Damaged) ⊎ ((n : ℕ) × (a ≡ foundAt n) × (n ≤ r))
+WithinNumbers r a = (a ≡ NotFound Damaged) ⊎ ((n k : ℕ) × (a ≡ foundAt n k) × (n ≤ r) × (k ≤ r) × (0 < n → k < r))
 
-number-at : (n : ℕ) → 0 < n → Number (record { 0 = n }) ≡ foundAt n
-number-at zero h = absurd (omega arith)
-number-at (suc n) h = refl
+number-at : (n k : ℕ) → 0 < n → Number (record { 0 = n }) k ≡ foundAt n k
+number-at zero k h = absurd (omega arith)
+number-at (suc n) k h = refl
 
 found-within : (r : ℕ) (x : IndexPlace) → PlaceWithin r x → WithinNumbers r (foundAs x)
-found-within r (At n k) h = inr (n .0, number-at (n .0) (h .0), h .1)
-found-within r (Before k) h = inr (0, refl, omega arith)
+found-within r (At n k) h = inr (n .0, k, number-at (n .0) k (h .0), h .1, omega arith, λ z. h .2)
+found-within r (Before k) h = inr (0, k, refl, omega arith, h, λ z. absurd (omega arith))
 found-within r OutOfRange h = inl refl
 
 module _ (c : Counters) (m : Tables) (w : List ℕ) (a : Lookup) where

@@ -38,15 +38,15 @@ compared less = Less
 compared equal = Same
 compared more = More
 
-at-head : (t : List ℕ) (o x : ℕ) (r : List ℕ) → drop o t ≡ x ∷ r → word t o ≡ x
+pub at-head : (t : List ℕ) (o x : ℕ) (r : List ℕ) → drop o t ≡ x ∷ r → word t o ≡ x
 at-head t o x r d =
     let q : o + 0 ≡ o = omega arith in
     (rw q at (sym (getD-drop o t 0 0))) ∙ ap (λ (l : List ℕ). word l 0) d
 
-at-tail : (t : List ℕ) (o x : ℕ) (r : List ℕ) → drop o t ≡ x ∷ r → drop (o + 1) t ≡ r
+pub at-tail : (t : List ℕ) (o x : ℕ) (r : List ℕ) → drop o t ≡ x ∷ r → drop (o + 1) t ≡ r
 at-tail t o x r d = sym (drop-drop 1 o t) ∙ ap (drop 1) d
 
-clean-head : (x : ℕ) (r : List ℕ) → clean (x ∷ r) ≡ true → (x ≡ 0 → ⊥) × (clean r ≡ true)
+pub clean-head : (x : ℕ) (r : List ℕ) → clean (x ∷ r) ≡ true → (x ≡ 0 → ⊥) × (clean r ≡ true)
 clean-head zero r e = absurd (let z : _≡_ {A = ℕ} 0 1 = cc in omega arith)
 clean-head (suc x) r e = (λ q. omega arith, e)
 

@@ -62,8 +62,8 @@ searchOf c res idx text w (suc fuel) lo hi =
 abbrev pub searched : Counters → List ℕ → List ℕ → List ℕ → List ℕ → IndexPlace
 searched c res idx text w = searchOf c res idx text w 16 0 (c .resources)
 
--- what find answers by where the search ends: the number there, or absent; 9 where it met a damaged word
+-- what find answers by where the search ends: the number there, or absent, and the position; 9 where it met a damaged word
 abbrev pub foundAs : IndexPlace → Lookup
-foundAs (At n k) = Number n
-foundAs (Before k) = Absent
+foundAs (At n k) = Number n k
+foundAs (Before k) = Absent k
 foundAs OutOfRange = NotFound Damaged

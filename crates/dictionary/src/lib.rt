@@ -20,7 +20,7 @@ ghost use Rattle.store.specs.Dictionary.{FindAnswer, InternAnswer};
 mod extend;
 pub mod search;
 
-// Find a name: its number, or absent.
+// Find a name: its number, or absent; and where in the index it stands or would stand, from 0.
 pub fn find(
     c: Counters,
     resources: &[u32],
@@ -40,13 +40,14 @@ pub fn find(
     }
     let short = term::canonical(name);
     match search::search(c, resources, index, text, short) {
-        IndexPlace::At(n, _) => Lookup::Number(n),
-        IndexPlace::Before(_) => Lookup::Absent,
+        IndexPlace::At(n, at) => Lookup::Number(n, at),
+        IndexPlace::Before(at) => Lookup::Absent(at),
         IndexPlace::OutOfRange => Lookup::Refused(Refusal::Damaged),
     }
 }
 
-// Enter a name: its number, old or new, and the counters from now on. A refusal writes nothing.
+// Enter a name: its number, old or new, and the counters from now on. A new name takes the place in the index that find
+// answers. A refusal writes nothing.
 pub fn intern(
     c: Counters,
     resources: &mut [u32],

@@ -12,6 +12,8 @@ use Rattle.store.specs.declared.Scanned.{Scanned}
 use Rattle.store.specs.declared.Asserted.{Asserted}
 use Rattle.store.specs.declared.Interned.{Interned}
 use Rattle.store.specs.declared.Interned.the-variants.{Refused as NotInterned}
+use Rattle.store.specs.declared.Prefixed.{Prefixed}
+use Rattle.store.specs.declared.Prefixed.the-variants.{Refused as NotListed}
 use Rattle.store.specs.declared.Reclaimed.{Reclaimed}
 use Rattle.store.specs.declared.Reclaimed.the-variants.{Done, Refused as NotReclaimed}
 use Rattle.store.specs.declared.Refusal.{Refusal}
@@ -23,6 +25,7 @@ use Rattle.store.specs.Tables.{Tables, after}
 use Rattle.store.specs.Statement.{retractOf, assertOf}
 use Rattle.store.specs.Scan.{openOf}
 use Rattle.store.specs.Dictionary.{InternAnswer}
+use Rattle.store.specs.Prefix.{PrefixAnswer}
 use Rattle.store.specs.Reclaim.{ReclaimAnswer}
 use Rattle.store.specs.Values.{refusalNumber, scannedValues, assertedValues, internedValues}
 use Rattle.capi_calls.specs.declared.NumberReply.{NumberReply}
@@ -32,9 +35,9 @@ use Rattle.capi_calls.specs.Words.{tooShort, counterWords, cursorWords, numberR
 use Rattle.capi_calls.specs.Words.{scanReplyWords}
 use Rattle.capi_calls.specs.Words.{countersOf, withCounters, withCursor, withNumber, withAssert, withScan, done, beside}
 use Rattle.capi_calls.specs.Words.{wrote}
-use Rattle.capi_calls.specs.Words.{changed, nextFrom, retractAnswer, scannedAnswer, assertAnswer, enterAnswer}
+use Rattle.capi_calls.specs.Words.{changed, nextFrom, retractAnswer, scannedAnswer, assertAnswer, enterAnswer, prefixAnswer}
 use Rattle.capi_calls.specs.Calls.{retractCall, openCall, nextCall, assertCall, enterAs, EnterCall, reclaimAs}
-use Rattle.capi_calls.specs.Calls.{ReclaimCall}
+use Rattle.capi_calls.specs.Calls.{ReclaimCall, prefixAs, PrefixCall}
 use Rattle.store.proofs.Numbers.{refuses}
 use Rattle.lemontiller.proofs.Lengths.{short-counters, short-reply, room, no-counters, no-reply, some-room}
 use Rattle.lemontiller.proofs.Lengths.{any-room}
@@ -153,6 +156,38 @@ module _ (cw w : List ℕ) {name : List ℕ} {m m′ : Tables} {r : Interned} {c
   enter-answered eo ed ew h k =
       let f : (enterAnswer r) .result ≡ 0 = sym (ap (λ (t : NumberReply). t .result) ea) ∙ eo in
       told-is (simp (ew, ed, ea, f) (room cw numberReplyWords w _ _ h k)) h k
+
+-- ---- a listing by prefix
+
+module _ (cw w : List ℕ) {m : Tables} {prefix out : List ℕ} where
+  pub prefix-no-counters : length cw < counterWords → PrefixCall cw m prefix out out w (done tooShort w)
+  unfolding prefixAs
+  prefix-no-counters h = record {
+    listed = NotListed Capacity;
+    told = short-counters cw numberReplyWords w _ _ h;
+    exact = no-counters cw numberReplyWords w h;
+    kept = λ _. refl;
+  }
+
+  pub prefix-no-reply : counterWords ≤ length cw → length w < numberReplyWords → PrefixCall cw m prefix out out w (done tooShort w)
+  unfolding prefixAs
+  prefix-no-reply h k = record {
+    listed = NotListed Capacity;
+    told = short-reply cw numberReplyWords w _ _ h k;
+    exact = no-reply cw numberReplyWords w h k;
+    kept = λ _. refl;
+  }
+
+  pub prefix-answered : {out′ : List ℕ} {r : Prefixed} {c : Counters} {a : NumberReply} → c ≡ countersOf cw
+      → PrefixAnswer c m prefix out out′ r → a ≡ prefixAnswer r → counterWords ≤ length cw → numberReplyWords ≤ length w
+      → PrefixCall cw m prefix out out′ w (done (a .result) (withNumber w a))
+  unfolding prefixAs
+  prefix-answered {out′} {r} {c} {a} ec es ea h k = record {
+    listed = r;
+    told = simp ea (room cw numberReplyWords w _ _ h k);
+    exact = λ _. rw (← ec) es;
+    kept = some-room cw numberReplyWords w h k;
+  }
 
 -- ---- reclaim
 

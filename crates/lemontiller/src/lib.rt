@@ -9,6 +9,7 @@
 use capi_calls::ASSERT_REPLY_WORDS;
 use capi_calls::COUNTER_WORDS;
 use capi_calls::CURSOR_WORDS;
+use capi_calls::FIND_REPLY_WORDS;
 use capi_calls::LINE_WORDS;
 use capi_calls::NAME_REPLY_WORDS;
 use capi_calls::NUMBER_REPLY_WORDS;
@@ -44,6 +45,7 @@ ghost use Rattle.capi_calls.specs.Words.{done, beside, wrote, changed};
 ghost use Rattle.capi_calls.specs.Calls.{kindCall, CheckCall, FindCall, nameCall, statementCall, lineCall, retractCall};
 ghost use Rattle.capi_calls.specs.Calls.{openCall, nextCall, assertCall, EnterCall};
 
+pub mod names;
 pub mod queries;
 pub mod reclaim;
 
@@ -85,7 +87,7 @@ pub extern "C" fn lt_check(
     a.result
 }
 
-// Find a name: its number, or 0.
+// Find a name: its number, or 0; and the position in the index, from 0, where it stands or would stand.
 #[no_mangle]
 pub extern "C" fn lt_find(
     counters: &[u32],
@@ -102,12 +104,13 @@ pub extern "C" fn lt_find(
     if counters.len() < COUNTER_WORDS {
         return TOO_SHORT;
     }
-    if reply.len() < NUMBER_REPLY_WORDS {
+    if reply.len() < FIND_REPLY_WORDS {
         return TOO_SHORT;
     }
     let c = counters_of(counters);
     let a = lookup_answer(dictionary::find(c, resources, statements, index, text, name));
     reply[0] = a.number;
+    reply[1] = a.position;
     a.result
 }
 

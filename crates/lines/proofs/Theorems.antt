@@ -116,7 +116,8 @@ found-as-terms c m S v w y z a b =
     let q = round-trips c m S .back w z .0 b in
     let t = terms-of v w (p .0) (q .0) in (
       λ e. t .1 (sym (named-is c m S z (canonical v) (rw e at (p .1)) .2) ∙ named-is c m S z (canonical w) (q .1) .2),
-      λ e. number-is c m S y z (sym a ∙ (spellings-agree v w (p .0) (q .0) (t .0 e) .found c m ∙ b)),
+      λ e. number-is c m S y z (a .0) (b .0)
+          (sym (a .1) ∙ (spellings-agree v w (p .0) (q .0) (t .0 e) .found c m ∙ b .1)),
     )
 
 -- what is entered is well formed

@@ -5,10 +5,9 @@ use Rattle.term.specs.Grammar.{nameLimit}
 use Rattle.store.specs.declared.Position.{Position}
 use Rattle.store.specs.declared.Counters.{Counters}
 use Rattle.store.specs.declared.ResourceId.{ResourceId}
-use Rattle.store.specs.declared.Lookup.the-variants.{Number}
 use Rattle.store.specs.Tables.{Tables, tripleAt}
 use Rattle.store.specs.Model.{intern}
-use Rattle.store.specs.Dictionary.{findOf}
+use Rattle.store.specs.NameClaims.{FoundAs}
 use Rattle.store.specs.Names.{nameAt}
 use Rattle.store.specs.Soundness.{Sound}
 use Rattle.store.specs.History.{Store, callStore, capacitiesOf}
@@ -60,7 +59,7 @@ StatementsAreTriples = (c : Counters) (m : Tables) → Sound c m → (i j : ℕ)
 -- Two names found have one number exactly if RDF 1.1 gives them one term,
 abbrev pub FoundAsTerms : Type 0
 FoundAsTerms = (c : Counters) (m : Tables) → Sound c m → (v w : List ℕ) (y z : ResourceId)
-    → findOf c m v ≡ Number y → findOf c m w ≡ Number z → (y ≡ z) ↔ (termOf v ≡ termOf w)
+    → FoundAs c m v y → FoundAs c m w z → (y ≡ z) ↔ (termOf v ≡ termOf w)
 
 -- and so have two names entered, one after the other.
 abbrev pub EnteredAsTerms : Type 0

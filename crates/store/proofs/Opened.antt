@@ -17,6 +17,8 @@ use Rattle.store.specs.Scan.{openOf, chainOk, recordOk, cursorOk, walkFr
 use Rattle.store.specs.Names.{compareBytes, nameAt, namesUpTo}
 use Rattle.store.specs.Dictionary.{findOf, rank, placeAt, indexPlaceOf, roomFor, bring, insertAt, internAs}
 use Rattle.store.specs.Dictionary.{internOf}
+use Rattle.store.specs.Lists.{keep}
+use Rattle.store.specs.Prefix.{begins, prefixList, filled, prefixOf}
 use Rattle.store.specs.Reclaim.{unlinked, sweepOne, sweep, blanked, sweptOf, reclaimOf}
 use Rattle.store.specs.History.{callStore, storeReplies, storeAfter}
 
@@ -39,5 +41,6 @@ unfolding shared-definitions fits termAt nextAt flagAt tripleAt firstAt countAt 
     pickable startOf linkOf holdsResource visitable walk seek countable locate tallyAt tally counting appendRecord
     linkFirst linkRecord kindsOk asserting assertOf retracting retractOf assertUpdatingOf retractUpdatingOf openOf
     chainOk recordOk cursorOk walkFrom nextOf compareBytes nameAt namesUpTo rank placeAt indexPlaceOf findOf roomFor
-    bring insertAt internAs internOf unlinked sweepOne sweep blanked sweptOf reclaimOf callStore storeReplies storeAfter
+    bring insertAt internAs internOf keep begins prefixList filled prefixOf unlinked sweepOne sweep blanked sweptOf
+    reclaimOf callStore storeReplies storeAfter
 table-definitions = tt

@@ -94,15 +94,15 @@ pub bytes-mean : BytesMean
 bytes-mean v w = (eqBytes-is v w, λ e. rw e (eqBytes-refl w))
 
 -- a member has a position, and what has one is a member
-mem-at : (ns : List (List ℕ)) (i : ℕ) → i < length ns → List·Memᴰ (getD ns i []) ns
-mem-at [] i h = absurd (omega arith)
-mem-at (n ∷ ns) zero h = List·Memᴰ·head refl
-mem-at (n ∷ ns) (suc i) h = List·Memᴰ·tail (mem-at ns i (omega arith))
+pub mem-at : {A : Type 0} (d : A) (l : List A) (i : ℕ) → i < length l → List·Memᴰ (getD l i d) l
+mem-at d [] i h = absurd (omega arith)
+mem-at d (x ∷ xs) zero h = List·Memᴰ·head refl
+mem-at d (x ∷ xs) (suc i) h = List·Memᴰ·tail (mem-at d xs i (omega arith))
 
-at-mem : (w : List ℕ) (ns : List (List ℕ)) → List·Memᴰ w ns → (i : ℕ) × (i < length ns) × (getD ns i [] ≡ w)
-at-mem w [] m = absurd (List·Memᴰ·not-nil m)
-at-mem w (n ∷ ns) m =
-    ⊎-elim (λ e. (0, omega arith, sym e)) (λ r. let p = at-mem w ns r in (suc (p .0), omega (arith, p .1), p .2))
+pub at-mem : {A : Type 0} (d y : A) (l : List A) → List·Memᴰ y l → (i : ℕ) × (i < length l) × (getD l i d ≡ y)
+at-mem d y [] m = absurd (List·Memᴰ·not-nil m)
+at-mem d y (x ∷ xs) m =
+    ⊎-elim (λ e. (0, omega arith, sym e)) (λ r. let p = at-mem d y xs r in (suc (p .0), omega (arith, p .1), p .2))
     (List·Memᴰ·cases-cons m)
 
 module _ (w : List ℕ) (ns : List (List ℕ)) where
@@ -121,14 +121,14 @@ pub lookup-means : LookupMeans
 lookup-means w ns = (
   listed w ns,
   (
-    λ e m. let p = at-mem w ns m in omega (arith, not-missed w ns (p .0) (p .1) (p .2), e),
+    λ e m. let p = at-mem [] w ns m in omega (arith, not-missed w ns (p .0) (p .1) (p .2), e),
     λ h. none h (lookupName w ns) refl,
   ),
 )
   where
     none : (List·Memᴰ w ns → ⊥) → (n : ℕ) → lookupName w ns ≡ n → lookupName w ns ≡ 0
     none h zero e = e
-    none h (suc i) e = let z = listed w ns i e in absurd (h (Memᴰ·cast (sym (z .1)) (mem-at ns i (z .0))))
+    none h (suc i) e = let z = listed w ns i e in absurd (h (Memᴰ·cast (sym (z .1)) (mem-at [] ns i (z .0))))
 
 -- ---- the pick
 

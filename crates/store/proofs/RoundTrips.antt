@@ -23,11 +23,11 @@ use Rattle.store.specs.Shared.{wellFormed, nameOf, lookupName}
 use Rattle.store.specs.Tables.{Tables, word, offsetAt}
 use Rattle.store.specs.Model.{internModel}
 use Rattle.store.specs.Reading.{inRange, zeroFrom, nameSpanOf}
-use Rattle.store.specs.Dictionary.{foundAt, findOf, internOf}
+use Rattle.store.specs.Dictionary.{positionOf, foundAt, findOf, internOf}
 use Rattle.store.specs.Names.{storable, Named, joined, namesUpTo}
 use Rattle.store.specs.Values.{numbered, lookupValues}
 use Rattle.store.specs.Soundness.{Sound}
-use Rattle.store.specs.NameClaims.{NamedAs, RoundTrips, FindMeans, SpellingsAgree}
+use Rattle.store.specs.NameClaims.{NamedAs, FoundAs, RoundTrips, FindMeans, SpellingsAgree}
 use Rattle.store.proofs.Tests.{decide, range-of, range-in}
 use Rattle.store.proofs.Falling.{head-unique}
 use Rattle.store.proofs.Form.{clean, form-clean, form-short, storable-formed, storable-plain, storable-kept}
@@ -143,12 +143,13 @@ module _ (c : Counters) (m : Tables) (S : Sound c m) where
           omega (arith, distinct-names (suc j) y (omega arith) (omega (arith, N .size)) a b (unfold nameOf in d))
 
   -- find, by the list
-  find-listed : (w : List ℕ) (i : ℕ) → wellFormed w ≡ true → lookupName (canonical w) ns ≡ suc i
-      → findOf c m w ≡ Number (record { 0 = suc i })
+  pub find-listed : (w : List ℕ) (i : ℕ) → wellFormed w ≡ true → lookupName (canonical w) ns ≡ suc i
+      → findOf c m w ≡ Number (record { 0 = suc i }) (positionOf c m (canonical w))
   unfolding findOf
   find-listed w i f e = rw (S .capacity, f, named-names ns c m N, e)
 
-  find-unlisted : (w : List ℕ) → wellFormed w ≡ true → lookupName (canonical w) ns ≡ 0 → findOf c m w ≡ Absent
+  pub find-unlisted : (w : List ℕ) → wellFormed w ≡ true → lookupName (canonical w) ns ≡ 0
+      → findOf c m w ≡ Absent (positionOf c m (canonical w))
   unfolding findOf
   find-unlisted w f e = rw (S .capacity, f, named-names ns c m N, e)
 
@@ -158,25 +159,28 @@ module _ (c : Counters) (m : Tables) (S : Sound c m) where
 
   -- a listed name is found in either spelling
   find-canonical : (w : List ℕ) (y : ResourceId) → wellFormed w ≡ true → 0 < y .0 → y .0 ≤ c .resources
-      → nameOf ns (y .0) ≡ canonical w → findOf c m w ≡ Number y
+      → nameOf ns (y .0) ≡ canonical w → FoundAs c m w y
   find-canonical w y f a b e =
       let s : suc (y .0 - 1) ≡ y .0 = omega arith in
-      find-listed w (y .0 - 1) f (rw (← e) (lookup-name (y .0) a b) ∙ sym s)
-      ∙ ap (λ (n : ℕ). Number (record { 0 = n })) s
+      let k = positionOf c m (canonical w) in (
+        k,
+        find-listed w (y .0 - 1) f (rw (← e) (lookup-name (y .0) a b) ∙ sym s)
+            ∙ ap (λ (n : ℕ). Number (record { 0 = n }) k) s,
+      )
 
-  pub find-name : (y : ResourceId) → 0 < y .0 → y .0 ≤ c .resources → findOf c m (nameOf ns (y .0)) ≡ Number y
+  pub find-name : (y : ResourceId) → 0 < y .0 → y .0 ≤ c .resources → FoundAs c m (nameOf ns (y .0)) y
   find-name y a b = find-canonical (nameOf ns (y .0)) y (name-formed (y .0) a b) a b (sym (name-kept (y .0) a b))
 
   -- what find answers is the number of that name
-  pub number-is : (y z : ResourceId) → Number y ≡ Number z → y ≡ z
-  number-is y z e = cc
+  pub number-is : (y z : ResourceId) (j k : ℕ) → Number y j ≡ Number z k → y ≡ z
+  number-is y z j k e = cc
 
-  found-formed : (w : List ℕ) (y : ResourceId) → findOf c m w ≡ Number y → wellFormed w ≡ true
-  found-formed w y e =
+  found-formed : (w : List ℕ) (y : ResourceId) → FoundAs c m w y → wellFormed w ≡ true
+  found-formed w y (k, e) =
       decide (wellFormed w) (λ f. f)
       (λ f. let d = find-malformed w f in absurd (let z : _≡_ {A = ℕ} 0 1 = cc in omega arith))
 
-  found-number : (w : List ℕ) (y : ResourceId) → findOf c m w ≡ Number y
+  found-number : (w : List ℕ) (y : ResourceId) → FoundAs c m w y
       → (0 < y .0) × (y .0 ≤ c .resources) × (nameOf ns (y .0) ≡ canonical w)
   found-number w y e = go (found-formed w y e) (lookupName (canonical w) ns) refl
     where
@@ -185,9 +189,9 @@ module _ (c : Counters) (m : Tables) (S : Sound c m) where
 
       go : wellFormed w ≡ true → (n : ℕ) → lookupName (canonical w) ns ≡ n
           → (0 < y .0) × (y .0 ≤ c .resources) × (nameOf ns (y .0) ≡ canonical w)
-      go f zero q = let d = find-unlisted w f q in absurd (let z : _≡_ {A = ℕ} 0 1 = cc in omega arith)
+      go f zero q = let d = sym (e .1) ∙ find-unlisted w f q in absurd (let z : _≡_ {A = ℕ} 0 1 = cc in omega arith)
       go f (suc i) q =
-          let d : y ≡ record { 0 = suc i } = number-is y (record { 0 = suc i }) (sym e ∙ find-listed w i f q) in
+          let d : y ≡ record { 0 = suc i } = number-is y (record { 0 = suc i }) (e .0) _ (sym (e .1) ∙ find-listed w i f q) in
           let l = listed (canonical w) ns i q in
           rw d (omega arith, omega (arith, l .0, N .size), name-of i ∙ l .1)
 
@@ -214,15 +218,15 @@ module _ (c : Counters) (m : Tables) (S : Sound c m) where
       (r .0, r .1, sym (T .bytes) ∙ ap₂ (λ (o l : ℕ). take l (drop o (m .text))) (s .0) (s .1) ∙ W .bytes)
 
 -- find, by values
-found-values : (n : ℕ) → lookupValues (foundAt n) ≡ numbered n
-found-values zero = refl
-found-values (suc n) = refl
+pub found-values : (n k : ℕ) → lookupValues (foundAt n k) ≡ numbered n
+found-values zero k = refl
+found-values (suc n) k = refl
 
 pub find-means : FindMeans
 unfolding findOf
 find-means c m S w = (
   λ f. rw (S .capacity, f),
-  λ f. rw (S .capacity, f) (found-values (lookupName (canonical w) (namesUpTo m (c .resources)))),
+  λ f. rw (S .capacity, f) (found-values (lookupName (canonical w) (namesUpTo m (c .resources))) (positionOf c m (canonical w))),
 )
 
 pub round-trips : RoundTrips

@@ -35,10 +35,10 @@ abbrev answersIn : History → List Values
 answersIn h = map (λ z. z .1) h
 
 -- R, T, B after g reclaims; in a store never reclaimed
-abbrev tot-in : ℕ → ℕ → ℕ → ℕ → Counters
+abbrev pub tot-in : ℕ → ℕ → ℕ → ℕ → Counters
 tot-in g r t b = record { resources = r; statements = t; text = b; generation = g }
 
-abbrev tot : ℕ → ℕ → ℕ → Counters
+abbrev pub tot : ℕ → ℕ → ℕ → Counters
 tot r t b = tot-in 0 r t b
 
 -- a cursor of a store never reclaimed
@@ -46,23 +46,23 @@ abbrev cursorAt : Triple → Chain → ℕ → ScanCursor
 cursorAt x ch n = cursorIn 0 x ch n
 
 -- <r:21> <p:trips> <b:4> <b:7> "A"
-r21 : List ℕ
+unfoldable pub r21 : List ℕ
 r21 = 60 ∷ 114 ∷ 58 ∷ 50 ∷ 49 ∷ 62 ∷ []
 
 trips : List ℕ
 trips = 60 ∷ 112 ∷ 58 ∷ 116 ∷ 114 ∷ 105 ∷ 112 ∷ 115 ∷ 62 ∷ []
 
-b4 : List ℕ
+unfoldable pub b4 : List ℕ
 b4 = 60 ∷ 98 ∷ 58 ∷ 52 ∷ 62 ∷ []
 
-b7 : List ℕ
+unfoldable pub b7 : List ℕ
 b7 = 60 ∷ 98 ∷ 58 ∷ 55 ∷ 62 ∷ []
 
-litA : List ℕ
+unfoldable pub litA : List ℕ
 litA = 34 ∷ 65 ∷ 34 ∷ []
 
 -- the same with the string ending
-longA : List ℕ
+unfoldable pub longA : List ℕ
 longA = 34 ∷ 65 ∷ 34 ∷ stringEnding
 
 -- <a> <b> <c> <p> ""
@@ -78,7 +78,7 @@ ic = 60 ∷ 99 ∷ 62 ∷ []
 ip : List ℕ
 ip = 60 ∷ 112 ∷ 62 ∷ []
 
-empty : List ℕ
+unfoldable pub empty : List ℕ
 empty = 34 ∷ 34 ∷ []
 
 -- The paper's example: its names, its two statements, its listings, retraction and revival; with refusals 2, 4, 5 and 7
@@ -230,7 +230,7 @@ none-at-all = (intern ia, refusedWith 3)
 
 -- ---- tables that hold anything
 
-abbrev wide : Tables
+abbrev pub wide : Tables
 wide = tables (replicate (8 * resourceWords) 7) (replicate 70 9) (replicate 8 3) (replicate 100 1)
 
 abbrev narrow : Tables
@@ -298,7 +298,7 @@ abbrev held : Store
 held = storeAfter (freshStore scant) (callsIn label)
 
 finds-run : map (findOf (held .counters) (held .tables)) (litA ∷ longA ∷ empty ∷ stringEnding ∷ [])
-    ≡ Found (record { 0 = 1 }) ∷ Found (record { 0 = 1 }) ∷ Absent ∷ NotFound Malformed ∷ []
+    ≡ Found (record { 0 = 1 }) 0 ∷ Found (record { 0 = 1 }) 0 ∷ Absent 0 ∷ NotFound Malformed ∷ []
 unfolding litA longA empty label table-definitions
 finds-run = refl
 

@@ -17,6 +17,7 @@ use Rattle.store.specs.Tables.{Tables, off, fits, resourceCapacity, stat
 use Rattle.store.specs.Reading.{inRange}
 -- Every law stands on this file, and so on the closed runs: a definition that changes an answer is refused there first.
 use Rattle.store.proofs.Runs as runs
+use Rattle.store.proofs.PrefixRuns as prefixRuns
 
 -- a case split on two numbers
 pub three {ℓ} : {P : Type ℓ} (x y : ℕ) → (x < y → P) → (x ≡ y → P) → (y < x → P) → P

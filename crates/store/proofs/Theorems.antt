@@ -5,7 +5,7 @@ use Rattle.store.specs.History.{store, freshStore, capacitiesOf, storeAf
 use Rattle.store.specs.Claims.{listsOf, HistoriesAgree, HistoriesStaySound, SoundStoresAgree, FreshIsSound}
 use Rattle.store.specs.RefusalClaims.{RefusalsChangeNothing}
 use Rattle.store.specs.Claims.{Finds, EndsOrSpends, VisitsAddUp}
-use Rattle.store.specs.NameClaims.{RoundTrips, FindMeans, SpellingsAgree}
+use Rattle.store.specs.NameClaims.{RoundTrips, FindMeans, FindPlaces, PrefixMeans, SpellingsAgree}
 use Rattle.store.specs.Pins.{KnownMeans}
 use Rattle.store.specs.Pins.{WithinMeans, SameMeans, MatchesMeans, KindsPermittedMeans, BelowMeans, PicksLeast}
 use Rattle.store.specs.RefusalClaims.{RefusalsAreBare, StaleRefused}
@@ -18,7 +18,7 @@ use Rattle.store.specs.RefusalClaims.{LiveAboveCount, LiveCountOfZero, R
 use Rattle.store.specs.ReclaimClaims.{ReclaimKeeps, ReclaimWords, ForgetsRetracted, RoomAgain, NumberCounts}
 use Rattle.store.specs.RefusalClaims.{FitsMeans, CapacityFirst}
 use Rattle.store.specs.ReclaimClaims.{UnretractedMeans}
-use Rattle.store.specs.RefusalClaims.{ReclaimRefuses}
+use Rattle.store.specs.RefusalClaims.{FindRefuses, PrefixRefuses, ReclaimRefuses}
 use Rattle.store.specs.Contracts.{CodeAgrees}
 use Rattle.store.proofs.Histories.{history-agrees, fresh-agrees}
 use Rattle.store.proofs.Kept.{tidy-history, tidy-fresh, agreeing-sound}
@@ -31,6 +31,7 @@ use Rattle.store.proofs.Limits as limits
 use Rattle.store.proofs.Refusals as refusals
 use Rattle.store.proofs.LiveCounts as live
 use Rattle.store.proofs.RoundTrips as trips
+use Rattle.store.proofs.Prefixes as prefixes
 use Rattle.store.proofs.Pins as pins
 use Rattle.store.proofs.Order as order
 use Rattle.store.proofs.Answers as answers
@@ -128,6 +129,12 @@ number-counts = limits.number-counts
 pub unretracted-means : UnretractedMeans
 unretracted-means = limits.unretracted-means
 
+pub find-refuses : FindRefuses
+find-refuses = prefixes.find-refuses
+
+pub prefix-refuses : PrefixRefuses
+prefix-refuses = prefixes.prefix-refuses
+
 pub reclaim-refuses : ReclaimRefuses
 reclaim-refuses = limits.reclaim-refuses
 
@@ -150,6 +157,12 @@ round-trips = trips.round-trips
 
 pub find-means : FindMeans
 find-means = trips.find-means
+
+pub find-places : FindPlaces
+find-places = prefixes.find-places
+
+pub prefix-means : PrefixMeans
+prefix-means = prefixes.prefix-means
 
 pub spellings-agree : SpellingsAgree
 spellings-agree = trips.spellings-agree

@@ -1,4 +1,4 @@
--- Find and enter a name (paper 01; 02, notes 5 and 7): what they answer and write on a sound dictionary, and the bound
+-- Find and enter a name (paper 01; 02, notes 4, 5 and 7): what they answer and write on a sound dictionary, and the bound
 -- that holds on any tables after refusals 1 and 2. Assumes nothing.
 use Rattle.store.specs.Prelude.{_≡_, _⊎_, Bool, true, false, cond, _&&_, List, [], _∷_, _++_, ℕ, zero, suc, _+_, _*_, _-_, _≤_, _<_}
 use Rattle.store.specs.Prelude.{length, sets, leb, ltb, Counters, Refusal, Capacity, Malformed, Full, Damaged, IndexPlace, At, Before}
@@ -10,20 +10,29 @@ use Rattle.store.specs.Shared.{unless, below, wellFormed, lookupName}
 use Rattle.store.specs.Tables.{Tables, after, fits, resourceCapacity, textCapacity, resourceWords, word}
 use Rattle.store.specs.Names.{compareBytes, isLess, Named, nameAt, namesUpTo}
 
+-- ---- where a name stands in the index
+
+-- how many of the index's first R names are less than w: the position, from 0, where w stands or would stand
+unfoldable pub rank : (ℕ → List ℕ) → List ℕ → ℕ → List ℕ → ℕ
+rank name idx r w = length (below (λ i. isLess (compareBytes (name (word idx i)) w)) r)
+
+abbrev pub positionOf : Counters → Tables → List ℕ → ℕ
+positionOf c m w = rank (nameAt m) (m .index) (c .resources) w
+
 -- ---- find
 
--- the number at a position of the list, or absent
-abbrev pub foundAt : ℕ → Lookup
-foundAt zero = Absent
-foundAt (suc n) = Number (record { 0 = suc n })
+-- n is the name's number, or 0 where it is absent; k is its position in the index
+abbrev pub foundAt : ℕ → ℕ → Lookup
+foundAt zero k = Absent k
+foundAt (suc n) k = Number (record { 0 = suc n }) k
 
--- Find on a sound dictionary: 1; 2, by the name as spelled; by the name without the string ending, its position among
--- the names 1 .. R, or absent
+-- Find on a sound dictionary: 1; 2, by the name as spelled; by the name without the string ending, its number among the
+-- names 1 .. R, or absent, and its position in the index
 unfoldable pub findOf : Counters → Tables → List ℕ → Lookup
 findOf c m w =
     unless (fits c m) (NotFound Capacity)
     (unless (wellFormed w) (NotFound Malformed)
-    (foundAt (lookupName (canonical w) (namesUpTo m (c .resources)))))
+    (foundAt (lookupName (canonical w) (namesUpTo m (c .resources))) (positionOf c m (canonical w))))
 
 -- what holds of find's answer: exact on a sound dictionary; on any tables exact in 1 and 2, then within the bound
 pub record FindAnswer (c : Counters) (m : Tables) (w : List ℕ) (a : Lookup) : Type 0 where
@@ -31,13 +40,10 @@ pub record FindAnswer (c : Counters) (m : Tables) (w : List ℕ) (a : Lookup) : 
   pub malformed : fits c m ≡ true → wellFormed w ≡ false → a ≡ NotFound Malformed
   pub exact : (ns : List (List ℕ)) → Named ns c m → a ≡ findOf c m w
   pub bounded : fits c m ≡ true → wellFormed w ≡ true
-      → (a ≡ NotFound Damaged) ⊎ ((n : ℕ) × (a ≡ foundAt n) × (n ≤ c .resources))
+      → (a ≡ NotFound Damaged)
+      ⊎ ((n k : ℕ) × (a ≡ foundAt n k) × (n ≤ c .resources) × (k ≤ c .resources) × (0 < n → k < c .resources))
 
--- ---- enter: where a name stands in the index
-
--- how many of the index's first R names are less than w
-unfoldable pub rank : (ℕ → List ℕ) → List ℕ → ℕ → List ℕ → ℕ
-rank name idx r w = length (below (λ i. isLess (compareBytes (name (word idx i)) w)) r)
+-- ---- enter: the name at that position
 
 -- the entry at the rank has these bytes, or the name is absent and belongs there
 unfoldable pub placeAt : Counters → Tables → List ℕ → ℕ → IndexPlace
@@ -45,7 +51,7 @@ placeAt c m w k =
     cond (ltb k (c .resources) && eqBytes (nameAt m (word (m .index) k)) w) (At (record { 0 = word (m .index) k }) k) (Before k)
 
 unfoldable pub indexPlaceOf : Counters → Tables → List ℕ → IndexPlace
-indexPlaceOf c m w = placeAt c m w (rank (nameAt m) (m .index) (c .resources) w)
+indexPlaceOf c m w = placeAt c m w (positionOf c m w)
 
 -- what a search may come to on any tables: a number in 1..R, a position within the index, a damaged word
 abbrev pub PlaceWithin : ℕ → IndexPlace → Type 0

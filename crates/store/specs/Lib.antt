@@ -10,6 +10,7 @@ pub mod Statement
 pub mod Scan
 pub mod Names
 pub mod Dictionary
+pub mod Prefix
 pub mod Soundness
 pub mod Reclaim
 pub mod History

@@ -21,6 +21,8 @@ pub use Rattle.store.specs.declared.Lookup.{Lookup}
 pub use Rattle.store.specs.declared.Lookup.the-variants.{Number, Absent, Refused as NotFound}
 pub use Rattle.store.specs.declared.NameRead.{NameRead}
 pub use Rattle.store.specs.declared.NameRead.the-variants.{Span, Refused as NotNamed}
+pub use Rattle.store.specs.declared.Prefixed.{Prefixed}
+pub use Rattle.store.specs.declared.Prefixed.the-variants.{Total, Refused as NotListed}
 pub use Rattle.store.specs.declared.Position.{Position}
 pub use Rattle.store.specs.declared.Position.the-variants.{Subject, Predicate, Object}
 pub use Rattle.store.specs.declared.Reclaimed.{Reclaimed}

@@ -1,18 +1,20 @@
 -- What is claimed of refusals on any tables (demand 1), as types: 1 before all else, nothing written and zeros beside a
--- refusal, 6 and 13 of a listing, 9 for live counts, 1, 4 and 9 of a statement read, 1 and 4 of a name read, 1, 14 and
--- 9 of a reclaim. Assumes nothing.
+-- refusal, 6 and 13 of a listing, 9 for live counts, 1, 4 and 9 of a statement read, 1 and 4 of a name read, 1 and 2
+-- of find and of a listing by prefix and the bound after them, 1, 14 and 9 of a reclaim. Assumes nothing.
 use Rattle.store.specs.Prelude.{_≡_, _≢_, _↔_, true, false, some, ℕ, suc, _≤_, _<_, Counters, Position, Chain, All, By, Triple, _⊎_}
-use Rattle.store.specs.Prelude.{List, _-_, length, ResourceId, StatementId, ScanCursor, Reclaimed}
-use Rattle.store.specs.Shared.{at, known, kindsPermitted}
+use Rattle.store.specs.Prelude.{List, _-_, length, ResourceId, StatementId, ScanCursor, Reclaimed, Lookup, Prefixed}
+use Rattle.store.specs.Shared.{at, known, kindsPermitted, wellFormed}
 use Rattle.store.specs.Tables.{Tables, fits, tripleAt, offsetAt, flagAt, countAt, kindAt, liveAt, resourceCapacity, statementCapacity}
-use Rattle.store.specs.Tables.{textCapacity, termAt}
+use Rattle.store.specs.Tables.{textCapacity, termAt, word}
 use Rattle.store.specs.Names.{nameAt}
 use Rattle.store.specs.Values.{refusedWith, assertedValues, retractedValues, scannedValues, reclaimedValues, noTriple}
-use Rattle.store.specs.Values.{StatementValues, statementValues, NameValues, nameValues}
+use Rattle.store.specs.Values.{StatementValues, statementValues, NameValues, nameValues, numbered, lookupValues, lookupPosition, prefixedValues}
 use Rattle.store.specs.Reading.{statementOf, nameSpanOf}
 use Rattle.store.specs.Model.{Call, next}
 use Rattle.store.specs.Statement.{locate, kindsOk, assertOf, retractOf}
 use Rattle.store.specs.Scan.{nextOf}
+use Rattle.store.specs.Dictionary.{FindAnswer}
+use Rattle.store.specs.Prefix.{PrefixAnswer}
 use Rattle.store.specs.Reclaim.{ReclaimAnswer}
 use Rattle.store.specs.Soundness.{Sound}
 use Rattle.store.specs.History.{Store, callStore}
@@ -110,6 +112,33 @@ pub record NamedInOrder (c : Counters) (m : Tables) (y : ResourceId) : Type 0 wh
 
 abbrev pub NameRefuses : Type 0
 NameRefuses = (c : Counters) (m : Tables) (y : ResourceId) → NamedInOrder c m y
+
+-- Find, on any tables: 1; 2; then 9, or a number and a position of at most R, below R where the number is not 0. The
+-- position is 0 beside a refusal.
+pub record FoundInOrder (c : Counters) (m : Tables) (w : List ℕ) (a : Lookup) : Type 0 where
+  pub one : fits c m ≡ false → lookupValues a ≡ refusedWith 1
+  pub two : fits c m ≡ true → wellFormed w ≡ false → lookupValues a ≡ refusedWith 2
+  pub other : fits c m ≡ true → wellFormed w ≡ true → (lookupValues a ≡ refusedWith 9)
+      ⊎ ((n : ℕ) × (lookupValues a ≡ numbered n) × (n ≤ c .resources) × (lookupPosition a ≤ c .resources)
+      × (0 < n → lookupPosition a < c .resources))
+  pub bare : (lookupValues a) .refusal ≢ 0 → lookupPosition a ≡ 0
+
+abbrev pub FindRefuses : Type 0
+FindRefuses = (c : Counters) (m : Tables) (w : List ℕ) (a : Lookup) → FindAnswer c m w a → FoundInOrder c m w a
+
+-- A listing by prefix, on any tables: 1; 2; then 9, or a total of at most R, the words past the list kept. Nothing is
+-- written beside a refusal.
+pub record ListedInOrder (c : Counters) (m : Tables) (w out out′ : List ℕ) (a : Prefixed) : Type 0 where
+  pub one : fits c m ≡ false → prefixedValues a ≡ refusedWith 1
+  pub two : fits c m ≡ true → 255 < length w → prefixedValues a ≡ refusedWith 2
+  pub other : fits c m ≡ true → length w ≤ 255 → (prefixedValues a ≡ refusedWith 9)
+      ⊎ ((n : ℕ) × (prefixedValues a ≡ numbered n) × (n ≤ c .resources) × ((i : ℕ) → n ≤ i → word out′ i ≡ word out i))
+  pub size : length out′ ≡ length out
+  pub kept : (prefixedValues a) .refusal ≢ 0 → out′ ≡ out
+
+abbrev pub PrefixRefuses : Type 0
+PrefixRefuses = (c : Counters) (m : Tables) (w out out′ : List ℕ) (a : Prefixed) → PrefixAnswer c m w out out′ a
+    → ListedInOrder c m w out out′ a
 
 -- What is refused, on any tables, by the paper's numbers and in its order: 1, 14, 9; nothing is written then.
 pub record RefusedInOrder (c : Counters) (m m′ : Tables) (a : Reclaimed) : Type 0 where

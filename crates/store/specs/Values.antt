@@ -1,11 +1,11 @@
--- The paper's number and values for each case of each reply (paper 01, "Operations and refusals"; 02, note 6): what a
+-- The paper's number and values for each case of each reply (paper 01, "Operations and refusals"; 02, notes 4 and 6): what a
 -- promise compares. Every field that a case does not name is 0, and beside a refusal's number all are. Assumes nothing.
 use Rattle.store.specs.Prelude.{ℕ, Counters, Triple, All, ScanCursor, Refusal, Capacity, Malformed, Full, UnknownNumber}
 use Rattle.store.specs.Prelude.{KindNotPermitted, BadCursor, NoBudget, BadQuery, Damaged, BadLine, ExportSpace, NoTimes, StaleCursor}
 use Rattle.store.specs.Prelude.{ReclaimLimit, BadPath, PathSpace, BadGroup, StatementRead, Is, NotRead, NameRead, Span, NotNamed}
 use Rattle.store.specs.Prelude.{Lookup, Number, Absent, NotFound, Interned, Id, NotInterned, Asserted, New, Already, Revived}
 use Rattle.store.specs.Prelude.{NotAsserted, Retracted, WasLive, NotLive, NotRetracted, Reclaimed, Done, NotReclaimed, ScanOpened}
-use Rattle.store.specs.Prelude.{Cursor, NotOpened, Scanned, Found, Ended, Spent, NotScanned}
+use Rattle.store.specs.Prelude.{Cursor, NotOpened, Scanned, Found, Ended, Spent, NotScanned, Prefixed, Total, NotListed}
 use Rattle.store.specs.Shared.{triple, freshCounters}
 
 abbrev pub refusalNumber : Refusal → ℕ
@@ -59,9 +59,20 @@ abbrev pub stepped : ℕ → ℕ → ℕ → ScanCursor → Values
 stepped s n v q = record { refusal = 0; status = s; number = n; visits = v; counters = freshCounters; cursor = q }
 
 abbrev pub lookupValues : Lookup → Values
-lookupValues (Number n) = numbered (n .0)
-lookupValues Absent = numbered 0
+lookupValues (Number n k) = numbered (n .0)
+lookupValues (Absent k) = numbered 0
 lookupValues (NotFound r) = refusedWith (refusalNumber r)
+
+-- beside the number, the position in the index, from 0; 0 beside a refusal
+abbrev pub lookupPosition : Lookup → ℕ
+lookupPosition (Number n k) = k
+lookupPosition (Absent k) = k
+lookupPosition (NotFound r) = 0
+
+-- a listing by prefix: the total
+abbrev pub prefixedValues : Prefixed → Values
+prefixedValues (Total n) = numbered n
+prefixedValues (NotListed r) = refusedWith (refusalNumber r)
 
 abbrev pub internedValues : Interned → Values
 internedValues (Id n c) = counted 0 (n .0) c

@@ -164,10 +164,16 @@ pub enum IndexPlace {
     OutOfRange,
 }
 
-// Find a name.
+// Find a name: its number, or absent; and its position in the index, from 0, where it stands or would stand.
 pub enum Lookup {
-    Number(ResourceId),
-    Absent,
+    Number(ResourceId, u32),
+    Absent(u32),
+    Refused(Refusal),
+}
+
+// List the names with a prefix: how many there are.
+pub enum Prefixed {
+    Total(u32),
     Refused(Refusal),
 }
 

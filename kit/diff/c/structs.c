@@ -102,7 +102,19 @@ uint32_t structs_check(STORE, uint32_t *reply)
 uint32_t structs_find(STORE, const uint8_t *name, size_t name_len, uint32_t *reply)
 {
     const struct lt_store store = STORE_OF_SLICES;
-    return lt_store_find(&store, name, name_len, reply);
+    struct lt_lookup lookup;
+    uint32_t result;
+    memset(&lookup, JUNK, sizeof lookup);
+    result = lt_store_find(&store, name, name_len, &lookup);
+    reply[0] = lookup.number;
+    reply[1] = lookup.position;
+    return result;
+}
+
+uint32_t structs_names_with_prefix(STORE, const uint8_t *prefix, size_t prefix_len, uint32_t *numbers, size_t numbers_len, uint32_t *reply)
+{
+    const struct lt_store store = STORE_OF_SLICES;
+    return lt_store_names_with_prefix(&store, prefix, prefix_len, numbers, numbers_len, reply);
 }
 
 uint32_t structs_enter(STORE, const uint8_t *name, size_t name_len, uint32_t *reply)

@@ -10,8 +10,8 @@ use crate::random::Random;
 pub fn damage(random: &mut Random, lent: &mut Lent) {
     for _ in 0..random.from_to(1, 3) {
         match random.below(24) {
-            0..=10 => word(random, lent),
-            11 => index(random, lent),
+            0..=9 => word(random, lent),
+            10 | 11 => index(random, lent),
             12 => text(random, lent),
             13 | 14 => counter(random, lent),
             15 => length(random, lent),
@@ -38,9 +38,15 @@ fn word(random: &mut Random, lent: &mut Lent) {
     random.damage(words, &counters, 1);
 }
 
+/// A word of the index, or two numbers that stand in each other's place.
 fn index(random: &mut Random, lent: &mut Lent) {
     let counters = lent.counters[..COUNTER_WORDS].to_vec();
-    random.damage(used(&mut lent.index, counters[0], 1), &counters, 1);
+    let index = used(&mut lent.index, counters[0], 1);
+    if index.len() > 1 && random.one_in(2) {
+        index.swap(random.below(index.len()), random.below(index.len()));
+    } else {
+        random.damage(index, &counters, 1);
+    }
 }
 
 fn text(random: &mut Random, lent: &mut Lent) {

@@ -252,12 +252,12 @@ fn one_label_two_spellings() {
     assert_eq!((spelled.len(), kind_of(spelled.as_bytes())), (46, Some(3)));
     for order in [[spelled.as_str(), "\"A\""], ["\"A\"", spelled.as_str()]] {
         let mut lent = fresh(4);
-        assert_eq!(find(&mut lent, order[0]), (0, vec![0]));
+        assert_eq!(find(&mut lent, order[0]), (0, vec![0, 0]));
         assert_eq!(enter(&mut lent, order[0]), (0, vec![1]));
         assert_eq!((&lent.counters[..], &lent.text[..]), (&[1, 0, 4, 0][..], &b"\"A\"\0"[..]));
         assert_eq!((&lent.resources[..RESOURCE_WORDS], lent.index[0]), (&literal_record()[..], 1));
         for name in order {
-            assert_eq!(find(&mut lent, name), (0, vec![1]));
+            assert_eq!(find(&mut lent, name), (0, vec![1, 0]));
             assert_eq!(enter(&mut lent, name), (0, vec![1]));
         }
         assert_eq!(call(&mut lent, Call::Name { number: 1 }), (0, vec![0, 3]));
@@ -268,7 +268,7 @@ fn one_label_two_spellings() {
     assert_eq!(enter(&mut lent, &spelled).0, 3);
     assert_eq!(enter(&mut lent, &format!("\"\"{ENDING}")), (0, vec![1]));
     assert_eq!((&lent.counters[..], &lent.text[..]), (&[1, 0, 3, 0][..], &b"\"\"\0"[..]));
-    assert_eq!(find(&mut lent, "\"\""), (0, vec![1]));
+    assert_eq!(find(&mut lent, "\"\""), (0, vec![1, 0]));
 }
 
 /// Decision 123: the 255 bytes are those of the name as spelled, so 212 are the most that are left, and a longer literal has one spelling.
@@ -282,7 +282,7 @@ fn an_ending_within_255_bytes() {
     assert_eq!(enter(&mut lent, &beyond).0, 2);
     assert_eq!(enter(&mut lent, &longest), (0, vec![1]));
     assert_eq!(lent.counters, [1, 0, 213, 0]);
-    assert_eq!(find(&mut lent, &format!("\"{}\"", "A".repeat(210))), (0, vec![1]));
+    assert_eq!(find(&mut lent, &format!("\"{}\"", "A".repeat(210))), (0, vec![1, 0]));
     let mut lent = fresh(212);
     assert_eq!(enter(&mut lent, &longest).0, 3);
     let mut lent = fresh(214);
@@ -304,11 +304,11 @@ fn no_string_ending() {
     for (name, length) in &kept {
         let mut lent = fresh(length + 5);
         assert_eq!(enter(&mut lent, "\"A\""), (0, vec![1]));
-        assert_eq!(find(&mut lent, name), (0, vec![0]), "{name}");
+        assert_eq!(find(&mut lent, name), (0, vec![0, 1]), "{name}");
         assert_eq!(enter(&mut lent, name), (0, vec![2]), "{name}");
         assert_eq!(lent.counters, [2, 0, 4 + *length as u32 + 1, 0], "{name}");
         assert_eq!(&lent.text[4..4 + length], name.as_bytes());
-        assert_eq!(find(&mut lent, &format!("\"A\"{ENDING}")), (0, vec![1]), "{name}");
+        assert_eq!(find(&mut lent, &format!("\"A\"{ENDING}")), (0, vec![1, 0]), "{name}");
         assert_eq!(call(&mut lent, Call::Check), (0, vec![1]), "{name}");
     }
     let none = [
@@ -363,7 +363,8 @@ fn holding(name: &str, room: usize) -> Lent {
     lent
 }
 
-/// Decision 125: a table that holds a name with the string ending is not sound, and find and enter are bounded there, also on other names.
+/// Decision 125: a table that holds a name with the string ending is not sound, and find, listings by a beginning and enter are bounded
+/// there, also on other names.
 #[test]
 fn a_table_with_the_ending() {
     for (name, sound) in [
@@ -377,9 +378,10 @@ fn a_table_with_the_ending() {
     }
     let stored = format!("\"A\"{ENDING}");
     for name in [&stored, "\"A\"", "<b>"] {
-        for asked in [Call::Find { name: name.into() }, Call::Enter { name: name.into() }] {
+        let listed = Call::NamesWithPrefix { prefix: name.into() };
+        for asked in [Call::Find { name: name.into() }, listed, Call::Enter { name: name.into() }] {
             let mut lent = holding(&stored, 64);
-            lent.reply = vec![0];
+            lent.reply = vec![0; asked.reply_words()];
             assert_eq!(asked.make(&mut lent), Expected::Bounded, "{asked:?}");
         }
     }
@@ -405,6 +407,184 @@ fn a_table_with_the_ending() {
         after.counters = vec![if answer == 2 { 2 } else { 1 }, 0, text_bytes, 0];
         assert_eq!(asked.bounds_kept(&before, result, &after).is_ok(), kept, "{room} {result} {answer} {text_bytes}");
     }
+}
+
+/// Paper 02, names by their beginning: a find says where in the index, from 0, the name stands or would stand. Beside a refusal it is 0.
+#[test]
+fn where_a_name_stands() {
+    // In byte order 3 `<b:4>`, 4 `<b:7>`, 2 `<p:trips>`, 1 `<r:21>`.
+    let mut lent = bay();
+    for (name, number, position) in [("<b:4>", 3, 0), ("<b:7>", 4, 1), ("<p:trips>", 2, 2), ("<r:21>", 1, 3)] {
+        assert_eq!(find(&mut lent, name), (0, vec![number, position]), "{name}");
+        assert_eq!(lent.index[position as usize], number);
+    }
+    for (name, position) in
+        [("\"\"", 0), ("<a>", 0), ("<b:4/>", 0), ("<b:41>", 0), ("<b:5>", 1), ("<c>", 2), ("<r:2>", 4), ("_:a", 4)]
+    {
+        assert_eq!(find(&mut lent, name), (0, vec![0, position]), "{name}");
+    }
+    assert_eq!(find(&mut fresh(9), "<a>"), (0, vec![0, 0]));
+    assert_eq!(find(&mut lent, "<a"), (2, vec![0, 0]));
+    lent.counters[1] = 7;
+    assert_eq!(find(&mut lent, "<r:21>"), (1, vec![0, 0]));
+
+    // By the name without the string ending: `"A"@en` lies between the two spellings.
+    let mut lent = store(&["\"A\"@en"], &[]);
+    assert_eq!(find(&mut lent, "\"A\""), (0, vec![0, 0]));
+    assert_eq!(find(&mut lent, &format!("\"A\"{ENDING}")), (0, vec![0, 0]));
+    assert_eq!(find(&mut lent, &format!("\"A\"{CAPITAL}")), (0, vec![0, 1]));
+    assert_eq!(enter(&mut lent, &format!("\"A\"{ENDING}")), (0, vec![2]));
+    assert_eq!(find(&mut lent, &format!("\"A\"{ENDING}")), (0, vec![2, 0]));
+}
+
+/// Paper 02, names by their beginning: entering a name uses the place that find tells.
+#[test]
+fn entered_where_find_tells() {
+    let names = ["<a>", "<a/>", "<ab>", "_:a", "_:a.b", "\"a\"", "\"a\"@en", "\"b\""];
+    let mut random = Random::new(4);
+    for _ in 0..300 {
+        let mut lent = store(&[], &[]);
+        let mut sorted: Vec<u32> = vec![];
+        for number in 1..=6 {
+            let absent: Vec<&str> = names.into_iter().filter(|name| find(&mut lent, name).1[0] == 0).collect();
+            let name = random.of(&absent);
+            let position = find(&mut lent, name).1[1];
+            sorted.insert(position as usize, number);
+            assert_eq!(enter(&mut lent, name), (0, vec![number]));
+            assert_eq!(find(&mut lent, name), (0, vec![number, position]));
+            assert_eq!(lent.index[..sorted.len()], sorted);
+        }
+        assert_eq!(call(&mut lent, Call::Check), (0, vec![1]));
+    }
+}
+
+/// A listing by a beginning into so many words that hold 77: its result, the total and the words.
+fn begun(lent: &mut Lent, prefix: &[u8], words: usize) -> (u32, u32, Vec<u32>) {
+    lent.numbers = vec![77; words];
+    let (result, reply) = call(lent, Call::NamesWithPrefix { prefix: prefix.to_vec() });
+    (result, reply[0], std::mem::take(&mut lent.numbers))
+}
+
+/// Paper 02, names by their beginning: every name that starts so, in byte order, as numbers.
+#[test]
+fn names_by_their_beginning() {
+    // In byte order 6 `"r:2"`, 3 `<b:2>`, 5 `<r:20>`, 1 `<r:21>`, 4 `<r:2>`, 2 `<r:3>`.
+    let mut lent = store(&["<r:21>", "<r:3>", "<b:2>", "<r:2>", "<r:20>", "\"r:2\""], &[]);
+    let cases: [(&[u8], &[u32]); 22] = [
+        (b"", &[6, 3, 5, 1, 4, 2]),
+        (b"<", &[3, 5, 1, 4, 2]),
+        (b"<r:", &[5, 1, 4, 2]),
+        (b"<r:2", &[5, 1, 4]),
+        (b"<r:2>", &[4]),
+        (b"<r:20", &[5]),
+        (b"<r:20>", &[5]),
+        (b"\"r:2\"", &[6]),
+        (b"<r:4", &[]),
+        (b"r:2", &[]),
+        (b"=", &[]),
+        (b"!", &[]),
+        // A zero byte meets nothing, also where the text goes on so; nor does byte 255.
+        (b"\0", &[]),
+        (b"<r:2>\0", &[]),
+        (b"<r:2\0", &[]),
+        (b"<r:2>\0<r:20>", &[]),
+        (b"<r:20>\0\"r", &[]),
+        (b"\xff", &[]),
+        (b"<r:2>\xff", &[]),
+        (b"<r:2\xff", &[]),
+        (&[b'<'; 255], &[]),
+        (&[0; 255], &[]),
+    ];
+    for (prefix, listed) in cases {
+        assert_eq!(begun(&mut lent, prefix, listed.len()), (0, listed.len() as u32, listed.to_vec()), "{prefix:?}");
+    }
+    // Nothing of the string ending is dropped.
+    assert_eq!(begun(&mut lent, format!("\"r:2\"{ENDING}").as_bytes(), 0).1, 0);
+    // Every name whose number is retracted from all statements is still there.
+    let mut lent = rewired();
+    assert_eq!(begun(&mut lent, b"<b", 3), (0, 2, vec![3, 4, 77]));
+    assert_eq!(call(&mut lent, Call::Reclaim).0, 0);
+    assert_eq!(begun(&mut lent, b"<b", 3), (0, 2, vec![3, 4, 77]));
+    // No names.
+    for prefix in [&b""[..], b"<", &[0; 255]] {
+        assert_eq!(begun(&mut fresh(9), prefix, 2), (0, 0, vec![77, 77]));
+    }
+}
+
+/// Paper 02, names by their beginning: with fewer words than the total the first ones are filled; words past the list keep their values.
+#[test]
+fn words_of_a_list() {
+    let mut lent = bay();
+    for (words, left) in
+        [(0, &[][..]), (1, &[3]), (3, &[3, 4, 2]), (4, &[3, 4, 2, 1]), (5, &[3, 4, 2, 1, 77]), (6, &[3, 4, 2, 1, 77, 77])]
+    {
+        assert_eq!(begun(&mut lent, b"<", words), (0, 4, left.to_vec()));
+    }
+    assert_eq!(begun(&mut lent, b"x", 2), (0, 0, vec![77, 77]));
+}
+
+/// Paper 02, names by their beginning: one may have 255 bytes, 256 are refused 2, after 1 and before 9. A refusal writes none of the words.
+#[test]
+fn long_beginnings() {
+    let longest = [b"<", [b'a'; 253].as_slice(), b">"].concat();
+    let mut lent = fresh(300);
+    assert_eq!(enter(&mut lent, std::str::from_utf8(&longest).unwrap()), (0, vec![1]));
+    assert_eq!(begun(&mut lent, &longest, 2), (0, 1, vec![1, 77]));
+    assert_eq!(begun(&mut lent, &longest[..254], 2), (0, 1, vec![1, 77]));
+    assert_eq!(begun(&mut lent, &[&longest, &b"a"[..]].concat(), 2), (2, 0, vec![77, 77]));
+    assert_eq!(begun(&mut lent, &[0; 1000], 2), (2, 0, vec![77, 77]));
+    lent.index[0] = 2;
+    assert_eq!(begun(&mut lent, &[0; 256], 2), (2, 0, vec![77, 77]));
+    assert_eq!(Call::NamesWithPrefix { prefix: vec![0; 255] }.make(&mut lent), Expected::Bounded);
+    lent.counters[2] = 301;
+    assert_eq!(begun(&mut lent, &[0; 256], 2), (1, 0, vec![77, 77]));
+    assert_eq!(begun(&mut lent, b"", 2), (1, 0, vec![77, 77]));
+}
+
+/// What is left open where names or index are not sound: a position and a total are at most R, and words past the list keep their values.
+#[test]
+fn bounds_of_the_index() {
+    let mut before = bay();
+    before.index.swap(0, 1);
+    let find = Call::Find { name: b"<b:4>".to_vec() };
+    before.reply = vec![9; 2];
+    for (result, reply, kept) in [
+        (0, [0, 0], true),
+        (0, [4, 4], true),
+        (0, [0, 4], true),
+        (0, [5, 0], false),
+        (0, [0, 5], false),
+        (9, [0, 0], true),
+        (9, [0, 1], false),
+        (9, [1, 0], false),
+        (3, [0, 0], false),
+        (2, [0, 0], false),
+    ] {
+        let after = Lent { reply: reply.to_vec(), ..before.clone() };
+        assert_eq!(find.bounds_kept(&before, result, &after).is_ok(), kept, "{result} {reply:?}");
+    }
+
+    let list = Call::NamesWithPrefix { prefix: b"<b".to_vec() };
+    before.reply = vec![9];
+    before.numbers = vec![77; 3];
+    for (result, total, numbers, kept) in [
+        (0, 0, [77, 77, 77], true),
+        (0, 0, [3, 77, 77], false),
+        (0, 2, [3, 0, 77], true),
+        (0, 2, [u32::MAX, 3, 77], true),
+        (0, 2, [3, 4, 3], false),
+        (0, 4, [1, 1, 1], true),
+        (0, 5, [1, 1, 1], false),
+        (9, 0, [77, 77, 77], true),
+        (9, 0, [3, 77, 77], false),
+        (9, 1, [77, 77, 77], false),
+        (2, 0, [77, 77, 77], false),
+    ] {
+        let after = Lent { reply: vec![total], numbers: numbers.to_vec(), ..before.clone() };
+        assert_eq!(list.bounds_kept(&before, result, &after).is_ok(), kept, "{result} {total} {numbers:?}");
+    }
+    let wrote = Lent { reply: vec![0], index: bay().index, ..before.clone() };
+    assert!(list.bounds_kept(&before, 0, &wrote).is_err());
 }
 
 /// The live counts of the first resources, each as subject, predicate and object.
@@ -627,7 +807,7 @@ fn room_back() {
     assert!((1..=4).all(|n| lent.resources[resource_at(n)..][..6] == [0; 6]));
     assert_eq!(live(&lent, 4), [[0; 3]; 4]);
     assert_eq!(call(&mut lent, Call::Check), (0, vec![1]));
-    assert_eq!(find(&mut lent, "<b:7>"), (0, vec![4]));
+    assert_eq!(find(&mut lent, "<b:7>"), (0, vec![4, 1]));
 }
 
 /// Paper 02, getting room back: refused 3 and made again right after the next reclaim, an assert is new exactly if a record was dropped; a
@@ -755,6 +935,7 @@ fn too_many_reclaims() {
         assert_eq!([next, query_next], [refused as u32; 2]);
         let all = [
             Call::Find { name: name() },
+            Call::NamesWithPrefix { prefix: name() },
             Call::Enter { name: name() },
             Call::Name { number: 1 },
             Call::Statement { number: 1 },

@@ -1,5 +1,5 @@
 //! A call through the C interface, of a function itself or by the structs of its header. Everything lent stands between guard words, so
-//! that a write outside of it shows; names, lines and questions are lent as copies, and must be as they were afterwards.
+//! that a write outside of it shows; names, their beginnings, lines and questions are lent as copies, and must be as they were afterwards.
 
 use crate::plain::{Call, Lent};
 use crate::structs;
@@ -57,6 +57,7 @@ pub fn make(call: &Call, lent: &Lent, way: Way) -> Result<(u32, Lent), String> {
     let mut index = Guarded::new(&lent.index, WORD);
     let mut text = Guarded::new(&lent.text, 0xA5);
     let mut cursor = Guarded::new(&lent.cursor, WORD);
+    let mut numbers = Guarded::new(&lent.numbers, WORD);
     let mut reply = Guarded::new(&lent.reply, WORD);
     let mut line_reply = Guarded::new(&lent.line_reply, 0xA5A5_5A5A_A5A5_5A5A);
 
@@ -69,6 +70,7 @@ pub fn make(call: &Call, lent: &Lent, way: Way) -> Result<(u32, Lent), String> {
     let (i, i_len) = index.lend();
     let (t, t_len) = text.lend();
     let (at, at_len) = cursor.lend();
+    let (list, list_len) = numbers.lend();
     let (out, out_len) = reply.lend();
     let (line, line_len) = line_reply.lend();
     let (name, name_len) = bytes.lend();
@@ -92,6 +94,7 @@ pub fn make(call: &Call, lent: &Lent, way: Way) -> Result<(u32, Lent), String> {
                 Call::ReadLine { at, .. } => ffi::lt_read_line(name, name_len, *at, line, line_len),
                 Call::Check => store!(lt_check, out, out_len),
                 Call::Find { .. } => store!(lt_find, name, name_len, out, out_len),
+                Call::NamesWithPrefix { .. } => store!(lt_names_with_prefix, name, name_len, list, list_len, out, out_len),
                 Call::Enter { .. } => store!(lt_enter, name, name_len, out, out_len),
                 Call::Name { number } => store!(lt_name, *number, out, out_len),
                 Call::Statement { number } => store!(lt_statement, *number, out, out_len),
@@ -108,6 +111,7 @@ pub fn make(call: &Call, lent: &Lent, way: Way) -> Result<(u32, Lent), String> {
                 Call::ReadLine { at, .. } => structs::structs_read_line(name, name_len, *at, line),
                 Call::Check => by_structs!(structs_check, out),
                 Call::Find { .. } => by_structs!(structs_find, name, name_len, out),
+                Call::NamesWithPrefix { .. } => by_structs!(structs_names_with_prefix, name, name_len, list, list_len, out),
                 Call::Enter { .. } => by_structs!(structs_enter, name, name_len, out),
                 Call::Name { number } => by_structs!(structs_name, *number, out),
                 Call::Statement { number } => by_structs!(structs_statement, *number, out),
@@ -131,6 +135,7 @@ pub fn make(call: &Call, lent: &Lent, way: Way) -> Result<(u32, Lent), String> {
         index: index.unguarded("index")?,
         text: text.unguarded("text")?,
         cursor: cursor.unguarded("cursor")?,
+        numbers: numbers.unguarded("numbers")?,
         reply: reply.unguarded("reply")?,
         line_reply: line_reply.unguarded("reply")?,
     };

@@ -1,7 +1,7 @@
 //! The limits of 65,535 records, 1,048,576 bytes of text and 65,535 reclaims: every function at them and one beyond, on tables that have
 //! room for more and hold what would be sound there, so that a limit that is not kept shows in the answer. And the room for a literal with
-//! the string ending, which is that for what is left of it; the live count of a chain of all statements; and resource tables about each
-//! whole record.
+//! the string ending, which is that for what is left of it; an index that does not rise; the live count of a chain of all statements; and
+//! resource tables about each whole record.
 
 use crate::names::{MAX_NAME, STRING_ENDING};
 use crate::plain::{
@@ -9,7 +9,7 @@ use crate::plain::{
     MAX_RECORDS, MAX_TEXT, NEXT, OFFSET, QUERY_CURSOR_WORDS, RECLAIMS, RESOURCE_WORDS, SCAN_CURSOR_WORDS, SCAN_NEXT,
     STATEMENT_WORDS, WITHIN,
 };
-use crate::{Difference, Run};
+use crate::{Difference, Run, UNWRITTEN};
 
 /// The predicate of every statement.
 const PREDICATE: u32 = 2;
@@ -94,6 +94,7 @@ impl Run {
         self.reclaims()?;
         self.window()?;
         self.endings()?;
+        self.names_in_disorder()?;
         self.live_counts()?;
         self.resource_words()
     }
@@ -134,6 +135,44 @@ impl Run {
         let between_quotes = [b"\"", STRING_ENDING, b"\""].concat();
         for close in [capital, between_quotes, STRING_ENDING[2..].to_vec()] {
             self.found_and_entered(store(&[SHORT; 300], 300), &[close, spelled(3), quoted(3)])?;
+        }
+        Ok(())
+    }
+
+    /// Listings by beginnings, each with so many words for the list.
+    fn listed(&mut self, lent: &mut Lent, beginnings: &[(&[u8], usize)]) -> Result<(), Difference> {
+        for &(prefix, words) in beginnings {
+            lent.numbers = vec![UNWRITTEN; words];
+            self.compare(&Call::NamesWithPrefix { prefix: prefix.to_vec() }, lent)?;
+        }
+        lent.numbers.clear();
+        Ok(())
+    }
+
+    /// Finding, and listing by beginnings, where the index, the offsets or the text are not sound: all bounded, at the limit of names too.
+    fn names_in_disorder(&mut self) -> Result<(), Difference> {
+        let disorders: [fn(&mut Lent, usize); 8] = [
+            |lent, r| lent.index[..r].reverse(),
+            |lent, r| lent.index[..r].rotate_left(r / 3),
+            |lent, r| lent.index[..r].fill(r as u32),
+            |lent, r| lent.index[..r].fill(0),
+            |lent, r| lent.index[r / 2] = r as u32 + 1,
+            |lent, r| (1..=r as u32).for_each(|n| lent.resources[resource_at(n) + OFFSET] = lent.counters[2] - 1),
+            |lent, r| (1..=r as u32).for_each(|n| lent.resources[resource_at(n) + OFFSET] = lent.counters[2] - n),
+            |lent, _| lent.text.fill(b'<'),
+        ];
+        for names in [3, 300, MAX_RECORDS] {
+            let whole = store(&vec![SHORT; names], 0);
+            let [first, last, absent] = [1, names as u32, 0].map(|k| named(k, SHORT));
+            for disorder in disorders {
+                let lent = &mut whole.clone();
+                disorder(lent, names);
+                for name in [&first, &last, &absent] {
+                    self.compare(&Call::Find { name: name.clone() }, lent)?;
+                }
+                let beginnings = [(&b""[..], names + 2), (b"<", 2), (b"<8", names), (b"<8", 0), (&first, 2), (&[b'<'; 255], names)];
+                self.listed(lent, &beginnings)?;
+            }
         }
         Ok(())
     }
@@ -216,6 +255,13 @@ impl Run {
         for name in [named(1, length), named(r, SHORT), named(0, length)] {
             self.compare(&Call::Find { name }, lent)?;
         }
+        // All names; a sixteenth of them, and a 256th; one, by the whole of it; none, by a byte more, by another last byte, and below all.
+        let (all, name) = (r as usize, named(1, length));
+        let (above, closed) = ([&name[..length - 1], &[255]].concat(), [&name[..length.min(MAX_NAME - 1)], &[0]].concat());
+        let beginnings =
+            [(&b""[..], all + 2), (b"<", 1), (b"<8", all), (&name[..3], 0), (&name, 2), (&closed, 2), (&above, 2), (b"\"", 2)];
+        self.listed(lent, &beginnings)?;
+        self.listed(lent, &[(&[b'<'; MAX_NAME], 2), (&[b'<'; MAX_NAME + 1], 2)])?;
         self.compare(&Call::Enter { name: named(1, length) }, lent)?;
         for number in [1, 13, r - 1, r, r + 1] {
             self.compare(&Call::Name { number }, lent)?;

@@ -1,16 +1,18 @@
 //! The differential test: random calls through the C interface against the plain implementation in `plain.rs` and `names.rs`, which is
-//! written from paper 01, what paper 02 says of live counts, of getting room back, of the same label typed two ways and of six patterns,
-//! and `docs/DECISIONS.md` alone.
+//! written from paper 01, what paper 02 says of names by their beginning, of live counts, of getting room back, of the same label typed two
+//! ways and of six patterns, and `docs/DECISIONS.md` alone.
 //!
 //!     diff SEED CALLS SECONDS
 //!
 //! makes calls from a seed until there are so many or so much time has passed, about half of them by the structs of the header. After
-//! each call the result, the reply, the cursor, the counters and every byte of the tables must be what the paper says; where find and
-//! enter meet a dictionary that is not sound, what the paper leaves open is bounded. The first difference is told with the seed, the
-//! call's number and both answers, and ends the run with status 1. A run that made fewer calls than it was to make, and fewer than a
-//! million, has failed too. At the end stands how many calls of each kind had each result, and how many met the string ending, live
-//! counts, reclaims and the limit of patterns in which way; a run of 300,000 calls or more must have met all of these.
+//! each call the result, the reply, the cursor, the words of a list, the counters and every byte of the tables must be what the paper says;
+//! where find, a listing by a beginning and enter meet a dictionary that is not sound, what the paper leaves open is bounded. The first
+//! difference is told with the seed, the call's number and both answers, and ends the run with status 1. A run that made fewer calls than
+//! it was to make, and fewer than a million, has failed too. At the end stands how many calls of each kind had each result, and how many
+//! met the string ending, the index of names, live counts, reclaims and the limit of patterns in which way; a run of 300,000 calls or more
+//! must have met all of these.
 
+mod beginnings;
 mod damage;
 #[cfg(test)]
 mod examples;
@@ -36,7 +38,7 @@ use std::process::ExitCode;
 use std::time::{Duration, Instant};
 use tally::Tally;
 
-/// What a cursor and a reply hold before a call that is to write them.
+/// What a cursor, a list's words and a reply hold before a call that is to write them.
 const UNWRITTEN: u32 = 0x77;
 
 /// One store in so many is of middle size.
@@ -45,8 +47,8 @@ const MIDDLE: usize = 300;
 /// A run that is to make so many calls or more has failed with fewer, also where its time is over.
 const LEAST: u64 = 1_000_000;
 
-/// Calls after which every result, and everything of the string ending, of live counts, of reclaims and of the limit of patterns, must
-/// have been met.
+/// Calls after which every result, and everything of the string ending, of the index of names, of live counts, of reclaims and of the limit
+/// of patterns, must have been met.
 const ENOUGH: u64 = 300_000;
 
 struct Run {
@@ -160,7 +162,7 @@ impl Run {
             Phase::Building if random.one_in(100) => 38,
             Phase::Building if random.one_in(if few { 2 } else { 4 }) => 0,
             Phase::Building => random.of(&[17, 17, 17, 31]),
-            Phase::Sound | Phase::Damaged => random.below(104),
+            Phase::Sound | Phase::Damaged => random.below(112),
         };
         let alone = |call| (call, vec![], None);
         match choice {
@@ -189,6 +191,7 @@ impl Run {
                 (call, cursor, (!altered).then_some(which))
             }
             80..=84 => (Call::QueryOpen { words: random.words(lent) }, vec![], None),
+            85..=92 => alone(Call::NamesWithPrefix { prefix: random.beginning(lent) }),
             _ => {
                 if open.queries.is_empty() || random.one_in(4) {
                     let words = random.words(lent);
@@ -217,6 +220,14 @@ impl Run {
         }
     }
 
+    /// Words for the list of a call: about as many as it has numbers, or, where that is not known, as there are names.
+    fn list(&mut self, call: &Call, lent: &Lent) -> Vec<u32> {
+        let Call::NamesWithPrefix { prefix } = call else { return vec![] };
+        let listed = lent.within_capacity() && lent.names().is_some();
+        let total = if listed { lent.names_with_prefix(prefix).map_or(0, |listed| listed.len()) } else { lent.index.len() };
+        vec![UNWRITTEN; self.random.list_words(total)]
+    }
+
     /// One call on a store, with slices of mostly the right lengths, and what it leaves of the open listings and questions.
     fn step(&mut self, lent: &mut Lent, open: &mut Open, phase: Phase) -> Result<(), Difference> {
         let (call, mut cursor, which) = self.choose(lent, open, phase);
@@ -227,6 +238,7 @@ impl Run {
             damage::entered_records(&mut self.random, lent, &cursor);
         }
         lent.cursor = cursor;
+        lent.numbers = self.list(&call, lent);
         lent.reply = vec![UNWRITTEN; if call.reply_words() > 0 { self.length(call.reply_words()) } else { 0 }];
         lent.line_reply = vec![UNWRITTEN.into(); if call.line_words() > 0 { self.length(call.line_words()) } else { 0 }];
         if call.takes_tables() && self.random.one_in(100) {

@@ -1,6 +1,6 @@
-//! The store, plainly: paper 01, "Tables and counters" and "Operations and refusals", and paper 02 on live counts, on getting room back,
-//! on the same label typed two ways and on six patterns, as read in `docs/DECISIONS.md`. Nothing here is meant to be fast. Every operation
-//! works on what is lent, as the library's does, so that the two can be compared byte by byte.
+//! The store, plainly: paper 01, "Tables and counters" and "Operations and refusals", and paper 02 on names by their beginning, on live
+//! counts, on getting room back, on the same label typed two ways and on six patterns, as read in `docs/DECISIONS.md`. Nothing here is
+//! meant to be fast. Every operation works on what is lent, as the library's does, so that the two can be compared byte by byte.
 //! Refusals are the `Err` of a `Result`, by their number.
 
 use crate::names::{has_ending, kind_of, read_line, without_ending, Line, MAX_NAME};
@@ -67,6 +67,8 @@ pub struct Lent {
     pub index: Vec<u32>,
     pub text: Vec<u8>,
     pub cursor: Vec<u32>,
+    /// Words for a list of numbers.
+    pub numbers: Vec<u32>,
     pub reply: Vec<u32>,
     pub line_reply: Vec<u64>,
 }
@@ -78,6 +80,7 @@ pub enum Call {
     ReadLine { line_text: Vec<u8>, at: usize },
     Check,
     Find { name: Vec<u8> },
+    NamesWithPrefix { prefix: Vec<u8> },
     Enter { name: Vec<u8> },
     Name { number: u32 },
     Statement { number: u32 },
@@ -90,7 +93,8 @@ pub enum Call {
     QueryNext { words: Vec<u32>, budget: u32 },
 }
 
-/// What the paper says of a call: the one result, or no more than bounds (find and enter, where the dictionary is not sound).
+/// What the paper says of a call: the one result, or no more than bounds (find, names by their beginning and enter, where the dictionary is
+/// not sound).
 #[derive(Debug, PartialEq)]
 pub enum Expected {
     Exactly(u32),
@@ -335,12 +339,26 @@ impl Lent {
         }
     }
 
-    fn find(&self, name: &[u8]) -> Result<u32, u32> {
+    /// The number of a name, or 0; and where in the index it stands or would stand: after the names that are below it.
+    fn find(&self, name: &[u8]) -> Result<(u32, u32), u32> {
         self.capacity()?;
         kind_of(name).ok_or(2u32)?;
         let name = without_ending(name);
         let names = self.names().expect("a sound dictionary");
-        Ok(names.iter().position(|&n| n == name).map_or(0, |k| k as u32 + 1))
+        let number = names.iter().position(|&n| n == name).map_or(0, |k| k as u32 + 1);
+        Ok((number, names.iter().filter(|&&n| n < name).count() as u32))
+    }
+
+    /// The numbers of all names that begin with some bytes, which are taken as they are, in byte order of name.
+    pub fn names_with_prefix(&self, prefix: &[u8]) -> Result<Vec<u32>, u32> {
+        self.capacity()?;
+        if prefix.len() > MAX_NAME {
+            return Err(2);
+        }
+        let names = self.names().expect("a sound dictionary");
+        let mut listed: Vec<(&[u8], u32)> = names.into_iter().zip(1..).filter(|(name, _)| name.starts_with(prefix)).collect();
+        listed.sort();
+        Ok(listed.into_iter().map(|(_, number)| number).collect())
     }
 
     /// Whether one more name of this length fits.
@@ -349,7 +367,7 @@ impl Lent {
     }
 
     fn enter(&mut self, name: &[u8]) -> Result<u32, u32> {
-        let found = self.find(name)?;
+        let (found, position) = self.find(name)?;
         if found != 0 {
             return Ok(found);
         }
@@ -357,10 +375,9 @@ impl Lent {
         if !self.room_for_name(name.len()) {
             return Err(3);
         }
-        let below = self.names().expect("a sound dictionary").iter().filter(|&&n| n < name).count();
-        let (r, b) = (self.r() as usize, self.b() as usize);
-        self.index[..=r].copy_within(below..r, below + 1);
-        self.index[below] = r as u32 + 1;
+        let (r, b, position) = (self.r() as usize, self.b() as usize, position as usize);
+        self.index[..=r].copy_within(position..r, position + 1);
+        self.index[position] = r as u32 + 1;
         let mut record = [0; RESOURCE_WORDS];
         record[OFFSET] = b as u32;
         record[KIND] = kind_of(name).unwrap();
@@ -728,10 +745,11 @@ impl Call {
         !matches!(self, Call::NameKind { .. } | Call::ReadLine { .. })
     }
 
-    /// The name or the text of lines that the call is given; empty if it takes none.
+    /// The name, its beginning or the text of lines that the call is given; empty if it takes none.
     pub fn bytes(&self) -> &[u8] {
         match self {
             Call::NameKind { name } | Call::Find { name } | Call::Enter { name } => name,
+            Call::NamesWithPrefix { prefix } => prefix,
             Call::ReadLine { line_text, .. } => line_text,
             _ => &[],
         }
@@ -756,8 +774,8 @@ impl Call {
     /// Words of the reply; a line's are in `line_reply`.
     pub fn reply_words(&self) -> usize {
         match self {
-            Call::NameKind { .. } | Call::Check | Call::Find { .. } | Call::Enter { .. } | Call::Retract { .. } => 1,
-            Call::Name { .. } | Call::Assert { .. } => 2,
+            Call::NameKind { .. } | Call::Check | Call::NamesWithPrefix { .. } | Call::Enter { .. } | Call::Retract { .. } => 1,
+            Call::Find { .. } | Call::Name { .. } | Call::Assert { .. } => 2,
             Call::ScanNext { .. } => 3,
             Call::Statement { .. } => 4,
             Call::QueryNext { .. } => QUERY_REPLY_WORDS,
@@ -785,16 +803,23 @@ impl Call {
         if self.lacks_words(lent) {
             return Expected::Exactly(100);
         }
-        if let Call::Find { name } | Call::Enter { name } = self {
-            if lent.within_capacity() && kind_of(name).is_some() && lent.names().is_none() {
-                return Expected::Bounded;
-            }
+        let by_name = match self {
+            Call::Find { name } | Call::Enter { name } => kind_of(name).is_some(),
+            Call::NamesWithPrefix { prefix } => prefix.len() <= MAX_NAME,
+            _ => false,
+        };
+        if by_name && lent.within_capacity() && lent.names().is_none() {
+            return Expected::Bounded;
         }
         let answer: Result<Vec<u32>, u32> = match self {
             Call::NameKind { name } => kind_of(name).map(|kind| vec![kind]).ok_or(2),
             Call::ReadLine { line_text, at } => return Expected::Exactly(put_line(lent, line_text, *at)),
             Call::Check => Ok(vec![lent.sound() as u32]),
-            Call::Find { name } => lent.find(name).map(|n| vec![n]),
+            Call::Find { name } => lent.find(name).map(|(n, position)| vec![n, position]),
+            Call::NamesWithPrefix { prefix } => lent.names_with_prefix(prefix).map(|listed| {
+                lent.numbers.iter_mut().zip(&listed).for_each(|(word, &number)| *word = number);
+                vec![listed.len() as u32]
+            }),
             Call::Enter { name } => lent.enter(name).map(|n| vec![n]),
             Call::Name { number } => lent.name(*number).map(|(start, length)| vec![start, length]),
             Call::Statement { number } => lent.statement(*number).map(|words| words.to_vec()),
@@ -821,38 +846,61 @@ impl Call {
         Expected::Exactly(put(&mut lent.reply, self.reply_words(), answer))
     }
 
-    /// What holds of find and enter where the dictionary is not sound: 9, or a number up to R; absent is 0 in find, and in enter 3 or
-    /// R + 1, by the room there is for the name without the string ending. Only an answer of R + 1 writes: the index, record R + 1, text
-    /// from B on, and the counters.
+    /// What holds of find, names by their beginning and enter where the dictionary is not sound: 9, which writes nothing but zeros into the
+    /// reply; or what is within bounds, and writes nothing beyond them.
     pub fn bounds_kept(&self, before: &Lent, result: u32, after: &Lent) -> Result<(), String> {
-        let (Call::Find { name } | Call::Enter { name }) = self else { return Err("only find and enter are bounded".into()) };
-        let entering = matches!(self, Call::Enter { .. });
-        let name = without_ending(name);
-        let room = before.room_for_name(name.len());
+        let words = self.reply_words();
         let mut expected = before.clone();
-        let answer = after.reply[0];
-        match result {
-            9 => expected.reply[0] = 0,
-            3 if entering && !room => expected.reply[0] = 0,
-            0 if answer == 0 && !entering => expected.reply[0] = 0,
-            0 if before.is_resource(answer) => expected.reply[0] = answer,
-            0 if entering && room && answer == before.r() + 1 => {
-                let (r, b) = (before.r() as usize, before.b() as usize);
-                expected.reply[0] = answer;
-                expected.counters[0] += 1;
-                expected.counters[2] += name.len() as u32 + 1;
-                expected.index = after.index.clone();
-                let record = r * RESOURCE_WORDS..(r + 1) * RESOURCE_WORDS;
-                expected.resources[record.clone()].copy_from_slice(&after.resources[record]);
-                expected.text[b..].copy_from_slice(&after.text[b..]);
-            }
-            _ => return Err(format!("{result} with {answer} is out of bounds")),
-        }
+        let within = match self {
+            _ if result == 9 => Some(vec![0; words]),
+            Call::Find { .. } => (result == 0).then(|| found_within(before, after)).flatten(),
+            Call::NamesWithPrefix { .. } => (result == 0).then(|| listed_within(before, after, &mut expected)).flatten(),
+            Call::Enter { name } => entered_within(without_ending(name), before, result, after, &mut expected),
+            _ => return Err("only find, names by their beginning and enter are bounded".into()),
+        };
+        let answer = &after.reply[..words];
+        let Some(reply) = within else { return Err(format!("{result} with {answer:?} is out of bounds")) };
+        expected.reply[..words].copy_from_slice(&reply);
         if expected == *after {
             Ok(())
         } else {
-            Err(format!("{result} with {answer} wrote what it may not"))
+            Err(format!("{result} with {answer:?} wrote what it may not"))
         }
+    }
+}
+
+/// An answer of find that is within bounds: 0 or a number up to R, and a position up to R.
+fn found_within(before: &Lent, after: &Lent) -> Option<Vec<u32>> {
+    let answer = &after.reply[..2];
+    answer.iter().all(|&word| word <= before.r()).then(|| answer.to_vec())
+}
+
+/// A listing that is within bounds: a total up to R, and any numbers in as many words of the list.
+fn listed_within(before: &Lent, after: &Lent, expected: &mut Lent) -> Option<Vec<u32>> {
+    let total = after.reply[0];
+    let filled = before.numbers.len().min(total as usize);
+    expected.numbers[..filled].copy_from_slice(&after.numbers[..filled]);
+    (total <= before.r()).then(|| vec![total])
+}
+
+/// An answer of enter that is within bounds: a number up to R; or 3 or R + 1, by the room there is for the name without the string ending.
+/// Only an answer of R + 1 writes: the index, record R + 1, text from B on, and the counters.
+fn entered_within(name: &[u8], before: &Lent, result: u32, after: &Lent, expected: &mut Lent) -> Option<Vec<u32>> {
+    let (answer, room) = (after.reply[0], before.room_for_name(name.len()));
+    match result {
+        3 if !room => Some(vec![0]),
+        0 if before.is_resource(answer) => Some(vec![answer]),
+        0 if room && answer == before.r() + 1 => {
+            let (r, b) = (before.r() as usize, before.b() as usize);
+            expected.counters[0] += 1;
+            expected.counters[2] += name.len() as u32 + 1;
+            expected.index = after.index.clone();
+            let record = r * RESOURCE_WORDS..(r + 1) * RESOURCE_WORDS;
+            expected.resources[record.clone()].copy_from_slice(&after.resources[record]);
+            expected.text[b..].copy_from_slice(&after.text[b..]);
+            Some(vec![answer])
+        }
+        _ => None,
     }
 }
 
@@ -893,6 +941,7 @@ impl Lent {
             ("statements", &self.statements, &before.statements),
             ("index", &self.index, &before.index),
             ("cursor", &self.cursor, &before.cursor),
+            ("numbers", &self.numbers, &before.numbers),
         ];
         for (name, now, then) in slices {
             for k in (0..now.len()).filter(|&k| now[k] != then[k]) {

@@ -298,6 +298,57 @@ impl Random {
         }
     }
 
+    /// The beginning of a name, mostly of one of a store's names: cut anywhere, whole, or with bytes that stand after it in the text; at
+    /// times its last byte is another one or a byte follows, and at times its length is about the limit.
+    pub fn beginning(&mut self, lent: &Lent) -> Vec<u8> {
+        let used = lent.used_text();
+        let starts: Vec<usize> = (0..used.len()).filter(|&at| at == 0 || used[at - 1] == 0).collect();
+        let mut beginning = match self.below(16) {
+            0 => vec![],
+            1 => self.name(),
+            2 => self.label(),
+            3 | 4 => {
+                let name = self.short_name(lent);
+                name[..self.from_to(0, name.len())].to_vec()
+            }
+            _ if starts.is_empty() => self.of(&["<", "<a", "_:", "\"", "z"]).as_bytes().to_vec(),
+            way => {
+                let from = &used[self.of(&starts)..];
+                let whole = from.iter().position(|&byte| byte == 0).unwrap_or(from.len());
+                let end = match way {
+                    5..=11 => self.from_to(0, whole),
+                    12 | 13 => whole,
+                    _ => from.len().min(whole + self.from_to(1, 6)),
+                };
+                from[..end].to_vec()
+            }
+        };
+        match self.below(16) {
+            0 => beginning.push(0),
+            1 => beginning.push(255),
+            2 => beginning.push(self.byte()),
+            way @ 3..=7 => {
+                if let Some(last) = beginning.last_mut() {
+                    *last = [last.wrapping_add(1), last.wrapping_sub(1), 0, 255, self.byte()][way - 3];
+                }
+            }
+            8 => beginning.resize(self.from_to(MAX_NAME - 1, MAX_NAME + 2), self.of(b"a>\x00\xff")),
+            _ => {}
+        }
+        beginning
+    }
+
+    /// Words for a list of so many: none, fewer, as many, more.
+    pub fn list_words(&mut self, total: usize) -> usize {
+        match self.below(5) {
+            0 => 0,
+            1 => self.below(total + 1),
+            2 => total.saturating_sub(1),
+            3 => total,
+            _ => total + self.from_to(1, 3),
+        }
+    }
+
     fn bytes(&mut self, length: usize, alphabet: &[u8]) -> Vec<u8> {
         (0..length).map(|_| self.of(alphabet)).collect()
     }

@@ -18,9 +18,10 @@ const FORGOTTEN: &str = "new, retracted before";
 
 /// The ways that are to be met. "13" is a place of another number of reclaims: by what the call would be given else, by the place, by what
 /// else is wrong with it, and by that number.
-pub const WAYS: [(&str, &[&str]); 12] = [
+pub const WAYS: [(&str, &[&str]); 13] = [
     ("lt_check", &["not sound for the number alone", "sound at the limit"]),
     ("lt_find", &[NUMBER_ALONE]),
+    ("lt_names_with_prefix", &[NUMBER_ALONE]),
     ("lt_enter", &[NUMBER_ALONE]),
     ("lt_name", &[NUMBER_ALONE]),
     ("lt_statement", &[NUMBER_ALONE]),
@@ -115,7 +116,7 @@ pub fn met(call: &Call, result: u32, own: &str, before: &Lent, after: &Lent) -> 
 }
 
 /// Those labels whose condition holds.
-fn holding(all: &[(&str, bool)]) -> Vec<String> {
+pub fn holding(all: &[(&str, bool)]) -> Vec<String> {
     all.iter().filter(|(_, met)| *met).map(|(label, _)| label.to_string()).collect()
 }
 

@@ -25,6 +25,7 @@ extern "C" {
 store_functions! {
     structs_check(reply: *mut u32);
     structs_find(name: *const u8, name_len: usize, reply: *mut u32);
+    structs_names_with_prefix(prefix: *const u8, prefix_len: usize, numbers: *mut u32, numbers_len: usize, reply: *mut u32);
     structs_enter(name: *const u8, name_len: usize, reply: *mut u32);
     structs_name(number: u32, reply: *mut u32);
     structs_statement(number: u32, reply: *mut u32);

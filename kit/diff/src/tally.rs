@@ -1,6 +1,7 @@
-//! How many calls of each kind had each result, and of them by the structs, and how many met the string ending, live counts, reclaims and
-//! the limit of patterns in which way.
+//! How many calls of each kind had each result, and of them by the structs, and how many met the string ending, the index of names, live
+//! counts, reclaims and the limit of patterns in which way.
 
+use crate::beginnings;
 use crate::library::Way;
 use crate::live;
 use crate::names::{quoted_and_suffix, MAX_NAME, STRING_ENDING};
@@ -13,23 +14,25 @@ use std::fmt;
 type Counts = BTreeMap<(&'static str, String), u64>;
 
 /// Calls by function and result, where the paper only bounds the answer apart from the others; those of them by the structs. Then those
-/// that meet the string ending, live counts, reclaims and the limit of patterns, by function and how.
+/// that meet the string ending, the index of names, live counts, reclaims and the limit of patterns, by function and how.
 #[derive(Default)]
 pub struct Tally {
     calls: Counts,
     by_structs: Counts,
     endings: Counts,
+    beginnings: Counts,
     live_counts: Counts,
     reclaims: Counts,
     patterns: Counts,
 }
 
-/// Every function with the results that the paper gives it. Find and enter may answer 9, and need not.
-const RESULTS: [(&str, &[&str]); 14] = [
+/// Every function with the results that the paper gives it. Find, a listing by a beginning and enter may answer 9, and need not.
+const RESULTS: [(&str, &[&str]); 15] = [
     ("lt_name_kind", &["kind 1", "kind 2", "kind 3", "refused 2", "refused 100"]),
     ("lt_read_line", &["end", "nothing", "triple", "refused 10", "refused 100"]),
     ("lt_check", &["sound", "not sound", "refused 100"]),
     ("lt_find", &["a number", "0", "bounded", "refused 1", "refused 2", "refused 100"]),
+    ("lt_names_with_prefix", &["some", "none", "bounded", "refused 1", "refused 2", "refused 100"]),
     ("lt_enter", &["a number", "bounded", "refused 1", "refused 2", "refused 3", "refused 100"]),
     ("lt_name", &["answered", "refused 1", "refused 4", "refused 9", "refused 100"]),
     ("lt_statement", &["answered", "refused 1", "refused 4", "refused 9", "refused 100"]),
@@ -84,6 +87,7 @@ fn function(call: &Call) -> &'static str {
         Call::ReadLine { .. } => "lt_read_line",
         Call::Check => "lt_check",
         Call::Find { .. } => "lt_find",
+        Call::NamesWithPrefix { .. } => "lt_names_with_prefix",
         Call::Enter { .. } => "lt_enter",
         Call::Name { .. } => "lt_name",
         Call::Statement { .. } => "lt_statement",
@@ -108,6 +112,7 @@ pub fn label(call: &Call, result: u32, lent: &Lent) -> String {
         Call::ReadLine { .. } => ["end", "nothing", "triple"][lent.line_reply[0] as usize],
         Call::Check => ["not sound", "sound"][lent.reply[0] as usize],
         Call::Find { .. } | Call::Enter { .. } | Call::Retract { .. } => number(lent.reply[0]),
+        Call::NamesWithPrefix { .. } => ["none", "some"][lent.reply[0].min(1) as usize],
         Call::Assert { .. } => ["", "new", "already", "revived"][lent.reply[0] as usize],
         Call::ScanNext { .. } | Call::QueryNext { .. } => ["", "found", "ended", "spent"][lent.reply[0] as usize],
         Call::Name { .. } | Call::Statement { .. } | Call::Reclaim | Call::ScanOpen { .. } | Call::QueryOpen { .. } => "answered",
@@ -219,6 +224,8 @@ impl Tally {
             patterns::met(call, result, &own, before).into_iter().for_each(|label| one_more(&mut self.patterns, label));
         }
         if call.takes_tables() && result != 100 {
+            let ways = beginnings::met(call, result, before, after, bounded);
+            ways.into_iter().for_each(|label| one_more(&mut self.beginnings, label));
             reclaims::met(call, result, &own, before, after).into_iter().for_each(|label| one_more(&mut self.reclaims, label));
         }
     }
@@ -233,10 +240,11 @@ impl Tally {
         let results = RESULTS.iter().map(|row| (row, &self.calls, ""));
         let by_structs = RESULTS.iter().map(|row| (row, &self.by_structs, BY_STRUCTS));
         let endings = ENDINGS.iter().map(|row| (row, &self.endings, "with the string ending "));
+        let beginnings = beginnings::WAYS.iter().map(|row| (row, &self.beginnings, "in the index "));
         let live_counts = live::WAYS.iter().map(|row| (row, &self.live_counts, "with a live count "));
         let reclaims = reclaims::WAYS.iter().map(|row| (row, &self.reclaims, "with reclaims "));
         let patterns = patterns::WAYS.iter().map(|row| (row, &self.patterns, "at the limit of patterns "));
-        let ways = endings.chain(live_counts).chain(reclaims).chain(patterns);
+        let ways = endings.chain(beginnings).chain(live_counts).chain(reclaims).chain(patterns);
         let mut missing = vec![];
         for (&(function, labels), counts, with) in results.chain(by_structs).chain(ways) {
             let due = labels.iter().filter(|&&label| with != BY_STRUCTS || label != TOO_SHORT);
@@ -252,7 +260,7 @@ fn table(f: &mut fmt::Formatter<'_>, rows: &[(&'static str, &[&str])], counts: &
     for (function, _) in rows {
         let of_it = counts.iter().filter(|((name, _), _)| name == function);
         let of_it: Vec<String> = of_it.map(|((_, label), count)| format!("{label}: {count}")).collect();
-        writeln!(f, "{function:14} {}", of_it.join(", "))?;
+        writeln!(f, "{function:20} {}", of_it.join(", "))?;
     }
     Ok(())
 }
@@ -264,6 +272,8 @@ impl fmt::Display for Tally {
         table(f, &RESULTS, &self.by_structs)?;
         writeln!(f, "with the string ending, or close to it:")?;
         table(f, &ENDINGS, &self.endings)?;
+        writeln!(f, "in the index of names:")?;
+        table(f, &beginnings::WAYS, &self.beginnings)?;
         writeln!(f, "with live counts:")?;
         table(f, &live::WAYS, &self.live_counts)?;
         writeln!(f, "with reclaims:")?;

@@ -1,10 +1,12 @@
-//! A relay's live count, its contacts by name, a question, and a rewired relay: the Rust twin of `kit/c/contacts.c`, with the same output.
+//! The relays by the beginning of their names, a relay's live count, its contacts by name, a question, and a rewired relay: the Rust twin
+//! of `kit/c/contacts.c`, with the same output.
 //!
 //!     contacts FILE
 //!
-//! reads a file of N-Triples into tables of its own, tells how many live statements relay <r:21> is the subject of, lists what it trips,
-//! and asks which breakers are tripped by a relay that trips <b:4>. Then it rewires the relay from <b:4> to <b:9>, gets the room of the
-//! retracted statement back and lists again. Refused lines are told and passed over; any other refusal ends the program with status 1.
+//! reads a file of N-Triples into tables of its own, lists the names that begin with <r:, tells how many live statements relay <r:21> is
+//! the subject of, lists what it trips, and asks which breakers are tripped by a relay that trips <b:4>. Then it rewires the relay from
+//! <b:4> to <b:9>, gets the room of the retracted statement back and lists again, the names that begin with <b: too. Refused lines are told
+//! and passed over; any other refusal ends the program with status 1.
 
 use lemontiller::{Error, Line, Lines, Outcome, Position, Question, ResourceId, Store, Term};
 use lemontiller::{COUNTER_WORDS, RESOURCE_WORDS, STATEMENT_WORDS};
@@ -16,6 +18,9 @@ const TEXT_BYTES: usize = 16384;
 
 /// The records that one call may visit. A screen picks what its frame allows and comes back with the cursor for more.
 const BUDGET: u32 = 1;
+
+/// The names that a screen has lines for.
+const LINES: usize = 20;
 
 /// Enters the three names of a line and asserts their triple. Names are entered one by one: those before a refusal remain.
 fn load_triple(store: &mut Store, parts: [&[u8]; 3]) -> Result<(), Error> {
@@ -41,11 +46,22 @@ fn load(store: &mut Store, input: &[u8]) {
 
 fn number_of(store: &Store, name: &str) -> Result<ResourceId, String> {
     let found = store.find(name.as_bytes()).map_err(|error| format!("{name}: {error}"))?;
-    found.ok_or_else(|| format!("{name} is in no statement"))
+    found.number.ok_or_else(|| format!("{name} is in no statement"))
 }
 
 fn name_of(store: &Store, id: ResourceId) -> Result<String, Error> {
     Ok(String::from_utf8_lossy(store.name(id)?).into_owned())
+}
+
+/// Lists the names with a beginning in byte order, as many as there are lines, and tells how many there are. Nothing is walked for it, so a
+/// screen may ask at every key that is typed. `store.names_with_prefix` would put their numbers into lent words, as C has it.
+fn list_names(store: &Store, beginning: &str) -> Result<(), String> {
+    let named = store.with_prefix(beginning.as_bytes()).map_err(|error| format!("{beginning}: {error}"))?;
+    println!("names that begin with {beginning}, {} in all", named.len());
+    for id in named.take(LINES) {
+        println!("  {}", name_of(store, id).map_err(|error| error.to_string())?);
+    }
+    Ok(())
 }
 
 /// Tells how many live statements a relay is the subject of: a word of its record, so a screen may ask as often as it draws.
@@ -117,11 +133,13 @@ fn run(path: &str) -> Result<(), String> {
 
     load(&mut store, &input);
     println!("{} resources, {} statements", store.counters().resources, store.counters().statements);
+    list_names(&store, "<r:")?;
     tell_live(&store, "<r:21>")?;
     list_contacts(&store, "<r:21>", "<p:trips>")?;
     ask_tripped_with(&store, "<b:4>", "<p:trips>")?;
     rewire(&mut store, "<r:21>", "<p:trips>", "<b:4>", "<b:9>")?;
     list_contacts(&store, "<r:21>", "<p:trips>")?;
+    list_names(&store, "<b:")?;
 
     // A store that comes from a file or a wire is checked once; one made by this library's own calls is sound.
     println!("{}", if store.is_sound() { "sound" } else { "not sound" });

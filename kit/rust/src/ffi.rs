@@ -1,4 +1,4 @@
-//! The fourteen functions of `include/lemontiller.h` as they are: pointers, lengths in elements, and a result. The header has a sentence
+//! The fifteen functions of `include/lemontiller.h` as they are: pointers, lengths in elements, and a result. The header has a sentence
 //! for each. Pointers may not be null, also at length 0 (those of a slice never are), and slices that are written may not overlap others.
 
 /// Declares store functions, each after the five slices with which it begins. `mut` marks the slices that the function writes.
@@ -25,6 +25,10 @@ extern "C" {
 store_functions! {
     lt_check(const const const const const; reply: *mut u32, reply_len: usize);
     lt_find(const const const const const; name: *const u8, name_len: usize, reply: *mut u32, reply_len: usize);
+    lt_names_with_prefix(
+        const const const const const;
+        prefix: *const u8, prefix_len: usize, numbers: *mut u32, numbers_len: usize, reply: *mut u32, reply_len: usize,
+    );
     lt_enter(mut mut const mut mut; name: *const u8, name_len: usize, reply: *mut u32, reply_len: usize);
     lt_name(const const const const const; number: u32, reply: *mut u32, reply_len: usize);
     lt_statement(const const const const const; number: u32, reply: *mut u32, reply_len: usize);

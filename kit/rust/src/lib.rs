@@ -8,7 +8,7 @@
 //!
 //! `include/lemontiller.h` has the layout of the tables and what each refusal means.
 
-use std::{fmt, mem};
+use std::{fmt, mem, slice};
 
 pub mod ffi;
 
@@ -41,7 +41,7 @@ const LINE_WORDS: usize = 8;
 pub type ScanCursor = [u32; SCAN_CURSOR_WORDS];
 pub type QueryCursor = [u32; QUERY_CURSOR_WORDS];
 
-/// A refusal. Nothing is written where one is given.
+/// A refusal. Nothing is written where one is given, lent words for numbers included.
 #[derive(Clone, Copy, Debug, PartialEq, Eq)]
 pub enum Error {
     Capacity,
@@ -154,6 +154,13 @@ pub struct Counters {
     pub statements: u32,
     pub text: u32,
     pub reclaims: u32,
+}
+
+/// Where a name stands in the index, or would stand: a position from 0, so how many names are below it; and its number, if it is there.
+#[derive(Clone, Copy, Debug, PartialEq, Eq)]
+pub struct Lookup {
+    pub number: Option<ResourceId>,
+    pub position: u32,
 }
 
 #[derive(Clone, Copy, Debug, PartialEq, Eq)]
@@ -391,11 +398,45 @@ impl<'a> Store<'a> {
         reading!(lt_check, self, reply.as_mut_ptr(), reply.len()).is_ok() && reply[0] == 1
     }
 
-    /// The number of a name, or none. A literal is sought without the string ending.
-    pub fn find(&self, name: &[u8]) -> Result<Option<ResourceId>, Error> {
-        let mut reply = [0u32; 1];
+    /// The number of a name, or none, and its position in the index: entering the name puts its number there. A literal is sought without
+    /// the string ending.
+    pub fn find(&self, name: &[u8]) -> Result<Lookup, Error> {
+        let mut reply = [0u32; 2];
         reading!(lt_find, self, name.as_ptr(), name.len(), reply.as_mut_ptr(), reply.len())?;
-        Ok(resource(reply[0]))
+        Ok(Lookup { number: resource(reply[0]), position: reply[1] })
+    }
+
+    /// Lists the resources whose names begin with `prefix`, up to 255 bytes of any value, in byte order of name: the total. As many of the
+    /// first numbers as fit stand in `numbers`; its words past the list keep their values. A longer beginning is [`Error::Malformed`].
+    pub fn names_with_prefix(&self, prefix: &[u8], numbers: &mut [u32]) -> Result<u32, Error> {
+        let mut reply = [0u32; 1];
+        reading!(
+            lt_names_with_prefix,
+            self,
+            prefix.as_ptr(),
+            prefix.len(),
+            numbers.as_mut_ptr(),
+            numbers.len(),
+            reply.as_mut_ptr(),
+            reply.len(),
+        )?;
+        Ok(reply[0])
+    }
+
+    /// The resources whose names begin with `prefix`, in byte order of name. Nothing is lent for them: on a sound store they stand side by
+    /// side in the index, from the position of the first one on. So those of the empty beginning, with as many skipped as a [`Lookup`] has
+    /// for its position, are the names from there on. A store that is not sound may give any numbers, or [`Error::Damaged`].
+    pub fn with_prefix(&self, prefix: &[u8]) -> Result<WithPrefix<'_>, Error> {
+        let mut first = [0];
+        let total = self.names_with_prefix(prefix, &mut first)? as usize;
+        if total == 0 {
+            return Ok(WithPrefix { numbers: [].iter() });
+        }
+        let [first] = first.map(ResourceId);
+        let index = &self.index[..self.counters[0] as usize];
+        let found = self.name(first).and_then(|name| self.find(name)).ok().filter(|found| found.number == Some(first));
+        let run = found.and_then(|found| index.get(found.position as usize..)?.get(..total));
+        Ok(WithPrefix { numbers: run.ok_or(Error::Damaged)?.iter() })
     }
 
     /// Finds a name, or gives it the next number. A literal is stored without the string ending, and takes no more room than that.
@@ -514,6 +555,30 @@ impl<'a> Store<'a> {
         Ok(Solutions { store: self, question, cursor: self.query_open(question)?, refused: false })
     }
 }
+
+/// The resources whose names begin alike.
+#[derive(Clone, Debug)]
+pub struct WithPrefix<'s> {
+    numbers: slice::Iter<'s, u32>,
+}
+
+impl Iterator for WithPrefix<'_> {
+    type Item = ResourceId;
+
+    fn next(&mut self) -> Option<ResourceId> {
+        self.numbers.next().copied().map(ResourceId)
+    }
+
+    fn nth(&mut self, n: usize) -> Option<ResourceId> {
+        self.numbers.nth(n).copied().map(ResourceId)
+    }
+
+    fn size_hint(&self) -> (usize, Option<usize>) {
+        self.numbers.size_hint()
+    }
+}
+
+impl ExactSizeIterator for WithPrefix<'_> {}
 
 /// The statements of a scan; a refusal is given once and ends it.
 pub struct Scan<'s, 'a> {

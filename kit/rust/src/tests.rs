@@ -23,6 +23,14 @@ fn with_bay(body: impl FnOnce(&mut Store, [ResourceId; 4])) {
     })
 }
 
+/// What find answers for a name that is there, and for one that is not.
+fn at(number: ResourceId, position: u32) -> Result<Lookup, Error> {
+    Ok(Lookup { number: Some(number), position })
+}
+fn absent(position: u32) -> Result<Lookup, Error> {
+    Ok(Lookup { number: None, position })
+}
+
 /// What a scan or a question answers, none of it a refusal.
 fn answers<T>(asked: Result<impl Iterator<Item = Result<T, Error>>, Error>) -> Vec<T> {
     asked.unwrap().map(Result::unwrap).collect()
@@ -31,10 +39,165 @@ fn answers<T>(asked: Result<impl Iterator<Item = Result<T, Error>>, Error>) -> V
 #[test]
 fn names_come_back() {
     with_bay(|store, ids| {
-        assert_eq!(store.find(b"<b:7>"), Ok(Some(ids[3])));
-        assert_eq!(store.find(b"<b:8>"), Ok(None));
+        assert_eq!(store.find(b"<b:7>"), at(ids[3], 1));
+        assert_eq!(store.find(b"<b:8>"), absent(2));
         assert_eq!(store.name(ids[3]), Ok(&b"<b:7>"[..]));
         assert_eq!(store.counters(), Counters { resources: 4, statements: 2, text: 7 + 10 + 6 + 6, reclaims: 0 });
+        assert!(store.is_sound());
+    })
+}
+
+/// In byte order `<b:4>`, `<b:7>`, `<p:trips>`, `<r:21>`: below all of them, between any two, above all, and each of them.
+#[test]
+fn a_name_is_found_where_it_stands() {
+    with_bay(|store, [relay, trips, b4, b7]| {
+        for (name, position) in [("\"\"", 0), ("<b:39>", 0), ("<b:5>", 1), ("<p:trip>", 2), ("<r:2>", 4), ("_:a", 4)] {
+            assert_eq!(store.find(name.as_bytes()), absent(position), "{name}");
+        }
+        for (name, number, position) in [("<b:4>", b4, 0), ("<b:7>", b7, 1), ("<p:trips>", trips, 2), ("<r:21>", relay, 3)] {
+            assert_eq!(store.find(name.as_bytes()), at(number, position), "{name}");
+            let from_there = store.with_prefix(b"").unwrap().skip(position as usize);
+            assert_eq!(from_there.map(|id| id.0).collect::<Vec<_>>(), store.index[position as usize..4]);
+            assert_eq!(store.with_prefix(b"").unwrap().nth(position as usize), Some(number));
+        }
+        assert_eq!(store.with_prefix(b"").unwrap().nth(4), None);
+    });
+    let mut counters = [0; COUNTER_WORDS];
+    let store = Store::new(&mut counters, &mut [], &mut [], &mut [], &mut []).unwrap();
+    assert_eq!(store.find(b"<a>"), absent(0));
+}
+
+/// A name entered stands where find told before, and those from there on move up. A literal is placed without the string ending.
+#[test]
+fn a_name_is_entered_where_find_tells() {
+    let spelled = "\"A\"^^<http://www.w3.org/2001/XMLSchema#string>";
+    for order in [[0, 1, 2, 3, 4, 5], [5, 4, 3, 2, 1, 0], [3, 0, 5, 1, 4, 2]] {
+        with_store(|store| {
+            let names = ["\"A \"", spelled, "<a/>", "<a>", "<b>", "_:a"];
+            let mut sorted: Vec<u32> = vec![];
+            for (number, name) in (1..).zip(order.map(|which| names[which].as_bytes())) {
+                let position = store.find(name).unwrap().position;
+                assert_eq!(store.find(name), absent(position));
+                assert_eq!(store.enter(name), Ok(ResourceId(number)));
+                assert_eq!(store.find(name), at(ResourceId(number), position));
+                sorted.insert(position as usize, number);
+                assert_eq!(store.index[..sorted.len()], sorted);
+            }
+            assert!(store.is_sound());
+        })
+    }
+}
+
+/// The listing of a beginning both ways, the words lent being as many as there are numbers.
+fn beginning(store: &Store, prefix: &[u8]) -> Vec<u32> {
+    let mut numbers = vec![0; store.names_with_prefix(prefix, &mut []).unwrap() as usize];
+    assert_eq!(store.names_with_prefix(prefix, &mut numbers), Ok(numbers.len() as u32));
+    let listed = store.with_prefix(prefix).unwrap();
+    assert_eq!(listed.len(), numbers.len());
+    assert_eq!(listed.map(|id| id.0).collect::<Vec<_>>(), numbers);
+    numbers
+}
+
+/// 1 `<r:21>`, 2 `<p:trips>`, 3 `<b:4>`, 4 `<b:7>`, 5 `<r:2>`, 6 `<r:20>`.
+#[test]
+fn names_are_listed_by_their_beginning() {
+    with_bay(|store, _| {
+        assert_eq!((store.enter(b"<r:2>"), store.enter(b"<r:20>")), (Ok(ResourceId(5)), Ok(ResourceId(6))));
+        let cases: [(&[u8], &[u32]); 19] = [
+            (b"", &[3, 4, 2, 6, 1, 5]),
+            (b"<", &[3, 4, 2, 6, 1, 5]),
+            (b"<r:2", &[6, 1, 5]),
+            (b"<r:21", &[1]),
+            // A whole name, and a byte more.
+            (b"<r:21>", &[1]),
+            (b"<r:2>", &[5]),
+            (b"<r:21>\0", &[]),
+            (b"<r:21>>", &[]),
+            (b"<b:", &[3, 4]),
+            // Below all names, between them, above all.
+            (b"\"", &[]),
+            (b"<b:5", &[]),
+            (b"<c", &[]),
+            (b"_:", &[]),
+            // A zero byte, also as the one that closes a name and what stands after it in the text; byte 255.
+            (b"\0", &[]),
+            (b"<b:4>\0<b:7>", &[]),
+            (b"<b\0", &[]),
+            (b"\xff", &[]),
+            (b"<r:2\xff", &[]),
+            (b"r:21", &[]),
+        ];
+        for (prefix, numbers) in cases {
+            assert_eq!(beginning(store, prefix), numbers, "{:?}", String::from_utf8_lossy(prefix));
+        }
+    })
+}
+
+/// No words, fewer than there are numbers, as many, and more; a refusal writes none of them.
+#[test]
+fn words_past_the_list_keep_their_values() {
+    with_bay(|store, _| {
+        for (words, listed) in
+            [(0, &[][..]), (1, &[3]), (3, &[3, 4, 2]), (4, &[3, 4, 2, 1]), (5, &[3, 4, 2, 1, 77]), (6, &[3, 4, 2, 1, 77, 77])]
+        {
+            let mut numbers = vec![77; words];
+            assert_eq!(store.names_with_prefix(b"<", &mut numbers), Ok(4));
+            assert_eq!(numbers, listed);
+        }
+        for (prefix, total) in [(&b"<b:5"[..], Ok(0)), (&[b'<'; 256], Err(Error::Malformed))] {
+            let mut numbers = [77; 2];
+            assert_eq!((store.names_with_prefix(prefix, &mut numbers), numbers), (total, [77; 2]));
+        }
+    })
+}
+
+/// A beginning has up to 255 bytes, and a name of that length begins with itself.
+#[test]
+fn a_beginning_has_up_to_255_bytes() {
+    let longest = [b"<", [b'a'; 253].as_slice(), b">"].concat();
+    let (mut counters, mut resources, mut index, mut text) = ([0; COUNTER_WORDS], [0; 2 * RESOURCE_WORDS], [0; 2], [0; 300]);
+    let mut store = Store::new(&mut counters, &mut resources, &mut [], &mut index, &mut text).unwrap();
+    assert_eq!((store.enter(b"<b>"), store.enter(&longest)), (Ok(ResourceId(1)), Ok(ResourceId(2))));
+    assert_eq!(beginning(&store, &longest), [2]);
+    assert_eq!(beginning(&store, &longest[..254]), [2]);
+    assert_eq!(beginning(&store, &[b'a'; 255]), []);
+    assert_eq!(beginning(&store, b""), [2, 1]);
+    for beyond in [[&longest, &b"a"[..]].concat(), vec![0; 256], vec![b'a'; 1000]] {
+        assert_eq!(store.names_with_prefix(&beyond, &mut [0; 9]), Err(Error::Malformed));
+        assert_eq!(store.with_prefix(&beyond).err(), Some(Error::Malformed));
+    }
+}
+
+/// No names; counters over their capacity, which come before a beginning that is too long; and a store that is not sound, on which the
+/// iterator ends or is refused.
+#[test]
+fn beginnings_of_any_tables() {
+    let (mut counters, mut over) = ([0; COUNTER_WORDS], [1, 0, 0, 0]);
+    let store = Store::new(&mut counters, &mut [], &mut [], &mut [], &mut []).unwrap();
+    for prefix in [&b""[..], b"<", b"\0", &[255; 255]] {
+        assert_eq!(beginning(&store, prefix), []);
+    }
+    assert_eq!(store.names_with_prefix(&[0; 256], &mut []), Err(Error::Malformed));
+    let store = Store::new(&mut over, &mut [], &mut [], &mut [], &mut []).unwrap();
+    for prefix in [&b""[..], &[0; 256]] {
+        assert_eq!(store.names_with_prefix(prefix, &mut []), Err(Error::Capacity));
+        assert_eq!(store.with_prefix(prefix).err(), Some(Error::Capacity));
+    }
+    with_bay(|store, _| {
+        let index = store.index.to_vec();
+        for (place, word) in (0..4).flat_map(|place| [0, 1, 2, 3, 4, 5, u32::MAX].map(|word| (place, word))) {
+            store.index.copy_from_slice(&index);
+            store.index[place] = word;
+            for prefix in [&b""[..], b"<", b"<b", b"<b:7>", b"<r", b"_"] {
+                let total = store.names_with_prefix(prefix, &mut [0; 9]);
+                assert!(matches!(total, Ok(0..=4) | Err(Error::Damaged)), "{total:?}");
+                match store.with_prefix(prefix) {
+                    Ok(listed) => assert_eq!(Ok(listed.count() as u32), total),
+                    Err(error) => assert_eq!(error, Error::Damaged),
+                }
+            }
+        }
+        store.index.copy_from_slice(&index);
         assert!(store.is_sound());
     })
 }
@@ -144,7 +307,7 @@ fn a_reclaim_gives_room_back() {
         assert_eq!(store.statement(StatementId(1)).unwrap().object, b7);
         assert_eq!([relay, trips, b4, b7].map(|id| live(store, id)), [[1, 0, 0], [0, 2, 0], [1, 0, 0], [0, 0, 2]]);
         assert_eq!(store.statements[2 * STATEMENT_WORDS..], [0; 2 * STATEMENT_WORDS]);
-        assert_eq!(store.find(b"<b:4>"), Ok(Some(b4)));
+        assert_eq!(store.find(b"<b:4>"), at(b4, 0));
         assert!(store.is_sound());
 
         // What had no room has it, and what was retracted is new.
@@ -360,8 +523,10 @@ fn a_label_typed_two_ways_is_one() {
     with_bay(|store, [relay, trips, _, _]| {
         let label = store.enter(spelled).unwrap();
         assert_eq!(store.enter(b"\"A\""), Ok(label));
-        assert_eq!((store.find(spelled), store.find(b"\"A\"")), (Ok(Some(label)), Ok(Some(label))));
+        assert_eq!((store.find(spelled), store.find(b"\"A\"")), (at(label, 0), at(label, 0)));
         assert_eq!(store.name(label), Ok(&b"\"A\""[..]));
+        // A beginning is taken as it is.
+        assert_eq!((beginning(store, b"\"A\""), beginning(store, spelled)), (vec![label.0], vec![]));
         assert_eq!(store.counters(), Counters { resources: 5, statements: 2, text: 7 + 10 + 6 + 6 + 4, reclaims: 0 });
         assert_eq!(store.assert(relay, trips, label), Ok(Asserted::New(StatementId(3))));
         assert!(store.is_sound());
@@ -394,6 +559,9 @@ fn the_substation_fits() {
         }
     }
     assert_eq!(store.counters(), Counters { resources: 298, statements: 641, text: 3566, reclaims: 0 });
+    assert_eq!((store.with_prefix(b"").unwrap().len(), store.with_prefix(b"<r:").unwrap().len()), (298, 17));
+    let relays: Vec<&[u8]> = store.with_prefix(b"<r:").unwrap().map(|id| store.name(id).unwrap()).collect();
+    assert!(relays.windows(2).all(|two| two[0] < two[1]) && relays.iter().all(|name| name.starts_with(b"<r:")));
     assert!(store.is_sound());
 }
 

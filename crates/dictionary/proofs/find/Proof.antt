@@ -72,20 +72,20 @@ search-requires c κs = readable _ _ (tested c .fit)
 enum-known-n : tie.Need-enum-known-n
 enum-known-n c = search needs
 
+enum-known-at : tie.Need-enum-known-at
+enum-known-at c = search needs
+
 enum-told : tie.Need-enum-told
 enum-told c = search needs
-
-enum-told-2 : tie.Need-enum-told-2
-enum-told-2 c = search needs
 
 returns-3 : tie.Need-returns-3
 returns-3 c = answers (c .before .before .before) _ (c .before .n .given .1)
 
 returns-4 : tie.Need-returns-4
-returns-4 c = answers (c .before .before) _ (c .enum-told .given .1)
+returns-4 c = answers (c .before .before .before) _ (c .before .at .given .1)
 
 returns-5 : tie.Need-returns-5
-returns-5 c = answers (c .before .before) _ (c .enum-told2 .given .1)
+returns-5 c = answers (c .before .before) _ (c .enum-told .given .1)
 
 pub find-spec : {M : Type 1} → statement M
 find-spec =
@@ -98,8 +98,8 @@ find-spec =
     canonical-requires
     search-requires
     enum-known-n
+    enum-known-at
     enum-told
-    enum-told-2
     returns-3
     returns-4
     returns-5)

@@ -2,6 +2,8 @@
 use Rattle.store.specs.declared.Lookup.the-variants.{Absent}
 use Rattle.lemontiller.proofs.Lengths.{short-counters, short-reply, room, no-counters, no-reply}
 use Rattle.capi_calls.specs.Calls.{findAs}
+use native.Mathlib.Omega.{arith}
+use lib.ListN.{length-set}
 use borrow.Author.Needs.{needs}
 use Rattle.lemontiller.proofs.lt_find.Statement.{statement}
 use Rattle.lemontiller.proofs.lt_find.Tie as tie
@@ -14,13 +16,13 @@ use Rattle.dictionary.proofs.find.Reads as find-reads
 returns : tie.Need-returns
 unfolding findAs
 returns c =
-    record { found = Absent; told = short-counters _ _ _ _ _ (c .if1 .taken); exact = no-counters _ _ _ (c .if1 .taken) }
+    record { found = Absent 0; told = short-counters _ _ _ _ _ (c .if1 .taken); exact = no-counters _ _ _ (c .if1 .taken) }
 
 returns-2 : tie.Need-returns-2
 unfolding findAs
 returns-2 c =
     let long = c .before .if1 .left in
-    record { found = Absent; told = short-reply _ _ _ _ _ long (c .if2 .taken); exact = no-reply _ _ _ long (c .if2 .taken) }
+    record { found = Absent 0; told = short-reply _ _ _ _ _ long (c .if2 .taken); exact = no-reply _ _ _ long (c .if2 .taken) }
 
 counters-of-requires : tie.Need-counters-of-requires
 counters-of-requires c κs = search needs
@@ -33,6 +35,9 @@ lookup-answer-requires c κs = search needs
 
 slice-write-reply : tie.Need-slice-write-reply
 slice-write-reply c = search needs
+
+slice-write-reply-2 : tie.Need-slice-write-reply-2
+slice-write-reply-2 c = simp length-set (omega arith)
 
 same-length : tie.Need-same-length
 same-length c = search needs
@@ -57,5 +62,6 @@ lt-find-spec =
     find-requires
     lookup-answer-requires
     slice-write-reply
+    slice-write-reply-2
     same-length
     returns-3)

@@ -1,0 +1,186 @@
+-- The searches within the index on any tables, and the contract of the listing: exact where the dictionary is sound,
+-- within the bound elsewhere, one law for each way out of the code. Assumes nothing.
+use mathlib.Core.Path.{_≡_, refl, sym, ap, ap₂, _∙_}
+use mathlib.Core.Logic.{_⊎_, inl, inr}
+use mathlib.Core.Bool.{Bool, true, false, true≢false}
+use mathlib.Core.List.{List}
+use Prim.Native.Nat.{ℕ, suc, zero, _+_, _-_, _<_, _≤_}
+use native.Mathlib.Omega.{arith}
+use lib.ListN.{length, take, drop, length-take, length-drop}
+use lib.Dec.{leb, ltb}
+use borrow.Author.Tests.{lt-ltb, ltb-true, le-leb, lt-leb}
+use Rattle.term.specs.Grammar.{nameLimit}
+use Rattle.store.specs.declared.Counters.{Counters}
+use Rattle.store.specs.declared.Refusal.the-variants.{Capacity, Malformed, Damaged}
+use Rattle.store.specs.declared.Prefixed.{Prefixed}
+use Rattle.store.specs.declared.Prefixed.the-variants.{Total, Refused as NotListed}
+use Rattle.store.specs.Tables.{Tables, fits}
+use Rattle.store.specs.Names.{Named}
+use Rattle.store.specs.Prefix.{told, listed, filled, prefixList, prefixOf, PrefixAnswer}
+use Rattle.store.proofs.Tests.{decide}
+use Rattle.table.proofs.Capacity.{fits-room}
+use Rattle.dictionary.specs.Search.{Readable, middle}
+use Rattle.prefix.specs.Boundary.{probeOf, boundaryOf, boundaryFrom, upTo, onFrom, runOf}
+use Rattle.prefix.specs.declared.boundary.Side.{Side}
+use Rattle.prefix.specs.declared.boundary.Side.the-variants.{Below, Above, Unreadable}
+use Rattle.prefix.specs.declared.boundary.Edge.{Edge}
+use Rattle.prefix.specs.declared.boundary.Edge.the-variants.{At, Unreadable as NoEdge}
+use Rattle.prefix.specs.declared.boundary.Run.{Run}
+use Rattle.prefix.specs.declared.boundary.Run.the-variants.{Between, Unreadable as NoRun}
+use Rattle.prefix.proofs.Runs.{start, end, run-is, list-is}
+
+-- ---- on any tables
+
+-- a boundary from k on, within the index
+abbrev pub EdgeWithin : ℕ → ℕ → Edge → Type 0
+EdgeWithin k r (At i) = (k ≤ i) × (i ≤ r)
+EdgeWithin k r NoEdge = Unit {0}
+
+module _ (c : Counters) (res idx text w : List ℕ) (after : Bool) (first : ℕ) where
+  abbrev Bounded : ℕ → Type 0
+  Bounded f = (lo hi : ℕ) → first ≤ lo → lo ≤ hi → hi ≤ c .resources
+      → EdgeWithin first (c .resources) (boundaryOf c res idx text w after f lo hi)
+
+  bounded-turn : (f lo hi : ℕ) → Bounded f → first ≤ lo → lo < hi → hi ≤ c .resources → (o : Side)
+      → probeOf c res idx text w after (middle lo hi) ≡ o
+      → EdgeWithin first (c .resources) (boundaryOf c res idx text w after (suc f) lo hi)
+  unfolding boundaryOf
+  bounded-turn f lo hi ih a lt b Below e =
+      rw (boundaryOf, lt-ltb lo hi lt, e) (ih (middle lo hi + 1) hi (omega arith) (omega arith) b)
+  bounded-turn f lo hi ih a lt b Above e =
+      rw (boundaryOf, lt-ltb lo hi lt, e) (ih lo (middle lo hi) a (omega arith) (omega arith))
+  bounded-turn f lo hi ih a lt b Unreadable e = rw (boundaryOf, lt-ltb lo hi lt, e) tt
+
+  bounded : (f : ℕ) → Bounded f
+  unfolding boundaryOf
+  bounded zero lo hi z a b = (z, omega arith)
+  bounded (suc f) lo hi z a b =
+      decide (ltb lo hi)
+      (λ q. bounded-turn f lo hi (bounded f) z (ltb-true lo hi q) b (probeOf c res idx text w after (middle lo hi)) refl)
+      (λ q. rw (boundaryOf, q) (z, omega arith))
+
+  from-within : first ≤ c .resources → EdgeWithin first (c .resources) (boundaryFrom c res idx text w after first)
+  from-within h = bounded 16 first (c .resources) (omega arith) h (omega arith)
+
+  pub edge-within : (k : ℕ) → At k ≡ boundaryFrom c res idx text w after first → first ≤ c .resources
+      → (first ≤ k) × (k ≤ c .resources)
+  edge-within k e h = rw (← e) at (from-within h)
+
+-- ---- the ways out of the two searches
+
+module _ (c : Counters) (res idx text w : List ℕ) where
+  pub run-none : NoEdge ≡ boundaryFrom c res idx text w false 0 → NoRun ≡ runOf c res idx text w
+  unfolding runOf
+  run-none e = rw (← e)
+
+  pub run-open : (lo : ℕ) → At lo ≡ boundaryFrom c res idx text w false 0
+      → NoEdge ≡ boundaryFrom c res idx text w true lo → NoRun ≡ runOf c res idx text w
+  unfolding runOf
+  run-open lo e d = rw (← e, ← d)
+
+  pub run-part : (lo hi : ℕ) → At lo ≡ boundaryFrom c res idx text w false 0
+      → At hi ≡ boundaryFrom c res idx text w true lo → Between lo hi ≡ runOf c res idx text w
+  unfolding runOf
+  run-part lo hi e d = rw (← e, ← d)
+
+  abbrev RunWithin : ℕ → Run → Type 0
+  RunWithin r (Between lo hi) = (lo ≤ hi) × (hi ≤ r)
+  RunWithin r NoRun = Unit {0}
+
+  both-within : (r : ℕ) (g : ℕ → Edge) → ((k : ℕ) → k ≤ r → EdgeWithin k r (g k)) → (s : Edge) → EdgeWithin 0 r s
+      → RunWithin r (onFrom g s)
+  both-within r g h (At lo) b = go (g lo) (h lo (b .1))
+    where
+      go : (s : Edge) → EdgeWithin lo r s → RunWithin r (upTo lo s)
+      go (At hi) a = a
+      go NoEdge a = tt
+  both-within r g h NoEdge b = tt
+
+  pub run-within : (lo hi : ℕ) → Between lo hi ≡ runOf c res idx text w → (lo ≤ hi) × (hi ≤ c .resources)
+  unfolding runOf
+  run-within lo hi e =
+      let b = both-within (c .resources) (λ k. boundaryFrom c res idx text w true k)
+      (λ k h. from-within c res idx text w true k h) (boundaryFrom c res idx text w false 0)
+      (from-within c res idx text w false 0 (omega arith)) in
+      rw (← e) at b
+
+-- ---- the listing
+
+abbrev part : List ℕ → ℕ → ℕ → List ℕ
+part idx lo hi = take (hi - lo) (drop lo idx)
+
+part-length : (idx : List ℕ) (lo hi : ℕ) → lo ≤ hi → hi ≤ length idx → length (part idx lo hi) ≡ hi - lo
+part-length idx lo hi a b = simp (length-take, length-drop) (omega arith)
+
+module _ (c : Counters) (m : Tables) (w out : List ℕ) where
+  abbrev found : Run
+  found = runOf c (m .resources) (m .index) (m .text) w
+
+  pub readable : fits c m ≡ true → Readable c (m .resources) (m .index) (m .text)
+  readable f =
+      let r = fits-room c m f in
+      record { few = r .few-resources; in-resources = r .in-resources; in-index = r .in-index; in-text = r .in-text }
+
+  pub prefix-capacity : fits c m ≡ false → PrefixAnswer c m w out out (NotListed Capacity)
+  unfolding prefixOf
+  prefix-capacity f = record {
+    capacity = λ g. refl;
+    malformed = λ g. absurd (true≢false (sym g ∙ f));
+    exact = λ ns N. rw f;
+    bounded = λ g. absurd (true≢false (sym g ∙ f));
+  }
+
+  pub prefix-malformed : fits c m ≡ true → nameLimit < length w → PrefixAnswer c m w out out (NotListed Malformed)
+  unfolding prefixOf
+  prefix-malformed f l = record {
+    capacity = λ g. absurd (true≢false (sym f ∙ g));
+    malformed = λ g h. refl;
+    exact = λ ns N. rw (f, lt-leb (length w) nameLimit l);
+    bounded = λ g h. absurd (omega arith);
+  }
+
+  module _ (f : fits c m ≡ true) (short : length w ≤ nameLimit) where
+    few : c .resources ≤ 65535
+    few = fits-room c m f .few-resources
+
+    -- past the tests the definition lists
+    lists : prefixOf c m w out ≡ listed out (prefixList c m w)
+    unfolding prefixOf
+    lists = rw (f, le-leb (length w) nameLimit short)
+
+    pub prefix-damaged : NoRun ≡ found → PrefixAnswer c m w out out (NotListed Damaged)
+    prefix-damaged e = record {
+      capacity = λ g. absurd (true≢false (sym f ∙ g));
+      malformed = λ g h. absurd (omega arith);
+      exact = λ ns N. absurd (never (start ns c m N w few .at) (end ns c m N w few .at) (e ∙ run-is ns c m N w few));
+      bounded = λ g h. inl refl;
+    }
+      where
+        never : (lo hi : ℕ) → NoRun ≡ Between lo hi → ⊥
+        never lo hi q = let z : _≡_ {A = ℕ} 0 1 = cc in omega arith
+
+    pub prefix-listed : (lo hi : ℕ) (out′ : List ℕ) → Between lo hi ≡ found → out′ ≡ filled out (part (m .index) lo hi)
+        → PrefixAnswer c m w out out′ (Total (hi - lo))
+    prefix-listed lo hi out′ e d = record {
+      capacity = λ g. absurd (true≢false (sym f ∙ g));
+      malformed = λ g h. absurd (omega arith);
+      exact = λ ns N. as-listed ∙ exactly ns N;
+      bounded = λ g h. inr (part (m .index) lo hi, as-listed, omega (arith, size, b .1));
+    }
+      where
+        b : (lo ≤ hi) × (hi ≤ c .resources)
+        b = run-within c (m .resources) (m .index) (m .text) w lo hi e
+
+        size : length (part (m .index) lo hi) ≡ hi - lo
+        size = part-length (m .index) lo hi (b .0) (omega (arith, b .1, fits-room c m f .in-index))
+
+        as-listed : told out′ (Total (hi - lo)) ≡ listed out (part (m .index) lo hi)
+        as-listed = rw (d, size)
+
+        ends : (i j x y : ℕ) → Between i j ≡ Between x y → (i ≡ x) × (j ≡ y)
+        ends i j x y q = (cc, cc)
+
+        exactly : (ns : List (List ℕ)) → Named ns c m → listed out (part (m .index) lo hi) ≡ prefixOf c m w out
+        exactly ns N =
+            let q = ends lo hi _ _ (e ∙ run-is ns c m N w few) in
+            sym (lists ∙ ap (listed out) (list-is ns c m N w few ∙ ap₂ (part (m .index)) (sym (q .0)) (sym (q .1))))
