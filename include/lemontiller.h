@@ -175,7 +175,8 @@ uint32_t lt_check(LT_STORE, uint32_t *reply, size_t reply_len);
 
 /* Finds a name, without the string ending. LT_CAPACITY, LT_MALFORMED (by the name as it is spelled), LT_DAMAGED. reply 2: its number, or
  * 0; its position in the index, from 0, where it stands or would stand, so how many names are below it. Entering the name puts its number
- * there. Where names or index are not sound, LT_DAMAGED is not certain: number and position may also be 0 or any numbers up to R. */
+ * there. Where names or index are not sound, LT_DAMAGED is not certain: number and position may also be 0 or any numbers up to R, beside a
+ * number the position is below R. */
 uint32_t lt_find(LT_STORE, const uint8_t *name, size_t name_len, uint32_t *reply, size_t reply_len);
 
 /* Lists the resources whose names begin with `prefix`, 0 to LT_MAX_NAME bytes of any value, in rising byte order of name. LT_CAPACITY,

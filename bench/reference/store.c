@@ -87,14 +87,17 @@ static int compare_beginning(const char *stored, const char *prefix, uint32_t le
     return 0;
 }
 
-/* Where in the index, from `lo` on, the names that begin so start, or, where `after` is 1, end. */
-static uint32_t boundary(const store *s, const char *prefix, uint32_t len, uint32_t lo, int after)
+/* Where in the index, from `lo` to `*top`, the names that begin so start, or, where `after` is 1, end. The lowest name met above them is the
+ * new top, so that the second search looks no further than the first has left open. */
+static uint32_t boundary(const store *s, const char *prefix, uint32_t len, uint32_t lo, uint32_t *top, int after)
 {
-    uint32_t hi = s->R;
+    uint32_t hi = *top;
     while (lo < hi) {
         uint32_t mid = lo + (hi - lo) / 2, r = s->index[mid];
         REFUSE(r == 0 || r > s->R || s->res[r].offset >= s->B);
-        if (compare_beginning(s->text + s->res[r].offset, prefix, len) < after) lo = mid + 1; else hi = mid;
+        int d = compare_beginning(s->text + s->res[r].offset, prefix, len);
+        if (d < after) lo = mid + 1; else hi = mid;
+        if (d > 0) *top = mid;
     }
     return lo;
 }
@@ -103,7 +106,7 @@ uint32_t store_names(const store *s, const char *prefix, uint32_t len, uint32_t 
 {
     REFUSE(over(s));
     if (len > MAX_NAME) return 0;
-    uint32_t first = boundary(s, prefix, len, 0, 0), total = boundary(s, prefix, len, first, 1) - first;
+    uint32_t top = s->R, first = boundary(s, prefix, len, 0, &top, 0), total = boundary(s, prefix, len, first, &top, 1) - first;
     memcpy(numbers, s->index + first, (total < words ? total : words) * sizeof *numbers);
     return total;
 }

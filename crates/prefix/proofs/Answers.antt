@@ -22,7 +22,7 @@ use Rattle.table.proofs.Capacity.{fits-room}
 use Rattle.dictionary.specs.Search.{Readable, middle}
 use Rattle.prefix.specs.Boundary.{probeOf, boundaryOf, boundaryFrom, upTo, onFrom, runOf}
 use Rattle.prefix.specs.declared.boundary.Side.{Side}
-use Rattle.prefix.specs.declared.boundary.Side.the-variants.{Below, Above, Unreadable}
+use Rattle.prefix.specs.declared.boundary.Side.the-variants.{Below, Alike, Above, Unreadable}
 use Rattle.prefix.specs.declared.boundary.Edge.{Edge}
 use Rattle.prefix.specs.declared.boundary.Edge.the-variants.{At, Unreadable as NoEdge}
 use Rattle.prefix.specs.declared.boundary.Run.{Run}
@@ -31,77 +31,84 @@ use Rattle.prefix.proofs.Runs.{start, end, run-is, list-is}
 
 -- ---- on any tables
 
--- a boundary from k on, within the index
+-- a boundary from k to r, and a position from it to r
 abbrev pub EdgeWithin : ℕ → ℕ → Edge → Type 0
-EdgeWithin k r (At i) = (k ≤ i) × (i ≤ r)
+EdgeWithin k r (At i z) = (k ≤ i) × (i ≤ z) × (z ≤ r)
 EdgeWithin k r NoEdge = Unit {0}
 
-module _ (c : Counters) (res idx text w : List ℕ) (after : Bool) (first : ℕ) where
+module _ (c : Counters) (res idx text w : List ℕ) (after : Bool) (first end : ℕ) where
   abbrev Bounded : ℕ → Type 0
-  Bounded f = (lo hi : ℕ) → first ≤ lo → lo ≤ hi → hi ≤ c .resources
-      → EdgeWithin first (c .resources) (boundaryOf c res idx text w after f lo hi)
+  Bounded f = (lo hi z : ℕ) → first ≤ lo → lo ≤ hi → hi ≤ z → z ≤ end
+      → EdgeWithin first end (boundaryOf c res idx text w after f lo hi z)
 
-  bounded-turn : (f lo hi : ℕ) → Bounded f → first ≤ lo → lo < hi → hi ≤ c .resources → (o : Side)
+  bounded-turn : (f lo hi z : ℕ) → Bounded f → first ≤ lo → lo < hi → hi ≤ z → z ≤ end → (o : Side)
       → probeOf c res idx text w after (middle lo hi) ≡ o
-      → EdgeWithin first (c .resources) (boundaryOf c res idx text w after (suc f) lo hi)
+      → EdgeWithin first end (boundaryOf c res idx text w after (suc f) lo hi z)
   unfolding boundaryOf
-  bounded-turn f lo hi ih a lt b Below e =
-      rw (boundaryOf, lt-ltb lo hi lt, e) (ih (middle lo hi + 1) hi (omega arith) (omega arith) b)
-  bounded-turn f lo hi ih a lt b Above e =
-      rw (boundaryOf, lt-ltb lo hi lt, e) (ih lo (middle lo hi) a (omega arith) (omega arith))
-  bounded-turn f lo hi ih a lt b Unreadable e = rw (boundaryOf, lt-ltb lo hi lt, e) tt
+  bounded-turn f lo hi z ih a lt b d Below e =
+      rw (boundaryOf, lt-ltb lo hi lt, e) (ih (middle lo hi + 1) hi z (omega arith) (omega arith) b d)
+  bounded-turn f lo hi z ih a lt b d Alike e =
+      rw (boundaryOf, lt-ltb lo hi lt, e) (ih lo (middle lo hi) z a (omega arith) (omega arith) d)
+  bounded-turn f lo hi z ih a lt b d Above e =
+      rw (boundaryOf, lt-ltb lo hi lt, e)
+      (ih lo (middle lo hi) (middle lo hi) a (omega arith) (omega arith) (omega arith))
+  bounded-turn f lo hi z ih a lt b d Unreadable e = rw (boundaryOf, lt-ltb lo hi lt, e) tt
 
   bounded : (f : ℕ) → Bounded f
   unfolding boundaryOf
-  bounded zero lo hi z a b = (z, omega arith)
-  bounded (suc f) lo hi z a b =
+  bounded zero lo hi z a b d r = (a, omega arith, r)
+  bounded (suc f) lo hi z a b d r =
       decide (ltb lo hi)
-      (λ q. bounded-turn f lo hi (bounded f) z (ltb-true lo hi q) b (probeOf c res idx text w after (middle lo hi)) refl)
-      (λ q. rw (boundaryOf, q) (z, omega arith))
+      (λ q. bounded-turn f lo hi z (bounded f) a (ltb-true lo hi q) d r (probeOf c res idx text w after (middle lo hi))
+      refl)
+      (λ q. rw (boundaryOf, q) (a, omega arith, r))
 
-  from-within : first ≤ c .resources → EdgeWithin first (c .resources) (boundaryFrom c res idx text w after first)
-  from-within h = bounded 16 first (c .resources) (omega arith) h (omega arith)
+  from-within : first ≤ end → EdgeWithin first end (boundaryFrom c res idx text w after first end)
+  from-within h = bounded 16 first end end (omega arith) h (omega arith) (omega arith)
 
-  pub edge-within : (k : ℕ) → At k ≡ boundaryFrom c res idx text w after first → first ≤ c .resources
-      → (first ≤ k) × (k ≤ c .resources)
-  edge-within k e h = rw (← e) at (from-within h)
+  pub edge-within : (k z : ℕ) → At k z ≡ boundaryFrom c res idx text w after first end → first ≤ end
+      → (first ≤ k) × (k ≤ z) × (z ≤ end)
+  edge-within k z e h = rw (← e) at (from-within h)
 
 -- ---- the ways out of the two searches
 
 module _ (c : Counters) (res idx text w : List ℕ) where
-  pub run-none : NoEdge ≡ boundaryFrom c res idx text w false 0 → NoRun ≡ runOf c res idx text w
+  abbrev first-search : Edge
+  first-search = boundaryFrom c res idx text w false 0 (c .resources)
+
+  pub run-none : NoEdge ≡ first-search → NoRun ≡ runOf c res idx text w
   unfolding runOf
   run-none e = rw (← e)
 
-  pub run-open : (lo : ℕ) → At lo ≡ boundaryFrom c res idx text w false 0
-      → NoEdge ≡ boundaryFrom c res idx text w true lo → NoRun ≡ runOf c res idx text w
+  pub run-open : (lo z : ℕ) → At lo z ≡ first-search → NoEdge ≡ boundaryFrom c res idx text w true lo z
+      → NoRun ≡ runOf c res idx text w
   unfolding runOf
-  run-open lo e d = rw (← e, ← d)
+  run-open lo z e d = rw (← e, ← d)
 
-  pub run-part : (lo hi : ℕ) → At lo ≡ boundaryFrom c res idx text w false 0
-      → At hi ≡ boundaryFrom c res idx text w true lo → Between lo hi ≡ runOf c res idx text w
+  pub run-between : (lo z hi y : ℕ) → At lo z ≡ first-search → At hi y ≡ boundaryFrom c res idx text w true lo z
+      → Between lo hi ≡ runOf c res idx text w
   unfolding runOf
-  run-part lo hi e d = rw (← e, ← d)
+  run-between lo z hi y e d = rw (← e, ← d)
 
   abbrev RunWithin : ℕ → Run → Type 0
   RunWithin r (Between lo hi) = (lo ≤ hi) × (hi ≤ r)
   RunWithin r NoRun = Unit {0}
 
-  both-within : (r : ℕ) (g : ℕ → Edge) → ((k : ℕ) → k ≤ r → EdgeWithin k r (g k)) → (s : Edge) → EdgeWithin 0 r s
-      → RunWithin r (onFrom g s)
-  both-within r g h (At lo) b = go (g lo) (h lo (b .1))
+  both-within : (r : ℕ) (g : ℕ → ℕ → Edge) → ((k z : ℕ) → k ≤ z → z ≤ r → EdgeWithin k z (g k z)) → (s : Edge)
+      → EdgeWithin 0 r s → RunWithin r (onFrom g s)
+  both-within r g h (At lo z) b = go (g lo z) (h lo z (b .1) (b .2))
     where
-      go : (s : Edge) → EdgeWithin lo r s → RunWithin r (upTo lo s)
-      go (At hi) a = a
+      go : (s : Edge) → EdgeWithin lo z s → RunWithin r (upTo lo s)
+      go (At hi y) a = (a .0, omega (arith, a .1, a .2, b .2))
       go NoEdge a = tt
   both-within r g h NoEdge b = tt
 
   pub run-within : (lo hi : ℕ) → Between lo hi ≡ runOf c res idx text w → (lo ≤ hi) × (hi ≤ c .resources)
   unfolding runOf
   run-within lo hi e =
-      let b = both-within (c .resources) (λ k. boundaryFrom c res idx text w true k)
-      (λ k h. from-within c res idx text w true k h) (boundaryFrom c res idx text w false 0)
-      (from-within c res idx text w false 0 (omega arith)) in
+      let b = both-within (c .resources) (λ k z. boundaryFrom c res idx text w true k z)
+      (λ k z h g. from-within c res idx text w true k z h) first-search
+      (from-within c res idx text w false 0 (c .resources) (omega arith)) in
       rw (← e) at b
 
 -- ---- the listing

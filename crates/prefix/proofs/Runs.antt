@@ -26,7 +26,7 @@ use Rattle.dictionary.proofs.Steps.{pow2}
 use Rattle.dictionary.proofs.Named.{at-head, at-tail, clean-head}
 use Rattle.prefix.specs.Boundary.{sideOf, probeOf, boundaryOf, boundaryFrom, runOf}
 use Rattle.prefix.specs.declared.boundary.Side.{Side}
-use Rattle.prefix.specs.declared.boundary.Side.the-variants.{Below, Above, Unreadable}
+use Rattle.prefix.specs.declared.boundary.Side.the-variants.{Below, Alike, Above, Unreadable}
 use Rattle.prefix.specs.declared.boundary.Edge.{Edge}
 use Rattle.prefix.specs.declared.boundary.Edge.the-variants.{At, Unreadable as NoEdge}
 use Rattle.prefix.specs.declared.boundary.Run.the-variants.{Between}
@@ -57,8 +57,11 @@ lies after less = true
 lies after equal = after
 lies after more = false
 
-abbrev toSide : Bool → Side
-toSide b = cond b Below Above
+-- what a probe tells of it
+abbrev toSide : Bool → ByteOrdering → Side
+toSide after less = Below
+toSide after equal = cond after Below Alike
+toSide after more = Above
 
 abbrev isEqual : ByteOrdering → Bool
 isEqual less = false
@@ -67,7 +70,7 @@ isEqual more = false
 
 -- the bytes in the text say so
 side-is : (after : Bool) (t : List ℕ) (e : ℕ) (n w : List ℕ) (o : ℕ) (r : List ℕ) → clean n ≡ true
-    → drop o t ≡ n ++ 0 ∷ r → o + length n < e → sideOf after t e o w ≡ toSide (lies after (order n w))
+    → drop o t ≡ n ++ 0 ∷ r → o + length n < e → sideOf after t e o w ≡ toSide after (order n w)
 unfolding sideOf order
 side-is after t e n [] o r c d h = refl
 side-is after t e [] (y ∷ ys) o r c d h = rw (sideOf, lt-ltb o e (omega arith), eq-eqb (word t o) 0 (at-head t o 0 r d))
@@ -196,18 +199,22 @@ module _ (ns : List (List ℕ)) (c : Counters) (m : Tables) (N : Named ns c m) (
   abbrev passes : Bool → ℕ → Bool
   passes after i = lies after (order (nm i) w)
 
-  -- what a search answers: the entries before it lie below the boundary, those from it on above
+  -- what a search answers: the entries before it lie below the boundary, those from it on above; those from `top` on lie
+  -- above both boundaries
   pub record Split (after : Bool) (first : ℕ) (s : Edge) : Type 0 where
     pub at : ℕ
-    pub told : s ≡ At at
+    pub top : ℕ
+    pub told : s ≡ At at top
     pub onward : first ≤ at
-    pub within : at ≤ R
+    pub upward : at ≤ top
+    pub within : top ≤ R
     pub low : (i : ℕ) → i < at → passes after i ≡ true
     pub high : (i : ℕ) → at ≤ i → i < R → passes after i ≡ false
+    pub above : (i : ℕ) → top ≤ i → i < R → passes true i ≡ false
 
   module _ (after : Bool) where
     probe-is : (k : ℕ) → k < R
-        → probeOf c (m .resources) (m .index) (m .text) w after k ≡ toSide (passes after k)
+        → probeOf c (m .resources) (m .index) (m .text) w after k ≡ toSide after (order (nm k) w)
     unfolding probeOf inRange nameOf
     probe-is k h =
         let y = word (m .index) k in
@@ -242,51 +249,98 @@ module _ (ns : List (List ℕ)) (c : Counters) (m : Tables) (N : Named ns c m) (
         (λ z. let ne : i ≢ k = eqb-false i k z in
         decide (passes after i) (λ t. absurd (true≢false (sym (closed k i (omega arith) g t) ∙ e))) (λ t. t))
 
+    -- a name above both boundaries has all later ones above both
+    above-from : (k : ℕ) → k < R → passes true k ≡ false → (i : ℕ) → k ≤ i → i < R → passes true i ≡ false
+    above-from k h e i q g =
+        decide (eqb i k)
+        (λ z. rw (eqb-true i k z) e)
+        (λ z. let ne : i ≢ k = eqb-false i k z in
+        decide (passes true i)
+        (λ t. absurd (true≢false (sym (lies-down true (nm k) (nm i) w (rises k i (omega arith) g) t) ∙ e))) (λ t. t))
+
     module _ (first : ℕ) where
       abbrev Claim : ℕ → Type 0
-      Claim f = (lo hi : ℕ) → first ≤ lo → lo ≤ hi → hi ≤ R → hi - lo < pow2 f → Low lo → High hi
-          → Split after first (boundaryOf c (m .resources) (m .index) (m .text) w after f lo hi)
+      Claim f = (lo hi z : ℕ) → first ≤ lo → lo ≤ hi → hi ≤ z → z ≤ R → hi - lo < pow2 f → Low lo → High hi
+          → ((i : ℕ) → z ≤ i → i < R → passes true i ≡ false)
+          → Split after first (boundaryOf c (m .resources) (m .index) (m .text) w after f lo hi z)
 
-      ends : (k : ℕ) → first ≤ k → k ≤ R → Low k → High k → Split after first (At k)
-      ends k a b l h = record { at = k; told = refl; onward = a; within = b; low = l; high = h }
+      ends : (k z : ℕ) → first ≤ k → k ≤ z → z ≤ R → Low k → High k
+          → ((i : ℕ) → z ≤ i → i < R → passes true i ≡ false) → Split after first (At k z)
+      ends k z a b d l h t = record {
+        at = k;
+        top = z;
+        told = refl;
+        onward = a;
+        upward = b;
+        within = d;
+        low = l;
+        high = h;
+        above = t;
+      }
 
-      turn : (f lo hi : ℕ) → Claim f → first ≤ lo → lo < hi → hi ≤ R → hi - lo < pow2 (suc f) → Low lo → High hi
-          → (b : Bool) → passes after (middle lo hi) ≡ b
-          → Split after first (boundaryOf c (m .resources) (m .index) (m .text) w after (suc f) lo hi)
-      unfolding boundaryOf
-      turn f lo hi ih z lt b h l g true e =
-          let p = probe-is (middle lo hi) (omega arith) in
-          rw (boundaryOf, lt-ltb lo hi lt, p, e)
-          (ih (middle lo hi + 1) hi (omega arith) (omega arith) b (omega arith)
-          (low-up (middle lo hi) (omega arith) e) g)
-      turn f lo hi ih z lt b h l g false e =
-          let p = probe-is (middle lo hi) (omega arith) in
-          rw (boundaryOf, lt-ltb lo hi lt, p, e)
-          (ih lo (middle lo hi) z (omega arith) (omega arith) (omega arith) l
-          (high-down (middle lo hi) (omega arith) e))
+      module _ (f lo hi z : ℕ) (ih : Claim f) (a : first ≤ lo) (lt : lo < hi) (b : hi ≤ z) (d : z ≤ R)
+          (h : hi - lo < pow2 (suc f)) (l : Low lo) (g : High hi)
+          (t : (i : ℕ) → z ≤ i → i < R → passes true i ≡ false) where
+        abbrev k : ℕ
+        k = middle lo hi
+
+        abbrev Turns : Type 0
+        Turns = Split after first (boundaryOf c (m .resources) (m .index) (m .text) w after (suc f) lo hi z)
+
+        right : toSide after (order (nm k) w) ≡ Below → passes after k ≡ true → Turns
+        unfolding boundaryOf
+        right s e =
+            let p = probe-is k (omega arith) ∙ s in
+            rw (boundaryOf, lt-ltb lo hi lt, p)
+            (ih (k + 1) hi z (omega arith) (omega arith) b d (omega arith) (low-up k (omega arith) e) g t)
+
+        left : toSide after (order (nm k) w) ≡ Alike → passes after k ≡ false → Turns
+        unfolding boundaryOf
+        left s e =
+            let p = probe-is k (omega arith) ∙ s in
+            rw (boundaryOf, lt-ltb lo hi lt, p)
+            (ih lo k z a (omega arith) (omega arith) d (omega arith) l (high-down k (omega arith) e) t)
+
+        down : toSide after (order (nm k) w) ≡ Above → passes after k ≡ false → passes true k ≡ false → Turns
+        unfolding boundaryOf
+        down s e q =
+            let p = probe-is k (omega arith) ∙ s in
+            rw (boundaryOf, lt-ltb lo hi lt, p)
+            (ih lo k k a (omega arith) (omega arith) (omega arith) (omega arith) l (high-down k (omega arith) e)
+            (above-from k (omega arith) q))
+
+        turn : (o : ByteOrdering) → order (nm k) w ≡ o → (x : Bool) → after ≡ x → Turns
+        turn less e x q = right (ap (toSide after) e) (ap (lies after) e)
+        turn equal e true q =
+            right (ap (toSide after) e ∙ ap (λ (y : Bool). cond y Below Alike) q) (ap (lies after) e ∙ q)
+        turn equal e false q =
+            left (ap (toSide after) e ∙ ap (λ (y : Bool). cond y Below Alike) q) (ap (lies after) e ∙ q)
+        turn more e x q = down (ap (toSide after) e) (ap (lies after) e) (ap (lies true) e)
 
       splits : (f : ℕ) → Claim f
       unfolding boundaryOf
-      splits zero lo hi z a b h l g = ends lo z (omega arith) l (λ i q. g i (omega arith))
-      splits (suc f) lo hi z a b h l g =
+      splits zero lo hi z a b d r h l g t = ends lo z a (omega arith) r l (λ i q. g i (omega arith)) t
+      splits (suc f) lo hi z a b d r h l g t =
           decide (ltb lo hi)
-          (λ q. turn f lo hi (splits f) z (ltb-true lo hi q) b h l g (passes after (middle lo hi)) refl)
+          (λ q. turn f lo hi z (splits f) a (ltb-true lo hi q) d r h l g t (order (nm (middle lo hi)) w) refl after refl)
           (λ q. let le = ltb-false lo hi q in
-          rw (boundaryOf, q) (ends lo z (omega arith) l (λ i q. g i (omega arith))))
+          rw (boundaryOf, q) (ends lo z a (omega arith) r l (λ i q. g i (omega arith)) t))
 
   -- ---- both searches
 
   module _ (few : R ≤ maxResources) where
-    pub start : Split false 0 (boundaryFrom c (m .resources) (m .index) (m .text) w false 0)
+    pub start : Split false 0 (boundaryFrom c (m .resources) (m .index) (m .text) w false 0 R)
     start =
-        splits false 0 16 0 R (omega arith) (omega arith) (omega arith) (omega arith) (λ i q. absurd (omega arith))
-        (λ i q g. absurd (omega arith))
+        splits false 0 16 0 R R (omega arith) (omega arith) (omega arith) (omega arith) (omega arith)
+        (λ i q. absurd (omega arith)) (λ i q g. absurd (omega arith)) (λ i q g. absurd (omega arith))
 
-    pub end : Split true (start .at) (boundaryFrom c (m .resources) (m .index) (m .text) w true (start .at))
+    pub end : Split true (start .at)
+        (boundaryFrom c (m .resources) (m .index) (m .text) w true (start .at) (start .top))
     end =
+        let a = start .upward in
         let b = start .within in
-        splits true (start .at) 16 (start .at) R (omega arith) b (omega arith) (omega arith)
-        (λ i q. below-both (order (nm i) w) (start .low i q)) (λ i q g. absurd (omega arith))
+        splits true (start .at) 16 (start .at) (start .top) (start .top) (omega arith) a (omega arith) b (omega arith)
+        (λ i q. below-both (order (nm i) w) (start .low i q)) (start .above) (start .above)
 
     pub run-is : runOf c (m .resources) (m .index) (m .text) w ≡ Between (start .at) (end .at)
     unfolding runOf
@@ -299,8 +353,8 @@ module _ (ns : List (List ℕ)) (c : Counters) (m : Tables) (N : Named ns c m) (
         let b = end .at in
         let h = end .onward in
         let e : a + (b - a) ≡ b = omega arith in
-        keep-part (λ y. begins w (nameAt m y)) (m .index) R a (b - a) (omega (arith, end .within)) (N .index .fit)
+        keep-part (λ y. begins w (nameAt m y)) (m .index) R a (b - a) (omega (arith, end .upward, end .within)) (N .index .fit)
         (λ i q. begins-is w (nm i) ∙ before-run (order (nm i) w) (start .low i q))
         (λ i q g. begins-is w (nm i)
-        ∙ in-run (order (nm i) w) (start .high i q (omega (arith, end .within))) (end .low i (omega arith)))
+        ∙ in-run (order (nm i) w) (start .high i q (omega (arith, end .upward, end .within))) (end .low i (omega arith)))
         (λ i q g. begins-is w (nm i) ∙ after-run (order (nm i) w) (end .high i (omega arith) g))

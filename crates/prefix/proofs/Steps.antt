@@ -19,7 +19,7 @@ use Rattle.dictionary.specs.Search.{middle}
 use Rattle.dictionary.proofs.Steps.{pow2}
 use Rattle.prefix.specs.Boundary.{sideOf, probeOf, boundaryOf}
 use Rattle.prefix.specs.declared.boundary.Side.{Side}
-use Rattle.prefix.specs.declared.boundary.Side.the-variants.{Below, Above, Unreadable}
+use Rattle.prefix.specs.declared.boundary.Side.the-variants.{Below, Alike, Above, Unreadable}
 use Rattle.prefix.specs.declared.boundary.Edge.{Edge}
 use Rattle.prefix.specs.declared.boundary.Edge.the-variants.{At, Unreadable as NoEdge}
 
@@ -68,42 +68,44 @@ module _ (after : Bool) (t : List ℕ) (e : ℕ) (w : List ℕ) (o i : ℕ) wher
       )
 
   -- past the prefix
-  pub side-end : length w ≤ i → sideOf after t e o (drop i w) ≡ cond after Below Above
+  pub side-end : length w ≤ i → sideOf after t e o (drop i w) ≡ cond after Below Alike
   unfolding sideOf
   side-end h = rw (drop-of-length-le w h, sideOf)
 
 -- ---- the halving
 
--- s is what the search answers from lo and hi on, with comparisons enough
-abbrev pub Going : Counters → List ℕ → List ℕ → List ℕ → List ℕ → Bool → Edge → ℕ → ℕ → Type 0
-Going c res idx text w after s lo hi =
-    (f : ℕ) × (hi - lo < pow2 f) × (s ≡ boundaryOf c res idx text w after f lo hi)
+-- s is what the search answers from lo, hi and z on, with comparisons enough
+abbrev pub Going : Counters → List ℕ → List ℕ → List ℕ → List ℕ → Bool → Edge → ℕ → ℕ → ℕ → Type 0
+Going c res idx text w after s lo hi z =
+    (f : ℕ) × (hi - lo < pow2 f) × (s ≡ boundaryOf c res idx text w after f lo hi z)
 
-module _ (c : Counters) (res idx text w : List ℕ) (after : Bool) (s : Edge) (lo hi : ℕ) where
+module _ (c : Counters) (res idx text w : List ℕ) (after : Bool) (s : Edge) (lo hi z : ℕ) where
   abbrev mid : ℕ
   mid = middle lo hi
 
-  end′ : (f : ℕ) → s ≡ boundaryOf c res idx text w after f lo hi → hi ≤ lo → s ≡ At lo
+  end′ : (f : ℕ) → s ≡ boundaryOf c res idx text w after f lo hi z → hi ≤ lo → s ≡ At lo z
   unfolding boundaryOf
   end′ zero e l = e
   end′ (suc f) e l = e ∙ rw (boundaryOf, le-ltb lo hi l)
 
   -- what a probe of the middle leaves, by the side that it told
   abbrev pub Turned : Side → Type 0
-  Turned Below = Going c res idx text w after s (mid + 1) hi
-  Turned Above = Going c res idx text w after s lo mid
+  Turned Below = Going c res idx text w after s (mid + 1) hi z
+  Turned Alike = Going c res idx text w after s lo mid z
+  Turned Above = Going c res idx text w after s lo mid mid
   Turned Unreadable = s ≡ NoEdge
 
-  turn : (f : ℕ) → hi - lo < pow2 f → s ≡ boundaryOf c res idx text w after f lo hi → lo < hi → (o : Side)
+  turn : (f : ℕ) → hi - lo < pow2 f → s ≡ boundaryOf c res idx text w after f lo hi z → lo < hi → (o : Side)
       → probeOf c res idx text w after mid ≡ o → Turned o
   unfolding boundaryOf
   turn zero h e l o p = absurd (omega arith)
   turn (suc f) h e l Below p = (f, omega arith, e ∙ rw (boundaryOf, lt-ltb lo hi l, p))
+  turn (suc f) h e l Alike p = (f, omega arith, e ∙ rw (boundaryOf, lt-ltb lo hi l, p))
   turn (suc f) h e l Above p = (f, omega arith, e ∙ rw (boundaryOf, lt-ltb lo hi l, p))
   turn (suc f) h e l Unreadable p = e ∙ rw (boundaryOf, lt-ltb lo hi l, p)
 
-  module _ (g : Going c res idx text w after s lo hi) where
-    pub edge-end : hi ≤ lo → s ≡ At lo
+  module _ (g : Going c res idx text w after s lo hi z) where
+    pub edge-end : hi ≤ lo → s ≡ At lo z
     edge-end l = end′ (g .0) (g .2) l
 
     pub edge-turn : lo < hi → (o : Side) → probeOf c res idx text w after mid ≡ o → Turned o

@@ -10,7 +10,7 @@ use Rattle.store.specs.Tables.{word, offsetAt}
 use Rattle.store.specs.Reading.{inRange}
 use Rattle.dictionary.specs.Search.{middle}
 use Rattle.prefix.specs.declared.boundary.Side.{Side}
-use Rattle.prefix.specs.declared.boundary.Side.the-variants.{Below, Above, Unreadable}
+use Rattle.prefix.specs.declared.boundary.Side.the-variants.{Below, Alike, Above, Unreadable}
 use Rattle.prefix.specs.declared.boundary.Edge.{Edge}
 use Rattle.prefix.specs.declared.boundary.Edge.the-variants.{At, Unreadable as NoEdge}
 use Rattle.prefix.specs.declared.boundary.Run.{Run}
@@ -18,9 +18,9 @@ use Rattle.prefix.specs.declared.boundary.Run.the-variants.{Between, Unr
 
 -- The bytes from o on, closed by a zero byte before e, against a prefix: below where the name has ended or its byte is
 -- less, above where its byte is more, by the first that tells. A name that begins with the prefix is below the boundary
--- after such names, above the one before them. Unreadable where a byte at or past e is needed.
+-- after such names, and alike for the one before them. Unreadable where a byte at or past e is needed.
 unfoldable pub sideOf : Bool → List ℕ → ℕ → ℕ → List ℕ → Side
-sideOf after t e o [] = cond after Below Above
+sideOf after t e o [] = cond after Below Alike
 sideOf after t e o (y ∷ ys) =
     elim (ltb o e) [
       | false ↦ Unreadable
@@ -36,32 +36,33 @@ unfoldable pub probeOf : Counters → List ℕ → List ℕ → List ℕ → Lis
 probeOf c res idx text w after k =
     cond (inRange (c .resources) (word idx k)) (sideOf after text (c .text) (offsetAt res (word idx k)) w) Unreadable
 
--- halving from lo to hi, with at most `fuel` comparisons
-unfoldable pub boundaryOf : Counters → List ℕ → List ℕ → List ℕ → List ℕ → Bool → ℕ → ℕ → ℕ → Edge
-boundaryOf c res idx text w after zero lo hi = At lo
-boundaryOf c res idx text w after (suc fuel) lo hi =
+-- Halving from lo to hi, with at most `fuel` comparisons: where it ends, and the lowest entry met that was above, or z.
+unfoldable pub boundaryOf : Counters → List ℕ → List ℕ → List ℕ → List ℕ → Bool → ℕ → ℕ → ℕ → ℕ → Edge
+boundaryOf c res idx text w after zero lo hi z = At lo z
+boundaryOf c res idx text w after (suc fuel) lo hi z =
     elim (ltb lo hi) [
-      | false ↦ At lo
+      | false ↦ At lo z
       | true ↦ elim (probeOf c res idx text w after (middle lo hi)) [
-        | Below ↦ boundaryOf c res idx text w after fuel (middle lo hi + 1) hi
-        | Above ↦ boundaryOf c res idx text w after fuel lo (middle lo hi)
+        | Below ↦ boundaryOf c res idx text w after fuel (middle lo hi + 1) hi z
+        | Alike ↦ boundaryOf c res idx text w after fuel lo (middle lo hi) z
+        | Above ↦ boundaryOf c res idx text w after fuel lo (middle lo hi) (middle lo hi)
         | Unreadable ↦ NoEdge
       ]
     ]
 
--- the entries from k on: sixteen comparisons are enough for 65,535 names
-abbrev pub boundaryFrom : Counters → List ℕ → List ℕ → List ℕ → List ℕ → Bool → ℕ → Edge
-boundaryFrom c res idx text w after k = boundaryOf c res idx text w after 16 k (c .resources)
+-- the entries from lo to hi: sixteen comparisons are enough for 65,535 names
+abbrev pub boundaryFrom : Counters → List ℕ → List ℕ → List ℕ → List ℕ → Bool → ℕ → ℕ → Edge
+boundaryFrom c res idx text w after lo hi = boundaryOf c res idx text w after 16 lo hi hi
 
--- the boundary before the names with the prefix, then from there on the one after them
+-- the boundary before the names with the prefix, then the one after them, in the part that the first search has left open
 abbrev pub upTo : ℕ → Edge → Run
-upTo lo (At hi) = Between lo hi
+upTo lo (At hi z) = Between lo hi
 upTo lo NoEdge = NoRun
 
-abbrev pub onFrom : (ℕ → Edge) → Edge → Run
-onFrom second (At lo) = upTo lo (second lo)
+abbrev pub onFrom : (ℕ → ℕ → Edge) → Edge → Run
+onFrom second (At lo z) = upTo lo (second lo z)
 onFrom second NoEdge = NoRun
 
 unfoldable pub runOf : Counters → List ℕ → List ℕ → List ℕ → List ℕ → Run
 runOf c res idx text w =
-    onFrom (λ k. boundaryFrom c res idx text w true k) (boundaryFrom c res idx text w false 0)
+    onFrom (λ lo hi. boundaryFrom c res idx text w true lo hi) (boundaryFrom c res idx text w false 0 (c .resources))

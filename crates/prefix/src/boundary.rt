@@ -12,13 +12,15 @@ ghost use Rattle.prefix.specs.Boundary.{sideOf, probeOf, boundaryFrom, r
 // in 1..R.
 pub enum Side {
     Below,
+    Alike,
     Above,
     Unreadable,
 }
 
-// How many entries of the index lie below a boundary.
+// How many entries of the index lie below a boundary, and a position from which on all names are more than those with
+// the prefix: the lowest that the search has met.
 pub enum Edge {
-    At(u32),
+    At(u32, u32),
     Unreadable,
 }
 
@@ -29,8 +31,8 @@ pub enum Run {
 }
 
 // The name in the text from `from` on, closed by a zero byte before `end`, against a prefix. A name that begins with it
-// lies below the boundary after such names, and above the one before them. The zero byte that closes a name is less
-// than any byte of the prefix, a zero byte too: so nothing is compared with the next name.
+// lies below the boundary after such names; for the one before them it is told as alike. The zero byte that closes a
+// name is less than any byte of the prefix, a zero byte too: so nothing is compared with the next name.
 pub fn side_of(text: &[u8], end: u32, from: u32, prefix: &[u8], after: bool) -> Side
     requires { ⌜ end ≤ length (now text) ⌝ }
     ensures { λ r. ⌜ r ≡ sideOf after (now (text .entry)) end from (now (prefix .entry)) ⌝ }
@@ -56,7 +58,7 @@ pub fn side_of(text: &[u8], end: u32, from: u32, prefix: &[u8], after: bool) -> 
         }
         i += 1;
     }
-    if after { Side::Below } else { Side::Above }
+    if after { Side::Below } else { Side::Alike }
 }
 
 // The name of the index's entry at a position against a prefix.
@@ -81,7 +83,7 @@ pub fn probe(
     side_of(text, c.text, from, prefix, after)
 }
 
-// The boundary before the names with a prefix, or after them, among the entries from `first` on.
+// The boundary before the names with a prefix, or after them, among the entries from `first` to `end`.
 pub fn boundary(
     c: Counters,
     resources: &[u32],
@@ -90,36 +92,43 @@ pub fn boundary(
     prefix: &[u8],
     after: bool,
     first: u32,
+    end: u32,
 ) -> Edge
-    requires { ⌜ Readable c (now resources) (now index) (now text) × (first ≤ c .resources) ⌝ }
+    requires { ⌜ Readable c (now resources) (now index) (now text) × (first ≤ end) × (end ≤ c .resources) ⌝ }
     ensures { λ r. ⌜ r ≡ boundaryFrom c (now (resources .entry)) (now (index .entry)) (now (text .entry))
-        (now (prefix .entry)) after first ⌝ }
+        (now (prefix .entry)) after first end ⌝ }
 {
     let mut lo = first;
-    let mut hi = c.resources;
-    // Where the index rises, the names before `lo` lie below the boundary, and those from `hi` on above it.
+    let mut hi = end;
+    let mut top = end;
+    // Where the index rises, the names before `lo` lie below the boundary, those from `hi` on above it, and those from
+    // `top` on are more than the names with the prefix.
     while lo < hi {
         let mid = lo + (hi - lo) / 2;
         match probe(c, resources, index, text, prefix, after, mid) {
             Side::Below => lo = mid + 1,
-            Side::Above => hi = mid,
+            Side::Alike => hi = mid,
+            Side::Above => {
+                hi = mid;
+                top = mid;
+            }
             Side::Unreadable => return Edge::Unreadable,
         }
     }
-    Edge::At(lo)
+    Edge::At(lo, top)
 }
 
-// The run between both boundaries.
+// The run between both boundaries. The second search looks no further than the first has left open.
 pub fn run_of(c: Counters, resources: &[u32], index: &[u32], text: &[u8], prefix: &[u8]) -> Run
     requires { ⌜ Readable c (now resources) (now index) (now text) ⌝ }
     ensures { λ r. ⌜ r ≡ runOf c (now (resources .entry)) (now (index .entry)) (now (text .entry))
         (now (prefix .entry)) ⌝ }
 {
-    match boundary(c, resources, index, text, prefix, false, 0) {
+    match boundary(c, resources, index, text, prefix, false, 0, c.resources) {
         Edge::Unreadable => Run::Unreadable,
-        Edge::At(lo) => match boundary(c, resources, index, text, prefix, true, lo) {
+        Edge::At(lo, top) => match boundary(c, resources, index, text, prefix, true, lo, top) {
             Edge::Unreadable => Run::Unreadable,
-            Edge::At(hi) => Run::Between(lo, hi),
+            Edge::At(hi, _) => Run::Between(lo, hi),
         },
     }
 }

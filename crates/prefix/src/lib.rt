@@ -1,7 +1,7 @@
 // Names by their beginning: the resources whose names begin with given bytes, in byte order of their names.
 //
 // In a sound index these names are one run. Two halvings with one comparison find where it starts and where it ends: at
-// most 32 comparisons of at most 255 bytes, however many names there are. The run is then copied as a block.
+// most 32 comparisons of at most 255 bytes, however many names there are. Then the run is copied.
 //
 // Refusals, in the order tested: 1 a counter over its capacity; 2 a beginning over 255 bytes; 9 a word met on the way
 // that no sound store has. The bytes are taken as they are: a zero byte meets no name.

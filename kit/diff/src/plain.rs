@@ -869,10 +869,11 @@ impl Call {
     }
 }
 
-/// An answer of find that is within bounds: 0 or a number up to R, and a position up to R.
+/// An answer of find that is within bounds: 0 and a position up to R, or a number up to R and a position below R.
 fn found_within(before: &Lent, after: &Lent) -> Option<Vec<u32>> {
-    let answer = &after.reply[..2];
-    answer.iter().all(|&word| word <= before.r()).then(|| answer.to_vec())
+    let (number, position, r) = (after.reply[0], after.reply[1], before.r());
+    let within = number <= r && if number == 0 { position <= r } else { position < r };
+    within.then(|| vec![number, position])
 }
 
 /// A listing that is within bounds: a total up to R, and any numbers in as many words of the list.

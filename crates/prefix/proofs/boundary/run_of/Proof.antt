@@ -1,4 +1,4 @@
-use Rattle.prefix.proofs.Answers.{edge-within, run-none, run-open, run-part}
+use Rattle.prefix.proofs.Answers.{edge-within, run-none, run-open, run-between}
 use Rattle.prefix.specs.Boundary.{boundaryFrom}
 use Rattle.prefix.specs.declared.boundary.Edge.the-variants.{At}
 use mathlib.Core.Bool.{false}
@@ -24,14 +24,16 @@ enum-known-lo c = search needs
 -- the first search ended at lo
 started : (c : tie.After-known-told)
     → (let a = c .before .before .before .before .before .before .before .before .args in
-    At (c .before .lo .given .0 .0)
-    ≡ boundaryFrom (a .c) (now (a .resources)) (now (a .index)) (now (a .text)) (now (a .prefix)) false 0)
+    At (c .before .lo .given .0 .0) (c .before .lo .given .0 .1 .0)
+    ≡ boundaryFrom (a .c) (now (a .resources)) (now (a .index)) (now (a .text)) (now (a .prefix)) false 0
+    (a .c .resources))
 started c = sym (c .before .lo .given .1) ∙ c .before .before .before .boundary .ensures
 
 boundary-requires-2 : tie.Need-boundary-requires-2
 boundary-requires-2 c κs =
     let p = c .before .before .before .before .before .before .before .before in
-    (p .pre, edge-within _ _ _ _ _ _ _ _ (started c) (omega arith) .1)
+    let b = edge-within _ _ _ _ _ _ _ _ _ _ (started c) (omega arith) in
+    (p .pre, b .1, b .2)
 
 enum-told-2 : tie.Need-enum-told-2
 enum-told-2 c = search needs
@@ -45,12 +47,12 @@ returns c =
 
 returns-2 : tie.Need-returns-2
 returns-2 c =
-    run-open _ _ _ _ _ _ (started (c .before .before .before))
+    run-open _ _ _ _ _ _ _ (started (c .before .before .before))
     (sym (c .enum-told2 .given .1) ∙ c .before .before .boundary2 .ensures)
 
 returns-3 : tie.Need-returns-3
 returns-3 c =
-    run-part _ _ _ _ _ _ _ (started (c .before .before .before .before))
+    run-between _ _ _ _ _ _ _ _ _ (started (c .before .before .before .before))
     (sym (c .before .hi .given .1) ∙ c .before .before .before .boundary2 .ensures)
 
 pub run-of-spec : {M : Type 1} → statement M
