@@ -168,7 +168,7 @@ def queries(triples, join, ks, rng):
 
 
 def screenful(name, names):
-    """The shortest beginning of a name that no more than a screenful of the names has, and how many have it. No name has a byte above 126."""
+    """The shortest beginning of a name that at most a screenful of the names has, and how many have it. No name has a byte above 126."""
     for cut in range(1, len(name) + 1):
         n = bisect.bisect(names, name[:cut] + '\x7f') - bisect.bisect_left(names, name[:cut])
         if n <= SCREENFUL:

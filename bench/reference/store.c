@@ -87,8 +87,8 @@ static int compare_beginning(const char *stored, const char *prefix, uint32_t le
     return 0;
 }
 
-/* Where in the index, from `lo` to `*top`, the names that begin so start, or, where `after` is 1, end. The lowest name met above them is the
- * new top, so that the second search looks no further than the first has left open. */
+/* Where in the index, from `lo` to `*top`, the names that begin so start, or, where `after` is 1, end. The lowest name met above them is
+ * the new top, so that the second search looks no further than the first has left open. */
 static uint32_t boundary(const store *s, const char *prefix, uint32_t len, uint32_t lo, uint32_t *top, int after)
 {
     uint32_t hi = *top;

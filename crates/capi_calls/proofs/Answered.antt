@@ -1,5 +1,5 @@
 -- Names for C on a sound store: which word tells find's number, which its position, and which the total of a listing by
--- prefix. Assumes nothing.
+-- prefix. It uses the closed runs, so that they are reported first where a definition is wrong. Assumes nothing.
 use mathlib.Core.Path.{_≡_, refl, ap, _∙_}
 use mathlib.Core.Bool.{true}
 use mathlib.Core.List.{List, [], _∷_}

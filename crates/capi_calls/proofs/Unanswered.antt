@@ -1,5 +1,5 @@
--- A call that is not answered leaves counters, cursor and tables as they were, and zeros in its reply, or the reply too
--- where it is lent too little. Assumes nothing.
+-- A call that is not answered leaves counters, cursor, tables and a list's words as they were, and zeros in its reply, or
+-- the reply too where it is lent too little. Assumes nothing.
 use mathlib.Core.Path.{_≡_, refl, ap, _∙_}
 use mathlib.Core.Logic.{_≢_, ⊎-elim}
 use mathlib.Core.Bool.{Bool, true, false, cond}

@@ -1,6 +1,7 @@
 -- What a caller relies on, as statements. Reading back what was written gives it back, and the words past those named
--- are kept. A call that is not answered leaves counters, cursor and tables as they were, and its reply's words are 0;
--- one that is lent too little leaves the reply too. The definitions of `Words`, `Calls` and `QueryCalls` stand on both
+-- are kept. A call that is not answered leaves counters, cursor, tables and a list's words as they were, and its reply's
+-- words are 0; one that is lent too little leaves the reply too. On a sound store, which words tell find's number and
+-- position and a listing's total. The definitions of `Words`, `Calls` and `QueryCalls` stand on both
 -- sides of the contracts, so these say of them what they come to. Declared in `proofs/ReadBack.antt`,
 -- `proofs/Unanswered.antt`, `proofs/Stale.antt` and `proofs/Answered.antt`. Assumes nothing.
 use mathlib.Core.Path.{_≡_}

@@ -1,4 +1,7 @@
 // Names by their beginning, for C.
+//
+// Any number of words may be lent for the list, none too; a refusal writes none of them. The contract is a record in
+// `specs/Calls.antt` of `capi_calls`, since on unsound tables the operation's is one.
 use capi_calls::COUNTER_WORDS;
 use capi_calls::NUMBER_REPLY_WORDS;
 use capi_calls::TOO_SHORT;

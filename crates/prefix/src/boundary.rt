@@ -18,7 +18,7 @@ pub enum Side {
 }
 
 // How many entries of the index lie below a boundary, and a position from which on all names are more than those with
-// the prefix: the lowest that the search has met.
+// the prefix: the lowest that the search has met, or the end of the part searched.
 pub enum Edge {
     At(u32, u32),
     Unreadable,

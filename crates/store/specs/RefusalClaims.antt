@@ -8,7 +8,8 @@ use Rattle.store.specs.Tables.{Tables, fits, tripleAt, offsetAt, flagAt,
 use Rattle.store.specs.Tables.{textCapacity, termAt, word}
 use Rattle.store.specs.Names.{nameAt}
 use Rattle.store.specs.Values.{refusedWith, assertedValues, retractedValues, scannedValues, reclaimedValues, noTriple}
-use Rattle.store.specs.Values.{StatementValues, statementValues, NameValues, nameValues, numbered, lookupValues, lookupPosition, prefixedValues}
+use Rattle.store.specs.Values.{StatementValues, statementValues, NameValues, nameValues, numbered, lookupValues, lookupPosition}
+use Rattle.store.specs.Values.{prefixedValues}
 use Rattle.store.specs.Reading.{statementOf, nameSpanOf}
 use Rattle.store.specs.Model.{Call, next}
 use Rattle.store.specs.Statement.{locate, kindsOk, assertOf, retractOf}

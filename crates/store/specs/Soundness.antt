@@ -1,5 +1,5 @@
--- Sound (paper 01, "Sound means"; 02, notes 5, 6 and 7): one definition for find, intern, reclaim, the check and both
--- demands. Words past the counters do not matter. Assumes nothing.
+-- Sound (paper 01, "Sound means"; 02, notes 5, 6 and 7): one definition for find, names by prefix, intern, reclaim,
+-- the check and both demands. Words past the counters do not matter. Assumes nothing.
 use Rattle.store.specs.Prelude.{_≡_, _≢_, Bool, true, _&&_, List, ℕ, _*_, _≤_, _<_, length, eqb, Counters, Position}
 use Rattle.store.specs.Shared.{kindsPermitted, below, head0}
 use Rattle.store.specs.Tables.{Tables, fits, resourceWords, statementWords, termAt, nextAt, flagAt, tripleAt, firstAt, countAt}

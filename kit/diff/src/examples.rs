@@ -541,7 +541,8 @@ fn long_beginnings() {
     assert_eq!(begun(&mut lent, b"", 2), (1, 0, vec![77, 77]));
 }
 
-/// What is left open where names or index are not sound: a position and a total are at most R, and words past the list keep their values.
+/// What is left open where names or index are not sound: a position is at most R, below R beside a number, a total is at most R, and words
+/// past the list keep their values.
 #[test]
 fn bounds_of_the_index() {
     let mut before = bay();
@@ -550,7 +551,8 @@ fn bounds_of_the_index() {
     before.reply = vec![9; 2];
     for (result, reply, kept) in [
         (0, [0, 0], true),
-        (0, [4, 4], true),
+        (0, [4, 3], true),
+        (0, [4, 4], false),
         (0, [0, 4], true),
         (0, [5, 0], false),
         (0, [0, 5], false),

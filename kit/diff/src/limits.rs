@@ -1,6 +1,6 @@
 //! The limits of 65,535 records, 1,048,576 bytes of text and 65,535 reclaims: every function at them and one beyond, on tables that have
 //! room for more and hold what would be sound there, so that a limit that is not kept shows in the answer. And the room for a literal with
-//! the string ending, which is that for what is left of it; an index that does not rise; the live count of a chain of all statements; and
+//! the string ending, which is that for what is left of it; index, offsets and text in disorder; the live count of a chain of all statements; and
 //! resource tables about each whole record.
 
 use crate::names::{MAX_NAME, STRING_ENDING};
@@ -255,7 +255,8 @@ impl Run {
         for name in [named(1, length), named(r, SHORT), named(0, length)] {
             self.compare(&Call::Find { name }, lent)?;
         }
-        // All names; a sixteenth of them, and a 256th; one, by the whole of it; none, by a byte more, by another last byte, and below all.
+        // All names; a sixteenth of them, and a 256th; one, by the whole of it; none, by a zero
+        // byte after it (at 255 bytes in place of its last), by another last byte, and below all.
         let (all, name) = (r as usize, named(1, length));
         let (above, closed) = ([&name[..length - 1], &[255]].concat(), [&name[..length.min(MAX_NAME - 1)], &[0]].concat());
         let beginnings =

@@ -408,6 +408,7 @@ impl<'a> Store<'a> {
 
     /// Lists the resources whose names begin with `prefix`, up to 255 bytes of any value, in byte order of name: the total. As many of the
     /// first numbers as fit stand in `numbers`; its words past the list keep their values. A longer beginning is [`Error::Malformed`].
+    /// On a store that is not sound the total may be any number up to R, and the numbers any words.
     pub fn names_with_prefix(&self, prefix: &[u8], numbers: &mut [u32]) -> Result<u32, Error> {
         let mut reply = [0u32; 1];
         reading!(

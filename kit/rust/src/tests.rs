@@ -180,7 +180,8 @@ fn beginnings_of_any_tables() {
     assert_eq!(store.names_with_prefix(&[0; 256], &mut []), Err(Error::Malformed));
     let store = Store::new(&mut over, &mut [], &mut [], &mut [], &mut []).unwrap();
     for prefix in [&b""[..], &[0; 256]] {
-        assert_eq!(store.names_with_prefix(prefix, &mut []), Err(Error::Capacity));
+        let mut numbers = [77; 2];
+        assert_eq!((store.names_with_prefix(prefix, &mut numbers), numbers), (Err(Error::Capacity), [77; 2]));
         assert_eq!(store.with_prefix(prefix).err(), Some(Error::Capacity));
     }
     with_bay(|store, _| {
@@ -189,8 +190,10 @@ fn beginnings_of_any_tables() {
             store.index.copy_from_slice(&index);
             store.index[place] = word;
             for prefix in [&b""[..], b"<", b"<b", b"<b:7>", b"<r", b"_"] {
-                let total = store.names_with_prefix(prefix, &mut [0; 9]);
+                let mut numbers = [77; 9];
+                let total = store.names_with_prefix(prefix, &mut numbers);
                 assert!(matches!(total, Ok(0..=4) | Err(Error::Damaged)), "{total:?}");
+                assert!(numbers[total.unwrap_or(0) as usize..].iter().all(|&number| number == 77), "{numbers:?}");
                 match store.with_prefix(prefix) {
                     Ok(listed) => assert_eq!(Ok(listed.count() as u32), total),
                     Err(error) => assert_eq!(error, Error::Damaged),

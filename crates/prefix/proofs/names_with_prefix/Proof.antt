@@ -52,7 +52,8 @@ fitting c =
 run-of-requires : tie.Need-run-of-requires
 run-of-requires c κs =
     let a = c .before .before .before .before .before .before .before .before .before .args in
-    readable (a .c) (tables (now (a .resources)) (now (a .statements)) (now (a .index)) (now (a .text))) (now (a .prefix)) (now (a .numbers)) (fitting c)
+    readable (a .c) (tables (now (a .resources)) (now (a .statements)) (now (a .index)) (now (a .text)))
+    (now (a .prefix)) (now (a .numbers)) (fitting c)
 
 enum-told : tie.Need-enum-told
 enum-told c = search needs
@@ -109,7 +110,8 @@ same-length c = search needs
 returns-4 : tie.Need-returns-4
 returns-4 c =
     let p = c .before .before .before .before .before in
-    prefix-listed _ _ _ _ (fitting (p .before .before .before .before)) (p .before .before .before .before .if2 .left) _ _ _ (bounds p .0) (c .before .before .fill .ensures)
+    let q = p .before .before .before .before in
+    prefix-listed _ _ _ _ (fitting q) (q .if2 .left) _ _ _ (bounds p .0) (c .before .before .fill .ensures)
 
 pub names-with-prefix-spec : {M : Type 1} → statement M
 names-with-prefix-spec =
