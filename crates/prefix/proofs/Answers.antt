@@ -19,7 +19,7 @@ use Rattle.store.specs.Names.{Named}
 use Rattle.store.specs.Prefix.{told, listed, filled, prefixList, prefixOf, PrefixAnswer}
 use Rattle.store.proofs.Tests.{decide}
 use Rattle.table.proofs.Capacity.{fits-room}
-use Rattle.dictionary.specs.Search.{Readable, middle}
+use Rattle.dictionary.specs.Search.{middle}
 use Rattle.prefix.specs.Boundary.{probeOf, boundaryOf, boundaryFrom, upTo, onFrom, runOf}
 use Rattle.prefix.specs.declared.boundary.Side.{Side}
 use Rattle.prefix.specs.declared.boundary.Side.the-variants.{Below, Alike, Above, Unreadable}
@@ -122,11 +122,6 @@ part-length idx lo hi a b = simp (length-take, length-drop) (omega arith)
 module _ (c : Counters) (m : Tables) (w out : List ℕ) where
   abbrev found : Run
   found = runOf c (m .resources) (m .index) (m .text) w
-
-  pub readable : fits c m ≡ true → Readable c (m .resources) (m .index) (m .text)
-  readable f =
-      let r = fits-room c m f in
-      record { few = r .few-resources; in-resources = r .in-resources; in-index = r .in-index; in-text = r .in-text }
 
   pub prefix-capacity : fits c m ≡ false → PrefixAnswer c m w out out (NotListed Capacity)
   unfolding prefixOf

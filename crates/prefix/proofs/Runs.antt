@@ -249,23 +249,15 @@ module _ (ns : List (List ℕ)) (c : Counters) (m : Tables) (N : Named ns c m) (
         (λ z. let ne : i ≢ k = eqb-false i k z in
         decide (passes after i) (λ t. absurd (true≢false (sym (closed k i (omega arith) g t) ∙ e))) (λ t. t))
 
-    -- a name above both boundaries has all later ones above both
-    above-from : (k : ℕ) → k < R → passes true k ≡ false → (i : ℕ) → k ≤ i → i < R → passes true i ≡ false
-    above-from k h e i q g =
-        decide (eqb i k)
-        (λ z. rw (eqb-true i k z) e)
-        (λ z. let ne : i ≢ k = eqb-false i k z in
-        decide (passes true i)
-        (λ t. absurd (true≢false (sym (lies-down true (nm k) (nm i) w (rises k i (omega arith) g) t) ∙ e))) (λ t. t))
-
+  module _ (after : Bool) where
     module _ (first : ℕ) where
       abbrev Claim : ℕ → Type 0
-      Claim f = (lo hi z : ℕ) → first ≤ lo → lo ≤ hi → hi ≤ z → z ≤ R → hi - lo < pow2 f → Low lo → High hi
-          → ((i : ℕ) → z ≤ i → i < R → passes true i ≡ false)
+      Claim f = (lo hi z : ℕ) → first ≤ lo → lo ≤ hi → hi ≤ z → z ≤ R → hi - lo < pow2 f → Low after lo
+          → High after hi → High true z
           → Split after first (boundaryOf c (m .resources) (m .index) (m .text) w after f lo hi z)
 
-      ends : (k z : ℕ) → first ≤ k → k ≤ z → z ≤ R → Low k → High k
-          → ((i : ℕ) → z ≤ i → i < R → passes true i ≡ false) → Split after first (At k z)
+      ends : (k z : ℕ) → first ≤ k → k ≤ z → z ≤ R → Low after k → High after k → High true z
+          → Split after first (At k z)
       ends k z a b d l h t = record {
         at = k;
         top = z;
@@ -279,8 +271,7 @@ module _ (ns : List (List ℕ)) (c : Counters) (m : Tables) (N : Named ns c m) (
       }
 
       module _ (f lo hi z : ℕ) (ih : Claim f) (a : first ≤ lo) (lt : lo < hi) (b : hi ≤ z) (d : z ≤ R)
-          (h : hi - lo < pow2 (suc f)) (l : Low lo) (g : High hi)
-          (t : (i : ℕ) → z ≤ i → i < R → passes true i ≡ false) where
+          (h : hi - lo < pow2 (suc f)) (l : Low after lo) (g : High after hi) (t : High true z) where
         abbrev k : ℕ
         k = middle lo hi
 
@@ -290,24 +281,24 @@ module _ (ns : List (List ℕ)) (c : Counters) (m : Tables) (N : Named ns c m) (
         right : toSide after (order (nm k) w) ≡ Below → passes after k ≡ true → Turns
         unfolding boundaryOf
         right s e =
-            let p = probe-is k (omega arith) ∙ s in
+            let p = probe-is after k (omega arith) ∙ s in
             rw (boundaryOf, lt-ltb lo hi lt, p)
-            (ih (k + 1) hi z (omega arith) (omega arith) b d (omega arith) (low-up k (omega arith) e) g t)
+            (ih (k + 1) hi z (omega arith) (omega arith) b d (omega arith) (low-up after k (omega arith) e) g t)
 
         left : toSide after (order (nm k) w) ≡ Alike → passes after k ≡ false → Turns
         unfolding boundaryOf
         left s e =
-            let p = probe-is k (omega arith) ∙ s in
+            let p = probe-is after k (omega arith) ∙ s in
             rw (boundaryOf, lt-ltb lo hi lt, p)
-            (ih lo k z a (omega arith) (omega arith) d (omega arith) l (high-down k (omega arith) e) t)
+            (ih lo k z a (omega arith) (omega arith) d (omega arith) l (high-down after k (omega arith) e) t)
 
         down : toSide after (order (nm k) w) ≡ Above → passes after k ≡ false → passes true k ≡ false → Turns
         unfolding boundaryOf
         down s e q =
-            let p = probe-is k (omega arith) ∙ s in
+            let p = probe-is after k (omega arith) ∙ s in
             rw (boundaryOf, lt-ltb lo hi lt, p)
-            (ih lo k k a (omega arith) (omega arith) (omega arith) (omega arith) l (high-down k (omega arith) e)
-            (above-from k (omega arith) q))
+            (ih lo k k a (omega arith) (omega arith) (omega arith) (omega arith) l (high-down after k (omega arith) e)
+            (high-down true k (omega arith) q))
 
         turn : (o : ByteOrdering) → order (nm k) w ≡ o → (x : Bool) → after ≡ x → Turns
         turn less e x q = right (ap (toSide after) e) (ap (lies after) e)

@@ -1,4 +1,5 @@
-use Rattle.prefix.proofs.Answers.{readable, prefix-capacity, prefix-malformed, prefix-damaged, prefix-listed, run-within}
+use Rattle.dictionary.proofs.Answers.{readable}
+use Rattle.prefix.proofs.Answers.{prefix-capacity, prefix-malformed, prefix-damaged, prefix-listed, run-within}
 use Rattle.prefix.specs.Boundary.{runOf}
 use Rattle.prefix.specs.declared.boundary.Run.the-variants.{Between}
 use Rattle.store.specs.Tables.{tables, fits}
@@ -52,8 +53,7 @@ fitting c =
 run-of-requires : tie.Need-run-of-requires
 run-of-requires c κs =
     let a = c .before .before .before .before .before .before .before .before .before .args in
-    readable (a .c) (tables (now (a .resources)) (now (a .statements)) (now (a .index)) (now (a .text)))
-    (now (a .prefix)) (now (a .numbers)) (fitting c)
+    readable (a .c) (tables (now (a .resources)) (now (a .statements)) (now (a .index)) (now (a .text))) (fitting c)
 
 enum-told : tie.Need-enum-told
 enum-told c = search needs
