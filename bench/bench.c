@@ -13,8 +13,14 @@
 #include <stdio.h>
 #include <stdlib.h>
 #include <string.h>
+#include <sys/resource.h>
+#include <sys/wait.h>
 #include <time.h>
+#include <unistd.h>
 #include <valgrind/callgrind.h>
+
+/* 65,535 lines of three names of 255 bytes. */
+#define FILE_ROOM (65535 * (size_t)(3 * 255 + 5))
 
 enum { LOOKUP, JOIN, LIST_S, LIST_P, LIST_O, LIST_SP, LIST_PO, LIST_SO, NAMES, KINDS };
 static const char *const tag[KINDS] = {"L", "J", "S", "P", "O", "SP", "PO", "SO", "B"};
@@ -132,6 +138,8 @@ static size_t do_parse(void) { return peer_parse(nt, nt_len); }
 static size_t do_load(void) { return peer_load(st, nt, nt_len); }
 static size_t do_check(void) { return (size_t)peer_check(st); }
 static size_t do_reclaim(void) { return peer_reclaim(st); }
+static char *file; /* room for the longest file, in pages that are there once it is written */
+static size_t do_export(void) { return peer_export(st, file, FILE_ROOM); }
 static size_t do_all_names(void) { return peer_names(st, "", 0); }
 
 static size_t do_find(void)
@@ -270,6 +278,57 @@ static void reclaims(size_t statements)
     }
 }
 
+/* What `sort` takes with LC_ALL=C for the lines in the file, and the sorted ones in their place: the processor time of its process. */
+static double sort_file(size_t size)
+{
+    char from[4096], to[4096];
+    snprintf(from, sizeof from, "%s/%s.lines", bench_folder, workload);
+    snprintf(to, sizeof to, "%s/%s.sorted", bench_folder, workload);
+    FILE *f = fopen(from, "wb");
+    if (!f || fwrite(file, 1, size, f) != size || fclose(f)) { perror(from); exit(1); }
+    struct rusage r;
+    int status;
+    pid_t child = fork();
+    if (child == 0) {
+        setenv("LC_ALL", "C", 1);
+        execlp("sort", "sort", "-o", to, from, (char *)NULL);
+        _exit(127);
+    }
+    if (child < 0 || wait4(child, &status, 0, &r) != child) { perror("sort"); exit(1); }
+    if (status) { fprintf(stderr, "sort: status %d\n", status); exit(1); }
+    f = fopen(to, "rb");
+    if (!f || fread(file, 1, size, f) != size || fclose(f)) { perror(to); exit(1); }
+    remove(from);
+    remove(to);
+    return (double)(r.ru_utime.tv_sec + r.ru_stime.tv_sec) + 1e-6 * (double)(r.ru_utime.tv_usec + r.ru_stime.tv_usec);
+}
+
+/* The statements as lines. Where a peer's do not rise they are sorted, and then every peer's file is the same; but sord keeps the string
+ * ending, so that its file with these is another. */
+static void exports(size_t statements)
+{
+    file = malloc(FILE_ROOM);
+    if (!file) { perror("malloc"); exit(1); }
+    memset(file, 0, nt_len + 1);
+    size_t size = do_export();
+    if (size) {
+        const char *what = peer_sorts ? "export" : "write";
+        double t = least(what, do_export, &size);
+        report(what, t, statements);
+        if (!peer_sorts && !counting) {
+            t = sort_file(size);
+            report("sort", t, statements);
+        }
+        uint32_t sum = 0;
+        for (size_t i = 0; i < size; i++) sum = (sum * 31 + (unsigned char)file[i]) % 999983;
+        if (peer_sorts || strncmp(workload, "typed", 5)) {
+            out_sum("file", sum);
+            out_sum("export", size);
+        }
+    }
+    free(file);
+}
+
 /* The one operation of a workload with a walk: a listing opened and one next call, on a store with every statement retracted. Loading and
  * retracting are long beside it: callgrind may be started with its instrumentation off, which begins here. */
 static int walk(void)
@@ -357,6 +416,7 @@ int main(int argc, char **argv)
         if (units != 1) { fprintf(stderr, "%s %s: not sound\n", peer_name, workload); return 1; }
         report("check", t, statements);
     }
+    exports(statements);
     void *copy = peer_copy(st);
     if (copy) {
         peer_close(copy);

@@ -29,6 +29,8 @@ int peer_contains(void *st, node s, node p, node o);
 size_t peer_list(void *st, node s, node p, node o);       /* matches, the subject of each one read */
 void peer_join_open(void *st, const join_shape *j);
 size_t peer_join(void *st, const char *k, size_t len);    /* solutions of the join for one K */
+size_t peer_export(void *st, char *out, size_t room);     /* bytes of the statements' lines; 0: not offered */
+extern const int peer_sorts;                              /* whether these lines rise */
 int peer_retract(void *st, node s, node p, node o);       /* 1 if it was there */
 void peer_retract_begin(void *st);                        /* around many retractions */
 void peer_retract_end(void *st);

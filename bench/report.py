@@ -38,6 +38,9 @@ OPERATIONS = [
     ('list-so', 'list, subject and object', 'a record'),
     ('join', 'three-pattern join', 'a join'),
     ('retract', 'retract', 'a statement'),
+    ('export', 'the file, lines sorted', 'a statement'),
+    ('write', 'the lines, unsorted', 'a statement'),
+    ('sort', '`sort` of these lines', 'a statement'),
     ('check', 'soundness check', 'a statement'),
     ('reclaim-none', 'reclaim, none retracted', 'a statement'),
     ('reclaim-half', 'reclaim, half retracted', 'a statement'),
@@ -130,7 +133,7 @@ def main():
     twice = sorted(least['again', w, m] / least['reference', w, m] for (p, w, m) in timed if p == 'again')
     out = ['# Results', '', 'Written by `bench/run`; README.md beside this file says what is measured.', '', 'Machine: %s.' % machine(), '']
     out += ['Every figure is the least of %d rounds; a round measures every peer once on every workload, on the chain of retracted records the library and the reference alone. All peers gave the same counts of statements, names, '
-            'matches, solutions and visits.' % rounds, '']
+            'matches, solutions and visits, and the same file once it was sorted (sord not on typed workloads, where it keeps the string ending).' % rounds, '']
     out += ['**Noise.** A figure\'s median round was %.2f times its least in the middle, %.2f times for the worst twentieth. The same reference program '
             'measured a second time in every round: its least was %.2f to %.2f times the first one\'s, %.2f in the middle. A ratio as near to 1 as that says nothing.'
             % (statistics.median(spread), spread[int(0.95 * len(spread))], twice[0], twice[-1], statistics.median(twice)), '']

@@ -4,7 +4,7 @@
  * also where the length is 0; slices of one call must not overlap where one of them is written. All memory is the caller's: it is lent
  * for the duration of one call, nothing of it is kept or freed, and no memory is asked for. Two calls on the same tables must not run
  * at once where one of them writes tables (lt_enter, lt_assert, lt_retract, lt_reclaim); reading calls may, each with its own cursor,
- * reply and list.
+ * reply, list, output and working words.
  *
  * Every store function begins with the same five slices:
  *   counters    LT_COUNTER_WORDS words: resources R, statements T, text bytes B, reclaims so far; all 0 for a fresh store, whose tables
@@ -31,8 +31,9 @@
  * store has it.
  *
  * What a function gives back is an `lt_result`. Beside a refusal the reply's words are 0 (except LT_BAD_LINE, see lt_read_line), and
- * counters, cursor, tables and a list's words stay as they were. LT_TOO_SHORT comes before every refusal, and nothing at all is written
- * with it. Words past those that counters, a reply or a cursor name, and past a list, keep their values.
+ * counters, cursor, tables, a list's words, output and working words stay as they were. LT_TOO_SHORT comes before every refusal, and
+ * nothing at all is written with it. Words past those that counters, a reply or a cursor name, and past a list, bytes past a file and
+ * working words past the first T keep their values.
  * The refusals of a function are tested in the order in which its sentence names them.
  *
  * The library has the functions on slices. After them stand inline functions on a `struct lt_store`, with structs for replies and cursors.
@@ -67,8 +68,8 @@ enum lt_result {
                                   is neither a resource's number nor a variable's */
     LT_DAMAGED = 9,            /* a word that a step needs is out of range; for lt_reclaim: the store is not sound */
     LT_BAD_LINE = 10,          /* bytes that are no line */
-    LT_EXPORT_SPACE = 11,      /* memory too short for the canonical file; no function gives it yet, nor 12 and 15 to 17 */
-    LT_NO_TIMES = 12,          /* no match carries a time */
+    LT_EXPORT_SPACE = 11,      /* output or working words too short for the file of the statements */
+    LT_NO_TIMES = 12,          /* no match carries a time; no function gives it yet, nor 15 to 17 */
     LT_STALE_CURSOR = 13,      /* a cursor whose number of reclaims is not the counters' */
     LT_RECLAIM_LIMIT = 14,     /* a reclaim after LT_MAX_RECLAIMS of them */
     LT_BAD_PATH = 15,          /* a text that is no property path */
@@ -83,6 +84,7 @@ enum {
     LT_MAX_STATEMENTS = 65535,
     LT_MAX_TEXT = 1048576, /* bytes of all names, a closing zero for each included */
     LT_MAX_NAME = 255,     /* bytes of one name as it is spelled, its closing zero not included; and of a name's beginning */
+    LT_MAX_LINE = 3 * LT_MAX_NAME + 5, /* bytes of a statement's line in a file: its names, three blanks, a dot, LF */
     LT_MAX_RECLAIMS = 65535,
     LT_MAX_PATTERNS = 6,   /* of a query, and so the levels of its cursor */
     LT_VARIABLES = 16      /* of a query: 0 to 15 */
@@ -239,13 +241,18 @@ uint32_t lt_query_open(LT_STORE, const uint32_t *words, size_t words_len, uint32
 uint32_t lt_query_next(LT_STORE, const uint32_t *words, size_t words_len, uint32_t *cursor, size_t cursor_len, uint32_t budget,
                        uint32_t *reply, size_t reply_len);
 
+/* Writes the live statements as a file of N-Triples in canonical form, lines in rising byte order. LT_CAPACITY, LT_DAMAGED if a statement
+ * or one of its names cannot be read, a retracted one's too, LT_EXPORT_SPACE if `out` is shorter than the file or `work` than T words.
+ * reply 1: the file's length in bytes. Writes the file, and 0 into the first T words of `work`; nothing beside a refusal. */
+uint32_t lt_export(LT_STORE, uint8_t *out, size_t out_len, uint32_t *work, size_t work_len, uint32_t *reply, size_t reply_len);
+
 #undef LT_STORE
 
 /* The same with a struct for a store, and with named fields for replies and cursors. Each lt_store_… function makes one call of the
  * function above with the rest of its name (lt_store_find of lt_find), lt_kind_of of lt_name_kind, lt_line_read of lt_read_line, and gives
  * back its result. All that is said there holds: beside a refusal the reply's fields are 0 (except LT_BAD_LINE), and counters, cursor,
- * tables and a list's words stay as they were. LT_TOO_SHORT cannot come. Words are copied to fields and back one by one, so nothing
- * depends on how a struct is laid out. */
+ * tables, a list's words, output and working words stay as they were. LT_TOO_SHORT cannot come. Words are copied to fields and back one by
+ * one, so nothing depends on how a struct is laid out. */
 
 struct lt_counters {
     uint32_t resources, statements, text, reclaims;
@@ -538,6 +545,14 @@ static inline uint32_t lt_store_query_next(const struct lt_store *store, const u
     for (variable = 0; variable < LT_VARIABLES; variable++)
         solution->resource[variable] = reply[2 + variable];
     return result;
+}
+
+static inline uint32_t lt_store_export(const struct lt_store *store, uint8_t *out, size_t out_len, uint32_t *work, size_t work_len,
+                                       uint32_t *length)
+{
+    uint32_t counters[LT_COUNTER_WORDS];
+    lt_counters_to_words(&store->counters, counters);
+    return lt_export(LT_SLICES, out, out_len, work, work_len, length, 1);
 }
 
 #undef LT_SLICES

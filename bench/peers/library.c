@@ -6,6 +6,7 @@
 #include <string.h>
 
 const char *peer_name = "library";
+const int peer_sorts = 1;
 
 /* As many visits as a call may make: no listing or join here is cut short. */
 #define NO_LIMIT 0xFFFFFFFFu
@@ -14,7 +15,7 @@ typedef struct {
     uint32_t counters[LT_COUNTER_WORDS];
     uint32_t *resources, *statements, *index;
     uint8_t *text;
-    uint32_t *numbers; /* lent for lists of names */
+    uint32_t *numbers; /* lent for lists of names, and as working words */
     uint32_t p1, p2, p3;
     int into;
 } store;
@@ -40,7 +41,7 @@ void *peer_open(void)
     s->statements = malloc(LT_MAX_STATEMENTS * LT_STATEMENT_WORDS * sizeof *s->statements);
     s->index = malloc(LT_MAX_RESOURCES * sizeof *s->index);
     s->text = malloc(LT_MAX_TEXT);
-    s->numbers = malloc(LT_MAX_RESOURCES * sizeof *s->numbers);
+    s->numbers = malloc((LT_MAX_RESOURCES > LT_MAX_STATEMENTS ? LT_MAX_RESOURCES : LT_MAX_STATEMENTS) * sizeof *s->numbers);
     return s;
 }
 
@@ -103,6 +104,14 @@ size_t peer_names(void *st, const char *prefix, size_t len)
     must(lt_names_with_prefix(LENT(s), (const uint8_t *)prefix, len, s->numbers, LT_MAX_RESOURCES, &total, 1));
     for (uint32_t i = 0; i < total; i++) n += s->numbers[i] != 0;
     return n;
+}
+
+size_t peer_export(void *st, char *out, size_t room)
+{
+    const store *s = st;
+    uint32_t length;
+    must(lt_export(LENT(s), (uint8_t *)out, room, s->numbers, LT_MAX_STATEMENTS, &length, 1));
+    return length;
 }
 
 int peer_contains(void *st, node a, node b, node c)

@@ -9,12 +9,13 @@
 #define NAME "reference"
 #endif
 const char *peer_name = NAME;
+const int peer_sorts = 1;
 
 #define U(n) ((uint32_t)(uintptr_t)(n))
 
 typedef struct {
     store s;
-    uint32_t *numbers; /* lent for lists of names */
+    uint32_t *numbers; /* lent for lists of names, and as working words */
     uint32_t p1, p2, p3;
     int into;
 } db;
@@ -27,7 +28,7 @@ void *peer_open(void)
     d->s.st = malloc((MAX_STATEMENTS + 1) * sizeof *d->s.st);
     d->s.index = malloc(MAX_RESOURCES * sizeof *d->s.index);
     d->s.text = malloc(MAX_TEXT);
-    d->numbers = malloc(MAX_RESOURCES * sizeof *d->numbers);
+    d->numbers = malloc((MAX_RESOURCES > MAX_STATEMENTS ? MAX_RESOURCES : MAX_STATEMENTS) * sizeof *d->numbers);
     return d;
 }
 
@@ -79,6 +80,12 @@ size_t peer_names(void *st, const char *prefix, size_t len)
     uint32_t total = store_names(&d->s, prefix, (uint32_t)len, d->numbers, MAX_RESOURCES);
     for (uint32_t i = 0; i < total; i++) n += d->numbers[i] != 0;
     return n;
+}
+
+size_t peer_export(void *st, char *out, size_t room)
+{
+    const db *d = st;
+    return store_export(&d->s, out, room, d->numbers);
 }
 
 int peer_contains(void *st, node a, node b, node c)

@@ -5,6 +5,7 @@
 #include <sord/sord.h>
 
 const char *peer_name = "serd+sord";
+const int peer_sorts = 0;
 
 typedef struct {
     SordWorld *world;
@@ -82,6 +83,36 @@ size_t peer_names(void *st, const char *prefix, size_t len)
 {
     (void)st, (void)prefix, (void)len;
     return 0;
+}
+
+/* Where serd's writer puts its bytes. */
+typedef struct {
+    char *to;
+    size_t left;
+} sink;
+
+static size_t put(const void *bytes, size_t n, void *to)
+{
+    sink *s = to;
+    if (n > s->left) return 0;
+    memcpy(s->to, bytes, n);
+    s->to += n;
+    s->left -= n;
+    return n;
+}
+
+/* In the order of sord's first index. */
+size_t peer_export(void *st, char *out, size_t room)
+{
+    db *d = st;
+    sink s = {out, room};
+    SerdEnv *env = serd_env_new(NULL);
+    SerdWriter *w = serd_writer_new(SERD_NTRIPLES, SERD_STYLE_BULK, env, NULL, put, &s);
+    sord_write(d->model, w, NULL);
+    serd_writer_finish(w);
+    serd_writer_free(w);
+    serd_env_free(env);
+    return room - s.left;
 }
 
 int peer_contains(void *st, node s, node p, node o) { return sord_ask(((db *)st)->model, s, p, o, NULL); }

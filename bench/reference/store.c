@@ -1,6 +1,6 @@
-/* Paper 01's tables, with the names by their beginning, the live counts and the reclaim of paper 02, in plain C.
+/* Paper 01's tables, with the names by their beginning, the live counts, the reclaim and the file of paper 02, in plain C.
  *
- * By itself it tests only what an answer depends on: refusals 2, 3, 4, 5 and 14. With -DREFUSALS it makes the tests of refusals 1, 6, 7, 9
+ * By itself it tests only what an answer depends on: refusals 2, 3, 4, 5, 11 and 14. With -DREFUSALS it makes the tests of refusals 1, 6, 7, 9
  * and 13 as well, by abort, so that what they cost can be told from what the language costs. Reclaim's 9, which is the whole soundness
  * check, is not among them.
  */
@@ -249,4 +249,70 @@ int store_reclaim(store *s)
     memset(s->st + s->T + 1, 0, (before - s->T) * sizeof *s->st);
     s->reclaims++;
     return 1;
+}
+
+/* <0, 0, >0 as the line of statement a is below, equal to or above that of b. Two numbers are two names, and neither goes on with a blank:
+ * a closing zero stands for the blank after it. */
+static inline int compare_lines(const store *s, uint32_t a, uint32_t b)
+{
+    const statement *x = &s->st[a], *y = &s->st[b];
+    for (int p = 0; p < 3; p++) {
+        if (x->part[p] == y->part[p]) continue;
+        const unsigned char *u = (const unsigned char *)s->text + s->res[x->part[p]].offset;
+        const unsigned char *v = (const unsigned char *)s->text + s->res[y->part[p]].offset;
+        while (*u == *v) u++, v++;
+        return (*u ? *u : ' ') - (*v ? *v : ' ');
+    }
+    return 0;
+}
+
+/* Merge sort of n numbers; `spare` has room for as many. */
+static void sort_lines(const store *s, uint16_t *numbers, uint16_t *spare, uint32_t n)
+{
+    if (n < 2) return;
+    uint32_t mid = n / 2, i = 0, j = mid;
+    sort_lines(s, numbers, spare, mid);
+    sort_lines(s, numbers + mid, spare + mid, n - mid);
+    for (uint32_t k = 0; k < n; k++)
+        spare[k] = j == n || (i < mid && compare_lines(s, numbers[i], numbers[j]) <= 0) ? numbers[i++] : numbers[j++];
+    memcpy(numbers, spare, n * sizeof *numbers);
+}
+
+/* A name and the blank after it. */
+static inline char *put_name(const store *s, char *to, uint32_t r)
+{
+    const char *from = s->text + s->res[r].offset;
+    while (*from) *to++ = *from++;
+    *to++ = ' ';
+    return to;
+}
+
+size_t store_export(const store *s, char *out, size_t room, uint32_t *work)
+{
+    REFUSE(over(s));
+    size_t size = 0;
+    for (uint32_t n = 1; n <= s->T; n++) {
+        const statement *t = &s->st[n];
+        REFUSE(t->part[0] - 1 >= s->R || t->part[1] - 1 >= s->R || t->part[2] - 1 >= s->R || t->retracted > 1);
+        for (int p = 0; p < 3; p++) {
+            uint32_t offset = s->res[t->part[p]].offset;
+            REFUSE(offset >= s->B || !memchr(s->text + offset, 0, s->B - offset < MAX_NAME + 1 ? s->B - offset : MAX_NAME + 1));
+        }
+        if (t->retracted) continue;
+        size += 5;
+        for (int p = 0; p < 3; p++) size += strlen(s->text + s->res[t->part[p]].offset);
+    }
+    if (size > room) return 0;
+    uint16_t *numbers = (uint16_t *)work, *spare = numbers + s->T;
+    uint32_t live = 0;
+    for (uint32_t n = 1; n <= s->T; n++)
+        if (!s->st[n].retracted) numbers[live++] = (uint16_t)n;
+    sort_lines(s, numbers, spare, live);
+    char *to = out;
+    for (uint32_t i = 0; i < live; i++) {
+        for (int p = 0; p < 3; p++) to = put_name(s, to, s->st[numbers[i]].part[p]);
+        *to++ = '.';
+        *to++ = '\n';
+    }
+    return size;
 }

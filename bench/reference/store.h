@@ -1,5 +1,5 @@
-/* Paper 01's chained store, with the names by their beginning, the live counts and the reclaim of paper 02, in plain C: what this structure
- * can do at best. Nothing of it is proved. */
+/* Paper 01's chained store, with the names by their beginning, the live counts, the reclaim and the file of paper 02, in plain C: what this
+ * structure can do at best. Nothing of it is proved. */
 #ifndef STORE_H
 #define STORE_H
 
@@ -30,6 +30,8 @@ uint32_t store_enter(store *s, const char *name, uint32_t len);      /* 0 if ref
 uint32_t store_names(const store *s, const char *prefix, uint32_t len, uint32_t *numbers, uint32_t words);
 uint32_t store_assert(store *s, const uint32_t t[3]);                /* 0 if refused */
 uint32_t store_retract(store *s, const uint32_t t[3]);               /* 0 if not live */
+/* The file's length, 0 if refused or empty: the live statements' lines in rising order. `work` has T words, and is not cleared. */
+size_t store_export(const store *s, char *out, size_t room, uint32_t *work);
 int store_reclaim(store *s);                                         /* 0 if refused; soundness is not checked */
 listing store_open(const store *s, uint32_t a, uint32_t b, uint32_t c);
 int store_next(const store *s, listing *l, uint32_t budget, uint32_t *found, uint32_t *visits);

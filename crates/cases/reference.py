@@ -188,6 +188,25 @@ class Store:
         words[: len(listed)] = [y for _, y in listed][:lent]
         return len(listed), *words
 
+    # 1; 9 if reading a statement or naming one of its resources gives 9; 11; then the live statements' lines, sorted as bytes.
+    def export(self, room, lent):
+        out, work = [77] * room, [77] * lent
+        try:
+            self.test_counters()
+            T, lines = self.counters[1], []
+            for n in range(1, T + 1):
+                *triple, flag = self.read(n)
+                line = b"".join(self.spelling(y) + b" " for y in triple) + b".\n"
+                if flag == 0:
+                    lines.append(line)
+            file = b"".join(sorted(lines))
+            if len(file) > room or T > lent:
+                refuse(11)
+        except Refused as e:
+            return "refused", e.args[0], *out, *work
+        out[: len(file)], work[:T] = file, [0] * T
+        return len(file), *out, *work
+
     # Room and the stored bytes go by the shortened name.
     def enter(self, spelled):
         n, name = self.search(spelled), shortened(spelled)
@@ -605,6 +624,7 @@ def call(store, verb, words, rest):
     operations = {
         "name": store.name,
         "read": store.read,
+        "export": store.export,
         "assert": store.do_assert,
         "retract": store.retract,
         "reclaim": store.reclaim,

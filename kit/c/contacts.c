@@ -1,12 +1,12 @@
-/* The relays by the beginning of their names, a relay's live count, its contacts by name, a question, and a rewired relay: what an embedder
- * of the store does, in the order in which a test set does it.
+/* The relays by the beginning of their names, a relay's live count, its contacts by name, a question, a rewired relay, and the bay's file:
+ * what an embedder of the store does, in the order in which a test set does it.
  *
  *     contacts FILE
  *
  * reads a file of N-Triples into tables of its own, lists the names that begin with <r:, tells how many live statements relay <r:21> is
  * the subject of, lists what it trips, and asks which breakers are tripped by a relay that trips <b:4>. Then it rewires the relay from
- * <b:4> to <b:9>, gets the room of the retracted statement back and lists again, the names that begin with <b: too. Refused lines are told
- * and passed over; any other refusal ends the program with status 1.
+ * <b:4> to <b:9>, gets the room of the retracted statement back and lists again, the names that begin with <b: too. Last it writes the
+ * statements as a file. Refused lines are told and passed over; any other refusal ends the program with status 1.
  */
 #include <stdio.h>
 #include <stdlib.h>
@@ -179,6 +179,16 @@ static void rewire(const char *relay, const char *trips, const char *from, const
     must(lt_store_assert(&store, number_of(relay), number_of(trips), number, &assertion), "asserting");
 }
 
+/* Writes the statements as a file for other software. The output is lent at its longest; a word a statement is lent to sort them. */
+static void write_file(void)
+{
+    static uint8_t file[STATEMENTS * LT_MAX_LINE];
+    static uint32_t work[STATEMENTS];
+    uint32_t length;
+    must(lt_store_export(&store, file, LENGTH(file), work, LENGTH(work), &length), "writing the file");
+    printf("file of %u bytes\n%.*s", (unsigned)length, (int)length, (const char *)file);
+}
+
 int main(int argc, char **argv)
 {
     static uint8_t input[1 << 16];
@@ -206,6 +216,7 @@ int main(int argc, char **argv)
     rewire("<r:21>", "<p:trips>", "<b:4>", "<b:9>");
     list_contacts("<r:21>", "<p:trips>");
     list_names("<b:");
+    write_file();
 
     /* A store that comes from a file or a wire is checked once; one made by this library's own calls is sound. */
     must(lt_store_check(&store, &sound), "checking");

@@ -3,8 +3,10 @@ pub mod Unanswered
 pub mod Runs
 pub mod SpelledRuns
 pub mod PrefixRuns
+pub mod ExportRuns
 pub mod QueryRuns
 pub mod QueryBack
 pub mod QuerySlots
 pub mod Stale
 pub mod Answered
+pub mod Filed

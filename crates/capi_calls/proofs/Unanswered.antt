@@ -69,7 +69,7 @@ use Rattle.capi_calls.specs.QueryCalls.{queryOpenedAs, queryOpenCall, qu
 use Rattle.term.proofs.Names.{never}
 
 -- no refusal has the number of a slice too short
-not-short : (e : Refusal) → eqb (refusalNumber e) tooShort ≡ false
+pub not-short : (e : Refusal) → eqb (refusalNumber e) tooShort ≡ false
 not-short e = not-beyond tooShort e (omega arith)
 
 -- what holds of both, holds of a call
@@ -79,7 +79,7 @@ both P false p q = q
 
 -- a call that is lent too little is left as b says, and so is one that is not answered
 module _ {A : Type 0} (b : ℕ → ℕ × A) (cw w : List ℕ) (n : ℕ) {s a : ℕ × A} (e : s ≡ b (s .0)) (u : Unanswered a b) where
-  or-short : Unanswered (ifShort cw n w s a) b
+  pub or-short : Unanswered (ifShort cw n w s a) b
   unfolding ifShort
   or-short =
       let P : ℕ × A → Type 0 = λ z. Unanswered z b in

@@ -23,11 +23,12 @@ use Rattle.store.specs.Reading.{nameSpanOf, statementOf}
 use Rattle.store.specs.Dictionary.{FindAnswer, InternAnswer}
 use Rattle.store.specs.Prefix.{PrefixAnswer}
 use Rattle.store.specs.Reclaim.{ReclaimAnswer}
+use Rattle.lines.specs.Export.{exportOf}
 use Rattle.capi_calls.specs.Words.{counterWords, cursorWords, tooShort, ifShort, ifAnyShort, longEnough, countersOf, numberReplyWords}
 use Rattle.capi_calls.specs.Words.{nameReplyWords, statementReplyWords, assertReplyWords, scanReplyWords, lineWords, done, beside}
 use Rattle.capi_calls.specs.Words.{wrote, changed, kindAnswer, checkAnswer, lookupAnswer, nameAnswer, statementAnswer, readAnswer}
 use Rattle.capi_calls.specs.Words.{nextFrom, numberAs, nameAs, statementAs, lineAs, openedAs, scannedAs, retractAs, assertAs}
-use Rattle.capi_calls.specs.Words.{enteredAs, reclaimedAs, findReplyWords, foundAs, prefixAnswer}
+use Rattle.capi_calls.specs.Words.{enteredAs, reclaimedAs, findReplyWords, foundAs, prefixAnswer, filed, exportedAs}
 
 -- `lt_name_kind`: the name, the reply
 unfoldable pub kindCall : List ℕ → List ℕ → ℕ × List ℕ
@@ -117,3 +118,8 @@ pub record ReclaimCall (cw : List ℕ) (m m′ : Tables) (z : ℕ × List ℕ) :
   pub told : z ≡ reclaimAs cw reclaimed
   pub exact : counterWords ≤ length cw → ReclaimAnswer (countersOf cw) m m′ reclaimed
   pub kept : length cw < counterWords → m′ ≡ m
+
+-- `lt_export`: the output, the working words, the reply; the three after it
+unfoldable pub exportCall : List ℕ → Tables → List ℕ → List ℕ → List ℕ → ℕ × (List ℕ × (List ℕ × List ℕ))
+exportCall cw m out work w =
+    ifShort cw numberReplyWords w (filed tooShort out work w) (exportedAs w (exportOf (countersOf cw) m out work))

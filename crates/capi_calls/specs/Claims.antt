@@ -1,15 +1,16 @@
 -- What a caller relies on, as statements. Reading back what was written gives it back, and the words past those named
--- are kept. A call that is not answered leaves counters, cursor, tables and a list's words as they were, and its reply's
--- words are 0; one that is lent too little leaves the reply too. On a sound store, which words tell find's number and
--- position and a listing's total. The definitions of `Words`, `Calls` and `QueryCalls` stand on both
--- sides of the contracts, so these say of them what they come to. Declared in `proofs/ReadBack.antt`,
--- `proofs/Unanswered.antt`, `proofs/Stale.antt` and `proofs/Answered.antt`. Assumes nothing.
+-- are kept. A call that is not answered leaves counters, cursor, tables, a list's words, output and working words as they
+-- were, and its reply's words are 0; one that is lent too little leaves the reply too. On a sound store, which words tell
+-- find's number and position and a listing's total. On any tables, what writing the file of statements gives back and
+-- leaves. The definitions of `Words`, `Calls` and `QueryCalls` stand on both sides of the contracts, so these say of them
+-- what they come to. Declared in `proofs/ReadBack.antt`, `proofs/Unanswered.antt`, `proofs/Stale.antt`,
+-- `proofs/Answered.antt` and `proofs/Filed.antt`. Assumes nothing.
 use mathlib.Core.Path.{_≡_}
-use mathlib.Core.Logic.{_≢_, _↔_}
+use mathlib.Core.Logic.{_≢_, _↔_, _⊎_}
 use mathlib.Core.Bool.{true, cond}
 use mathlib.Core.List.{List, [], _∷_}
 use Prim.Native.Nat.{ℕ, zero, suc, _≤_, _<_}
-use lib.ListN.{length, set}
+use lib.ListN.{length, set, replicate}
 use lib.Dec.{eqb}
 use Rattle.store.specs.declared.Counters.{Counters}
 use Rattle.store.specs.declared.Chain.{Chain}
@@ -24,11 +25,12 @@ use Rattle.store.specs.Values.{lookupValues, lookupPosition, prefixedValues}
 use Rattle.store.specs.Dictionary.{findOf}
 use Rattle.store.specs.Prefix.{prefixOf}
 use Rattle.graph.specs.Words.{wordsOk}
+use Rattle.lines.specs.Export.{fileOf, exportOf, exportedValues, over}
 use Rattle.capi_calls.specs.Words.{counterWords, cursorWords, tooShort, countersOf, withCounters, cursorFrom, withCursor}
 use Rattle.capi_calls.specs.Words.{numberReplyWords, nameReplyWords, statementReplyWords, assertReplyWords, scanReplyWords, chainOf}
-use Rattle.capi_calls.specs.Words.{findReplyWords, lineWords, chainWord, done, beside, wrote, changed}
+use Rattle.capi_calls.specs.Words.{findReplyWords, lineWords, chainWord, done, beside, wrote, changed, filed}
 use Rattle.capi_calls.specs.Calls.{FindCall, nameCall, statementCall, retractCall, openCall, nextCall, assertCall, EnterCall}
-use Rattle.capi_calls.specs.Calls.{ReclaimCall, PrefixCall}
+use Rattle.capi_calls.specs.Calls.{ReclaimCall, PrefixCall, exportCall}
 use Rattle.capi_calls.specs.QueryWords.{queryCursorWords, queryReplyWords}
 use Rattle.capi_calls.specs.QueryCalls.{queryOpenCall, queryNextCall}
 
@@ -86,6 +88,14 @@ UnansweredFind = (cw : List ℕ) (m : Tables) (name w : List ℕ) (z : ℕ × Li
 abbrev pub UnansweredPrefix : Type 0
 UnansweredPrefix = (cw : List ℕ) (m : Tables) (prefix out out′ w : List ℕ) (z : ℕ × List ℕ) → PrefixCall cw m prefix out out′ w z
     → z .0 ≢ 0 → (z ≡ bare numberReplyWords w (z .0)) × (out′ ≡ out)
+
+-- the output and the working words as they were too
+abbrev pub bareFile : ℕ → List ℕ → List ℕ → List ℕ → ℕ → ℕ × (List ℕ × (List ℕ × List ℕ))
+bareFile n out work w r = filed r out work (bareWords n w r)
+
+abbrev pub UnansweredExport : Type 0
+UnansweredExport = (cw : List ℕ) (m : Tables) (out work w : List ℕ)
+    → Unanswered (exportCall cw m out work w) (bareFile numberReplyWords out work w)
 
 abbrev pub UnansweredName : Type 0
 UnansweredName = (cw : List ℕ) (m : Tables) (n : ℕ) (w : List ℕ) → Unanswered (nameCall cw m n w) (bare nameReplyWords w)
@@ -180,3 +190,18 @@ AnsweredPrefix = (cw : List ℕ) (m : Tables) (prefix out out′ w : List ℕ) (
     → 4 ≤ length cw → 1 ≤ length w → Sound (countersOf cw) m → length prefix ≤ 255
     → let a = prefixOf (countersOf cw) m prefix out in
     (z .0 ≡ 0) × (word (z .1) 0 ≡ (prefixedValues (a .1)) .number) × (out′ ≡ a .0)
+
+-- ---- the file of the live statements, on any tables
+
+-- `lt_export` gives 100 exactly where counters or reply are lent too short, and else the paper's number. Answered, its word
+-- is the file's length, the file stands in the output from the first byte on, and 0 in the first T working words; what is
+-- lent beyond keeps its values.
+pub record Exports (cw : List ℕ) (m : Tables) (out work w : List ℕ) (z : ℕ × (List ℕ × (List ℕ × List ℕ))) : Type 0 where
+  pub short : z .0 ≡ 100 ↔ (length cw < 4) ⊎ (length w < 1)
+  pub number : z .0 ≢ 100 → z .0 ≡ exportedValues (exportOf (countersOf cw) m out work .reply) .refusal
+  pub size : z .0 ≡ 0 → word (z .1 .1 .1) 0 ≡ length (fileOf (countersOf cw) m)
+  pub file : z .0 ≡ 0 → z .1 .0 ≡ over (fileOf (countersOf cw) m) out
+  pub zeroed : z .0 ≡ 0 → z .1 .1 .0 ≡ over (replicate (word cw 1) 0) work
+
+abbrev pub AnsweredExport : Type 0
+AnsweredExport = (cw : List ℕ) (m : Tables) (out work w : List ℕ) → Exports cw m out work w (exportCall cw m out work w)

@@ -31,6 +31,8 @@ use Rattle.store.specs.declared.ScanCursor.{ScanCursor}
 use Rattle.store.specs.Tables.{Tables, word, fits}
 use Rattle.store.specs.Values.{lookupValues, nameValues, statementValues, assertedValues, retractedValues, openedValues, scannedValues}
 use Rattle.store.specs.Values.{internedValues, reclaimedValues, lookupPosition, prefixedValues}
+use Rattle.lines.specs.declared.Exported.{Exported}
+use Rattle.lines.specs.Export.{Written, exportedValues}
 use Rattle.capi_calls.specs.declared.NumberReply.{NumberReply}
 use Rattle.capi_calls.specs.declared.FindReply.{FindReply}
 use Rattle.capi_calls.specs.declared.NameReply.{NameReply}
@@ -104,6 +106,9 @@ lookupAnswer a = lookedUp ((lookupValues a) .refusal) ((lookupValues a) .number)
 
 abbrev pub prefixAnswer : Prefixed → NumberReply
 prefixAnswer a = numbered ((prefixedValues a) .refusal) ((prefixedValues a) .number)
+
+abbrev pub exportAnswer : Exported → NumberReply
+exportAnswer a = numbered ((exportedValues a) .refusal) ((exportedValues a) .number)
 
 abbrev pub retractAnswer : Retracted → NumberReply
 retractAnswer a = numbered ((retractedValues a) .refusal) ((retractedValues a) .number)
@@ -208,6 +213,10 @@ wrote r m w = (r, (m, w))
 abbrev pub changed : ℕ → List ℕ → Tables → List ℕ → ℕ × (List ℕ × (Tables × List ℕ))
 changed r cw m w = (r, (cw, (m, w)))
 
+-- the output, the working words and the reply
+abbrev pub filed : ℕ → List ℕ → List ℕ → List ℕ → ℕ × (List ℕ × (List ℕ × List ℕ))
+filed r out work w = (r, (out, (work, w)))
+
 -- w as answered, and as it was beside the refusal r
 abbrev pub ifAnswered : ℕ → List ℕ → List ℕ → List ℕ
 ifAnswered r w′ w = cond (eqb r 0) w′ w
@@ -280,6 +289,10 @@ abbrev pub reclaimedAs : List ℕ → Reclaimed → ℕ × List ℕ
 reclaimedAs cw a =
     let z = reclaimedValues a in
     done (z .refusal) (ifAnswered (z .refusal) (withCounters cw (z .counters)) cw)
+
+-- the output and the working words as the operation leaves them
+abbrev pub exportedAs : List ℕ → Written → ℕ × (List ℕ × (List ℕ × List ℕ))
+exportedAs w z = filed ((exportAnswer (z .reply)) .result) (z .out) (z .work) (withNumber w (exportAnswer (z .reply)))
 
 -- s where the counters or the reply, of n words, are lent too short, else a
 unfoldable pub ifShort : {A : Type 0} → List ℕ → ℕ → List ℕ → A → A → A

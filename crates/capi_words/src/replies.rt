@@ -7,6 +7,7 @@ use capi_calls::NumberReply;
 use capi_calls::Part;
 use capi_calls::ScanReply;
 use capi_calls::StatementReply;
+use lines::Exported;
 use ntriples::Line;
 use ntriples::Span;
 use store::Asserted;
@@ -27,7 +28,7 @@ use store::refusal_number;
 ghost use mathlib.Core.Path.{_≡_};
 ghost use Rattle.store.specs.Values.{scannedValues, assertedValues, internedValues, noCursor};
 ghost use Rattle.capi_calls.specs.Words.{numbered, kindAnswer, checkAnswer, lookedUp, lookupAnswer, prefixAnswer};
-ghost use Rattle.capi_calls.specs.Words.{retractAnswer, enterAnswer};
+ghost use Rattle.capi_calls.specs.Words.{exportAnswer, retractAnswer, enterAnswer};
 ghost use Rattle.capi_calls.specs.Words.{nameAnswer, statementAnswer, assertAnswer, scannedAnswer, assertedWith};
 ghost use Rattle.capi_calls.specs.Words.{scannedWith};
 ghost use Rattle.capi_calls.specs.Words.{sizeOf, part, noParts, readAnswer};
@@ -87,6 +88,15 @@ pub fn prefix_answer(a: Prefixed) -> NumberReply
     match a {
         Prefixed::Total(n) => number(0, n),
         Prefixed::Refused(e) => number(refusal_number(e), 0),
+    }
+}
+
+pub fn export_answer(a: Exported) -> NumberReply
+    ensures { λ r. ⌜ r ≡ exportAnswer a ⌝ }
+{
+    match a {
+        Exported::Length(n) => number(0, n),
+        Exported::Refused(e) => number(refusal_number(e), 0),
     }
 }
 

@@ -10,8 +10,11 @@ use store::ResourceId;
 use store::StatementId;
 use store::Triple;
 
-// As many words as the script may lend for the numbers of names.
+// As many words as the script may lend for the numbers of names, or to work in.
 const WORDS: usize = 16;
+
+// As many bytes as the script may lend for the file.
+const OUTPUT: usize = 256;
 
 // As many bytes as a beginning may have in the script.
 const BEGINNING: usize = 300;
@@ -109,6 +112,7 @@ fn others(
     match verb {
         script::FIND | script::NAME => names(c, verb, line, resources, statements, index, text),
         script::PREFIX => prefixed(c, line, resources, statements, index, text),
+        script::EXPORT => exported(c, line, resources, statements, index, text),
         script::READ => reply::read(table::read_statement(
             c,
             resources,
@@ -180,6 +184,43 @@ fn list(
     setup::bytes(bytes, 0, beginning);
     let a = prefix::names_with_prefix(c, resources, statements, index, text, bytes, words);
     reply::prefixed(a, words);
+}
+
+// The file, into bytes and words that hold 77.
+fn exported(
+    c: Counters,
+    line: &[u8],
+    resources: &[u32],
+    statements: &[u32],
+    index: &[u32],
+    text: &[u8],
+) {
+    let mut out = [77u8; OUTPUT];
+    let mut work = [77u32; WORDS];
+    let n = table::word::lesser(script::number(line, 2) as usize, OUTPUT);
+    let k = table::word::lesser(script::number(line, 3) as usize, WORDS);
+    export(
+        c,
+        resources,
+        statements,
+        index,
+        text,
+        &mut out[0..n],
+        &mut work[0..k],
+    );
+}
+
+fn export(
+    c: Counters,
+    resources: &[u32],
+    statements: &[u32],
+    index: &[u32],
+    text: &[u8],
+    out: &mut [u8],
+    work: &mut [u32],
+) {
+    let a = exporter::export_file(c, resources, statements, index, text, out, work);
+    reply::exported(a, out, work);
 }
 
 // A name's reply, printed. Proved by a walk of its code, since it holds the reply.

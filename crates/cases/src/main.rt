@@ -1,4 +1,4 @@
-// Runs the script of `stdin` on every operation of the store (paper 01; 02, notes 4 to 8). A line is words with one space between them;
+// Runs the script of `stdin` on every operation of the store (paper 01; 02, notes 1 and 4 to 8). A line is words with one space between them;
 // a line that begins with `# ` and an empty line are passed over. `reference.py` reads the same script and follows the papers with plain
 // Python lists.
 //
@@ -34,6 +34,8 @@
 // | find NAME                          | number, or `absent`; position in the index                               |
 // | prefix K BYTES                     | total, and the K words lent, at most 16, which hold 77 before; a bar     |
 // |                                    | stands for a zero byte                                                   |
+// | export N K                         | the file's length, the N bytes lent for it, at most 256, and the K       |
+// |                                    | working words, at most 16; both hold 77 before                           |
 // | name Y                             | offset and length, `part`, the part's length, and its bytes if under ten |
 // | read N                             | subject, predicate, object, flag                                         |
 // | assert S P O                       | status, number, the counters                                             |

@@ -250,6 +250,20 @@ pub fn numbers(table: &[u32], first: usize, n: usize) {
     }
 }
 
+// Bytes, each by its number.
+pub fn codes(bytes: &[u8]) {
+    let mut i = 0;
+    // The first i bytes are written.
+    while i < bytes.len() {
+        code(bytes[i]);
+        i += 1;
+    }
+}
+
+fn code(b: u8) {
+    number(b as u32);
+}
+
 // Every whole record.
 fn all_resources(resources: &[u32]) {
     let mut first = 0;

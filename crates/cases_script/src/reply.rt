@@ -7,6 +7,7 @@ use graph::QueryCursor;
 use graph::QueryOpened;
 use graph::QueryOpening;
 use graph::QueryStep;
+use lines::Exported;
 use store::Asserted;
 use store::Counters;
 use store::Interned;
@@ -65,6 +66,18 @@ pub fn prefixed(a: Prefixed, words: &[u32]) {
         }
     }
     print::numbers(words, 0, words.len());
+}
+
+// The file's length, then every byte and every word lent, beside a refusal too.
+pub fn exported(a: Exported, out: &[u8], work: &[u32]) {
+    match a {
+        Exported::Length(n) => print::number(n),
+        Exported::Refused(e) => {
+            print::refused(e);
+        }
+    }
+    print::codes(out);
+    print::numbers(work, 0, work.len());
 }
 
 // Where a name's bytes start and how many they are; nothing beside a refusal.

@@ -1,26 +1,12 @@
 // Words set to 0: the links and counts of every resource before the sweep, the records given up after it.
 use store::ResourceId;
 ghost use mathlib.Core.Path.{_≡_};
-ghost use Prim.Native.Nat.{_+_, _-_, _*_, _≤_};
-ghost use lib.ListN.{length, replicate};
-ghost use lib.Seq.{sets};
+ghost use Prim.Native.Nat.{_-_, _*_, _≤_};
+ghost use lib.ListN.{length};
 ghost use Rattle.store.specs.Tables.{resourceWords, statementWords};
 ghost use Rattle.store.specs.Reclaim.{unlinked, blanked};
 ghost use Rattle.table.specs.Held.{ResourceHeld};
 ghost use Rattle.compaction.specs.Steps.{unlinkedOne};
-
-// `size` words from `start` on.
-pub fn zero(words: &mut [u32], start: usize, size: usize)
-    requires { ⌜ start + size ≤ length (now words) ⌝ }
-    ensures { λ _. ⌜ now (words .exit) ≡ sets (now (words .entry)) start (replicate size 0) ⌝ }
-{
-    let mut i = 0;
-    // The first i of them are 0.
-    while i < size {
-        words[start + i] = 0;
-        i += 1;
-    }
-}
 
 // Firsts, counts and live counts of resource y; its offset and kind stand between them.
 pub fn unlink_one(resources: &mut [u32], y: ResourceId)
@@ -28,8 +14,8 @@ pub fn unlink_one(resources: &mut [u32], y: ResourceId)
     ensures { λ _. ⌜ now (resources .exit) ≡ unlinkedOne (y .0 - 1) (now (resources .entry)) ⌝ }
 {
     let start = table::word::RESOURCE_WORDS * (y.0 as usize - 1);
-    zero(resources, start, table::word::OFFSET);
-    zero(
+    table::word::zero(resources, start, table::word::OFFSET);
+    table::word::zero(
         resources,
         start + table::word::LIVE,
         table::word::RESOURCE_WORDS - table::word::LIVE,
@@ -55,7 +41,7 @@ pub fn blank(statements: &mut [u32], live: u32, t: u32)
     ensures { λ _. ⌜ now (statements .exit) ≡ blanked live t (now (statements .entry)) ⌝ }
 {
     let start = table::word::STATEMENT_WORDS * live as usize;
-    zero(
+    table::word::zero(
         statements,
         start,
         table::word::STATEMENT_WORDS * (t - live) as usize,

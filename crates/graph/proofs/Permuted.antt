@@ -28,7 +28,7 @@ perm-once (List·Permᴰ·swap e f) n = (
 perm-once (List·Permᴰ·trans d f) n = perm-once f (perm-once d n)
 
 -- a member can be had first
-taken : {A : Type 0} {x : A} {b : List A} → List·Memᴰ x b → (r : List A) × List·Permᴰ b (x ∷ r)
+pub taken : {A : Type 0} {x : A} {b : List A} → List·Memᴰ x b → (r : List A) × List·Permᴰ b (x ∷ r)
 taken (List·Memᴰ·head {xs = r} e) = (r, List·Permᴰ·cons (sym e) (Permᴰ·refl r))
 taken (List·Memᴰ·tail {x = y} m) =
     let t = taken m in (y ∷ t .0, List·Permᴰ·trans (List·Permᴰ·cons refl (t .1)) (List·Permᴰ·swap refl refl))

@@ -12,20 +12,13 @@ use lib.Dec.{eqb}
 use borrow.Author.Tests.{eqb-true, eqb-false, ne-eqb}
 use Rattle.store.specs.Shared.{below}
 use Rattle.store.specs.Lists.{allBelow}
-use Rattle.store.proofs.Tests.{decide, and-l, and-r, and-of}
+use Rattle.store.proofs.Tests.{decide, and-of}
+pub use Rattle.store.proofs.Tests.{all-at}
 use Rattle.store.proofs.Falling.{length-suc}
 use Rattle.table.proofs.Branches.{passed, failed}
 use Rattle.integrity.specs.Tests.{sumTo}
 
 -- ---- tests
-
-pub all-at : (f : ℕ → Bool) (n : ℕ) → allBelow f n ≡ true → (i : ℕ) → i < n → f i ≡ true
-unfolding allBelow
-all-at f zero e i h = absurd (omega arith)
-all-at f (suc n) e i h =
-    decide (eqb i n)
-    (λ q. rw (eqb-true i n q) (and-l (f n) (allBelow f n) e))
-    (λ q. let ne : i ≢ n = eqb-false i n q in all-at f n (and-r (f n) (allBelow f n) e) i (omega arith))
 
 pub all-of : (f : ℕ → Bool) (n : ℕ) → ((i : ℕ) → i < n → f i ≡ true) → allBelow f n ≡ true
 unfolding allBelow

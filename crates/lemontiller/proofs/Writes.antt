@@ -28,6 +28,8 @@ use Rattle.store.specs.Dictionary.{InternAnswer}
 use Rattle.store.specs.Prefix.{PrefixAnswer}
 use Rattle.store.specs.Reclaim.{ReclaimAnswer}
 use Rattle.store.specs.Values.{refusalNumber, scannedValues, assertedValues, internedValues}
+use Rattle.lines.specs.declared.Exported.{Exported}
+use Rattle.lines.specs.Export.{exportOf, written}
 use Rattle.capi_calls.specs.declared.NumberReply.{NumberReply}
 use Rattle.capi_calls.specs.declared.AssertReply.{AssertReply}
 use Rattle.capi_calls.specs.declared.ScanReply.{ScanReply}
@@ -36,8 +38,9 @@ use Rattle.capi_calls.specs.Words.{scanReplyWords}
 use Rattle.capi_calls.specs.Words.{countersOf, withCounters, withCursor, withNumber, withAssert, withScan, done, beside}
 use Rattle.capi_calls.specs.Words.{wrote}
 use Rattle.capi_calls.specs.Words.{changed, nextFrom, retractAnswer, scannedAnswer, assertAnswer, enterAnswer, prefixAnswer}
+use Rattle.capi_calls.specs.Words.{filed, exportAnswer}
 use Rattle.capi_calls.specs.Calls.{retractCall, openCall, nextCall, assertCall, enterAs, EnterCall, reclaimAs}
-use Rattle.capi_calls.specs.Calls.{ReclaimCall, prefixAs, PrefixCall}
+use Rattle.capi_calls.specs.Calls.{ReclaimCall, prefixAs, PrefixCall, exportCall}
 use Rattle.store.proofs.Numbers.{refuses}
 use Rattle.lemontiller.proofs.Lengths.{short-counters, short-reply, room, no-counters, no-reply, some-room}
 use Rattle.lemontiller.proofs.Lengths.{any-room}
@@ -188,6 +191,17 @@ module _ (cw w : List ℕ) {m : Tables} {prefix out : List ℕ} where
     exact = λ _. rw (← ec) es;
     kept = some-room cw numberReplyWords w h k;
   }
+
+-- ---- the file of the live statements
+
+pub export-answered : (cw w : List ℕ) (m : Tables) (out work : List ℕ) {out′ work′ : List ℕ} {r : Exported} {c : Counters} {a : NumberReply}
+    → c ≡ countersOf cw → written out′ work′ r ≡ exportOf c m out work → a ≡ exportAnswer r
+    → counterWords ≤ length cw → numberReplyWords ≤ length w
+    → filed (a .result) out′ work′ (withNumber w a) ≡ exportCall cw m out work w
+unfolding exportCall
+export-answered cw w m out work {out′} {work′} {r} {c} {a} ec e ea h k =
+    let z : exportOf (countersOf cw) m out work ≡ written out′ work′ r = cc in
+    simp (z, ea) (room cw numberReplyWords w _ _ h k)
 
 -- ---- reclaim
 

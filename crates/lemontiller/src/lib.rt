@@ -45,6 +45,7 @@ ghost use Rattle.capi_calls.specs.Words.{done, beside, wrote, changed};
 ghost use Rattle.capi_calls.specs.Calls.{kindCall, CheckCall, FindCall, nameCall, statementCall, lineCall, retractCall};
 ghost use Rattle.capi_calls.specs.Calls.{openCall, nextCall, assertCall, EnterCall};
 
+pub mod export;
 pub mod names;
 pub mod queries;
 pub mod reclaim;

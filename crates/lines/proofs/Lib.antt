@@ -1,1 +1,16 @@
+pub mod CanonicalForm
+pub mod ExportAnswers
+pub mod ExportRuns
+pub mod FileLoads
+pub mod FileMeans
+pub mod LineTriple
+pub mod LiveLines
+pub mod LoadLines
+pub mod LoadModel
+pub mod LoadRoom
+pub mod LoadStep
+pub mod LoadText
+pub mod NamesTold
+pub mod SameFile
+pub mod Sorting
 pub mod Theorems

@@ -1,1 +1,4 @@
+pub mod CanonicalForm
 pub mod Claims
+pub mod Export
+pub mod ExportClaims

@@ -21,7 +21,7 @@ fn load_case(
     i: usize,
 ) {
     heading(i);
-    let fresh = loader::load::start();
+    let fresh = loader::load::start(false);
     let l = loader::file::load_argument(fresh, resources, statements, index, text, buffer, i);
     loader::output::totals(l.counters);
 }

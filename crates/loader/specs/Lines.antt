@@ -10,17 +10,19 @@ use lib.Dec.{eqb, leb, ltb}
 use Rattle.term.specs.Grammar.{nameLimit}
 use Rattle.store.specs.declared.Counters.{Counters}
 use Rattle.store.specs.declared.ScanCursor.{ScanCursor}
-use Rattle.store.specs.Shared.{unless}
+use Rattle.store.specs.Shared.{unless, freshCounters}
 use Rattle.store.specs.Tables.{Tables, fits}
 use Rattle.store.specs.Values.{Values}
 use Rattle.store.specs.Soundness.{Sound}
-use Rattle.store.specs.History.{Store, store}
+use Rattle.store.specs.History.{Store, store, capacitiesOf}
 use Rattle.ntriples.specs.declared.Span.{Span}
 use Rattle.ntriples.specs.declared.Line.{Line}
 use Rattle.ntriples.specs.declared.Line.the-variants as answer
 use Rattle.ntriples.specs.Reader.{firstLineOf, readOf}
-use Rattle.graph.specs.Claims.{loadOf, canonicalTriple, Loaded}
+use Rattle.graph.specs.Graph.{graphOf}
+use Rattle.graph.specs.Claims.{loadOf, canonicalTriple, Loaded, SameGraph}
 use Rattle.lines.specs.Claims.{namesIn}
+use Rattle.lines.specs.Export.{liveNumbers, fileOf}
 use Rattle.loader.specs.declared.line.Outcome.{Outcome}
 use Rattle.loader.specs.declared.line.Outcome.the-variants.{Nothing, New, Already, Refused}
 use Rattle.loader.specs.declared.line.LineLoaded.{LineLoaded}
@@ -97,3 +99,16 @@ abbrev pub CodeLoads : Type 0
 CodeLoads = (c : Counters) (m m′ : Tables) (text : List ℕ) (x y z : Span) (r : LineLoaded) → Sound c m
     → Loads c m m′ text (answer.Triple x y z) r
     → Loaded (store c m []) (store (r .counters) m′ []) (canonicalTriple (namesIn text x y z)) (refusalIn (r .outcome))
+
+-- ---- the file of the live statements (02, note 1)
+
+-- The file of a sound store is loaded by the code, from fresh counters over tables of the same capacities, into a sound store with the
+-- same graph and as many statements as were live. No line of it is over the limit.
+pub record Reloaded (c d : Counters) (m m″ : Tables) : Type 0 where
+  pub sound : Sound d m″
+  pub statements : d .statements ≡ length (liveNumbers c m)
+  pub graph : SameGraph (graphOf d m″) (graphOf c m)
+
+abbrev pub CodeLoadsFile : Type 0
+CodeLoadsFile = (c : Counters) (m : Tables) → Sound c m → (m′ m″ : Tables) (d : Counters) → capacitiesOf m′ ≡ capacitiesOf m
+    → LoadsLines freshCounters m′ m″ (fileOf c m) d → Reloaded c d m m″

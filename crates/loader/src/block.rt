@@ -59,6 +59,7 @@ pub fn load_block(
         counters: c,
         lines: m.lines,
         used: used,
+        quiet: m.quiet,
     }
 }
 
@@ -78,5 +79,6 @@ pub fn finish(
         counters: c,
         lines: m.lines,
         used: 0,
+        quiet: m.quiet,
     }
 }

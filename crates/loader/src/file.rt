@@ -123,3 +123,47 @@ pub fn load_argument(
         &path[..length],
     )
 }
+
+// Loads the files named as arguments, in turn.
+fn load_files(
+    l: Load,
+    resources: &mut [u32],
+    statements: &mut [u32],
+    index: &mut [u32],
+    text: &mut [u8],
+    buffer: &mut [u8],
+) -> Load {
+    let mut m = l;
+    let count = os::arg_count();
+    let mut i = 1;
+    // The arguments before i are loaded; `m` is how far the load is.
+    while i < count {
+        m = load_argument(m, resources, statements, index, text, buffer, i);
+        i += 1;
+    }
+    m
+}
+
+// Loads the files named as arguments, in turn, or standard input where there is none.
+pub fn load_arguments(
+    l: Load,
+    resources: &mut [u32],
+    statements: &mut [u32],
+    index: &mut [u32],
+    text: &mut [u8],
+    buffer: &mut [u8],
+) -> Load {
+    if os::arg_count() < 2 {
+        return load_open(
+            l,
+            resources,
+            statements,
+            index,
+            text,
+            buffer,
+            0,
+            b"standard input",
+        );
+    }
+    load_files(l, resources, statements, index, text, buffer)
+}

@@ -7,20 +7,22 @@ use crate::output;
 use ntriples::Line;
 use store::Counters;
 
-// How far a load is: the store's counters, the lines that have ended, and how many bytes of the line being read stand at the front of
-// the buffer.
+// How far a load is: the store's counters, the lines that have ended, how many bytes of the line being read stand at the front of the
+// buffer; and whether it is quiet: then refused lines alone are told, on standard error.
 pub struct Load {
     pub counters: Counters,
     pub lines: u64,
     pub used: usize,
+    pub quiet: bool,
 }
 
 // A load that has read nothing, over tables that hold anything.
-pub fn start() -> Load {
+pub fn start(quiet: bool) -> Load {
     Load {
         counters: Counters::fresh(),
         lines: 0,
         used: 0,
+        quiet: quiet,
     }
 }
 
@@ -65,12 +67,13 @@ fn take_line(
     );
     let number = counted(l.lines);
     let outcome = r.outcome;
-    output::report(number, outcome);
+    output::report(number, outcome, l.quiet);
     let d = r.counters;
     Load {
         counters: d,
         lines: number,
         used: l.used,
+        quiet: l.quiet,
     }
 }
 

@@ -1,6 +1,8 @@
-// The lines that a load writes to standard output: one for each statement line, and the totals. Each is written at once.
+// The lines that a load writes to standard output: one for each statement line, and the totals; a quiet one writes the refused lines to
+// standard error. Each is written at once.
 ghost use Rattle.io.specs.Counts.{Counts};
 use crate::line::Outcome;
+use libc::STDERR_FILENO;
 use libc::STDOUT_FILENO;
 use store::Counters;
 use table::word::lesser;
@@ -36,23 +38,42 @@ fn append_decimal(out: &mut [u8], at: usize, n: u64) -> usize
 }
 
 // Writes `NUMBER word N`; the word has a space on either side.
-fn write_line(number: u64, word: &[u8], n: u32) {
+fn write_line(fd: i32, number: u64, word: &[u8], n: u32) {
     let mut out = [0u8; OUTPUT_LINE];
     let a = append_decimal(&mut out, 0, number);
     let b = append(&mut out, a, word);
     let c = append_decimal(&mut out, b, n as u64);
     let d = append(&mut out, c, &[b'\n']);
-    io::write_all(STDOUT_FILENO, &out[..d]);
+    io::write_all(fd, &out[..d]);
 }
 
-// Reports what a line came to.
-pub fn report(number: u64, outcome: Outcome) {
+// Reports what a line came to, on standard output.
+fn report_all(number: u64, outcome: Outcome) {
     match outcome {
         Outcome::Nothing => {}
-        Outcome::New(n) => write_line(number, b" new ", n),
-        Outcome::Already(n) => write_line(number, b" already ", n),
-        Outcome::Refused(n) => write_line(number, b" refused ", n),
+        Outcome::New(n) => write_line(STDOUT_FILENO, number, b" new ", n),
+        Outcome::Already(n) => write_line(STDOUT_FILENO, number, b" already ", n),
+        Outcome::Refused(n) => write_line(STDOUT_FILENO, number, b" refused ", n),
     }
+}
+
+// Reports a refused line, on standard error.
+fn report_refused(number: u64, outcome: Outcome) {
+    match outcome {
+        Outcome::Nothing => {}
+        Outcome::New(_) => {}
+        Outcome::Already(_) => {}
+        Outcome::Refused(n) => write_line(STDERR_FILENO, number, b" refused ", n),
+    }
+}
+
+// Reports what a line came to; where the load is quiet, a refusal alone.
+pub fn report(number: u64, outcome: Outcome, quiet: bool) {
+    if quiet {
+        report_refused(number, outcome);
+        return;
+    }
+    report_all(number, outcome);
 }
 
 // Writes the totals, `resources R statements T`.

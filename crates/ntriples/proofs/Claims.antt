@@ -171,12 +171,12 @@ cut i text w t s e =
     let y = back-off (i + length w) (length t) in
     (rw (y, x) (take-append-seam t s), sym (drop-drop (length t) (i + length w) text) ∙ rw x (drop-append-seam t s))
 
-record Spelled {l : List ℕ} (text : List ℕ) (i : ℕ) (d : Triple l) : Type 0 where
-  subject : bytesOf text (subjectSpan i d) ≡ d .subject
-  predicate : bytesOf text (predicateSpan i d) ≡ d .predicate
-  object : bytesOf text (objectSpan i d) ≡ d .object
+pub record Spelled {l : List ℕ} (text : List ℕ) (i : ℕ) (d : Triple l) : Type 0 where
+  pub subject : bytesOf text (subjectSpan i d) ≡ d .subject
+  pub predicate : bytesOf text (predicateSpan i d) ≡ d .predicate
+  pub object : bytesOf text (objectSpan i d) ≡ d .object
 
-spelled : {l : List ℕ} (text : List ℕ) (i : ℕ) (d : Triple l) (r : List ℕ) → drop i text ≡ l ++ r → Spelled text i d
+pub spelled : {l : List ℕ} (text : List ℕ) (i : ℕ) (d : Triple l) (r : List ℕ) → drop i text ≡ l ++ r → Spelled text i d
 spelled text i d r e =
     let f = simp append-assoc at (e ∙ ap (λ (z : List ℕ). z ++ r) (d .spells)) in
     let s = cut i text (d .before) (d .subject) _ f in
@@ -206,7 +206,7 @@ short-object text i d r e =
     (spelled text i d r e .object)
 
 -- the bytes of the answered part
-object-bytes : {l : List ℕ} (text : List ℕ) (i : ℕ) (d : Triple l) (r : List ℕ) → drop i text ≡ l ++ r
+pub object-bytes : {l : List ℕ} (text : List ℕ) (i : ℕ) (d : Triple l) (r : List ℕ) → drop i text ≡ l ++ r
     → bytesOf text (objectPart i d) ≡ canonical (d .object)
 object-bytes text i d r e =
     ap (bytesOf text) (sym (short-object text i d r e))
@@ -313,11 +313,11 @@ no-end m i text l r (Read.nothing t) e = end-nothing (sym e)
 no-end m i text l r (Read.triple d w) e = end-triple _ _ _ (sym e)
 no-end m i text l r (Read.refused k u x) e = end-refused _ (sym e)
 
-subject-kind : {t : List ℕ} (m : ℕ) → Subject t → length t ≤ m → (kindOf m t ≡ 1) ⊎ (kindOf m t ≡ 2)
+pub subject-kind : {t : List ℕ} (m : ℕ) → Subject t → length t ≤ m → (kindOf m t ≡ 1) ⊎ (kindOf m t ≡ 2)
 subject-kind {t} m (Subject.iri h) k = inl (kinds m 1 t (omega arith) .1 (k, g.Name.iri h))
 subject-kind {t} m (Subject.blank h) k = inr (kinds m 2 t (omega arith) .1 (k, g.Name.blank h))
 
-predicate-kind : {t : List ℕ} (m : ℕ) → Predicate t → length t ≤ m → kindOf m t ≡ 1
+pub predicate-kind : {t : List ℕ} (m : ℕ) → Predicate t → length t ≤ m → kindOf m t ≡ 1
 predicate-kind {t} m (Predicate.iri h) k = kinds m 1 t (omega arith) .1 (k, g.Name.iri h)
 
 object-kind : {t : List ℕ} (m : ℕ) → Object t → length t ≤ m → (kindOf m t ≡ 1) ⊎ ((kindOf m t ≡ 2) ⊎ (kindOf m t ≡ 3))
@@ -398,7 +398,7 @@ values-triple : (a b c s p o : Span) → answer.Triple a b c ≡ answer.Triple s
     → values 0 2 0 a b c ≡ values 0 2 0 s p o
 values-triple a b c s p o e = let x : a ≡ s = cc in let y : b ≡ p = cc in let z : c ≡ o = cc in rw (x, y, z)
 
-is-triple : (r : Line) (s p o : Span) → (valuesOf r ≡ values 0 2 0 s p o) ↔ (r ≡ answer.Triple s p o)
+pub is-triple : (r : Line) (s p o : Span) → (valuesOf r ≡ values 0 2 0 s p o) ↔ (r ≡ answer.Triple s p o)
 unfolding valuesOf
 is-triple answer.End s p o = (λ e. statuses (λ z. omega arith) e, λ e. end-triple s p o e)
 is-triple answer.Nothing s p o = (λ e. statuses (λ z. omega arith) e, λ e. nothing-triple s p o e)

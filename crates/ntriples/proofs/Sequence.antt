@@ -276,7 +276,7 @@ pub block-turn : (text : List ℕ) (i j : ℕ) → i + j < length text → (getD
 block-turn text i j h n u =
     let e : i + (j + 1) ≡ i + j + 1 = omega arith in rw e (eol-turn text i (i + j) (omega arith) h n u)
 
-unbroken-append : (l k : List ℕ) → Unbroken l → Unbroken k → Unbroken (l ++ k)
+pub unbroken-append : (l k : List ℕ) → Unbroken l → Unbroken k → Unbroken (l ++ k)
 unbroken-append l k Unbroken.none v = v
 unbroken-append l k (Unbroken.byte {s = s} h u) v = Unbroken.byte h (unbroken-append s k u v)
 

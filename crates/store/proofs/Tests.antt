@@ -3,7 +3,7 @@
 use mathlib.Core.Path.{_≡_, refl, ap, _∙_}
 use mathlib.Core.Logic.{_≢_}
 use mathlib.Core.Bool.{Bool, true, false, cond, _&&_}
-use Prim.Native.Nat.{ℕ, suc, _≤_, _<_}
+use Prim.Native.Nat.{ℕ, zero, suc, _≤_, _<_}
 use native.Mathlib.Omega.{arith}
 use lib.Dec.{eqb, leb, ltb}
 use borrow.Author.Tests.{eqb-true, eqb-false, eq-eqb, leb-true, ltb-true, ltb-false, lt-ltb, le-leb}
@@ -13,6 +13,7 @@ use Rattle.store.specs.declared.Position.the-variants.{Subject, Predicat
 use Rattle.store.specs.declared.Triple.{Triple}
 use Rattle.store.specs.declared.Counters.{Counters}
 use Rattle.store.specs.Shared.{at, triple, all3, known, within, same, maxReclaims}
+use Rattle.store.specs.Lists.{allBelow}
 use Rattle.store.specs.Tables.{Tables, off, fits, resourceCapacity, statementCapacity, textCapacity}
 use Rattle.store.specs.Reading.{inRange}
 -- Every law stands on this file, and so on the closed runs: a definition that changes an answer is refused there first.
@@ -36,6 +37,13 @@ cond-all P false x y h g = g
 pub upto : (P : ℕ → Type 0) (n : ℕ) → ((i : ℕ) → i < n → P i) → P n → (i : ℕ) → i < suc n → P i
 upto P n old last i h =
     decide (eqb i n) (λ e. rw (eqb-true i n e) last) (λ e. let ne : i ≢ n = eqb-false i n e in old i (omega arith))
+
+-- a test that holds below n
+pub all-at : (f : ℕ → Bool) (n : ℕ) → allBelow f n ≡ true → (i : ℕ) → i < n → f i ≡ true
+unfolding allBelow
+all-at f zero e i h = absurd (omega arith)
+all-at f (suc n) e i h =
+    upto (λ i. f i ≡ true) n (all-at f n (and-r (f n) (allBelow f n) e)) (and-l (f n) (allBelow f n) e) i h
 
 -- what holds in 1..n and at n + 1 holds in 1..n + 1
 pub upto-one : (P : ℕ → Type 0) (n : ℕ) → ((y : ℕ) → 0 < y → y ≤ n → P y) → P (suc n) → (y : ℕ) → 0 < y → y ≤ suc n

@@ -80,8 +80,8 @@ pub const IRI: u32 = 1;
 
 pub const LITERAL: u32 = 3;
 
-// Why an operation refuses; `specs/Values.antt` gives the paper's number of each. No operation answers 11, 12 or 15 to
-// 17 yet: they are those of the paper's notes 1, 2, 9 and 12.
+// Why an operation refuses; `specs/Values.antt` gives the paper's number of each. No operation answers 12 or 15 to 17
+// yet: they are those of the paper's notes 2, 9 and 12.
 pub enum Refusal {
     // 1: a counter exceeds its capacity.
     Capacity,

@@ -9,7 +9,8 @@ use store::StatementId;
 use store::Triple;
 ghost use mathlib.Core.Path.{_≡_};
 ghost use Prim.Native.Nat.{_+_, _*_, _-_, _<_, _≤_, min};
-ghost use lib.ListN.{length};
+ghost use lib.ListN.{length, replicate};
+ghost use lib.Seq.{sets};
 ghost use Rattle.store.specs.Shared.{kindsPermitted};
 ghost use Rattle.store.specs.Tables.{resourceWords, statementWords, off, word, termAt, nextAt, flagAt, tripleAt};
 ghost use Rattle.store.specs.Tables.{firstAt, countAt, offsetAt, kindAt, liveAt};
@@ -163,6 +164,19 @@ pub fn lesser(a: usize, b: usize) -> usize
     ensures { λ r. ⌜ r ≡ min a b ⌝ }
 {
     if a < b { a } else { b }
+}
+
+// Words set to 0: `size` of them, from `start` on.
+pub fn zero(words: &mut [u32], start: usize, size: usize)
+    requires { ⌜ start + size ≤ length (now words) ⌝ }
+    ensures { λ _. ⌜ now (words .exit) ≡ sets (now (words .entry)) start (replicate size 0) ⌝ }
+{
+    let mut i = 0;
+    // The first i of them are 0.
+    while i < size {
+        words[start + i] = 0;
+        i += 1;
+    }
 }
 
 // The name that starts at an offset of the text: it is closed by a zero byte within 256 bytes and before `end`, or it

@@ -10,6 +10,9 @@ enum { JUNK = 0x5A };
 /* Six patterns, and so a cursor of fifteen words: a header that says otherwise is not compiled. */
 typedef char limit_of_patterns[LT_MAX_PATTERNS == 6 && LT_QUERY_CURSOR_WORDS == 15 ? 1 : -1];
 
+/* The longest line of a file: three names of 255 bytes, a blank after each, the dot and LF. */
+typedef char longest_line[LT_MAX_LINE == 3 * (255 + 1) + 2 ? 1 : -1];
+
 #define STORE                                                                                             \
     uint32_t *counters, uint32_t *resources, size_t resources_len, uint32_t *statements, size_t statements_len, \
         uint32_t *index, size_t index_len, uint8_t *text, size_t text_len
@@ -228,4 +231,10 @@ uint32_t structs_query_next(STORE, const uint32_t *words, size_t words_len, uint
     for (variable = 0; variable < LT_VARIABLES; variable++)
         reply[2 + variable] = solution.resource[variable];
     return result;
+}
+
+uint32_t structs_export(STORE, uint8_t *out, size_t out_len, uint32_t *work, size_t work_len, uint32_t *reply)
+{
+    const struct lt_store store = STORE_OF_SLICES;
+    return lt_store_export(&store, out, out_len, work, work_len, reply);
 }

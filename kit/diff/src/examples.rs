@@ -3,8 +3,8 @@
 
 use crate::names::{kind_of, read_line, Line};
 use crate::plain::{
-    resource_at, statement_at, Call, Expected, Lent, COUNTER_WORDS, FLAG, KIND, LIVE, MAX_PATTERNS, MAX_RECLAIMS, NEXT, PLACES,
-    QUERY_CURSOR_WORDS, QUERY_RECLAIMS, RECLAIMS, RESOURCE_WORDS, SCAN_CHAIN, SCAN_RECLAIMS, STATEMENT_WORDS, VARIABLES,
+    resource_at, statement_at, Call, Expected, Lent, COUNTER_WORDS, FLAG, KIND, LIVE, MAX_PATTERNS, MAX_RECLAIMS, NEXT, OFFSET,
+    PLACES, QUERY_CURSOR_WORDS, QUERY_RECLAIMS, RECLAIMS, RESOURCE_WORDS, SCAN_CHAIN, SCAN_RECLAIMS, STATEMENT_WORDS, VARIABLES,
 };
 use crate::random::Random;
 
@@ -587,6 +587,151 @@ fn bounds_of_the_index() {
     }
     let wrote = Lent { reply: vec![0], index: bay().index, ..before.clone() };
     assert!(list.bounds_kept(&before, 0, &wrote).is_err());
+}
+
+/// A file written into so many bytes and words, which hold 9: the result, the length, and what they hold then.
+fn exported(lent: &mut Lent, bytes: usize, words: usize) -> (u32, u32, Vec<u8>, Vec<u32>) {
+    (lent.out, lent.work) = (vec![9; bytes], vec![9; words]);
+    let before = lent.clone();
+    let (result, reply) = call(lent, Call::Export);
+    let (out, work) = (std::mem::take(&mut lent.out), std::mem::take(&mut lent.work));
+    let tables = |lent: &Lent| [&lent.counters, &lent.resources, &lent.statements, &lent.index].map(Vec::clone);
+    assert_eq!((tables(lent), &lent.text), (tables(&before), &before.text));
+    (result, reply[0], out, work)
+}
+
+/// A refusal: nothing is written.
+fn none(refusal: u32, bytes: usize, words: usize) -> (u32, u32, Vec<u8>, Vec<u32>) {
+    (refusal, 0, vec![9; bytes], vec![9; words])
+}
+
+/// The file of a store that has room for it.
+fn file(lent: &mut Lent) -> String {
+    let (result, length, out, _) = exported(lent, 999, 99);
+    assert_eq!((result, &out[length as usize..]), (0, &vec![9; 999 - length as usize][..]));
+    String::from_utf8(out[..length as usize].to_vec()).unwrap()
+}
+
+/// Paper 02, files: the example's file, into just as much as it takes, more and less. Decision 158: T words, none written beside a refusal.
+#[test]
+fn a_file_of_the_bay() {
+    const LINES: [&[u8]; 2] = [b"<r:21> <p:trips> <b:4> .\n", b"<r:21> <p:trips> <b:7> .\n"];
+    let mut lent = bay();
+    assert_eq!(exported(&mut lent, 50, 2), (0, 50, LINES.concat(), vec![0, 0]));
+    assert_eq!(exported(&mut lent, 51, 4), (0, 50, [LINES[0], LINES[1], &[9]].concat(), vec![0, 0, 9, 9]));
+    for (bytes, words) in [(49, 2), (50, 1), (49, 1), (0, 2), (50, 0), (0, 0)] {
+        assert_eq!(exported(&mut lent, bytes, words), none(11, bytes, words));
+    }
+
+    // T words are due, and zeroed, however few are live.
+    assert_eq!(call(&mut lent, Call::Retract { triple: [1, 2, 3] }), (0, vec![1]));
+    assert_eq!(exported(&mut lent, 25, 3), (0, 25, LINES[1].to_vec(), vec![0, 0, 9]));
+    assert_eq!((exported(&mut lent, 25, 1), exported(&mut lent, 24, 2)), (none(11, 25, 1), none(11, 24, 2)));
+    assert_eq!(call(&mut lent, Call::Retract { triple: [1, 2, 4] }), (0, vec![2]));
+    assert_eq!(exported(&mut lent, 1, 2), (0, 0, vec![9], vec![0, 0]));
+    assert_eq!(exported(&mut lent, 1, 1), none(11, 1, 1));
+    assert_eq!(call(&mut lent, Call::Reclaim), (0, vec![]));
+    assert_eq!(exported(&mut lent, 0, 0), (0, 0, vec![], vec![]));
+
+    // Too short a reply writes nothing, whatever else is lent.
+    let mut lent = Lent { out: vec![9; 50], work: vec![9; 2], ..bay() };
+    lent.reply.clear();
+    let before = lent.clone();
+    assert_eq!((Call::Export.make(&mut lent), lent), (Expected::Exactly(100), before));
+}
+
+/// Paper 02, files: loading a sound store's file gives the graph again; two stores with one graph, under other numbers, have one file.
+#[test]
+fn one_graph_one_file() {
+    let names = ["<b:7>", "\"A\"", "<r:21>", "_:b", "<p:trips>", "_:a"];
+    let mut lent = store(&names, &[[6, 5, 1], [3, 5, 2], [4, 5, 6], [3, 5, 1]]);
+    let lines = ["<r:21> <p:trips> \"A\" .\n", "<r:21> <p:trips> <b:7> .\n", "_:a <p:trips> <b:7> .\n", "_:b <p:trips> _:a .\n"];
+    assert_eq!(file(&mut lent), lines.concat());
+    let mut again = fresh(64);
+    again.resources.resize(6 * RESOURCE_WORDS, 9);
+    again.index.resize(6, 9);
+    again.statements = vec![9; 6 * STATEMENT_WORDS];
+    let text = lines.concat();
+    let mut at = 0;
+    while let (Line::Triple(parts), after) = read_line(text.as_bytes(), at) {
+        let triple = parts.map(|(start, length)| enter(&mut again, &text[start..start + length]).1[0]);
+        assert_eq!(call(&mut again, Call::Assert { triple }).1[0], 1);
+        at = after;
+    }
+    assert_eq!((at, again.t(), file(&mut again)), (text.len(), 4, text));
+    assert_ne!(again.text, lent.text);
+}
+
+/// Whole lines as bytes: a blank is below every byte of a sound name that goes on, and bytes that no sound name has come by their number.
+#[test]
+fn lines_in_byte_order() {
+    let mut lent = store(&["<p>", "_:ab", "_:a", "\"a\"@en", "\"a\""], &[[2, 1, 4], [2, 1, 5], [3, 1, 2], [3, 1, 3]]);
+    assert_eq!(file(&mut lent), "_:a <p> _:a .\n_:a <p> _:ab .\n_:ab <p> \"a\" .\n_:ab <p> \"a\"@en .\n");
+    // The b of _:ab as a byte below the blank, a line feed, the blank itself, and the highest.
+    let b = lent.text.windows(2).position(|two| two == b"ab").unwrap() + 1;
+    for (byte, first) in [(31, true), (10, true), (b' ', true), (b'!', false), (255, false)] {
+        lent.text[b] = byte;
+        let (result, length, out, _) = exported(&mut lent, 99, 4);
+        assert_eq!((result, length as usize), (0, 14 + 15 + 15 + 18));
+        let begins = if first { [b'_', b':', b'a', byte, b' '] } else { *b"_:a <" };
+        assert!(out.starts_with(&begins), "{byte}");
+    }
+    // A triple twice is two lines.
+    let mut lent = bay();
+    lent.statements[statement_at(2) + 2] = 3;
+    assert_eq!(file(&mut lent), "<r:21> <p:trips> <b:4> .\n".repeat(2));
+}
+
+/// 9 before 11, for a statement that is retracted too, and for its names; 1 before both. A name that no statement has is not read.
+#[test]
+fn no_file_of_what_cannot_be_read() {
+    for retracted in [0, 1] {
+        for (word, value) in [(FLAG, 2), (0, 0), (0, 5), (1, 5), (2, u32::MAX)] {
+            let mut lent = bay();
+            lent.statements[statement_at(1) + FLAG] = retracted;
+            lent.statements[statement_at(1) + word] = value;
+            assert_eq!((exported(&mut lent, 50, 2), exported(&mut lent, 0, 0)), (none(9, 50, 2), none(9, 0, 0)));
+        }
+        for offset in [29, 30, u32::MAX] {
+            let mut lent = bay();
+            lent.statements[statement_at(1) + FLAG] = retracted;
+            lent.resources[resource_at(3) + OFFSET] = offset;
+            assert_eq!((exported(&mut lent, 50, 2), exported(&mut lent, 0, 0)), (none(9, 50, 2), none(9, 0, 0)));
+            lent.statements[statement_at(1) + 2] = 4;
+            assert_eq!(exported(&mut lent, 50, 2).0, 0);
+        }
+    }
+    // Firsts, counts, nexts, kinds and the index are no matter.
+    let mut lent = bay();
+    for number in 1..=4 {
+        lent.resources[resource_at(number)..][..OFFSET].fill(77);
+        lent.resources[resource_at(number) + KIND..][..4].fill(77);
+    }
+    lent.statements[statement_at(1) + NEXT..][..PLACES].fill(77);
+    lent.index.fill(77);
+    assert_eq!(exported(&mut lent, 50, 2).0, 0);
+    for (counter, over) in [(0, 7), (1, 7), (2, 65), (RECLAIMS, MAX_RECLAIMS + 1)] {
+        let mut lent = bay();
+        lent.statements[statement_at(1) + FLAG] = 2;
+        lent.counters[counter] = over;
+        assert_eq!((exported(&mut lent, 50, 2), exported(&mut lent, 0, 0)), (none(1, 50, 2), none(1, 0, 0)));
+    }
+}
+
+/// The longest name has 255 bytes; on unsound tables one that is longer is cut nowhere, but cannot be read.
+#[test]
+fn the_longest_line() {
+    let longest = format!("<{}>", "a".repeat(253));
+    let mut lent = fresh(300);
+    lent.statements = vec![9; STATEMENT_WORDS];
+    assert_eq!(enter(&mut lent, &longest), (0, vec![1]));
+    assert_eq!(call(&mut lent, Call::Assert { triple: [1, 1, 1] }), (0, vec![1, 1]));
+    assert_eq!(file(&mut lent), format!("{longest} {longest} {longest} .\n"));
+    assert_eq!(exported(&mut lent, 770, 1).1, 770);
+    assert_eq!(exported(&mut lent, 769, 1), none(11, 769, 1));
+    lent.text[255..257].copy_from_slice(b"a\0");
+    lent.counters[2] += 1;
+    assert_eq!(exported(&mut lent, 999, 1), none(9, 999, 1));
 }
 
 /// The live counts of the first resources, each as subject, predicate and object.

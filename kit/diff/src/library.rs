@@ -58,6 +58,8 @@ pub fn make(call: &Call, lent: &Lent, way: Way) -> Result<(u32, Lent), String> {
     let mut text = Guarded::new(&lent.text, 0xA5);
     let mut cursor = Guarded::new(&lent.cursor, WORD);
     let mut numbers = Guarded::new(&lent.numbers, WORD);
+    let mut file = Guarded::new(&lent.out, 0xA5);
+    let mut work = Guarded::new(&lent.work, WORD);
     let mut reply = Guarded::new(&lent.reply, WORD);
     let mut line_reply = Guarded::new(&lent.line_reply, 0xA5A5_5A5A_A5A5_5A5A);
 
@@ -71,6 +73,8 @@ pub fn make(call: &Call, lent: &Lent, way: Way) -> Result<(u32, Lent), String> {
     let (t, t_len) = text.lend();
     let (at, at_len) = cursor.lend();
     let (list, list_len) = numbers.lend();
+    let (f, f_len) = file.lend();
+    let (w, w_len) = work.lend();
     let (out, out_len) = reply.lend();
     let (line, line_len) = line_reply.lend();
     let (name, name_len) = bytes.lend();
@@ -105,6 +109,7 @@ pub fn make(call: &Call, lent: &Lent, way: Way) -> Result<(u32, Lent), String> {
                 Call::ScanNext { budget } => store!(lt_scan_next, at, at_len, *budget, out, out_len),
                 Call::QueryOpen { .. } => store!(lt_query_open, words, words_len, at, at_len),
                 Call::QueryNext { budget, .. } => store!(lt_query_next, words, words_len, at, at_len, *budget, out, out_len),
+                Call::Export => store!(lt_export, f, f_len, w, w_len, out, out_len),
             },
             Way::Structs => match call {
                 Call::NameKind { .. } => structs::structs_name_kind(name, name_len, out),
@@ -122,6 +127,7 @@ pub fn make(call: &Call, lent: &Lent, way: Way) -> Result<(u32, Lent), String> {
                 Call::ScanNext { budget } => by_structs!(structs_scan_next, at, *budget, out),
                 Call::QueryOpen { .. } => by_structs!(structs_query_open, words, words_len, at),
                 Call::QueryNext { budget, .. } => by_structs!(structs_query_next, words, words_len, at, *budget, out),
+                Call::Export => by_structs!(structs_export, f, f_len, w, w_len, out),
             },
         }
     };
@@ -136,6 +142,8 @@ pub fn make(call: &Call, lent: &Lent, way: Way) -> Result<(u32, Lent), String> {
         text: text.unguarded("text")?,
         cursor: cursor.unguarded("cursor")?,
         numbers: numbers.unguarded("numbers")?,
+        out: file.unguarded("the output")?,
+        work: work.unguarded("the working words")?,
         reply: reply.unguarded("reply")?,
         line_reply: line_reply.unguarded("reply")?,
     };

@@ -1,12 +1,12 @@
 //! The limits of 65,535 records, 1,048,576 bytes of text and 65,535 reclaims: every function at them and one beyond, on tables that have
 //! room for more and hold what would be sound there, so that a limit that is not kept shows in the answer. And the room for a literal with
-//! the string ending, which is that for what is left of it; index, offsets and text in disorder; the live count of a chain of all statements; and
-//! resource tables about each whole record.
+//! the string ending, which is that for what is left of it; index, offsets and text in disorder; the live count of a chain of all
+//! statements; resource tables about each whole record; the longest file, files of every small number of lines, and lines in every order.
 
 use crate::names::{MAX_NAME, STRING_ENDING};
 use crate::plain::{
     resource_at, statement_at, Call, Lent, COUNT, COUNTER_WORDS, FIRST, FIRST_VARIABLE, FLAG, LIVE, LONGEST_REPLY, MAX_RECLAIMS,
-    MAX_RECORDS, MAX_TEXT, NEXT, OFFSET, QUERY_CURSOR_WORDS, RECLAIMS, RESOURCE_WORDS, SCAN_CURSOR_WORDS, SCAN_NEXT,
+    MAX_RECORDS, MAX_TEXT, NEXT, OFFSET, PLACES, QUERY_CURSOR_WORDS, RECLAIMS, RESOURCE_WORDS, SCAN_CURSOR_WORDS, SCAN_NEXT,
     STATEMENT_WORDS, WITHIN,
 };
 use crate::{Difference, Run, UNWRITTEN};
@@ -19,6 +19,9 @@ const SIDE: u32 = 256;
 
 /// The least name of these tests.
 const SHORT: usize = 6;
+
+/// No bytes and no words for a file, however many fewer than it takes that is.
+const NOTHING: (isize, isize) = (isize::MIN, isize::MIN);
 
 /// Name k of a length: an IRI, another one for each k up to 65,536 and in no order.
 fn named(k: u32, length: usize) -> Vec<u8> {
@@ -69,6 +72,14 @@ fn store(lengths: &[usize], statements: u32) -> Lent {
     lent
 }
 
+/// A store with these live statements alone, without their chains.
+fn stating(lent: &Lent, triples: &[[u32; PLACES]]) -> Lent {
+    let mut lent = lent.clone();
+    lent.counters[1] = triples.len() as u32;
+    lent.statements = triples.iter().flat_map(|triple| [&triple[..], &[0; STATEMENT_WORDS - PLACES]].concat()).collect();
+    lent
+}
+
 impl Run {
     /// Every function on stores about each limit.
     pub fn limits(&mut self) -> Result<(), Difference> {
@@ -96,7 +107,8 @@ impl Run {
         self.endings()?;
         self.names_in_disorder()?;
         self.live_counts()?;
-        self.resource_words()
+        self.resource_words()?;
+        self.files()
     }
 
     /// The number of reclaims: one below the limit, at it, above it, and the highest; then the first two on tables that are not sound.
@@ -173,6 +185,80 @@ impl Run {
                 let beginnings = [(&b""[..], names + 2), (b"<", 2), (b"<8", names), (b"<8", 0), (&first, 2), (&[b'<'; 255], names)];
                 self.listed(lent, &beginnings)?;
             }
+        }
+        Ok(())
+    }
+
+    /// Writes a file, bytes and words being lent so many more or fewer than it takes.
+    fn exported(&mut self, lent: &mut Lent, spaces: &[(isize, isize)]) -> Result<(), Difference> {
+        let (length, t) = (lent.file().map_or(0, |file| file.len()), lent.t() as usize);
+        for &(bytes, words) in spaces {
+            lent.out = vec![UNWRITTEN as u8; length.saturating_add_signed(bytes)];
+            lent.work = vec![UNWRITTEN; t.saturating_add_signed(words)];
+            self.compare(&Call::Export, lent)?;
+        }
+        lent.out.clear();
+        lent.work.clear();
+        Ok(())
+    }
+
+    /// The longest file: 65,535 lines of 770 bytes. The same line 65,535 times. Files of every small number of lines, whose names are in no
+    /// order. A statement that cannot be read, retracted or live. Then lines of names of which one begins another, or which have the string
+    /// ending or bytes below the blank, above it and LF, as no sound name does; and all orders of a few lines.
+    fn files(&mut self) -> Result<(), Difference> {
+        const ALL: [(isize, isize); 3] = [(0, 0), (-1, 0), (0, -1)];
+        let mut lent = store(&vec![MAX_NAME; MAX_TEXT / (MAX_NAME + 1)], MAX_RECORDS as u32);
+        (1..=lent.t()).for_each(|n| lent.statements[statement_at(n) + FLAG] = 0);
+        self.exported(&mut lent, &ALL)?;
+        (1..=lent.t()).for_each(|n| lent.statements[statement_at(n)..][..PLACES].copy_from_slice(&[3, 2, 1]));
+        self.exported(&mut lent, &[(0, 0)])?;
+
+        for lines in 0..=70 {
+            let lent = &mut store(&[SHORT; 300], lines);
+            for retracted in [false, true] {
+                (1..=lines).for_each(|n| lent.statements[statement_at(n) + FLAG] = (retracted && n % 3 == 0) as u32);
+                self.exported(lent, &[(0, 0), (3, 2)])?;
+            }
+        }
+
+        // 6 is retracted, 7 is live, and no other statement has their objects.
+        for n in [6, 7] {
+            let whole = store(&[SHORT; 300], 9);
+            for (word, value) in [(FLAG, 2), (0, 0), (1, whole.r() + 1)] {
+                let lent = &mut whole.clone();
+                lent.statements[statement_at(n) + word] = value;
+                self.exported(lent, &[(200, 0), NOTHING])?;
+            }
+            let lent = &mut whole.clone();
+            lent.resources[resource_at(whole.member(n, 2)) + OFFSET] = whole.counters[2];
+            self.exported(lent, &[(200, 0), NOTHING])?;
+        }
+
+        let spelled = [b"\"a\"", STRING_ENDING].concat();
+        let names: [&[u8]; 13] =
+            [b"_:a", b"_:ab", b"_:a b", b"_:a\n", b"_:a\x1f", b"_:a!", b"", b"\"a\"", b"\"a\"@en", &spelled, b" ", b".", b"\xff"];
+        let mut whole = store(&[], 0);
+        whole.resources = vec![0; RESOURCE_WORDS * names.len()];
+        whole.index = vec![0; names.len()];
+        whole.text.clear();
+        for (k, name) in names.iter().enumerate() {
+            whole.resources[RESOURCE_WORDS * k + OFFSET] = whole.text.len() as u32;
+            whole.text.extend_from_slice(name);
+            whole.text.push(0);
+        }
+        whole.counters = vec![names.len() as u32, 0, whole.text.len() as u32, 0];
+        // Each pair of names at each place, and four lines in each of their orders.
+        let numbers = 1..=names.len() as u32;
+        for (one, other) in numbers.clone().flat_map(|one| numbers.clone().map(move |other| (one, other))) {
+            for place in 0..PLACES {
+                let mut triples = [[1; PLACES]; 2];
+                (triples[0][place], triples[1][place]) = (one, other);
+                self.exported(&mut stating(&whole, &triples), &[(0, 0)])?;
+            }
+        }
+        for order in 0..256 {
+            let triples = [0, 2, 4, 6].map(|shift| [[1, 1, 2], [1, 2, 1], [2, 1, 1], [3, 1, 4]][order >> shift & 3]);
+            self.exported(&mut stating(&whole, &triples), &[(0, 0)])?;
         }
         Ok(())
     }
@@ -270,6 +356,7 @@ impl Run {
         for number in [1, 13, t / 2, t - 1, t, t + 1] {
             self.compare(&Call::Statement { number }, lent)?;
         }
+        self.exported(lent, &[(0, 0), (2, 3)])?;
 
         // A listing of everything, of the last statement's resources, and of the predicate's long chain; the cursor is made up first, so
         // that there is one also where opening is refused.
@@ -341,6 +428,6 @@ impl Run {
         self.compare(&Call::Reclaim, lent)?;
         self.compare(&Call::QueryNext { words, budget: 1 }, lent)?;
         self.compare(&Call::Check, lent)?;
-        Ok(())
+        self.exported(lent, &[(0, 0), (-1, 0), (0, -1), NOTHING])
     }
 }

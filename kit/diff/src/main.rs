@@ -1,21 +1,22 @@
 //! The differential test: random calls through the C interface against the plain implementation in `plain.rs` and `names.rs`, which is
-//! written from paper 01, what paper 02 says of names by their beginning, of live counts, of getting room back, of the same label typed two
-//! ways and of six patterns, and `docs/DECISIONS.md` alone.
+//! written from paper 01, what paper 02 says of files of the statements, of names by their beginning, of live counts, of getting room back,
+//! of the same label typed two ways and of six patterns, and `docs/DECISIONS.md` alone.
 //!
 //!     diff SEED CALLS SECONDS
 //!
 //! makes calls from a seed until there are so many or so much time has passed, about half of them by the structs of the header. After
-//! each call the result, the reply, the cursor, the words of a list, the counters and every byte of the tables must be what the paper says;
-//! where find, a listing by a beginning and enter meet a dictionary that is not sound, what the paper leaves open is bounded. The first
-//! difference is told with the seed, the call's number and both answers, and ends the run with status 1. A run that made fewer calls than
-//! it was to make, and fewer than a million, has failed too. At the end stands how many calls of each kind had each result, and how many
-//! met the string ending, the index of names, live counts, reclaims and the limit of patterns in which way; a run of 300,000 calls or more
-//! must have met all of these.
+//! each call the result, the reply, the cursor, the words of a list, a file and its working words, the counters and every byte of the
+//! tables must be what the paper says; where find, a listing by a beginning and enter meet a dictionary that is not sound, what the paper
+//! leaves open is bounded. The first difference is told with the seed, the call's number and both answers, and ends the run with status 1.
+//! A run that made fewer calls than it was to make, and fewer than a million, has failed too. At the end stands how many calls of each kind
+//! had each result, and how many met the string ending, the index of names, files, live counts, reclaims and the limit of patterns in which
+//! way; a run of 300,000 calls or more must have met all of these.
 
 mod beginnings;
 mod damage;
 #[cfg(test)]
 mod examples;
+mod files;
 mod library;
 mod limits;
 mod live;
@@ -47,8 +48,8 @@ const MIDDLE: usize = 300;
 /// A run that is to make so many calls or more has failed with fewer, also where its time is over.
 const LEAST: u64 = 1_000_000;
 
-/// Calls after which every result, and everything of the string ending, of the index of names, of live counts, of reclaims and of the limit
-/// of patterns, must have been met.
+/// Calls after which every result, and everything of the string ending, of the index of names, of files, of live counts, of reclaims and of
+/// the limit of patterns, must have been met.
 const ENOUGH: u64 = 300_000;
 
 struct Run {
@@ -93,9 +94,10 @@ impl Run {
             Expected::Exactly(right) if result == right && after == *lent => {}
             Expected::Exactly(right) => {
                 return Err(told(format!(
-                    "the library: {result} {}\nthe paper:   {right} {}",
+                    "the library: {result} {}\nthe paper:   {right} {}\nwhere they differ, the paper's to the library's: {}",
                     after.changes(&before),
-                    lent.changes(&before)
+                    lent.changes(&before),
+                    after.changes(lent)
                 )))
             }
             Expected::Bounded => {
@@ -162,7 +164,7 @@ impl Run {
             Phase::Building if random.one_in(100) => 38,
             Phase::Building if random.one_in(if few { 2 } else { 4 }) => 0,
             Phase::Building => random.of(&[17, 17, 17, 31]),
-            Phase::Sound | Phase::Damaged => random.below(112),
+            Phase::Sound | Phase::Damaged => random.below(118),
         };
         let alone = |call| (call, vec![], None);
         match choice {
@@ -192,6 +194,7 @@ impl Run {
             }
             80..=84 => (Call::QueryOpen { words: random.words(lent) }, vec![], None),
             85..=92 => alone(Call::NamesWithPrefix { prefix: random.beginning(lent) }),
+            93..=98 => alone(Call::Export),
             _ => {
                 if open.queries.is_empty() || random.one_in(4) {
                     let words = random.words(lent);
@@ -228,6 +231,15 @@ impl Run {
         vec![UNWRITTEN; self.random.list_words(total)]
     }
 
+    /// Bytes and working words for a file, any values in them: about as many as it takes, or, where that is not known, as may be.
+    fn file_space(&mut self, call: &Call, lent: &Lent) -> (Vec<u8>, Vec<u32>) {
+        let Call::Export = call else { return (vec![], vec![]) };
+        let bytes = lent.file().map_or(40, |file| file.len());
+        let words = if lent.within_capacity() { lent.t() as usize } else { 3 };
+        let [bytes, words] = [bytes, words].map(|needed| self.random.space(needed));
+        ((0..bytes).map(|_| self.random.any() as u8).collect(), (0..words).map(|_| self.random.any() as u32).collect())
+    }
+
     /// One call on a store, with slices of mostly the right lengths, and what it leaves of the open listings and questions.
     fn step(&mut self, lent: &mut Lent, open: &mut Open, phase: Phase) -> Result<(), Difference> {
         let (call, mut cursor, which) = self.choose(lent, open, phase);
@@ -239,6 +251,7 @@ impl Run {
         }
         lent.cursor = cursor;
         lent.numbers = self.list(&call, lent);
+        (lent.out, lent.work) = self.file_space(&call, lent);
         lent.reply = vec![UNWRITTEN; if call.reply_words() > 0 { self.length(call.reply_words()) } else { 0 }];
         lent.line_reply = vec![UNWRITTEN.into(); if call.line_words() > 0 { self.length(call.line_words()) } else { 0 }];
         if call.takes_tables() && self.random.one_in(100) {

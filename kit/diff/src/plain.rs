@@ -1,9 +1,10 @@
-//! The store, plainly: paper 01, "Tables and counters" and "Operations and refusals", and paper 02 on names by their beginning, on live
-//! counts, on getting room back, on the same label typed two ways and on six patterns, as read in `docs/DECISIONS.md`. Nothing here is
-//! meant to be fast. Every operation works on what is lent, as the library's does, so that the two can be compared byte by byte.
-//! Refusals are the `Err` of a `Result`, by their number.
+//! The store, plainly: paper 01, "Tables and counters" and "Operations and refusals", and paper 02 on files of the statements, on names by
+//! their beginning, on live counts, on getting room back, on the same label typed two ways and on six patterns, as read in
+//! `docs/DECISIONS.md`. Nothing here is meant to be fast. Every operation works on what is lent, as the library's does, so that the two
+//! can be compared byte by byte. Refusals are the `Err` of a `Result`, by their number.
 
 use crate::names::{has_ending, kind_of, read_line, without_ending, Line, MAX_NAME};
+use std::fmt::Display;
 
 pub const MAX_RECORDS: usize = 65_535;
 pub const MAX_TEXT: usize = 1_048_576;
@@ -69,6 +70,9 @@ pub struct Lent {
     pub cursor: Vec<u32>,
     /// Words for a list of numbers.
     pub numbers: Vec<u32>,
+    /// Bytes for a file, and its working words.
+    pub out: Vec<u8>,
+    pub work: Vec<u32>,
     pub reply: Vec<u32>,
     pub line_reply: Vec<u64>,
 }
@@ -91,6 +95,7 @@ pub enum Call {
     ScanNext { budget: u32 },
     QueryOpen { words: Vec<u32> },
     QueryNext { words: Vec<u32>, budget: u32 },
+    Export,
 }
 
 /// What the paper says of a call: the one result, or no more than bounds (find, names by their beginning and enter, where the dictionary is
@@ -389,7 +394,7 @@ impl Lent {
         Ok(r as u32 + 1)
     }
 
-    fn name(&self, number: u32) -> Result<(u32, u32), u32> {
+    pub fn name(&self, number: u32) -> Result<(u32, u32), u32> {
         self.capacity()?;
         if !self.is_resource(number) {
             return Err(4);
@@ -402,7 +407,7 @@ impl Lent {
         Ok((offset as u32, length as u32))
     }
 
-    fn statement(&self, number: u32) -> Result<[u32; 4], u32> {
+    pub fn statement(&self, number: u32) -> Result<[u32; 4], u32> {
         self.capacity()?;
         if number == 0 || number > self.t() {
             return Err(4);
@@ -701,6 +706,43 @@ impl Lent {
         }
     }
 
+    /// The lines of the live statements, in the order of their numbers. Every statement is read, and each of its resources is named.
+    pub fn lines(&self) -> Result<Vec<Vec<u8>>, u32> {
+        self.capacity()?;
+        let mut lines = vec![];
+        for n in 1..=self.t() {
+            let [subject, predicate, object, flag] = self.statement(n)?;
+            let mut line = vec![];
+            for number in [subject, predicate, object] {
+                let (start, length) = self.name(number)?;
+                line.extend_from_slice(&self.text[start as usize..][..length as usize]);
+                line.push(b' ');
+            }
+            line.extend_from_slice(b".\n");
+            if flag == 0 {
+                lines.push(line);
+            }
+        }
+        Ok(lines)
+    }
+
+    /// The lines in rising byte order, one after another.
+    pub fn file(&self) -> Result<Vec<u8>, u32> {
+        let mut lines = self.lines()?;
+        lines.sort();
+        Ok(lines.concat())
+    }
+
+    fn export(&mut self) -> Result<u32, u32> {
+        let (file, t) = (self.file()?, self.t() as usize);
+        if self.out.len() < file.len() || self.work.len() < t {
+            return Err(11);
+        }
+        self.out[..file.len()].copy_from_slice(&file);
+        self.work[..t].fill(0);
+        Ok(file.len() as u32)
+    }
+
     /// The start or the end of a question.
     fn outside(&self, place: u32) -> QueryCursor {
         let mut cursor = [0; QUERY_CURSOR_WORDS];
@@ -774,7 +816,8 @@ impl Call {
     /// Words of the reply; a line's are in `line_reply`.
     pub fn reply_words(&self) -> usize {
         match self {
-            Call::NameKind { .. } | Call::Check | Call::NamesWithPrefix { .. } | Call::Enter { .. } | Call::Retract { .. } => 1,
+            Call::NameKind { .. } | Call::Check | Call::NamesWithPrefix { .. } => 1,
+            Call::Enter { .. } | Call::Retract { .. } | Call::Export => 1,
             Call::Find { .. } | Call::Name { .. } | Call::Assert { .. } => 2,
             Call::ScanNext { .. } => 3,
             Call::Statement { .. } => 4,
@@ -842,6 +885,7 @@ impl Call {
                 lent.cursor[..QUERY_CURSOR_WORDS].copy_from_slice(&cursor);
                 [&[status, visits], &solution[..]].concat()
             }),
+            Call::Export => lent.export().map(|length| vec![length]),
         };
         Expected::Exactly(put(&mut lent.reply, self.reply_words(), answer))
     }
@@ -932,6 +976,17 @@ fn put_line(lent: &mut Lent, text: &[u8], at: usize) -> u32 {
     result
 }
 
+/// The first places where a slice is not what it was, for a report.
+fn changed<T: PartialEq + Display>(name: &str, now: &[T], then: &[T]) -> String {
+    const TOLD: usize = 300;
+    let places: Vec<usize> = (0..now.len()).filter(|&k| now[k] != then[k]).collect();
+    let mut told: String = places.iter().take(TOLD).map(|&k| format!(", {name}[{k}] {} to {}", then[k], now[k])).collect();
+    if places.len() > TOLD {
+        told += &format!(", and {} more", places.len() - TOLD);
+    }
+    told
+}
+
 impl Lent {
     /// The reply, and which words differ from those before, for a report.
     pub fn changes(&self, before: &Lent) -> String {
@@ -943,15 +998,11 @@ impl Lent {
             ("index", &self.index, &before.index),
             ("cursor", &self.cursor, &before.cursor),
             ("numbers", &self.numbers, &before.numbers),
+            ("work", &self.work, &before.work),
         ];
-        for (name, now, then) in slices {
-            for k in (0..now.len()).filter(|&k| now[k] != then[k]) {
-                told += &format!(", {name}[{k}] {} to {}", then[k], now[k]);
-            }
-        }
-        for k in (0..self.text.len()).filter(|&k| self.text[k] != before.text[k]) {
-            told += &format!(", text[{k}] {} to {}", before.text[k], self.text[k]);
-        }
+        slices.into_iter().for_each(|(name, now, then)| told += &changed(name, now, then));
+        told += &changed("text", &self.text, &before.text);
+        told += &changed("out", &self.out, &before.out);
         told
     }
 }

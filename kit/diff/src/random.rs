@@ -349,6 +349,17 @@ impl Random {
         }
     }
 
+    /// Bytes or words for a file that takes so many: mostly as many or more, else one fewer, any fewer, or none.
+    pub fn space(&mut self, needed: usize) -> usize {
+        match self.below(10) {
+            0 => needed.saturating_sub(1),
+            1 => self.below(needed + 1),
+            2 => 0,
+            3..=5 => needed + self.from_to(1, 9),
+            _ => needed,
+        }
+    }
+
     fn bytes(&mut self, length: usize, alphabet: &[u8]) -> Vec<u8> {
         (0..length).map(|_| self.of(alphabet)).collect()
     }

@@ -18,7 +18,7 @@ const FORGOTTEN: &str = "new, retracted before";
 
 /// The ways that are to be met. "13" is a place of another number of reclaims: by what the call would be given else, by the place, by what
 /// else is wrong with it, and by that number.
-pub const WAYS: [(&str, &[&str]); 13] = [
+pub const WAYS: [(&str, &[&str]); 14] = [
     ("lt_check", &["not sound for the number alone", "sound at the limit"]),
     ("lt_find", &[NUMBER_ALONE]),
     ("lt_names_with_prefix", &[NUMBER_ALONE]),
@@ -96,6 +96,7 @@ pub const WAYS: [(&str, &[&str]); 13] = [
             "found after a reclaim",
         ],
     ),
+    ("lt_export", &[NUMBER_ALONE]),
 ];
 
 /// How a call that takes tables meets reclaims, if it is not refused 100. `own` is its result in words.

@@ -36,4 +36,5 @@ store_functions! {
     structs_scan_next(cursor: *mut u32, budget: u32, reply: *mut u32);
     structs_query_open(words: *const u32, words_len: usize, cursor: *mut u32);
     structs_query_next(words: *const u32, words_len: usize, cursor: *mut u32, budget: u32, reply: *mut u32);
+    structs_export(out: *mut u8, out_len: usize, work: *mut u32, work_len: usize, reply: *mut u32);
 }

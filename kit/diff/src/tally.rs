@@ -1,7 +1,8 @@
-//! How many calls of each kind had each result, and of them by the structs, and how many met the string ending, the index of names, live
-//! counts, reclaims and the limit of patterns in which way.
+//! How many calls of each kind had each result, and of them by the structs, and how many met the string ending, the index of names, files,
+//! live counts, reclaims and the limit of patterns in which way.
 
 use crate::beginnings;
+use crate::files;
 use crate::library::Way;
 use crate::live;
 use crate::names::{quoted_and_suffix, MAX_NAME, STRING_ENDING};
@@ -14,20 +15,21 @@ use std::fmt;
 type Counts = BTreeMap<(&'static str, String), u64>;
 
 /// Calls by function and result, where the paper only bounds the answer apart from the others; those of them by the structs. Then those
-/// that meet the string ending, the index of names, live counts, reclaims and the limit of patterns, by function and how.
+/// that meet the string ending, the index of names, files, live counts, reclaims and the limit of patterns, by function and how.
 #[derive(Default)]
 pub struct Tally {
     calls: Counts,
     by_structs: Counts,
     endings: Counts,
     beginnings: Counts,
+    files: Counts,
     live_counts: Counts,
     reclaims: Counts,
     patterns: Counts,
 }
 
 /// Every function with the results that the paper gives it. Find, a listing by a beginning and enter may answer 9, and need not.
-const RESULTS: [(&str, &[&str]); 15] = [
+const RESULTS: [(&str, &[&str]); 16] = [
     ("lt_name_kind", &["kind 1", "kind 2", "kind 3", "refused 2", "refused 100"]),
     ("lt_read_line", &["end", "nothing", "triple", "refused 10", "refused 100"]),
     ("lt_check", &["sound", "not sound", "refused 100"]),
@@ -46,6 +48,7 @@ const RESULTS: [(&str, &[&str]); 15] = [
         "lt_query_next",
         &["found", "ended", "spent", "refused 1", "refused 6", "refused 7", "refused 8", "refused 9", "refused 13", "refused 100"],
     ),
+    ("lt_export", &["a file", "no bytes", "refused 1", "refused 9", "refused 11", "refused 100"]),
 ];
 
 /// Calls by the structs have every result but one.
@@ -98,6 +101,7 @@ fn function(call: &Call) -> &'static str {
         Call::ScanNext { .. } => "lt_scan_next",
         Call::QueryOpen { .. } => "lt_query_open",
         Call::QueryNext { .. } => "lt_query_next",
+        Call::Export => "lt_export",
     }
 }
 
@@ -115,6 +119,7 @@ pub fn label(call: &Call, result: u32, lent: &Lent) -> String {
         Call::NamesWithPrefix { .. } => ["none", "some"][lent.reply[0].min(1) as usize],
         Call::Assert { .. } => ["", "new", "already", "revived"][lent.reply[0] as usize],
         Call::ScanNext { .. } | Call::QueryNext { .. } => ["", "found", "ended", "spent"][lent.reply[0] as usize],
+        Call::Export => ["no bytes", "a file"][lent.reply[0].min(1) as usize],
         Call::Name { .. } | Call::Statement { .. } | Call::Reclaim | Call::ScanOpen { .. } | Call::QueryOpen { .. } => "answered",
     }
     .to_string()
@@ -226,6 +231,7 @@ impl Tally {
         if call.takes_tables() && result != 100 {
             let ways = beginnings::met(call, result, before, after, bounded);
             ways.into_iter().for_each(|label| one_more(&mut self.beginnings, label));
+            files::met(call, result, before).into_iter().for_each(|label| one_more(&mut self.files, label));
             reclaims::met(call, result, &own, before, after).into_iter().for_each(|label| one_more(&mut self.reclaims, label));
         }
     }
@@ -241,10 +247,11 @@ impl Tally {
         let by_structs = RESULTS.iter().map(|row| (row, &self.by_structs, BY_STRUCTS));
         let endings = ENDINGS.iter().map(|row| (row, &self.endings, "with the string ending "));
         let beginnings = beginnings::WAYS.iter().map(|row| (row, &self.beginnings, "in the index "));
+        let files = files::WAYS.iter().map(|row| (row, &self.files, "in a file "));
         let live_counts = live::WAYS.iter().map(|row| (row, &self.live_counts, "with a live count "));
         let reclaims = reclaims::WAYS.iter().map(|row| (row, &self.reclaims, "with reclaims "));
         let patterns = patterns::WAYS.iter().map(|row| (row, &self.patterns, "at the limit of patterns "));
-        let ways = endings.chain(beginnings).chain(live_counts).chain(reclaims).chain(patterns);
+        let ways = endings.chain(beginnings).chain(files).chain(live_counts).chain(reclaims).chain(patterns);
         let mut missing = vec![];
         for (&(function, labels), counts, with) in results.chain(by_structs).chain(ways) {
             let due = labels.iter().filter(|&&label| with != BY_STRUCTS || label != TOO_SHORT);
@@ -274,6 +281,8 @@ impl fmt::Display for Tally {
         table(f, &ENDINGS, &self.endings)?;
         writeln!(f, "in the index of names:")?;
         table(f, &beginnings::WAYS, &self.beginnings)?;
+        writeln!(f, "of files:")?;
+        table(f, &files::WAYS, &self.files)?;
         writeln!(f, "with live counts:")?;
         table(f, &live::WAYS, &self.live_counts)?;
         writeln!(f, "with reclaims:")?;

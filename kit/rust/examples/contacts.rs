@@ -1,12 +1,12 @@
-//! The relays by the beginning of their names, a relay's live count, its contacts by name, a question, and a rewired relay: the Rust twin
-//! of `kit/c/contacts.c`, with the same output.
+//! The relays by the beginning of their names, a relay's live count, its contacts by name, a question, a rewired relay, and the bay's file:
+//! the Rust twin of `kit/c/contacts.c`, with the same output.
 //!
 //!     contacts FILE
 //!
 //! reads a file of N-Triples into tables of its own, lists the names that begin with <r:, tells how many live statements relay <r:21> is
 //! the subject of, lists what it trips, and asks which breakers are tripped by a relay that trips <b:4>. Then it rewires the relay from
-//! <b:4> to <b:9>, gets the room of the retracted statement back and lists again, the names that begin with <b: too. Refused lines are told
-//! and passed over; any other refusal ends the program with status 1.
+//! <b:4> to <b:9>, gets the room of the retracted statement back and lists again, the names that begin with <b: too. Last it writes the
+//! statements as a file. Refused lines are told and passed over; any other refusal ends the program with status 1.
 
 use lemontiller::{Error, Line, Lines, Outcome, Position, Question, ResourceId, Store, Term};
 use lemontiller::{COUNTER_WORDS, RESOURCE_WORDS, STATEMENT_WORDS};
@@ -121,6 +121,13 @@ fn rewire(store: &mut Store, relay: &str, trips: &str, from: &str, to: &str) -> 
     Ok(())
 }
 
+/// Writes the statements as a file for other software. `store.export` would put it into lent bytes, as C has it.
+fn write_file(store: &Store) -> Result<(), String> {
+    let file = store.export_to_vec().map_err(|error| error.to_string())?;
+    print!("file of {} bytes\n{}", file.len(), String::from_utf8_lossy(&file));
+    Ok(())
+}
+
 fn run(path: &str) -> Result<(), String> {
     let input = fs::read(path).map_err(|error| format!("{path}: {error}"))?;
     let mut counters = [0; COUNTER_WORDS];
@@ -140,6 +147,7 @@ fn run(path: &str) -> Result<(), String> {
     rewire(&mut store, "<r:21>", "<p:trips>", "<b:4>", "<b:9>")?;
     list_contacts(&store, "<r:21>", "<p:trips>")?;
     list_names(&store, "<b:")?;
+    write_file(&store)?;
 
     // A store that comes from a file or a wire is checked once; one made by this library's own calls is sound.
     println!("{}", if store.is_sound() { "sound" } else { "not sound" });

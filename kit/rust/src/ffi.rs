@@ -1,4 +1,4 @@
-//! The fifteen functions of `include/lemontiller.h` as they are: pointers, lengths in elements, and a result. The header has a sentence
+//! The sixteen functions of `include/lemontiller.h` as they are: pointers, lengths in elements, and a result. The header has a sentence
 //! for each. Pointers may not be null, also at length 0 (those of a slice never are), and slices that are written may not overlap others.
 
 /// Declares store functions, each after the five slices with which it begins. `mut` marks the slices that the function writes.
@@ -41,5 +41,9 @@ store_functions! {
     lt_query_next(
         const const const const const;
         words: *const u32, words_len: usize, cursor: *mut u32, cursor_len: usize, budget: u32, reply: *mut u32, reply_len: usize,
+    );
+    lt_export(
+        const const const const const;
+        out: *mut u8, out_len: usize, work: *mut u32, work_len: usize, reply: *mut u32, reply_len: usize,
     );
 }

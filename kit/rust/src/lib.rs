@@ -28,6 +28,12 @@ pub const MAX_PATTERNS: usize = 6;
 pub const VARIABLES: usize = 16;
 const FIRST_VARIABLE: u32 = 1 << 31;
 
+/// The most statements of any store.
+pub const MAX_STATEMENTS: usize = 65_535;
+
+/// The most bytes of a statement's line in a file: three names of 255 bytes, three blanks, a dot, LF.
+pub const MAX_LINE: usize = 3 * 255 + 5;
+
 /// The most reclaims of a store.
 pub const MAX_RECLAIMS: u32 = 65_535;
 
@@ -41,7 +47,7 @@ const LINE_WORDS: usize = 8;
 pub type ScanCursor = [u32; SCAN_CURSOR_WORDS];
 pub type QueryCursor = [u32; QUERY_CURSOR_WORDS];
 
-/// A refusal. Nothing is written where one is given, lent words for numbers included.
+/// A refusal. Nothing is written where one is given, lent words for numbers and memory for a file included.
 #[derive(Clone, Copy, Debug, PartialEq, Eq)]
 pub enum Error {
     Capacity,
@@ -544,6 +550,28 @@ impl<'a> Store<'a> {
         let mut numbers = [0; VARIABLES];
         numbers.copy_from_slice(&reply[2..]);
         Ok(Step::of(reply[0], Solution { numbers }, reply[1]))
+    }
+
+    /// Writes the live statements as a file of N-Triples in canonical form, lines in rising byte order: the file's length. Two sound stores
+    /// with the same graph give equal files, and loading one into a fresh store of the same capacities gives the graph again. The file
+    /// stands at the front of `out`, and as many words at the front of `work` as there are statements, retracted ones too, are 0; what is
+    /// lent beyond keeps its values. In this order [`Error::Capacity`], [`Error::Damaged`] if a statement or one of its names cannot be
+    /// read, a retracted one's too, [`Error::ExportSpace`] if either is shorter than that. [`MAX_LINE`] bytes a statement are always enough.
+    pub fn export(&self, out: &mut [u8], work: &mut [u32]) -> Result<usize, Error> {
+        let mut reply = [0u32; 1];
+        reading!(lt_export, self, out.as_mut_ptr(), out.len(), work.as_mut_ptr(), work.len(), reply.as_mut_ptr(), reply.len(),)?;
+        Ok(reply[0] as usize)
+    }
+
+    /// The same file as bytes of its own. This alone asks for memory: at most [`MAX_LINE`] bytes and a word for each statement.
+    pub fn export_to_vec(&self) -> Result<Vec<u8>, Error> {
+        // More statements than the table holds, or than any table may, are refused, whatever is lent.
+        let statements = (self.counters[1] as usize).min(self.statements.len() / STATEMENT_WORDS).min(MAX_STATEMENTS);
+        let mut file = vec![0; MAX_LINE * statements];
+        let length = self.export(&mut file, &mut vec![0; statements])?;
+        file.truncate(length);
+        file.shrink_to_fit();
+        Ok(file)
     }
 
     /// All statements of a scan. The store cannot change meanwhile; for that, keep a cursor.

@@ -547,6 +547,91 @@ fn a_label_typed_two_ways_is_one() {
     assert!(!store.is_sound());
 }
 
+const FILE: &[u8] = b"<r:21> <p:trips> <b:4> .\n<r:21> <p:trips> <b:7> .\n";
+
+/// What a store writes into so many bytes and words that hold 77, and what these hold then.
+fn exported(store: &Store, bytes: usize, words: usize) -> (Result<usize, Error>, Vec<u8>, Vec<u32>) {
+    let (mut out, mut work) = (vec![77; bytes], vec![77; words]);
+    (store.export(&mut out, &mut work), out, work)
+}
+
+/// Bytes and words that a refusal leaves.
+fn no_space(error: Error, bytes: usize, words: usize) -> (Result<usize, Error>, Vec<u8>, Vec<u32>) {
+    (Err(error), vec![77; bytes], vec![77; words])
+}
+
+/// Memory for the file and nothing else, and some more, which keeps its values; a byte less, a word less, and nothing.
+#[test]
+fn the_statements_are_written_as_a_file() {
+    with_bay(|store, [relay, trips, b4, b7]| {
+        assert_eq!(exported(store, 50, 2), (Ok(50), FILE.to_vec(), vec![0, 0]));
+        assert_eq!(exported(store, 52, 3), (Ok(50), [FILE, &[77, 77]].concat(), vec![0, 0, 77]));
+        for (bytes, words) in [(49, 2), (50, 1), (0, 2), (50, 0), (0, 0)] {
+            assert_eq!(exported(store, bytes, words), no_space(Error::ExportSpace, bytes, words));
+        }
+        assert_eq!(store.export_to_vec(), Ok(FILE.to_vec()));
+
+        // A retracted statement has no line, and a working word all the same. In byte order the new line is the first.
+        store.retract(relay, trips, b4).unwrap();
+        assert_eq!(exported(store, 25, 2), (Ok(25), FILE[25..].to_vec(), vec![0, 0]));
+        assert_eq!(exported(store, 25, 1), no_space(Error::ExportSpace, 25, 1));
+        store.assert(b4, trips, b7).unwrap();
+        assert_eq!(store.export_to_vec(), Ok([b"<b:4> <p:trips> <b:7> .\n", &FILE[25..]].concat()));
+        store.retract(b4, trips, b7).unwrap();
+        store.retract(relay, trips, b7).unwrap();
+        assert_eq!(exported(store, 1, 4), (Ok(0), vec![77], vec![0, 0, 0, 77]));
+        store.reclaim().unwrap();
+        assert_eq!(exported(store, 0, 0), (Ok(0), vec![], vec![]));
+        assert!(store.is_sound());
+    })
+}
+
+/// The same statements under other numbers, entered and asserted in another order; and a label in either spelling.
+#[test]
+fn equal_graphs_give_equal_files() {
+    with_store(|store| {
+        let [b7, b4, trips, relay] = ["<b:7>", "<b:4>", "<p:trips>", "<r:21>"].map(|name| store.enter(name.as_bytes()).unwrap());
+        store.assert(relay, trips, b7).unwrap();
+        store.assert(relay, trips, b4).unwrap();
+        assert_eq!(store.export_to_vec(), Ok(FILE.to_vec()));
+        let label = store.enter(b"\"A\"^^<http://www.w3.org/2001/XMLSchema#string>").unwrap();
+        store.assert(relay, trips, label).unwrap();
+        assert_eq!(store.export_to_vec(), Ok([b"<r:21> <p:trips> \"A\" .\n", FILE].concat()));
+    })
+}
+
+/// Counters over their capacity, before anything else; a flag, a resource and a name that cannot be read, in a retracted statement too and
+/// before the space; names that are no names are written as they are.
+#[test]
+fn files_of_any_tables() {
+    for over in [[0, 1, 0, 0], [0, u32::MAX, 0, 0], [0, 0, 1, 0], [0, 0, 0, MAX_RECLAIMS + 1]] {
+        let (mut counters, mut statements) = (over, [0; STATEMENT_WORDS - 1]);
+        let store = Store::new(&mut counters, &mut [], &mut statements, &mut [], &mut []).unwrap();
+        assert_eq!(exported(&store, 9, 9), no_space(Error::Capacity, 9, 9));
+        assert_eq!(store.export_to_vec(), Err(Error::Capacity));
+    }
+    with_bay(|store, [relay, trips, b4, _]| {
+        store.retract(relay, trips, b4).unwrap();
+        let statements = store.statements.to_vec();
+        for (place, word) in [(0, 0), (1, 5), (2, u32::MAX), (STATEMENT_WORDS - 1, 2)] {
+            store.statements[place] = word;
+            assert_eq!(
+                (exported(store, 50, 2), exported(store, 0, 0)),
+                (no_space(Error::Damaged, 50, 2), no_space(Error::Damaged, 0, 0))
+            );
+            assert_eq!(store.export_to_vec(), Err(Error::Damaged));
+            store.statements.copy_from_slice(&statements);
+        }
+        // The name of <b:4>, which only the retracted statement has.
+        let offset = 2 * RESOURCE_WORDS + LIVE - 2;
+        assert_eq!(mem::replace(&mut store.resources[offset], 7 + 10 + 6 + 6), 7 + 10);
+        assert_eq!(exported(store, 50, 2), no_space(Error::Damaged, 50, 2));
+        store.resources[offset] = 7 + 10;
+        store.text[1..6].copy_from_slice(b"\n\xff \0>");
+        assert_eq!(store.export_to_vec(), Ok(b"<\n\xff  <p:trips> <b:7> .\n".to_vec()));
+    })
+}
+
 /// `samples/substation.nt` in tables of the loading program's lengths. Its totals are counted from its lines, without a store.
 #[test]
 fn the_substation_fits() {
@@ -566,6 +651,25 @@ fn the_substation_fits() {
     let relays: Vec<&[u8]> = store.with_prefix(b"<r:").unwrap().map(|id| store.name(id).unwrap()).collect();
     assert!(relays.windows(2).all(|two| two[0] < two[1]) && relays.iter().all(|name| name.starts_with(b"<r:")));
     assert!(store.is_sound());
+
+    // Its file is its own triples, sorted; loaded into a fresh store it is written again.
+    let file = store.export_to_vec().unwrap();
+    let triples = Lines::new(&input).filter_map(|line| match line.unwrap() {
+        Line::Triple([subject, predicate, object]) => Some([subject, b" ", predicate, b" ", object, b" .\n"].concat()),
+        Line::Nothing => None,
+    });
+    let mut lines: Vec<Vec<u8>> = triples.collect();
+    lines.sort();
+    assert_eq!(file, lines.concat());
+    counters = [0; COUNTER_WORDS];
+    let mut store = Store::new(&mut counters, &mut resources, &mut statements, &mut index, &mut text).unwrap();
+    for line in Lines::new(&file) {
+        let Line::Triple(names) = line.unwrap() else { panic!("a file has triples alone") };
+        let [subject, predicate, object] = names.map(|name| store.enter(name).unwrap());
+        assert!(matches!(store.assert(subject, predicate, object), Ok(Asserted::New(_))));
+    }
+    assert_eq!(store.counters(), Counters { resources: 298, statements: 641, text: 3566, reclaims: 0 });
+    assert_eq!(store.export_to_vec(), Ok(file));
 }
 
 #[test]

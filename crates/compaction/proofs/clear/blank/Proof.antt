@@ -4,7 +4,7 @@ use Rattle.compaction.proofs.clear.blank.Statement.{statement}
 use Rattle.compaction.proofs.clear.blank.Tie as tie
 use Rattle.compaction.proofs.clear.blank.Reads as reads
 use Rattle.compaction.proofs.clear.blank.Lts as lts
-use Rattle.compaction.proofs.clear.zero.Reads as zero-reads
+use Rattle.table.proofs.word.zero.Reads as zero-reads
 
 mul-start : tie.Need-mul-start
 mul-start c = search needs

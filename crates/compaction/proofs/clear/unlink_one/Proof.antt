@@ -3,7 +3,7 @@ use Rattle.compaction.proofs.clear.unlink_one.Statement.{statement}
 use Rattle.compaction.proofs.clear.unlink_one.Tie as tie
 use Rattle.compaction.proofs.clear.unlink_one.Reads as reads
 use Rattle.compaction.proofs.clear.unlink_one.Lts as lts
-use Rattle.compaction.proofs.clear.zero.Reads as zero-reads
+use Rattle.table.proofs.word.zero.Reads as zero-reads
 
 cast-start : tie.Need-cast-start
 cast-start c = search needs

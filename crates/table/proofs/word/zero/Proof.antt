@@ -6,10 +6,10 @@ use native.Mathlib.Omega.{arith}
 use mathlib.Core.Path.{_≡_, refl}
 use Prim.Native.Nat.{_-_, _≤_}
 use borrow.Author.Needs.{needs}
-use Rattle.compaction.proofs.clear.zero.Statement.{statement}
-use Rattle.compaction.proofs.clear.zero.Tie as tie
-use Rattle.compaction.proofs.clear.zero.Reads as reads
-use Rattle.compaction.proofs.clear.zero.Lts as lts
+use Rattle.table.proofs.word.zero.Statement.{statement}
+use Rattle.table.proofs.word.zero.Tie as tie
+use Rattle.table.proofs.word.zero.Reads as reads
+use Rattle.table.proofs.word.zero.Lts as lts
 
 abbrev Inv-loop : tie.InvT-loop
 Inv-loop words₀ start size i₀ words i =

@@ -3,11 +3,11 @@ use mathlib.Core.Path.{_≡_}
 use Prim.Native.Nat.{_-_}
 use lib.ListN.{length}
 use borrow.Author.Needs.{needs}
-use Rattle.load.proofs.load_files.Statement.{statement}
-use Rattle.load.proofs.load_files.Tie as tie
-use Rattle.load.proofs.load_files.Reads as reads
-use Rattle.load.proofs.load_files.Lts as lts
+use Rattle.loader.proofs.file.load_files.Statement.{statement}
+use Rattle.loader.proofs.file.load_files.Tie as tie
+use Rattle.loader.proofs.file.load_files.Reads as reads
+use Rattle.loader.proofs.file.load_files.Lts as lts
 use Rattle.loader.proofs.file.load_argument.Reads as load-argument-reads
 use Rattle.os.proofs.arg_count.Reads as arg-count-reads
 
 abbrev Inv-loop : tie.InvT-loop

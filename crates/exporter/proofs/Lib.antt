@@ -1,0 +1,5 @@
+pub mod Closing
+pub mod Measuring
+pub mod Printing
+pub mod SortedLines
+pub mod Exporting

@@ -1,0 +1,4 @@
+pub mod NameBytes
+pub mod HeadBytes
+pub mod RestOrder
+pub mod LineOrder
