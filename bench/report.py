@@ -203,6 +203,8 @@ def instructions(counts):
     rows = []
     for metric, title, unit in OPERATIONS:
         each = {p: by_unit[plain, p, metric] for p in COUNTED if (plain, p, metric) in by_unit}
+        if 'library' not in each:
+            continue
         rows.append(['%s, %s' % (title, unit)] + against(each))
     out += table(COUNTS_HEAD, rows)
 
