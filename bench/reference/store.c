@@ -296,6 +296,7 @@ size_t store_export(const store *s, char *out, size_t room, uint32_t *work)
         REFUSE(t->part[0] - 1 >= s->R || t->part[1] - 1 >= s->R || t->part[2] - 1 >= s->R || t->retracted > 1);
         for (int p = 0; p < 3; p++) {
             uint32_t offset = s->res[t->part[p]].offset;
+            (void)offset;
             REFUSE(offset >= s->B || !memchr(s->text + offset, 0, s->B - offset < MAX_NAME + 1 ? s->B - offset : MAX_NAME + 1));
         }
         if (t->retracted) continue;
