@@ -656,4 +656,5 @@ def main():
         print(case, verb[:-1], *(out if isinstance(out, (tuple, list)) else (out,)))
 
 
-main()
+if __name__ == "__main__":
+    main()

@@ -61,7 +61,7 @@ triple-inside text i x y z e (inr h) =
     let k : _≡_ {A = ℕ} 0 2 = ap (λ (v : Values). v .status) (sym (reads-a-line 255 text i (omega arith) .ended h .0) ∙ ap valuesOf e) in
     absurd (omega arith)
 
-line-inside : (text : List ℕ) (i : ℕ) (a : Line) → readOf nameLimit text i .line ≡ a → LineInside text a
+pub line-inside : (text : List ℕ) (i : ℕ) (a : Line) → readOf nameLimit text i .line ≡ a → LineInside text a
 line-inside text i answer.End e = tt
 line-inside text i answer.Nothing e = tt
 line-inside text i (answer.Refused k) e = tt

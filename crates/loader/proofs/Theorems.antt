@@ -22,7 +22,7 @@ status-only false x y p q = q
 refusal-is : (v : Values) → refusalIn (outcomeOf v) ≡ v .refusal
 refusal-is v =
     decide (eqb (v .refusal) 0)
-    (λ e. rw e (status-only (eqb (v .status) 1) _ _ refl refl ∙ sym (eqb-true (v .refusal) 0 e)))
+    (λ e. rw e (status-only (eqb (v .status) 1) _ _ refl (status-only (eqb (v .status) 2) _ _ refl refl) ∙ sym (eqb-true (v .refusal) 0 e)))
     (λ e. rw e)
 
 pub code-loads : CodeLoads

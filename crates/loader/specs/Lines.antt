@@ -24,7 +24,7 @@ use Rattle.graph.specs.Claims.{loadOf, canonicalTriple, Loaded, SameGraph}
 use Rattle.lines.specs.Claims.{namesIn}
 use Rattle.lines.specs.Export.{liveNumbers, fileOf}
 use Rattle.loader.specs.declared.line.Outcome.{Outcome}
-use Rattle.loader.specs.declared.line.Outcome.the-variants.{Nothing, New, Already, Refused}
+use Rattle.loader.specs.declared.line.Outcome.the-variants.{Nothing, New, Already, Revived, Refused}
 use Rattle.loader.specs.declared.line.LineLoaded.{LineLoaded}
 
 -- ---- what a line comes to
@@ -41,10 +41,11 @@ contentOf text from = length (firstLineOf (drop from text))
 unfoldable pub lineAt : List ℕ → ℕ → Line
 lineAt text from = unless (leb (contentOf text from) lineLimit) (answer.Refused lineLimit) (readOf nameLimit text from .line)
 
--- what a triple comes to, by the values of the last call made. Status 2 is "already", 3 "revived": loading retracts nothing, so that a
--- known triple is live.
+-- what a triple comes to, by the values of the last call made: status 1 is "new", 2 "already", 3 "revived", which only a store that
+-- something was retracted from answers
 abbrev pub outcomeOf : Values → Outcome
-outcomeOf v = unless (eqb (v .refusal) 0) (Refused (v .refusal)) (cond (eqb (v .status) 1) (New (v .number)) (Already (v .number)))
+outcomeOf v = unless (eqb (v .refusal) 0) (Refused (v .refusal))
+    (cond (eqb (v .status) 1) (New (v .number)) (cond (eqb (v .status) 2) (Already (v .number)) (Revived (v .number))))
 
 -- the store after a line, and what it comes to
 abbrev pub ended : Store → Outcome → Store × Outcome
@@ -91,6 +92,7 @@ abbrev pub refusalIn : Outcome → ℕ
 refusalIn Nothing = 0
 refusalIn (New n) = 0
 refusalIn (Already n) = 0
+refusalIn (Revived n) = 0
 refusalIn (Refused n) = n
 
 -- Loaded by the code into a sound store, a triple is added to the graph, and nothing else; a refusal leaves the graph. The store stays

@@ -25,7 +25,7 @@ fn whole_lines(buffer: &[u8], filled: usize) -> usize
 }
 
 // Moves what stands from `from` up to `filled`, at most `KEPT` bytes, to the buffer's front, and answers how many there are.
-fn keep_rest(buffer: &mut [u8], from: usize, filled: usize) -> usize {
+pub fn keep_rest(buffer: &mut [u8], from: usize, filled: usize) -> usize {
     let stop = lesser(filled, buffer.len());
     let mut i = from;
     let mut n = 0;

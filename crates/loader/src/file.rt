@@ -125,7 +125,7 @@ pub fn load_argument(
 }
 
 // Loads the files named as arguments, in turn.
-fn load_files(
+pub fn load_files(
     l: Load,
     resources: &mut [u32],
     statements: &mut [u32],

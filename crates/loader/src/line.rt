@@ -1,6 +1,8 @@
 // A line loaded: what was read of it is entered and asserted, or refused.
 ghost use mathlib.Core.Path.{_≡_};
+ghost use Rattle.term.specs.Grammar.{nameLimit};
 ghost use Rattle.store.specs.Tables.{lent};
+ghost use Rattle.ntriples.specs.Reader.{readOf};
 ghost use Rattle.loader.specs.Lines.{contentOf, lineAt, Loads};
 ghost use Rattle.loader.specs.Steps.{LineInside, Ends, ReadAt, refusedLine, assertedLine};
 use ntriples::Line;
@@ -21,6 +23,7 @@ pub enum Outcome {
     Nothing,
     New(u32),
     Already(u32),
+    Revived(u32),
     Refused(u32),
 }
 
@@ -40,7 +43,7 @@ fn refused(c: Counters, e: Refusal) -> LineLoaded
     }
 }
 
-// A line whose triple was asserted. Nothing is retracted by loading, so a known triple is live.
+// A line whose triple was asserted.
 fn asserted(c: Counters, a: Asserted) -> LineLoaded
     ensures { λ r. ⌜ r ≡ assertedLine c a ⌝ }
 {
@@ -55,7 +58,7 @@ fn asserted(c: Counters, a: Asserted) -> LineLoaded
         },
         Asserted::Revived(n, d) => LineLoaded {
             counters: d,
-            outcome: Outcome::Already(n.0),
+            outcome: Outcome::Revived(n.0),
         },
         Asserted::Refused(e) => refused(c, e),
     }
@@ -182,5 +185,23 @@ pub fn load_line(
     if content(source, from, next) > LINE_LIMIT {
         return refused(c, Refusal::BadLine);
     }
+    load_read(c, resources, statements, index, text, source, line)
+}
+
+// Loads the first line of the source, of any length.
+pub fn load_first(
+    c: Counters,
+    resources: &mut [u32],
+    statements: &mut [u32],
+    index: &mut [u32],
+    text: &mut [u8],
+    source: &[u8],
+) -> LineLoaded
+    ensures { λ r. ⌜ Loads c (lent (resources .entry) (statements .entry) (index .entry) (text .entry))
+        (lent (resources .exit) (statements .exit) (index .exit) (text .exit))
+        (now (source .entry)) (readOf nameLimit (now (source .entry)) 0 .line) r ⌝ }
+{
+    let read = ntriples::read_line(source, 0);
+    let line = read.line;
     load_read(c, resources, statements, index, text, source, line)
 }

@@ -11,7 +11,7 @@ use table::word::lesser;
 const OUTPUT_LINE: usize = 64;
 
 // Appends bytes to what stands before `at`, as far as there is room, and answers where they end.
-fn append(out: &mut [u8], at: usize, bytes: &[u8]) -> usize
+pub fn append(out: &mut [u8], at: usize, bytes: &[u8]) -> usize
     ensures { λ r. ⌜ Counts r (now (out .exit)) ⌝ }
 {
     let mut end = lesser(at, out.len());
@@ -29,7 +29,7 @@ fn append(out: &mut [u8], at: usize, bytes: &[u8]) -> usize
 }
 
 // Appends a number's decimal digits.
-fn append_decimal(out: &mut [u8], at: usize, n: u64) -> usize
+pub fn append_decimal(out: &mut [u8], at: usize, n: u64) -> usize
     ensures { λ r. ⌜ Counts r (now (out .exit)) ⌝ }
 {
     let mut digits = [0u8; 20];
@@ -53,6 +53,7 @@ fn report_all(number: u64, outcome: Outcome) {
         Outcome::Nothing => {}
         Outcome::New(n) => write_line(STDOUT_FILENO, number, b" new ", n),
         Outcome::Already(n) => write_line(STDOUT_FILENO, number, b" already ", n),
+        Outcome::Revived(n) => write_line(STDOUT_FILENO, number, b" revived ", n),
         Outcome::Refused(n) => write_line(STDOUT_FILENO, number, b" refused ", n),
     }
 }
@@ -63,6 +64,7 @@ fn report_refused(number: u64, outcome: Outcome) {
         Outcome::Nothing => {}
         Outcome::New(_) => {}
         Outcome::Already(_) => {}
+        Outcome::Revived(_) => {}
         Outcome::Refused(n) => write_line(STDERR_FILENO, number, b" refused ", n),
     }
 }

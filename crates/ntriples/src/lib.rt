@@ -55,7 +55,7 @@ pub enum ObjectEnd {
 }
 
 // A space or a tab.
-fn is_white(b: u8) -> bool
+pub fn is_white(b: u8) -> bool
     ensures { λ r. ⌜ r ≡ white b ⌝ }
 {
     match b {

@@ -1,0 +1,128 @@
+-- A loop of calls, of a query or of a scan: what is told of the whole reading is what was counted so far and what is told of the reading
+-- from the cursor reached. One law for each way that a call is answered. Assumes nothing.
+use mathlib.Core.Path.{_≡_, refl, sym, ap, _∙_}
+use mathlib.Core.Bool.{Bool, true, false, true≢false}
+use mathlib.Core.Logic.{_≢_}
+use Prim.Native.Nat.{ℕ, suc, _+_, _-_, _*_, _≤_, _<_}
+use native.Mathlib.Omega.{arith}
+use borrow.Author.Tests.{ne-eqb}
+use Rattle.store.specs.declared.Refusal.{Refusal}
+use Rattle.store.specs.Values.{refusalNumber}
+use Rattle.store.proofs.Numbers.{refusal-positive}
+use Rattle.graph.specs.Claims.{Reply, readOn, foundIn, hasEnded, visitsIn}
+use Rattle.shell_answer.specs.declared.Told.{Told}
+use Rattle.shell_answer.specs.Told.{budget, maxCalls, budgets, refusalIn, toldOf, TellsOf}
+
+abbrev told : ℕ → Bool → ℕ → ℕ → Told
+told e y f v = record { refusal = e; ended = y; found = f; visits = v }
+
+counts-same : {e f f′ v v′ : ℕ} {y : Bool} → f ≡ f′ → v ≡ v′ → told e y f v ≡ told e y f′ v′
+counts-same p q = rw (p, q)
+
+-- with f more found and v more visits
+abbrev more : ℕ → ℕ → Told → Told
+more f v t = told (t .refusal) (t .ended) (f + t .found) (v + t .visits)
+
+module _ {A Q : Type 0} (next : Q → ℕ → Reply A Q) where
+  -- what is told of n calls from a cursor
+  abbrev from : Q → ℕ → Told
+  from q n = toldOf (readOn next q (budgets n))
+
+  -- `made` calls are made and `turns` are left: f found, v visits, q reached
+  pub record Going (start q : Q) (turns f v : ℕ) : Type 0 where
+    pub made : ℕ
+    pub all : made + turns ≡ maxCalls
+    pub few : f ≤ made
+    pub paid : v ≤ budget * made
+    pub onward : (n : ℕ) → from start (made + n) ≡ more f v (from q n)
+
+  pub begins : (q : Q) → Going q q maxCalls 0 0
+  begins q = record {
+    made = 0;
+    all = refl;
+    few = omega arith;
+    paid = omega arith;
+    onward = λ n. ap (λ (i : ℕ). from q i) {x = 0 + n} {y = n} (omega arith) ∙ counts-same (omega arith) (omega arith);
+  }
+
+  -- ---- what is told of one call, answered r
+
+  module _ {q : Q} {r : Reply A Q} (replied : next q budget ≡ r) where
+    one-found : {q′ : Q} → r .refusal ≡ 0 → r .status ≡ 1 → q′ ≡ r .cursor → (n : ℕ)
+        → from q (suc n) ≡ more 1 (r .visits) (from q′ n)
+    unfolding readOn foundIn hasEnded visitsIn refusalIn
+    one-found z s e n = rw (replied, z, s, e) (counts-same (omega arith) (omega arith))
+
+    one-spent : {q′ : Q} → r .refusal ≡ 0 → r .status ≡ 3 → q′ ≡ r .cursor → (n : ℕ)
+        → from q (suc n) ≡ more 0 (r .visits) (from q′ n)
+    unfolding readOn foundIn hasEnded visitsIn refusalIn
+    one-spent z s e n = rw (replied, z, s, e) (counts-same (omega arith) (omega arith))
+
+    one-ended : r .refusal ≡ 0 → r .status ≡ 2 → from q 1 ≡ told 0 true 0 (r .visits)
+    unfolding readOn foundIn hasEnded visitsIn refusalIn
+    one-ended z s = rw (replied, z, s) (counts-same (omega arith) (omega arith))
+
+    one-refused : {e : ℕ} → e ≢ 0 → r .refusal ≡ e → r .status ≡ 0 → from q 1 ≡ told e false 0 (r .visits)
+    unfolding readOn foundIn hasEnded visitsIn refusalIn
+    one-refused {e = e} n z s = rw (replied, z, s, ne-eqb e 0 n) (counts-same (omega arith) (omega arith))
+
+  none-made : (q : Q) → from q 0 ≡ told 0 false 0 0
+  unfolding readOn foundIn hasEnded visitsIn refusalIn
+  none-made q = refl
+
+  -- ---- the loop after one call more
+
+  module _ {start q : Q} {turns f v : ℕ} (G : Going start q turns f v) where
+    -- the sums that are told fit
+    pub fits-found : 0 < turns → f + 1 < 18446744073709551616
+    fits-found z = omega (arith, G .few, G .all)
+
+    pub fits-visits : {w : ℕ} → w ≤ budget → 0 < turns → v + w < 18446744073709551616
+    fits-visits b z = omega (arith, G .paid, G .all)
+
+    -- n more calls find nothing, and then none is made
+    last : {e w v′ : ℕ} {y : Bool} (n : ℕ) → n ≤ turns → (e ≡ 0 → y ≡ false → n ≡ turns) → v′ ≡ v + w
+        → from q n ≡ told e y 0 w → TellsOf (readOn next start) (told e y f v′)
+    last n h g d p = record {
+      calls = G .made + n;
+      few = omega (arith, G .all);
+      tells = counts-same (omega arith) (omega arith) ∙ sym (G .onward n ∙ ap (λ (t : Told). more f v t) p);
+      stops = λ a b. omega (arith, G .all, g a b);
+    }
+
+    -- all calls are made
+    pub stops-over : turns ≡ 0 → TellsOf (readOn next start) (told 0 false f v)
+    stops-over z = last 0 (omega arith) (λ a b. sym z) (omega arith) (none-made q)
+
+    -- one call more finds n
+    turn : {q′ : Q} {n w f′ v′ : ℕ} → 0 < turns → n ≤ 1 → w ≤ budget → f′ ≡ f + n → v′ ≡ v + w
+        → ((k : ℕ) → from q (suc k) ≡ more n w (from q′ k)) → Going start q′ (turns - 1) f′ v′
+    turn z h b i j e = record {
+      made = G .made + 1;
+      all = omega (arith, G .all);
+      few = omega (arith, G .few);
+      paid = omega (arith, G .paid);
+      onward =
+          λ k.
+          ap (λ (i : ℕ). from start i) {x = (G .made + 1) + k} {y = G .made + suc k} (omega arith) ∙ G .onward (suc k)
+          ∙ ap (λ (t : Told). more f v t) (e k) ∙ counts-same (omega arith) (omega arith);
+    }
+
+    module _ {r : Reply A Q} (replied : next q budget ≡ r) (left : 0 < turns) where
+      pub stops-refused : (x : Refusal) {e v′ : ℕ} → r .refusal ≡ refusalNumber x → e ≡ refusalNumber x → r .status ≡ 0
+          → v′ ≡ v + r .visits → TellsOf (readOn next start) (told e false f v′)
+      stops-refused x {e = e} z d s p =
+          let n : e ≢ 0 = λ a. refusal-positive x (sym d ∙ a) in
+          last 1 (omega arith) (λ a b. absurd (n a)) p (one-refused replied n (z ∙ sym d) s)
+
+      pub stops-ended : {v′ : ℕ} → r .refusal ≡ 0 → r .status ≡ 2 → v′ ≡ v + r .visits
+          → TellsOf (readOn next start) (told 0 true f v′)
+      stops-ended z s d = last 1 (omega arith) (λ a b. absurd (true≢false b)) d (one-ended replied z s)
+
+      module _ {q′ : Q} {f′ v′ : ℕ} (zero : r .refusal ≡ 0) (within : r .visits ≤ budget) (moved : q′ ≡ r .cursor)
+          (paid : v′ ≡ v + r .visits) where
+        pub goes-found : r .status ≡ 1 → f′ ≡ f + 1 → Going start q′ (turns - 1) f′ v′
+        goes-found s d = turn left (omega arith) within d paid (one-found replied zero s moved)
+
+        pub goes-spent : r .status ≡ 3 → f′ ≡ f → Going start q′ (turns - 1) f′ v′
+        goes-spent s d = turn left (omega arith) within (omega arith) paid (one-spent replied zero s moved)

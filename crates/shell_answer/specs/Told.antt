@@ -1,0 +1,39 @@
+-- What is told of a reading, of a query or of a scan, that was read through: how many calls were made, and what their replies come to.
+-- Assumes nothing.
+use Rattle.store.specs.Prelude.{_≡_, _≢_, false, cond, List, [], _∷_, ℕ, _≤_, length, eqb, replicate}
+use Rattle.graph.specs.Claims.{Reply, foundIn, hasEnded, visitsIn}
+use Rattle.shell_answer.specs.declared.Told.{Told}
+
+-- as many records as one call may visit; as many calls as a reading may take
+abbrev pub budget : ℕ
+budget = 4096
+
+abbrev pub maxCalls : ℕ
+maxCalls = 4503599627370495
+
+-- as many calls, each with that budget
+abbrev pub budgets : ℕ → List ℕ
+budgets n = replicate n budget
+
+module _ {A Q : Type 0} where
+  -- the number of the first refusal, or 0
+  unfoldable pub refusalIn : List (Reply A Q) → ℕ
+  refusalIn [] = 0
+  refusalIn (r ∷ rs) = cond (eqb (r .refusal) 0) (refusalIn rs) (r .refusal)
+
+  -- what these replies come to
+  abbrev pub toldOf : List (Reply A Q) → Told
+  toldOf rs =
+      record { refusal = refusalIn rs; ended = hasEnded rs; found = length (foundIn rs); visits = visitsIn rs }
+
+  -- Told of the replies to some calls, no fewer than it takes: unless one was refused or has ended, `maxCalls` were made.
+  pub record TellsOf (read : List ℕ → List (Reply A Q)) (t : Told) : Type 0 where
+    pub calls : ℕ
+    pub few : calls ≤ maxCalls
+    pub tells : t ≡ toldOf (read (budgets calls))
+    pub stops : t .refusal ≡ 0 → t .ended ≡ false → calls ≡ maxCalls
+
+  -- From the opening's refusal, or 0: refused, with nothing found and no visits; or told of the reading.
+  pub record ReadThrough (opening : ℕ) (read : List ℕ → List (Reply A Q)) (t : Told) : Type 0 where
+    pub unopened : opening ≢ 0 → t ≡ record { refusal = opening; ended = false; found = 0; visits = 0 }
+    pub opened : opening ≡ 0 → TellsOf read t

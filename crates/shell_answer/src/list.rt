@@ -1,0 +1,92 @@
+// A list read through.
+ghost use Rattle.store.specs.Tables.{lent};
+ghost use Rattle.graph.specs.Claims.{readOn, scanNext};
+ghost use Rattle.shell_answer.specs.Told.{TellsOf};
+ghost use Rattle.shell_answer.specs.Claims.{ListRead};
+use crate::BUDGET;
+use crate::CALLS;
+use crate::Told;
+use shell_print::names;
+use store::Counters;
+use store::ScanCursor;
+use store::ScanOpened;
+use store::Scanned;
+use store::Triple;
+
+// Reads on from a cursor until the reading has ended, and writes each statement as it comes.
+fn read_on(
+    c: Counters,
+    resources: &[u32],
+    statements: &[u32],
+    index: &[u32],
+    text: &[u8],
+    start: ScanCursor,
+) -> Told
+    ensures { λ r. ⌜ TellsOf (readOn (scanNext c
+        (lent (resources .entry) (statements .entry) (index .entry) (text .entry))) start) r ⌝ }
+{
+    let mut q = start;
+    let mut found: u64 = 0;
+    let mut visits: u64 = 0;
+    let mut turns = CALLS;
+    // `found` statements are written, with `visits` visits; `q` is how far the reading is.
+    while turns > 0 {
+        match scan::scan_next(c, resources, statements, index, text, q, BUDGET) {
+            Scanned::Refused(e) => {
+                return Told {
+                    refusal: store::refusal_number(e),
+                    ended: false,
+                    found: found,
+                    visits: visits,
+                };
+            }
+            Scanned::Ended(v, _) => {
+                return Told {
+                    refusal: 0,
+                    ended: true,
+                    found: found,
+                    visits: visits + v as u64,
+                };
+            }
+            Scanned::Found(n, v, next) => {
+                names::statement(c, resources, statements, index, text, n);
+                found += 1;
+                visits += v as u64;
+                q = next;
+            }
+            Scanned::Spent(v, next) => {
+                visits += v as u64;
+                q = next;
+            }
+        }
+        turns -= 1;
+    }
+    Told {
+        refusal: 0,
+        ended: false,
+        found: found,
+        visits: visits,
+    }
+}
+
+// Reads the list of a pattern through, 0 standing for any.
+pub fn read_through(
+    c: Counters,
+    resources: &[u32],
+    statements: &[u32],
+    index: &[u32],
+    text: &[u8],
+    x: Triple,
+) -> Told
+    ensures { λ r. ⌜ ListRead c (lent (resources .entry) (statements .entry) (index .entry) (text .entry)) x r ⌝ }
+{
+    match scan::scan_open(c, resources, statements, index, text, x) {
+        ScanOpened::Refused(e) => Told {
+            refusal: store::refusal_number(e),
+            ended: false,
+            found: 0,
+            visits: 0,
+        },
+        ScanOpened::Cursor(q) => read_on(c, resources, statements, index, text, q),
+    }
+}

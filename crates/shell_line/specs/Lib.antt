@@ -1,0 +1,4 @@
+pub mod Ends
+pub mod Commands
+pub mod Questions
+pub mod Claims
