@@ -5,10 +5,10 @@ use native.Mathlib.Omega.{arith}
 use lib.ListN.{length, length-set}
 use Rattle.io.proofs.Counting.{counts}
 use borrow.Author.Needs.{needs}
-use Rattle.loader.proofs.output.append.Statement.{statement}
-use Rattle.loader.proofs.output.append.Tie as tie
-use Rattle.loader.proofs.output.append.Reads as reads
-use Rattle.loader.proofs.output.append.Lts as lts
+use Rattle.report.proofs.output.append.Statement.{statement}
+use Rattle.report.proofs.output.append.Tie as tie
+use Rattle.report.proofs.output.append.Reads as reads
+use Rattle.report.proofs.output.append.Lts as lts
 use Rattle.table.proofs.word.lesser.Reads as lesser-reads
 
 abbrev Inv-loop : tie.InvT-loop
