@@ -4,7 +4,7 @@ use crate::block;
 use crate::load;
 use crate::load::Load;
 use arguments::Argument;
-use report::lines;
+use report::tally;
 use table::word::lesser;
 
 // What reading a block brought: the load after it, and whether to go on.
@@ -15,7 +15,7 @@ pub struct Block {
 
 // A load that something could not be read of, by the call that just failed. A line that this broke off is not loaded.
 fn unread(l: Load, name: &[u8]) -> Load {
-    let t = lines::with_unread(l.report, name);
+    let t = tally::with_unread(l.report, name);
     block::with_used(load::reported(l, t), 0)
 }
 
@@ -73,9 +73,35 @@ fn load_blocks(
     m
 }
 
-// Loads an open file or standard input: its blocks, and a last line without its LF. `file` is the argument that names it, 0 for standard
-// input.
-pub fn load_open(
+// Reads an open file to its end, and loads a last line without its LF.
+fn load_to_end(
+    l: Load,
+    resources: &mut [u32],
+    statements: &mut [u32],
+    index: &mut [u32],
+    text: &mut [u8],
+    buffer: &mut [u8],
+    fd: i32,
+    name: &[u8],
+) -> Load {
+    let m = load_blocks(l, resources, statements, index, text, buffer, fd, name);
+    block::finish(m, resources, statements, index, text, buffer)
+}
+
+// A load that begins the file that an argument names, or standard input (0).
+fn begun(l: Load, file: usize) -> Load {
+    let t = tally::with_file(l.report, file, l.lines);
+    load::reported(l, t)
+}
+
+// A load that has ended a file.
+fn ended(l: Load) -> Load {
+    let t = tally::with_end(l.report);
+    load::reported(l, t)
+}
+
+// Loads an open file or standard input; `file` is the argument that names it, 0 for standard input.
+fn load_open(
     l: Load,
     resources: &mut [u32],
     statements: &mut [u32],
@@ -86,12 +112,9 @@ pub fn load_open(
     name: &[u8],
     file: usize,
 ) -> Load {
-    let t = lines::with_file(l.report, file, l.lines);
-    let k = load::reported(l, t);
-    let m = load_blocks(k, resources, statements, index, text, buffer, fd, name);
-    let n = block::finish(m, resources, statements, index, text, buffer);
-    let u = lines::with_end(n.report);
-    load::reported(n, u)
+    let k = begun(l, file);
+    let m = load_to_end(k, resources, statements, index, text, buffer, fd, name);
+    ended(m)
 }
 
 // Loads the file with this path, which argument i names.

@@ -5,8 +5,8 @@ ghost use Rattle.loader.specs.Steps.{Takes, ReadAt};
 use crate::line::load_line;
 use crate::told;
 use ntriples::Line;
-use report::lines;
-use report::lines::Report;
+use report::tally;
+use report::tally::Report;
 use store::Counters;
 
 // How far a load is: the store's counters, the lines that have ended, how many bytes of the line being read stand at the front of the
@@ -26,7 +26,7 @@ pub fn start(quiet: bool) -> Load {
         lines: 0,
         used: 0,
         quiet: quiet,
-        report: lines::fresh(),
+        report: tally::fresh(),
     }
 }
 
@@ -42,7 +42,7 @@ pub fn written(l: Load) -> bool {
 
 // 0 where all is loaded, 1 where a line was refused, 2 where something could not be read or written.
 pub fn status(l: Load) -> u32 {
-    lines::status(l.report)
+    tally::status(l.report)
 }
 
 // A load with another report.
@@ -82,7 +82,7 @@ fn take_line(
         line,
         next,
     );
-    let number = lines::counted(l.lines);
+    let number = tally::counted(l.lines);
     let outcome = r.outcome;
     let d = r.counters;
     let t = told::with_line(l.report, l.quiet, number, outcome, source, from, line, next);

@@ -3,8 +3,8 @@ use crate::line::LINE_LIMIT;
 use crate::line::Outcome;
 use crate::output;
 use ntriples::Line;
-use report::lines;
-use report::lines::Report;
+use report::tally;
+use report::tally::Report;
 use table::word::lesser;
 
 // A byte of the source, 0 past its end.
@@ -61,7 +61,7 @@ fn with_outcome(t: Report, quiet: bool, number: u64, outcome: Outcome) -> Report
     if quiet {
         return t;
     }
-    lines::with_written(t, output::outcome(number, outcome))
+    tally::with_written(t, output::outcome(number, outcome))
 }
 
 // With line `number`, which stands in the source from `from` up to `next`, was read as `line` and came to `outcome`. Nothing is told once a
@@ -88,5 +88,5 @@ pub fn with_line(
         return u;
     }
     let bytes = bytes_of(source, from, content_end(source, from, next));
-    lines::with_refused(u, number, n, bytes, offset_of(line), LINE_LIMIT)
+    tally::with_refused(u, number, n, bytes, offset_of(line), LINE_LIMIT)
 }
