@@ -2,13 +2,14 @@
 // a line, and answers in names.
 //
 // `input` reads the lines; `run` takes a line to its command; `change` has the commands that write to the store, `reading` those that only
-// read it, `answer` what they write; `buffer` makes the tables and the long buffers.
+// read it, `answer` what they write.
 mod answer;
-mod buffer;
 mod change;
 mod input;
 mod reading;
 mod run;
+
+use loader::buffer;
 
 fn main() {
     let mut resources = buffer::resource_table();

@@ -1,4 +1,4 @@
-// The tables and the long buffers. They are so long that their lengths are told by a contract.
+// The tables and the long buffers of the shell and of the exporting program. They are so long that their lengths are told by a contract.
 ghost use mathlib.Core.Path.{_≡_};
 ghost use Prim.Native.Nat.{_*_};
 ghost use lib.ListN.{length};
@@ -13,7 +13,7 @@ const STATEMENTS: usize = 16384;
 
 const TEXT: usize = 524288;
 
-// The longest file that `save` writes.
+// The longest file that they write.
 const FILE: usize = 4194304;
 
 pub fn resource_table() -> [u32; RESOURCES * RESOURCE_WORDS]

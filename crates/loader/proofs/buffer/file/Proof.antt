@@ -1,9 +1,9 @@
--- `shell::buffer::file` meets its contract, by the law on a repeated value: computing the length would count to it. Assumes nothing.
+-- `loader::buffer::file` meets its contract, by the law on a repeated value: computing the length would count to it. Assumes nothing.
 use Prim.Native.Nat.{ℕ}
 use mathlib.Core.Path.{sym}
 use lib.ListN.{length-replicate}
-use Rattle.shell.proofs.buffer.file.Statement.{statement}
-use Rattle.shell.proofs.buffer.file.Tie as tie
+use Rattle.loader.proofs.buffer.file.Statement.{statement}
+use Rattle.loader.proofs.buffer.file.Tie as tie
 
 returns : tie.Need-returns
 returns c = sym (length-replicate {A = ℕ} 4194304 0)
