@@ -138,7 +138,7 @@ fn load_path(
 }
 
 // Loads the file that argument i names.
-fn load_argument(
+pub fn load_argument(
     l: Load,
     resources: &mut [u32],
     statements: &mut [u32],
