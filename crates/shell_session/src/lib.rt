@@ -1,0 +1,4 @@
+// Stub.
+pub fn run(all: bool) -> u32 {
+    0
+}
