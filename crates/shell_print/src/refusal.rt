@@ -1,9 +1,9 @@
 // Refusals in words, and where a line cannot be read, written to a descriptor. What tells a whole refusal answers the status.
 ghost use Rattle.io.specs.Counts.{Counts};
 use crate::status;
-use loader::output::append;
-use loader::output::append_decimal;
-use loader::output::put;
+use report::output::append;
+use report::output::append_decimal;
+use report::output::put;
 
 // A line of the input, or what is written above it.
 const LINE: usize = 1280;

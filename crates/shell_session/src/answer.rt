@@ -2,9 +2,9 @@
 ghost use Rattle.io.specs.Counts.{Counts};
 use libc::STDOUT_FILENO;
 use loader::line::Outcome;
-use loader::output::append;
-use loader::output::append_decimal;
-use loader::output::put;
+use report::output::append;
+use report::output::append_decimal;
+use report::output::put;
 use shell_answer::Told;
 use shell_line::parts;
 use shell_line::parts::Parts;
