@@ -1,10 +1,12 @@
 /* Lemontiller: a store of statements inside a test set, for C and C++.
  *
  * Every slice is a pointer and a length in elements: the pointer is aligned, and that many elements stand there. It may not be null,
- * also where the length is 0; slices of one call must not overlap where one of them is written. All memory is the caller's: it is lent
- * for the duration of one call, nothing of it is kept or freed, and no memory is asked for. Two calls on the same tables must not run
- * at once where one of them writes tables (lt_enter, lt_assert, lt_retract, lt_reclaim); reading calls may, each with its own cursor,
- * reply, list, output and working words.
+ * also where the length is 0, except for the inline functions below: these do not look at the pointer of a length 0. Slices of one call
+ * must not overlap where one of them is written. All memory is the caller's: it is lent for the duration of one call, nothing of it is
+ * kept or freed, and no memory is asked for. Two calls on the same tables must not run at once where one of them writes tables (lt_enter,
+ * lt_assert, lt_retract, lt_reclaim); reading calls may, each with its own cursor, reply, list, output and working words.
+ *
+ * The library is built for x86-64 Linux. A call takes less than STACK bytes of stack (kit/README.md has how that was measured).
  *
  * Every store function begins with the same five slices:
  *   counters    LT_COUNTER_WORDS words: resources R, statements T, text bytes B, reclaims so far; all 0 for a fresh store, whose tables
@@ -17,14 +19,27 @@
  * Resources and statements are numbered from 1; 0 is none. How much a store holds follows from the lengths lent: whole records (and for
  * resources index words too), up to the limits below.
  *
+ * BEWARE: in the pattern of lt_scan_open 0 is LT_ANY, and lt_find answers 0 for a name that is not there. Such a 0 handed on lists the
+ * contacts of all relays for a relay that does not exist. For patterns take lt_store_number, which refuses a name that is not there, and
+ * spell an open position LT_ANY. No other function takes 0 for any: it is LT_UNKNOWN_NUMBER, in the words of a query LT_BAD_QUERY.
+ *
  * A retracted statement keeps its room, so that asserting it again gives it its old number, until lt_reclaim gives the room of all of
  * them back. Cursors carry the number of reclaims of the store that they were opened on. With any other number, also at the start and at
  * the end, they are LT_STALE_CURSOR and to be opened again. A cursor does not carry its store, nor a query's its words: with another store
  * or with other words the next call is LT_BAD_CURSOR where the cursor does not fit them, and otherwise goes on there.
  *
- * How many live statements have a resource at a position a screen reads straight from the table, without a walk, while no call writes it:
- * for a number from 1 to R and an `lt_position` it is word `LT_RESOURCE_WORDS * (number - 1) + LT_RESOURCE_LIVE + position` of `resources`.
- * On a sound store that is the number of live statements there; the counts before it include retracted ones.
+ * A store may change between the calls on a cursor. What is live is so at the call:
+ *   a scan      Its rest are the statements that were on its chain at the opening, all of them if nothing was bound, but for those passed;
+ *               one is passed once the scan took it or one of a lower number. Next takes statements off the rest, the highest number
+ *               first, to the first live match. So one retracted since the opening costs a visit, one revived is found unless it was
+ *               passed, and one that is new since the opening is never found.
+ *   a query     Solutions are ordered by their statements, the first pattern's deciding first, higher numbers first. Answers come from
+ *               the solutions that hold at the call, at or after the cursor's place. One that is new since a pattern's chain was entered is
+ *               before the place in that chain, and is seen in chains entered later. Where an entered statement was retracted, the levels
+ *               below it are left without a visit.
+ *
+ * How many live statements have a resource at a position is a word of its record: lt_store_live reads it, without a walk. On a sound store
+ * it is the number of live statements there; the counts before it include retracted ones.
  *
  * The string ending is `^^<http://www.w3.org/2001/XMLSchema#string>`, exactly these 43 bytes: a literal is the same with it and without it,
  * so `"A"` typed either way is one resource. It counts among the LT_MAX_NAME bytes of a name, and is then dropped: no name of a sound
@@ -44,22 +59,33 @@
 #include <stddef.h>
 #include <stdint.h>
 
-/* The version of the library and of this file. */
-#define LT_VERSION "0.1.0"
+/* The version of this file, and its number as lt_version gives the library's. */
+#define LT_VERSION "0.2.0"
 #define LT_VERSION_MAJOR 0
-#define LT_VERSION_MINOR 1
+#define LT_VERSION_MINOR 2
 #define LT_VERSION_PATCH 0
+#define LT_VERSION_NUMBER (LT_VERSION_MAJOR * UINT32_C(1000000) + LT_VERSION_MINOR * UINT32_C(1000) + LT_VERSION_PATCH)
+
+/* A conversion as the language at hand spells it. */
+#ifdef __cplusplus
+#define LT_CAST(type, value) static_cast<type>(value)
+#else
+#define LT_CAST(type, value) ((type)(value))
+#endif
 
 #ifdef __cplusplus
 extern "C" {
 #endif
+
+/* Lengths have 64 bits, as in the library: where size_t has fewer, this is not compiled. */
+typedef char lt_size_has_64_bits[sizeof(size_t) == sizeof(uint64_t) ? 1 : -1];
 
 enum lt_result {
     LT_ANSWERED = 0,
     LT_CAPACITY = 1,           /* a counter exceeds its capacity, or the reclaims LT_MAX_RECLAIMS */
     LT_MALFORMED = 2,          /* a name that is not well formed, or over LT_MAX_NAME bytes; a name's beginning over LT_MAX_NAME bytes */
     LT_FULL = 3,               /* no room for one more */
-    LT_UNKNOWN_NUMBER = 4,     /* a number that names nothing */
+    LT_UNKNOWN_NUMBER = 4,     /* a number that names nothing; for lt_store_number: a name that is not there */
     LT_KIND_NOT_PERMITTED = 5, /* a literal as subject, or a predicate that is no IRI */
     LT_BAD_CURSOR = 6,         /* a cursor with a number out of range, a chain that is no bound position, more levels than patterns,
                                   or a record that lacks the bound resource or does not match its pattern */
@@ -97,7 +123,10 @@ enum { LT_COUNTER_WORDS = 4, LT_RESOURCE_WORDS = 11, LT_STATEMENT_WORDS = 7 };
 enum { LT_RESOURCE_FIRST = 0, LT_RESOURCE_COUNT = 3, LT_RESOURCE_OFFSET = 6, LT_RESOURCE_KIND = 7, LT_RESOURCE_LIVE = 8 };
 enum lt_position { LT_SUBJECT = 0, LT_PREDICATE = 1, LT_OBJECT = 2 };
 
-/* Words of a scan's cursor: subject, predicate, object (0 for any), chain (an `lt_chain`), next statement or 0, reclaims; and of a scan's
+/* An open position of a scan's pattern: any resource. It is 0, which is also what lt_find answers for a name that is not there. */
+#define LT_ANY UINT32_C(0)
+
+/* Words of a scan's cursor: subject, predicate, object (or LT_ANY), chain (an `lt_chain`), next statement or 0, reclaims; and of a scan's
  * reply. */
 enum { LT_CURSOR_WORDS = 6, LT_SCAN_REPLY_WORDS = 3 };
 
@@ -125,7 +154,7 @@ enum lt_step { LT_FOUND = 1, LT_ENDED = 2, LT_SPENT = 3 };
 
 /* A query is three words a pattern: subject, predicate, object, each a resource's number or LT_VARIABLE(v), v below LT_VARIABLES. */
 #define LT_FIRST_VARIABLE UINT32_C(0x80000000)
-#define LT_VARIABLE(v) (LT_FIRST_VARIABLE + (uint32_t)(v))
+#define LT_VARIABLE(v) (LT_FIRST_VARIABLE + LT_CAST(uint32_t, v))
 
 /* A text for what a function gave back. It is constant and need not be freed. */
 static inline const char *lt_strerror(uint32_t result)
@@ -135,7 +164,7 @@ static inline const char *lt_strerror(uint32_t result)
     case LT_CAPACITY: return "a counter exceeds its capacity";
     case LT_MALFORMED: return "the name is not well formed or too long";
     case LT_FULL: return "no room for one more";
-    case LT_UNKNOWN_NUMBER: return "the number names nothing";
+    case LT_UNKNOWN_NUMBER: return "no such name or number";
     case LT_KIND_NOT_PERMITTED: return "a literal as subject, or a predicate that is no IRI";
     case LT_BAD_CURSOR: return "the cursor does not fit the store or the pattern";
     case LT_NO_BUDGET: return "a budget of 0";
@@ -159,6 +188,10 @@ static inline const char *lt_strerror(uint32_t result)
         const uint32_t *statements, size_t statements_len, const uint32_t *index, size_t index_len, \
         const uint8_t *text, size_t text_len
 
+/* The version of the library that is linked, major * 1000000 + minor * 1000 + patch. This file is that of the library where it is
+ * LT_VERSION_NUMBER. */
+uint32_t lt_version(void);
+
 /* The kind of a name, or LT_MALFORMED, by the name as it is spelled. reply 1: an `lt_kind`. */
 uint32_t lt_name_kind(const uint8_t *name, size_t name_len, uint32_t *reply, size_t reply_len);
 
@@ -167,8 +200,9 @@ uint32_t lt_name_kind(const uint8_t *name, size_t name_len, uint32_t *reply, siz
  * the position stays. With LT_BAD_LINE: 0 (no `lt_line_kind` then: the line may well be followed by others), position after, the offset in
  * the line, as it is spelled, of the first byte that fits no line (the line's length if it stops short), zeros.
  * The lines read are those N-Triples whose terms are names: bytes 32 to 126 (and tabs between terms and in comments) alone, so no UTF-8; of
- * the escapes \" \\ \n \r and no other, so neither \u nor \t; labels of blank nodes without a colon; no empty IRI, no white space inside a literal
- * before its tag or datatype, no name over LT_MAX_NAME bytes. Other lines are LT_BAD_LINE. */
+ * the escapes \" \\ \n \r and no other, so neither \u nor \t; labels of blank nodes without a colon; no empty IRI, no white space inside a
+ * literal before its tag or datatype, no name over LT_MAX_NAME bytes. Other lines are LT_BAD_LINE. A label is a name as any other: one
+ * label is one node in all that is entered into a store, also from several files. */
 uint32_t lt_read_line(const uint8_t *text, size_t text_len, size_t at, uint64_t *reply, size_t reply_len);
 
 /* Whether the store is sound: every word of it is as entering, asserting, retracting and reclaiming leave it. reply 1: 1 or 0. It refuses
@@ -176,9 +210,9 @@ uint32_t lt_read_line(const uint8_t *text, size_t text_len, size_t at, uint64_t 
 uint32_t lt_check(LT_STORE, uint32_t *reply, size_t reply_len);
 
 /* Finds a name, without the string ending. LT_CAPACITY, LT_MALFORMED (by the name as it is spelled), LT_DAMAGED. reply 2: its number, or
- * 0; its position in the index, from 0, where it stands or would stand, so how many names are below it. Entering the name puts its number
- * there. Where names or index are not sound, LT_DAMAGED is not certain: number and position may also be 0 or any numbers up to R, beside a
- * number the position is below R. */
+ * 0 (not for a pattern, where that is LT_ANY: see lt_store_number); its position in the index, from 0, where it stands or would stand, so
+ * how many names are below it. Entering the name puts its number there. Where names or index are not sound, LT_DAMAGED is not certain:
+ * number and position may also be 0 or any numbers up to R, beside a number the position is below R. */
 uint32_t lt_find(LT_STORE, const uint8_t *name, size_t name_len, uint32_t *reply, size_t reply_len);
 
 /* Lists the resources whose names begin with `prefix`, 0 to LT_MAX_NAME bytes of any value, in rising byte order of name. LT_CAPACITY,
@@ -189,9 +223,9 @@ uint32_t lt_names_with_prefix(LT_STORE, const uint8_t *prefix, size_t prefix_len
                               size_t reply_len);
 
 /* Enters a name: finds it, or gives it the next number and stores it without the string ending. LT_CAPACITY, LT_MALFORMED (by the name
- * as it is spelled), LT_DAMAGED, LT_FULL (by what is stored). reply 1: its number. Writes counters, resources, index, text. Where names or
- * index are not sound, LT_DAMAGED is not certain: the answer may also be any number up to R, or R + 1; then the index, record R + 1 and
- * text from B on are all of the tables that is written. */
+ * as it is spelled), LT_DAMAGED, LT_FULL (by what is stored). reply 1: its number. Writes counters, resources, index, text; so the name may
+ * not lie in the store's own text, as what lt_name tells does. Where names or index are not sound, LT_DAMAGED is not certain: the answer
+ * may also be any number up to R, or R + 1; then the index, record R + 1 and text from B on are all of the tables that is written. */
 uint32_t lt_enter(uint32_t *counters, size_t counters_len, uint32_t *resources, size_t resources_len, const uint32_t *statements,
                   size_t statements_len, uint32_t *index, size_t index_len, uint8_t *text, size_t text_len, const uint8_t *name,
                   size_t name_len, uint32_t *reply, size_t reply_len);
@@ -222,13 +256,13 @@ uint32_t lt_retract(const uint32_t *counters, size_t counters_len, uint32_t *res
 uint32_t lt_reclaim(uint32_t *counters, size_t counters_len, uint32_t *resources, size_t resources_len, uint32_t *statements,
                     size_t statements_len, const uint32_t *index, size_t index_len, const uint8_t *text, size_t text_len);
 
-/* Opens a scan of the statements that match a pattern, 0 for any. LT_CAPACITY, LT_UNKNOWN_NUMBER, LT_DAMAGED. Writes the cursor,
- * LT_CURSOR_WORDS. */
+/* Opens a scan of the statements that match a pattern, LT_ANY, so 0, for any resource. LT_CAPACITY, LT_UNKNOWN_NUMBER for one above R,
+ * LT_DAMAGED. Writes the cursor, LT_CURSOR_WORDS. */
 uint32_t lt_scan_open(LT_STORE, uint32_t subject, uint32_t predicate, uint32_t object, uint32_t *cursor, size_t cursor_len);
 
 /* Next of a scan, visiting at most `budget` records, the statement of the highest number first (a revived one keeps its old number).
- * LT_CAPACITY, LT_STALE_CURSOR, LT_BAD_CURSOR, LT_NO_BUDGET, LT_DAMAGED. reply LT_SCAN_REPLY_WORDS: an `lt_step`, the statement or 0, visits
- * made. Writes the cursor. */
+ * LT_CAPACITY, LT_STALE_CURSOR, LT_BAD_CURSOR, LT_NO_BUDGET, LT_DAMAGED. reply LT_SCAN_REPLY_WORDS: an `lt_step`, the statement or 0,
+ * visits made. Writes the cursor. */
 uint32_t lt_scan_next(LT_STORE, uint32_t *cursor, size_t cursor_len, uint32_t budget, uint32_t *reply, size_t reply_len);
 
 /* Opens a query of up to LT_MAX_PATTERNS patterns. LT_CAPACITY, LT_BAD_QUERY. Writes the cursor, LT_QUERY_CURSOR_WORDS: the start. It
@@ -243,7 +277,8 @@ uint32_t lt_query_next(LT_STORE, const uint32_t *words, size_t words_len, uint32
 
 /* Writes the live statements as a file of N-Triples in canonical form, lines in rising byte order. LT_CAPACITY, LT_DAMAGED if a statement
  * or one of its names cannot be read, a retracted one's too, LT_EXPORT_SPACE if `out` is shorter than the file or `work` than T words.
- * reply 1: the file's length in bytes. Writes the file, and 0 into the first T words of `work`; nothing beside a refusal. */
+ * LT_MAX_LINE * T bytes are enough for any file. reply 1: the file's length in bytes. Writes the file, and 0 into the first T words of
+ * `work`; nothing beside a refusal. */
 uint32_t lt_export(LT_STORE, uint8_t *out, size_t out_len, uint32_t *work, size_t work_len, uint32_t *reply, size_t reply_len);
 
 #undef LT_STORE
@@ -252,7 +287,10 @@ uint32_t lt_export(LT_STORE, uint8_t *out, size_t out_len, uint32_t *work, size_
  * function above with the rest of its name (lt_store_find of lt_find), lt_kind_of of lt_name_kind, lt_line_read of lt_read_line, and gives
  * back its result. All that is said there holds: beside a refusal the reply's fields are 0 (except LT_BAD_LINE), and counters, cursor,
  * tables, a list's words, output and working words stay as they were. LT_TOO_SHORT cannot come. Words are copied to fields and back one by
- * one, so nothing depends on how a struct is laid out. */
+ * one, so nothing depends on how a struct is laid out. lt_store_number and lt_store_live stand here alone.
+ *
+ * Where a length is 0 the pointer is not looked at: it may be null, as that of an empty vector. A store that is all zeros has no room, and
+ * is sound. */
 
 struct lt_counters {
     uint32_t resources, statements, text, reclaims;
@@ -301,7 +339,7 @@ struct lt_assertion {
     uint32_t status, number;
 };
 
-/* A scan's cursor: the pattern, 0 for any; an `lt_chain`; the next statement or 0; the reclaims. */
+/* A scan's cursor: the pattern, LT_ANY where it is open; an `lt_chain`; the next statement or 0; the reclaims. */
 struct lt_scan {
     uint32_t subject, predicate, object, chain, next, reclaims;
 };
@@ -387,30 +425,50 @@ static inline void lt_query_from_words(struct lt_query *query, const uint32_t *w
     }
 }
 
+/* A slice as two arguments. The library takes no null pointer: one of length 0 is lent at a place where nothing is read or written. */
+static inline uint32_t *lt_no_words(void)
+{
+    static uint32_t none;
+    return &none;
+}
+
+static inline uint8_t *lt_no_bytes(void)
+{
+    static uint8_t none;
+    return &none;
+}
+
+#define LT_WORDS(pointer, length) (length) == 0 ? lt_no_words() : (pointer), (length)
+#define LT_BYTES(pointer, length) (length) == 0 ? lt_no_bytes() : (pointer), (length)
+
 /* lt_name_kind. */
-static inline uint32_t lt_kind_of(const uint8_t *name, size_t name_len, uint32_t *kind) { return lt_name_kind(name, name_len, kind, 1); }
+static inline uint32_t lt_kind_of(const uint8_t *name, size_t name_len, uint32_t *kind)
+{
+    return lt_name_kind(LT_BYTES(name, name_len), kind, 1);
+}
 
 /* lt_read_line. */
 static inline uint32_t lt_line_read(const uint8_t *text, size_t text_len, size_t at, struct lt_line *line)
 {
     uint64_t words[LT_LINE_WORDS];
-    uint32_t result = lt_read_line(text, text_len, at, words, LT_LINE_WORDS);
-    line->what = (uint32_t)words[0];
-    line->next = (size_t)words[1];
-    line->fault = result == LT_BAD_LINE ? (size_t)words[2] : 0;
-    line->subject.start = result == LT_BAD_LINE ? 0 : (size_t)words[2];
-    line->subject.length = (size_t)words[3];
-    line->predicate.start = (size_t)words[4];
-    line->predicate.length = (size_t)words[5];
-    line->object.start = (size_t)words[6];
-    line->object.length = (size_t)words[7];
+    uint32_t result = lt_read_line(LT_BYTES(text, text_len), at, words, LT_LINE_WORDS);
+    line->what = LT_CAST(uint32_t, words[0]);
+    line->next = words[1];
+    line->fault = result == LT_BAD_LINE ? words[2] : 0;
+    line->subject.start = result == LT_BAD_LINE ? 0 : words[2];
+    line->subject.length = words[3];
+    line->predicate.start = words[4];
+    line->predicate.length = words[5];
+    line->object.start = words[6];
+    line->object.length = words[7];
     return result;
 }
 
 /* The five slices of a store, whose counters are `counters`. */
-#define LT_SLICES                                                                                               \
-    counters, LT_COUNTER_WORDS, store->resources, store->resources_len, store->statements, store->statements_len, \
-        store->index, store->index_len, store->text, store->text_len
+#define LT_SLICES                                                                            \
+    counters, LT_COUNTER_WORDS, LT_WORDS(store->resources, store->resources_len),            \
+        LT_WORDS(store->statements, store->statements_len), LT_WORDS(store->index, store->index_len), \
+        LT_BYTES(store->text, store->text_len)
 
 static inline uint32_t lt_store_check(const struct lt_store *store, uint32_t *sound)
 {
@@ -423,9 +481,24 @@ static inline uint32_t lt_store_find(const struct lt_store *store, const uint8_t
 {
     uint32_t counters[LT_COUNTER_WORDS], words[2], result;
     lt_counters_to_words(&store->counters, counters);
-    result = lt_find(LT_SLICES, name, name_len, words, 2);
+    result = lt_find(LT_SLICES, LT_BYTES(name, name_len), words, 2);
     lookup->number = words[0];
     lookup->position = words[1];
+    return result;
+}
+
+/* The number of a name that must be there, as for a pattern: lt_find, but a name that is not there is refused, LT_UNKNOWN_NUMBER, the last
+ * of the refusals. Beside a refusal the number is 0, which a pattern would take for any: so the result must be looked at. */
+#ifdef __GNUC__
+__attribute__((warn_unused_result))
+#endif
+static inline uint32_t lt_store_number(const struct lt_store *store, const uint8_t *name, size_t name_len, uint32_t *number)
+{
+    struct lt_lookup lookup;
+    uint32_t result = lt_store_find(store, name, name_len, &lookup);
+    *number = lookup.number;
+    if (result == LT_ANSWERED && lookup.number == 0)
+        return LT_UNKNOWN_NUMBER;
     return result;
 }
 
@@ -434,14 +507,14 @@ static inline uint32_t lt_store_names_with_prefix(const struct lt_store *store, 
 {
     uint32_t counters[LT_COUNTER_WORDS];
     lt_counters_to_words(&store->counters, counters);
-    return lt_names_with_prefix(LT_SLICES, prefix, prefix_len, numbers, numbers_len, total, 1);
+    return lt_names_with_prefix(LT_SLICES, LT_BYTES(prefix, prefix_len), LT_WORDS(numbers, numbers_len), total, 1);
 }
 
 static inline uint32_t lt_store_enter(struct lt_store *store, const uint8_t *name, size_t name_len, uint32_t *number)
 {
     uint32_t counters[LT_COUNTER_WORDS], result;
     lt_counters_to_words(&store->counters, counters);
-    result = lt_enter(LT_SLICES, name, name_len, number, 1);
+    result = lt_enter(LT_SLICES, LT_BYTES(name, name_len), number, 1);
     lt_counters_from_words(&store->counters, counters);
     return result;
 }
@@ -454,6 +527,24 @@ static inline uint32_t lt_store_name(const struct lt_store *store, uint32_t numb
     name->start = words[0];
     name->length = words[1];
     return result;
+}
+
+/* How many live statements have a resource at a position, as its record says. LT_CAPACITY, LT_UNKNOWN_NUMBER, also for a position that is
+ * none; beside these 0. On tables that are not sound it is what the word holds. */
+static inline uint32_t lt_store_live(const struct lt_store *store, uint32_t number, enum lt_position position, uint32_t *live)
+{
+    /* Opening a query of no patterns tests the counters and nothing else. */
+    uint32_t counters[LT_COUNTER_WORDS], cursor[LT_QUERY_CURSOR_WORDS], result;
+    size_t place = LT_CAST(size_t, position);
+    lt_counters_to_words(&store->counters, counters);
+    result = lt_query_open(LT_SLICES, lt_no_words(), 0, cursor, LT_QUERY_CURSOR_WORDS);
+    *live = 0;
+    if (result != LT_ANSWERED)
+        return result;
+    if (number == 0 || number > store->counters.resources || place > LT_OBJECT)
+        return LT_UNKNOWN_NUMBER;
+    *live = store->resources[LT_RESOURCE_WORDS * (LT_CAST(size_t, number) - 1) + LT_RESOURCE_LIVE + place];
+    return LT_ANSWERED;
 }
 
 static inline uint32_t lt_store_statement(const struct lt_store *store, uint32_t number, struct lt_triple *triple)
@@ -525,7 +616,7 @@ static inline uint32_t lt_store_query_open(const struct lt_store *store, const u
 {
     uint32_t counters[LT_COUNTER_WORDS], cursor[LT_QUERY_CURSOR_WORDS], result;
     lt_counters_to_words(&store->counters, counters);
-    result = lt_query_open(LT_SLICES, words, words_len, cursor, LT_QUERY_CURSOR_WORDS);
+    result = lt_query_open(LT_SLICES, LT_WORDS(words, words_len), cursor, LT_QUERY_CURSOR_WORDS);
     if (result == LT_ANSWERED)
         lt_query_from_words(query, cursor);
     return result;
@@ -538,7 +629,7 @@ static inline uint32_t lt_store_query_next(const struct lt_store *store, const u
     size_t variable;
     lt_counters_to_words(&store->counters, counters);
     lt_query_to_words(query, cursor);
-    result = lt_query_next(LT_SLICES, words, words_len, cursor, LT_QUERY_CURSOR_WORDS, budget, reply, LT_QUERY_REPLY_WORDS);
+    result = lt_query_next(LT_SLICES, LT_WORDS(words, words_len), cursor, LT_QUERY_CURSOR_WORDS, budget, reply, LT_QUERY_REPLY_WORDS);
     lt_query_from_words(query, cursor);
     solution->step = reply[0];
     solution->visits = reply[1];
@@ -552,10 +643,12 @@ static inline uint32_t lt_store_export(const struct lt_store *store, uint8_t *ou
 {
     uint32_t counters[LT_COUNTER_WORDS];
     lt_counters_to_words(&store->counters, counters);
-    return lt_export(LT_SLICES, out, out_len, work, work_len, length, 1);
+    return lt_export(LT_SLICES, LT_BYTES(out, out_len), LT_WORDS(work, work_len), length, 1);
 }
 
 #undef LT_SLICES
+#undef LT_WORDS
+#undef LT_BYTES
 
 #ifdef __cplusplus
 }
