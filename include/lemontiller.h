@@ -104,23 +104,28 @@ enum lt_result {
     LT_TOO_SHORT = 100         /* a lent counters, cursor or reply slice has fewer words than are named here */
 };
 
-/* The limits. Tables may be longer, the rest of them is then not used. */
-enum {
-    LT_MAX_RESOURCES = 65535,
-    LT_MAX_STATEMENTS = 65535,
-    LT_MAX_TEXT = 1048576, /* bytes of all names, a closing zero for each included */
-    LT_MAX_NAME = 255,     /* bytes of one name as it is spelled, its closing zero not included; and of a name's beginning */
-    LT_MAX_LINE = 3 * LT_MAX_NAME + 5, /* bytes of a statement's line in a file: its names, three blanks, a dot, LF */
-    LT_MAX_RECLAIMS = 65535,
-    LT_MAX_PATTERNS = 6,   /* of a query, and so the levels of its cursor */
-    LT_VARIABLES = 16      /* of a query: 0 to 15 */
-};
+/* The limits. Tables may be longer, the rest of them is then not used. Limits and widths are plain numbers: C++20 has no products of two
+ * enums. */
+#define LT_MAX_RESOURCES 65535
+#define LT_MAX_STATEMENTS 65535
+#define LT_MAX_TEXT 1048576 /* bytes of all names, a closing zero for each included */
+#define LT_MAX_NAME 255     /* bytes of one name as it is spelled, its closing zero not included; and of a name's beginning */
+#define LT_MAX_LINE (3 * LT_MAX_NAME + 5) /* bytes of a statement's line in a file: its names, three blanks, a dot, LF */
+#define LT_MAX_RECLAIMS 65535
+#define LT_MAX_PATTERNS 6 /* of a query, and so the levels of its cursor */
+#define LT_VARIABLES 16   /* of a query: 0 to 15 */
 
 /* Words of the lent counters and of one record. */
-enum { LT_COUNTER_WORDS = 4, LT_RESOURCE_WORDS = 11, LT_STATEMENT_WORDS = 7 };
+#define LT_COUNTER_WORDS 4
+#define LT_RESOURCE_WORDS 11
+#define LT_STATEMENT_WORDS 7
 
 /* Where the words of a resource's record begin. First, count and live count are three words each, in the order of `lt_position`. */
-enum { LT_RESOURCE_FIRST = 0, LT_RESOURCE_COUNT = 3, LT_RESOURCE_OFFSET = 6, LT_RESOURCE_KIND = 7, LT_RESOURCE_LIVE = 8 };
+#define LT_RESOURCE_FIRST 0
+#define LT_RESOURCE_COUNT 3
+#define LT_RESOURCE_OFFSET 6
+#define LT_RESOURCE_KIND 7
+#define LT_RESOURCE_LIVE 8
 enum lt_position { LT_SUBJECT = 0, LT_PREDICATE = 1, LT_OBJECT = 2 };
 
 /* An open position of a scan's pattern: any resource. It is 0, which is also what lt_find answers for a name that is not there. */
@@ -128,17 +133,19 @@ enum lt_position { LT_SUBJECT = 0, LT_PREDICATE = 1, LT_OBJECT = 2 };
 
 /* Words of a scan's cursor: subject, predicate, object (or LT_ANY), chain (an `lt_chain`), next statement or 0, reclaims; and of a scan's
  * reply. */
-enum { LT_CURSOR_WORDS = 6, LT_SCAN_REPLY_WORDS = 3 };
+#define LT_CURSOR_WORDS 6
+#define LT_SCAN_REPLY_WORDS 3
 
 /* Words of a query's cursor: an `lt_place`, levels entered, reclaims, then chain and record for each level, zeros past those entered; and
  * of a query's reply: an `lt_step`, visits, the resource of each variable, 0 for one that the query does not use, all 0 unless found.
  * With the store's number of reclaims, a cursor whose first word is no `lt_place` is LT_BAD_CURSOR. LT_WITHIN with 0 levels is the start.
  * Of the words after the first only the reclaims count at the start and at the end, and within those past the levels entered are ignored.
  * The start is what lt_query_open writes; zeros are the start only in a store that was never reclaimed. */
-enum { LT_QUERY_CURSOR_WORDS = 3 + 2 * LT_MAX_PATTERNS, LT_QUERY_REPLY_WORDS = 2 + LT_VARIABLES };
+#define LT_QUERY_CURSOR_WORDS (3 + 2 * LT_MAX_PATTERNS)
+#define LT_QUERY_REPLY_WORDS (2 + LT_VARIABLES)
 
 /* Words, of 64 bits, of a line's reply. */
-enum { LT_LINE_WORDS = 8 };
+#define LT_LINE_WORDS 8
 
 /* What the words of replies, cursors and records say. */
 enum lt_kind { LT_IRI = 1, LT_BLANK = 2, LT_LITERAL = 3 };
