@@ -382,7 +382,8 @@ fn a_reclaim_gives_room_back() {
 fn cursors_end_with_a_reclaim() {
     with_bay(|store, [relay, _, _, _]| {
         let question = Question::new(&[[Term::Variable(0), Term::Variable(1), Term::Variable(2)]]);
-        let (opened, mut scan) = (store.scan_open([Place::Is(relay), Place::Any, Place::Any]).unwrap(), store.scan_open(ALL).unwrap());
+        let (opened, mut scan) =
+            (store.scan_open([Place::Is(relay), Place::Any, Place::Any]).unwrap(), store.scan_open(ALL).unwrap());
         let (start, mut query) = (store.query_open(&question).unwrap(), store.query_open(&question).unwrap());
         assert_eq!((opened[SCAN_CURSOR_WORDS - 1], start), (0, [0; QUERY_CURSOR_WORDS]));
         assert!(store.scan_next(&mut scan, 9).is_ok() && store.query_next(&question, &mut query, 9).is_ok());
