@@ -6,7 +6,8 @@
  * kept or freed, and no memory is asked for. Two calls on the same tables must not run at once where one of them writes tables (lt_enter,
  * lt_assert, lt_retract, lt_reclaim); reading calls may, each with its own cursor, reply, list, output and working words.
  *
- * The library is built for x86-64 Linux. A call takes less than STACK bytes of stack (kit/README.md has how that was measured).
+ * The library is built for x86-64 Linux. A call takes less than 4096 bytes of stack, as kit/c/stack.c measures it; where the dynamic loader
+ * binds memcpy, memmove or memset at its first call, it takes its own on top.
  *
  * Every store function begins with the same five slices:
  *   counters    LT_COUNTER_WORDS words: resources R, statements T, text bytes B, reclaims so far; all 0 for a fresh store, whose tables
