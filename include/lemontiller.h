@@ -78,6 +78,15 @@
 extern "C" {
 #endif
 
+/* What a compiler that knows how to is told: that no pointer is null, and that a result must be looked at. */
+#ifdef __GNUC__
+#define LT_NOT_NULL __attribute__((nonnull))
+#define LT_LOOK_AT __attribute__((warn_unused_result))
+#else
+#define LT_NOT_NULL
+#define LT_LOOK_AT
+#endif
+
 /* Lengths have 64 bits, as in the library: where size_t has fewer, this is not compiled. */
 typedef char lt_size_has_64_bits[sizeof(size_t) == sizeof(uint64_t) ? 1 : -1];
 
@@ -201,7 +210,7 @@ static inline const char *lt_strerror(uint32_t result)
 uint32_t lt_version(void);
 
 /* The kind of a name, or LT_MALFORMED, by the name as it is spelled. reply 1: an `lt_kind`. */
-uint32_t lt_name_kind(const uint8_t *name, size_t name_len, uint32_t *reply, size_t reply_len);
+uint32_t lt_name_kind(const uint8_t *name, size_t name_len, uint32_t *reply, size_t reply_len) LT_NOT_NULL;
 
 /* Reads the line at a position of a text. reply LT_LINE_WORDS: an `lt_line_kind`, position after, start and length in the text of subject,
  * predicate, object, which are 0 if there is no triple; the object's length is without the string ending. At the text's end, or past it,
@@ -211,24 +220,24 @@ uint32_t lt_name_kind(const uint8_t *name, size_t name_len, uint32_t *reply, siz
  * the escapes \" \\ \n \r and no other, so neither \u nor \t; labels of blank nodes without a colon; no empty IRI, no white space inside a
  * literal before its tag or datatype, no name over LT_MAX_NAME bytes. Other lines are LT_BAD_LINE. A label is a name as any other: one
  * label is one node in all that is entered into a store, also from several files. */
-uint32_t lt_read_line(const uint8_t *text, size_t text_len, size_t at, uint64_t *reply, size_t reply_len);
+uint32_t lt_read_line(const uint8_t *text, size_t text_len, size_t at, uint64_t *reply, size_t reply_len) LT_NOT_NULL;
 
 /* Whether the store is sound: every word of it is as entering, asserting, retracting and reclaiming leave it. reply 1: 1 or 0. It refuses
  * nothing. */
-uint32_t lt_check(LT_STORE, uint32_t *reply, size_t reply_len);
+uint32_t lt_check(LT_STORE, uint32_t *reply, size_t reply_len) LT_NOT_NULL;
 
 /* Finds a name, without the string ending. LT_CAPACITY, LT_MALFORMED (by the name as it is spelled), LT_DAMAGED. reply 2: its number, or
  * 0 (not for a pattern, where that is LT_ANY: see lt_store_number); its position in the index, from 0, where it stands or would stand, so
  * how many names are below it. Entering the name puts its number there. Where names or index are not sound, LT_DAMAGED is not certain:
  * number and position may also be 0 or any numbers up to R, beside a number the position is below R. */
-uint32_t lt_find(LT_STORE, const uint8_t *name, size_t name_len, uint32_t *reply, size_t reply_len);
+uint32_t lt_find(LT_STORE, const uint8_t *name, size_t name_len, uint32_t *reply, size_t reply_len) LT_NOT_NULL;
 
 /* Lists the resources whose names begin with `prefix`, 0 to LT_MAX_NAME bytes of any value, in rising byte order of name. LT_CAPACITY,
  * LT_MALFORMED if it is longer, LT_DAMAGED. reply 1: the total, how many there are; as many of the first ones as fit stand in `numbers`,
  * which may have any length and keeps its words past the list. The bytes are taken as they are, the string ending too. Where names or
  * index are not sound, LT_DAMAGED is not certain: the total may also be any number up to R, and the list any words. */
 uint32_t lt_names_with_prefix(LT_STORE, const uint8_t *prefix, size_t prefix_len, uint32_t *numbers, size_t numbers_len, uint32_t *reply,
-                              size_t reply_len);
+                              size_t reply_len) LT_NOT_NULL;
 
 /* Enters a name: finds it, or gives it the next number and stores it without the string ending. LT_CAPACITY, LT_MALFORMED (by the name
  * as it is spelled), LT_DAMAGED, LT_FULL (by what is stored). reply 1: its number. Writes counters, resources, index, text; so the name may
@@ -236,60 +245,61 @@ uint32_t lt_names_with_prefix(LT_STORE, const uint8_t *prefix, size_t prefix_len
  * may also be any number up to R, or R + 1; then the index, record R + 1 and text from B on are all of the tables that is written. */
 uint32_t lt_enter(uint32_t *counters, size_t counters_len, uint32_t *resources, size_t resources_len, const uint32_t *statements,
                   size_t statements_len, uint32_t *index, size_t index_len, uint8_t *text, size_t text_len, const uint8_t *name,
-                  size_t name_len, uint32_t *reply, size_t reply_len);
+                  size_t name_len, uint32_t *reply, size_t reply_len) LT_NOT_NULL;
 
 /* The name of a resource's number, as it is stored. LT_CAPACITY, LT_UNKNOWN_NUMBER, LT_DAMAGED. reply 2: its start and length in the
  * text, which hold as long as the caller keeps the text. */
-uint32_t lt_name(LT_STORE, uint32_t number, uint32_t *reply, size_t reply_len);
+uint32_t lt_name(LT_STORE, uint32_t number, uint32_t *reply, size_t reply_len) LT_NOT_NULL;
 
 /* Reads a statement. LT_CAPACITY, LT_UNKNOWN_NUMBER, LT_DAMAGED. reply 4: subject, predicate, object, 1 if it is retracted. */
-uint32_t lt_statement(LT_STORE, uint32_t number, uint32_t *reply, size_t reply_len);
+uint32_t lt_statement(LT_STORE, uint32_t number, uint32_t *reply, size_t reply_len) LT_NOT_NULL;
 
 /* Asserts a triple; a retracted one is revived and keeps its old number, but after a reclaim it is new. LT_CAPACITY, LT_UNKNOWN_NUMBER,
  * LT_DAMAGED for a kind, LT_KIND_NOT_PERMITTED, LT_DAMAGED (also for a live count above its count), LT_FULL. reply 2: an `lt_asserted`,
  * the statement's number. Writes counters, resources, statements. */
 uint32_t lt_assert(uint32_t *counters, size_t counters_len, uint32_t *resources, size_t resources_len, uint32_t *statements,
                    size_t statements_len, const uint32_t *index, size_t index_len, const uint8_t *text, size_t text_len,
-                   uint32_t subject, uint32_t predicate, uint32_t object, uint32_t *reply, size_t reply_len);
+                   uint32_t subject, uint32_t predicate, uint32_t object, uint32_t *reply, size_t reply_len) LT_NOT_NULL;
 
 /* Retracts a triple. LT_CAPACITY, LT_UNKNOWN_NUMBER, LT_DAMAGED (also for a live count above its count, or of 0 where the statement is
  * live). reply 1: the number of the statement that was live until now, or 0. Writes resources, statements. */
 uint32_t lt_retract(const uint32_t *counters, size_t counters_len, uint32_t *resources, size_t resources_len, uint32_t *statements,
                     size_t statements_len, const uint32_t *index, size_t index_len, const uint8_t *text, size_t text_len,
-                    uint32_t subject, uint32_t predicate, uint32_t object, uint32_t *reply, size_t reply_len);
+                    uint32_t subject, uint32_t predicate, uint32_t object, uint32_t *reply, size_t reply_len) LT_NOT_NULL;
 
 /* Gives back the room of retracted statements: the live ones move down in their order and are numbered from 1, chains and counts are built
  * anew, names stay. LT_CAPACITY, LT_RECLAIM_LIMIT after 65,535 reclaims, LT_DAMAGED if the store is not sound. Cursors from before are
  * LT_STALE_CURSOR from now on, and statement numbers may have changed. Writes counters, resources, statements. */
 uint32_t lt_reclaim(uint32_t *counters, size_t counters_len, uint32_t *resources, size_t resources_len, uint32_t *statements,
-                    size_t statements_len, const uint32_t *index, size_t index_len, const uint8_t *text, size_t text_len);
+                    size_t statements_len, const uint32_t *index, size_t index_len, const uint8_t *text, size_t text_len) LT_NOT_NULL;
 
 /* Opens a scan of the statements that match a pattern, LT_ANY, so 0, for any resource. LT_CAPACITY, LT_UNKNOWN_NUMBER for one above R,
  * LT_DAMAGED. Writes the cursor, LT_CURSOR_WORDS. */
-uint32_t lt_scan_open(LT_STORE, uint32_t subject, uint32_t predicate, uint32_t object, uint32_t *cursor, size_t cursor_len);
+uint32_t lt_scan_open(LT_STORE, uint32_t subject, uint32_t predicate, uint32_t object, uint32_t *cursor, size_t cursor_len) LT_NOT_NULL;
 
 /* Next of a scan, visiting at most `budget` records, the statement of the highest number first (a revived one keeps its old number).
  * LT_CAPACITY, LT_STALE_CURSOR, LT_BAD_CURSOR, LT_NO_BUDGET, LT_DAMAGED. reply LT_SCAN_REPLY_WORDS: an `lt_step`, the statement or 0,
  * visits made. Writes the cursor. */
-uint32_t lt_scan_next(LT_STORE, uint32_t *cursor, size_t cursor_len, uint32_t budget, uint32_t *reply, size_t reply_len);
+uint32_t lt_scan_next(LT_STORE, uint32_t *cursor, size_t cursor_len, uint32_t budget, uint32_t *reply, size_t reply_len) LT_NOT_NULL;
 
 /* Opens a query of up to LT_MAX_PATTERNS patterns. LT_CAPACITY, LT_BAD_QUERY. Writes the cursor, LT_QUERY_CURSOR_WORDS: the start. It
  * does not hold the words: every next call is given them again. */
-uint32_t lt_query_open(LT_STORE, const uint32_t *words, size_t words_len, uint32_t *cursor, size_t cursor_len);
+uint32_t lt_query_open(LT_STORE, const uint32_t *words, size_t words_len, uint32_t *cursor, size_t cursor_len) LT_NOT_NULL;
 
 /* Next of a query: the resources for which every pattern is a live statement, visiting at most `budget` records; the first pattern's
  * statement of the highest number comes first. LT_CAPACITY, LT_BAD_QUERY, LT_STALE_CURSOR, LT_BAD_CURSOR, LT_NO_BUDGET, LT_DAMAGED. reply
  * LT_QUERY_REPLY_WORDS: an `lt_step`, visits made, the resource of each variable. Writes the cursor. */
 uint32_t lt_query_next(LT_STORE, const uint32_t *words, size_t words_len, uint32_t *cursor, size_t cursor_len, uint32_t budget,
-                       uint32_t *reply, size_t reply_len);
+                       uint32_t *reply, size_t reply_len) LT_NOT_NULL;
 
 /* Writes the live statements as a file of N-Triples in canonical form, lines in rising byte order. LT_CAPACITY, LT_DAMAGED if a statement
  * or one of its names cannot be read, a retracted one's too, LT_EXPORT_SPACE if `out` is shorter than the file or `work` than T words.
  * LT_MAX_LINE * T bytes are enough for any file. reply 1: the file's length in bytes. Writes the file, and 0 into the first T words of
  * `work`; nothing beside a refusal. */
-uint32_t lt_export(LT_STORE, uint8_t *out, size_t out_len, uint32_t *work, size_t work_len, uint32_t *reply, size_t reply_len);
+uint32_t lt_export(LT_STORE, uint8_t *out, size_t out_len, uint32_t *work, size_t work_len, uint32_t *reply, size_t reply_len) LT_NOT_NULL;
 
 #undef LT_STORE
+#undef LT_NOT_NULL
 
 /* The same with a struct for a store, and with named fields for replies and cursors. Each lt_store_… function makes one call of the
  * function above with the rest of its name (lt_store_find of lt_find), lt_kind_of of lt_name_kind, lt_line_read of lt_read_line, and gives
@@ -497,10 +507,7 @@ static inline uint32_t lt_store_find(const struct lt_store *store, const uint8_t
 
 /* The number of a name that must be there, as for a pattern: lt_find, but a name that is not there is refused, LT_UNKNOWN_NUMBER, the last
  * of the refusals. Beside a refusal the number is 0, which a pattern would take for any: so the result must be looked at. */
-#ifdef __GNUC__
-__attribute__((warn_unused_result))
-#endif
-static inline uint32_t lt_store_number(const struct lt_store *store, const uint8_t *name, size_t name_len, uint32_t *number)
+LT_LOOK_AT static inline uint32_t lt_store_number(const struct lt_store *store, const uint8_t *name, size_t name_len, uint32_t *number)
 {
     struct lt_lookup lookup;
     uint32_t result = lt_store_find(store, name, name_len, &lookup);
@@ -657,6 +664,7 @@ static inline uint32_t lt_store_export(const struct lt_store *store, uint8_t *ou
 #undef LT_SLICES
 #undef LT_WORDS
 #undef LT_BYTES
+#undef LT_LOOK_AT
 
 #ifdef __cplusplus
 }
