@@ -29,15 +29,15 @@
  * the end, they are LT_STALE_CURSOR and to be opened again. A cursor does not carry its store, nor a query's its words: with another store
  * or with other words the next call is LT_BAD_CURSOR where the cursor does not fit them, and otherwise goes on there.
  *
- * A store may change between the calls on a cursor. What is live is so at the call:
+ * A store may change between the calls on a cursor. Live means live at the call:
  *   a scan      Its rest are the statements that were on its chain at the opening, all of them if nothing was bound, but for those passed;
  *               one is passed once the scan took it or one of a lower number. Next takes statements off the rest, the highest number
- *               first, to the first live match. So one retracted since the opening costs a visit, one revived is found unless it was
- *               passed, and one that is new since the opening is never found.
+ *               first, one visit each, to the first live match, the budget or the end. So a statement retracted since the opening costs a
+ *               visit, a revived one is found unless it was passed, and one that is new since the opening is never found.
  *   a query     Solutions are ordered by their statements, the first pattern's deciding first, higher numbers first. Answers come from
- *               the solutions that hold at the call, at or after the cursor's place. One that is new since a pattern's chain was entered is
- *               before the place in that chain, and is seen in chains entered later. Where an entered statement was retracted, the levels
- *               below it are left without a visit.
+ *               the solutions that hold at the call, at or after the cursor's place. A statement that is new since a pattern's chain was
+ *               entered is before the place in that chain, and is seen in chains entered later. Where an entered statement was retracted,
+ *               the levels below it are left without a visit.
  *
  * How many live statements have a resource at a position is a word of its record: lt_store_live reads it, without a walk. On a sound store
  * it is the number of live statements there; the counts before it include retracted ones.
