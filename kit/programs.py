@@ -39,8 +39,8 @@ KIND = {b"<": b"an IRI", b"_": b"a label", b'"': b"a literal"}
 
 
 class Broken(Refused):
-    """A line that goes no further at a byte. `due` is what would come next. `start` is where the name begins that the byte stands in, if that
-    name is not complete or the byte would go on in it."""
+    """A line that goes no further at a byte. `due` is what would come next. `start` is where the name begins that the byte stands in, if
+    that name is not complete or the byte would go on in it."""
 
     def __init__(self, at, due, start=None):
         super().__init__(10, at)

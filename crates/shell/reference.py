@@ -1,9 +1,9 @@
 #!/usr/bin/env python3
 """What the technician's shell writes: `python3 reference.py [--dialogue] [--all] [FILE…] < script`.
 
-It follows docs/SHELL.md; arguments, files and their lines are those of `kit/programs.py`. The store is the one of `crates/cases/reference.py`,
-plain lists from the papers; names and commands are read here. Standard output, standard error and the status are the program's. `--dialogue`,
-which has `--all` in it, writes each line of the script after the prompt, then its answer, as a terminal shows them."""
+It follows docs/SHELL.md; arguments, files and their lines are those of `kit/programs.py`. The store is the one of
+`crates/cases/reference.py`, plain lists from the papers; commands are read here. Standard output, standard error and the status are the
+program's. `--dialogue`, with `--all` in it, writes each line of the script after the prompt, then its answer, as a terminal shows them."""
 import bisect
 import os
 import re
@@ -91,8 +91,8 @@ def question(line):
 
 
 class Tables(cases["Store"]):
-    """The store of this program. For speed dictionaries stand beside names and statements, a table has only the records in use, and a reclaim
-    asserts the live statements again."""
+    """The store of this program. For speed dictionaries stand beside names and statements, a table has only the records in use, and a
+    reclaim asserts the live statements again."""
 
     def __init__(self):
         super().__init__()
