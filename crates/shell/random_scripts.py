@@ -287,4 +287,5 @@ def main():
     print(f"{number} scripts, the same")
 
 
-main()
+if __name__ == "__main__":
+    main()
