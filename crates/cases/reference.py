@@ -530,9 +530,11 @@ class Store:
             return False
         if not all(well_formed(n) and shortened(n) == n for n in names) or len(set(names)) != R:
             return False
+        offset = 0
         for y, n in enumerate(names, 1):
-            if self.resource(y)["offset"][0] != sum(len(m) + 1 for m in names[: y - 1]) or self.resource(y)["kind"][0] != KINDS[n[:1]]:
+            if self.resource(y)["offset"][0] != offset or self.resource(y)["kind"][0] != KINDS[n[:1]]:
                 return False
+            offset += len(n) + 1
         # The index is complete and rising.
         if self.index[:R] != sorted(range(1, R + 1), key=lambda y: names[y - 1]):
             return False
@@ -547,9 +549,13 @@ class Store:
             return False
         # Each chain falls through the records that hold the resource in that place; the count is their number, the live count that of the
         # live ones.
+        chains = {}
+        for n in range(T, 0, -1):
+            for p, y in enumerate(triples[n - 1]):
+                chains.setdefault((p, y), []).append(n)
         for y in range(1, R + 1):
             for p in range(3):
-                chain = [n for n in range(T, 0, -1) if triples[n - 1][p] == y]
+                chain = chains.get((p, y), [])
                 if self.resource(y)["count"][p] != len(chain):
                     return False
                 if self.resource(y)["live"][p] != sum(self.statement(n)["flag"][0] == 0 for n in chain):

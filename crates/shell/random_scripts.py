@@ -4,9 +4,11 @@
     python3 crates/shell/random_scripts.py target/bin/shell SEED ROUNDS
     python3 crates/shell/random_scripts.py target/bin/shell full
 
-Standard output is compared byte for byte. At the first difference the files are kept, their folder is told, and the status is 1."""
+Standard output and standard error are compared byte for byte, and the status, if the program's name begins with `lemontiller-`: the others
+end with 0 always. At the first difference the files are kept, their folder is told, and the status is 1."""
 import os
 import random
+import re
 import shutil
 import subprocess
 import sys
@@ -15,6 +17,7 @@ import tempfile
 sys.path.insert(0, os.path.dirname(os.path.abspath(__file__)))
 sys.dont_write_bytecode = True
 import reference
+from reference import ERR, OUT, programs
 
 VISITS = 3000
 STRING = b"^^<http://www.w3.org/2001/XMLSchema#string>"
@@ -73,6 +76,24 @@ def statement(r, store=None):
     return b"".join(part + white for part, white in zip(triple(r), gaps)) + end
 
 
+# Beginnings of a line and what may stand after them, right or not.
+HALVES = [
+    ([b'<r:21> <p:in> "a\\%c' % b for b in b"tuU'x nr\"\\"], [b'"', b'" .', b""]),
+    ([b"<r:21> <p:in> " + o for o in (b'"A"@', b'"A"@en-', b'"A"^', b'"A"^^', b'"A"^^<t', b"_:", b"_:a.", b"_", b"<")],
+     [b"", b" .", b".", b"..", b"1 .", b"{"]),
+    ([b"", b"<r:21> ", b"<r:21> <p:in> ", b"<r:21> <p:in> <b:4> ", b"_:a. "], [b"", b"x", b"#", b".", b'"A"', b"_:a"]),
+]
+
+
+# A statement's line spoiled in one of the ways that a refusal has words for, or nearly so.
+def spoiled(r):
+    text, at, halves = statement(r), r.randrange(1, 20), r.choice(HALVES)
+    byte = bytes([r.choice([r.randrange(32), r.randrange(127, 256), r.randrange(32, 127)])])
+    return r.choice([
+        programs.MARK[: r.choice([2, 3, 3])] + text, text[:at], text[:at] + byte + text[at:], text[:at] + byte,
+        b"<r:21> <p:in> " + long_name(r) + b" .", long_name(r) + b" <p:in> <b:4> .", *[r.choice(halves[0]) + r.choice(halves[1])] * 4])
+
+
 # Six patterns with 16 or 17 variables, one part unknown: no walk.
 def many_variables(r):
     parts = [b"?v%d" % n for n in range(r.choice([16, 17]))]
@@ -129,32 +150,47 @@ def line(r, make, *store):
     return text + r.choice([b"\n"] * 8 + [b"\r\n", b"\r\r\n"])
 
 
-# Files, a script, and what it comes to.
+# A file, seldom one in which many lines are refused.
+def file(r):
+    make, most = (spoiled, 70) if r.random() < 0.2 else (lambda r: (spoiled if r.random() < 0.1 else statement)(r), 40)
+    text = b"".join(line(r, make) for _ in range(r.randrange(most)))
+    return text.removesuffix(b"\n") if r.random() < 0.2 else text
+
+
+# Files by their names, what is named of them, and a run of the shell that has loaded them. Seldom one is named twice, or not there.
+def loaded(r):
+    every = r.random() < 0.5
+    run = reference.Shell(programs.Told(), every, Bounded())
+    files = {b"%d.nt" % n: file(r) for n in range(r.choice([0, 1, 1, 1, 2, 3]))}
+    named = list(files)
+    named += [r.choice(named)] if named and r.random() < 0.05 else []
+    named += [b"none.nt"] if r.random() < 0.05 else []
+    r.shuffle(named)
+    for name in named:
+        run.loading.file(name, *((files[name], None) if name in files else (b"", b"No such file or directory")))
+    if every:
+        named.insert(r.randrange(len(named) + 1), b"--all")
+    return files, named, run
+
+
+# Files, arguments, a script, and what it comes to.
 def random_case(r):
-    files = [b"".join(line(r, statement) for _ in range(r.randrange(40))) for _ in range(r.choice([0, 1, 1, 1, 2]))]
-    files = [text.removesuffix(b"\n") if r.random() < 0.2 else text for text in files]
-    store, script, out = Bounded(), [], []
-    for text in files:
-        for loaded in reference.lines_of(text):
-            store.load(loaded)
-    commands, open_end = r.randrange(5, 60), r.random() < 0.3
+    files, args, run = loaded(r)
+    script, commands, open_end = [], r.randrange(5, 60), r.random() < 0.3
     for k in range(commands):
-        text = line(r, meant, store)
+        text = line(r, meant, run.store)
         if open_end and k + 1 == commands:
             text = text.removesuffix(b"\n")
-        store.visits = 0
-        try:
-            told = [reference.answer(store, one) for one in reference.lines_of(text)]
-        except TooLong:
-            continue
-        script.append(text)
-        if None in told:
-            out += sum(told[: told.index(None)], [])
-            if text.endswith(b"\n"):
-                script.append(b"totals\n")
-            break
-        out += sum(told, [])
-    return files, b"".join(script), b"".join(piece + b"\n" for piece in out)
+        for piece in re.findall(rb"[^\n]*\n|[^\n]+", text):
+            run.store.visits = 0
+            try:
+                goes_on = run.line(*reference.lines_of(piece))
+            except TooLong:
+                continue
+            script.append(piece)
+            if not goes_on:
+                return files, args, b"".join(script) + (b"totals\n" if piece.endswith(b"\n") else b""), run.told
+    return files, args, b"".join(script), run.told
 
 
 def nt(*names):
@@ -180,8 +216,11 @@ def full_cases():
         b"totals\nassert ", names, b"totals\nassert <n:1> <p:x> <n:1> .\ntotals\nassert ", names, b"assert <s:1> <p:x> <n:1> .\n",
         b"assert <s:1> <p:x> <n:2> .\nnames <n:\ntotals\n"])
     yield "resources loaded", [pairs, names + nt(b"<s:1>", p, b"<n:1>")], b"totals\nnames <n:\nlist ? ? <n:1>\n"
+    many = b"".join(nt(iri(f"n:{i}"), p, b"<s:1>") for i in range(30))
+    yield "statements loaded", [grid, known + other + b"<s:1>\n" + many, other], b"totals\nnames <n:\ncheck\n"
     wide = b"".join(nt(iri(f"s:{i}", 255), q, iri(f"o:{i}", 255)) for i in range(1023))
     s, o = iri("s:0", 255), iri("o:1", 255)
+    yield "text loaded", [wide, nt(s, q, iri("n:0", 254)) + nt(s, q, b'"A"' + STRING) + nt(iri("n:1", 252), q, o)], b"totals\nnames <n:\n"
     yield "text", [wide], b"".join([
         b"totals\nassert ", nt(iri("n:0", 127), q, iri("n:1", 128)), b"totals\nassert ", nt(s, q, b'"A"' + STRING),
         b"totals\nassert ", nt(s, q, iri("n:2", 252)), b"assert ", nt(s, q, iri("n:2", 251)), b"totals\nassert ",
@@ -192,30 +231,53 @@ def full_cases():
     yield "reclaims", [nt(b"<a>", b"<b>", b"<c>")], b"retract <a> <b> <c> .\n" + b"reclaim\n" * 65536 + b"totals\n"
 
 
-# Whether the shell writes what is expected; otherwise the files are kept.
-def same(binary, label, files, script, expected):
-    folder = tempfile.mkdtemp(prefix="shell-")
-    paths = [os.path.join(folder, f"{n}.nt") for n in range(len(files))]
-    for path, data in [*zip(paths, files), (os.path.join(folder, "stdin"), script), (os.path.join(folder, "expected"), expected)]:
-        with open(path, "wb") as f:
+# What a script comes to, with every answer on standard output or not.
+def full_case(number, files, script):
+    every = number % 2 == 1
+    run = reference.Shell(programs.Told(), every)
+    named = {b"%d.nt" % n: text for n, text in enumerate(files)}
+    for name, text in named.items():
+        run.loading.file(name, text)
+    run.script(script)
+    return named, [b"--all"] * every + list(named), script, run.told
+
+
+# Writes the files of a case into a folder and runs the shell there: what it wrote on each stream, and its status.
+def answers(binary, folder, files, args, script):
+    for name, data in [*files.items(), (b"stdin", script)]:
+        with open(os.path.join(folder, os.fsdecode(name)), "wb") as f:
             f.write(data)
     with open(os.path.join(folder, "stdin"), "rb") as f:
-        got = subprocess.run([binary, *paths], stdin=f, stdout=subprocess.PIPE, stderr=subprocess.DEVNULL, timeout=300).stdout
-    if got == expected:
+        got = subprocess.run([binary, *args], cwd=folder, stdin=f, capture_output=True, timeout=300)
+    return {"stdout": got.stdout, "stderr": got.stderr, "status": b"%d" % got.returncode}
+
+
+# Whether the shell writes what is expected; otherwise the files are kept.
+def same(binary, label, files, args, script, told):
+    folder = tempfile.mkdtemp(prefix="shell-")
+    expected = {"stdout": told.text(OUT), "stderr": told.text(ERR)}
+    if os.path.basename(binary).startswith("lemontiller-"):
+        expected["status"] = b"%d" % told.status
+    got = answers(binary, folder, files, args, script)
+    other = [stream for stream in expected if got[stream] != expected[stream]]
+    if not other:
         shutil.rmtree(folder)
         return True
-    with open(os.path.join(folder, "stdout"), "wb") as f:
-        f.write(got)
-    ours, theirs = expected.split(b"\n"), got.split(b"\n")
+    for stream in expected:
+        for name, data in ((stream, got[stream]), ("expected-" + stream, expected[stream])):
+            with open(os.path.join(folder, name), "wb") as f:
+                f.write(data)
+    ours, theirs = expected[other[0]].split(b"\n"), got[other[0]].split(b"\n")
     at = next((n for n, (a, b) in enumerate(zip(ours, theirs)) if a != b), min(len(ours), len(theirs)))
-    print(f"{label}: line {at + 1} of the output differs; files in {folder}\nexpected {ours[at : at + 3]}\ngot      {theirs[at : at + 3]}")
+    print(f"{label}: {other[0]} differs at line {at + 1}; files in {folder}\narguments {args}")
+    print(f"expected {ours[at : at + 3]}\ngot      {theirs[at : at + 3]}")
     return False
 
 
 def main():
     binary, what = os.path.abspath(sys.argv[1]), sys.argv[2]
     if what == "full":
-        all_cases = ((label, files, script, reference.run(files, script)) for label, files, script in full_cases())
+        all_cases = ((label, *full_case(n, files, script)) for n, (label, files, script) in enumerate(full_cases()))
     else:
         all_cases = ((f"{what}/{n}", *random_case(random.Random(f"{what}/{n}"))) for n in range(int(sys.argv[3])))
     number = 0
@@ -225,4 +287,5 @@ def main():
     print(f"{number} scripts, the same")
 
 
-main()
+if __name__ == "__main__":
+    main()

@@ -1,58 +1,32 @@
 #!/usr/bin/env python3
-"""What the technician's shell writes: `python3 reference.py [--dialogue] FILE… < script`.
+"""What the technician's shell writes: `python3 reference.py [--dialogue] [--all] [FILE…] < script`.
 
-It follows docs/SHELL.md. The store is the one of `crates/cases/reference.py`, plain lists from the papers; lines of N-Triples, names and
-commands are read here. `--dialogue` writes each line of the script after the prompt, then its answer, as a terminal shows them."""
+It follows docs/SHELL.md; arguments, files and their lines are those of `kit/programs.py`. The store is the one of
+`crates/cases/reference.py`, plain lists from the papers; commands are read here. Standard output, standard error and the status are the
+program's. `--dialogue`, with `--all` in it, writes each line of the script after the prompt, then its answer, as a terminal shows them."""
 import bisect
 import os
 import re
-import runpy
 import sys
 
-STATEMENTS, RESOURCES, TEXT, FILE = 16384, 8192, 524288, 4194304
-LINE, NAME, PATTERNS, VARIABLES, RECLAIMS, BUDGET = 1024, 255, 6, 16, 65535, 4096
+HERE = os.path.dirname(os.path.abspath(__file__))
+sys.path.insert(0, os.path.join(HERE, "..", "..", "kit"))
+sys.dont_write_bytecode = True
+import programs
+from programs import ERR, FILE, LINE, NAME, OUT, Refused, byte, cases, gap, lines_of, shortened, statement, term
+
+RESOURCES, STATEMENTS, TEXT = programs.LARGE
+PATTERNS, VARIABLES, RECLAIMS, BUDGET = 6, 16, 65535, 4096
 WORDS = {2: b"no name", 3: b"no room for one more", 8: b"no question", 10: b"cannot be read", 11: b"no room for the file",
          14: b"no more reclaims"}
-HERE = os.path.dirname(os.path.abspath(__file__))
-cases = runpy.run_path(os.path.join(HERE, "..", "cases", "reference.py"))
 HELP = os.path.join(HERE, "help.txt")
-WELL_FORMED, shortened, Refused = cases["NAME"], cases["shortened"], cases["Refused"]
-
-# What begins a name and could go on to be one; the first byte says whether it is an IRI, a label or a literal.
-IRI = rb"<(?:[!#-;=?-\[\]_a-z~]+>?)?"
-LABEL = rb"_(?::(?:[A-Za-z0-9_][A-Za-z0-9_.-]*)?)?"
-TAG = rb"@(?:[A-Za-z]+(?:-[A-Za-z0-9]+)*-?)?"
-LITERAL = rb"\"(?:[ !#-\[\]-~]|\\[\"\\nr])*(?:\\|\"(?:%s|\^(?:\^(?:%s)?)?)?)?" % (TAG, IRI)
-BEGUN = re.compile(rb"%s|%s|%s" % (IRI, LABEL, LITERAL))
-GAP, WORD, VARIABLE, COMMENT = [re.compile(r) for r in (rb"[ \t]*", rb"[^ \t]*", rb"\?[A-Za-z0-9_]*", rb"(?:#[\t -~]*)?")]
-SUBJECT, PREDICATE, OBJECT = (b"<", b"_"), (b"<",), (b"<", b"_", b'"')
-PART = OBJECT + (b"?",)
+WORD, VARIABLE = re.compile(rb"[^ \t]*"), re.compile(rb"\?[A-Za-z0-9_]*")
+PART = (b"<", b"_", b'"', b"?")
 
 
 # A refusal at the byte that `at` bytes stand before.
 def unreadable(at, number=10):
     raise Refused(number, at)
-
-
-# The lines of a text. A CR is dropped before LF only.
-def lines_of(text):
-    *ended, last = text.split(b"\n")
-    return [line.removesuffix(b"\r") for line in ended] + ([last] if last else [])
-
-
-# What a file holds; nothing if there is none.
-def read(path):
-    return open(path, "rb").read() if os.path.isfile(path) else b""
-
-
-# The byte at `at`; none at the line's end.
-def byte(line, at):
-    return line[at : at + 1]
-
-
-# The first byte from `at` on that is not white.
-def gap(line, at):
-    return GAP.match(line, at).end()
 
 
 # White or the line's end is at `at`.
@@ -67,45 +41,9 @@ def nothing_more(line, at):
         unreadable(gap(line, at))
 
 
-# The term at `at`, where it ends. `first` has the bytes that it may begin with.
-def term(line, at, first):
-    if byte(line, at) not in first:
-        unreadable(at)
-    end = BEGUN.match(line, at).end()
-    if end - at > NAME or not WELL_FORMED.fullmatch(line, at, end):
-        unreadable(min(end, at + NAME))
-    return line[at:end], end
-
-
-# An object, where it ends. A dot at the end of a label is the line's, if the label is one without it.
-def object_term(line, at):
-    if byte(line, at) == b"_":
-        end = min(BEGUN.match(line, at).end() - 1, at + NAME)
-        if byte(line, end) == b"." and WELL_FORMED.fullmatch(line, at, end):
-            return line[at:end], end
-    return term(line, at, OBJECT)
-
-
-# The three names of a statement's line (paper 01, "Read a line"), from `at` on.
-def statement(line, at):
-    comment = COMMENT.match(line, gap(line, at)).end()
-    if gap(line, at) < comment < len(line):
-        unreadable(comment)
-    s, at = term(line, gap(line, at), SUBJECT)
-    p, at = term(line, gap(line, at), PREDICATE)
-    o, at = object_term(line, gap(line, at))
-    at = gap(line, at)
-    if byte(line, at) != b".":
-        unreadable(at)
-    at = COMMENT.match(line, gap(line, at + 1)).end()
-    if at < len(line):
-        unreadable(at)
-    return s, p, o
-
-
 # The name at `at`, where the white after it begins.
 def name(line, at):
-    found, end = term(line, at, OBJECT)
+    found, end = term(line, at)
     apart(line, end)
     return found, end
 
@@ -153,15 +91,21 @@ def question(line):
 
 
 class Tables(cases["Store"]):
-    """The store of this program. For speed a dictionary stands beside the names, and a reclaim asserts the live statements again."""
+    """The store of this program. For speed dictionaries stand beside names and statements, a table has only the records in use, and a
+    reclaim asserts the live statements again."""
 
     def __init__(self):
         super().__init__()
-        self.lend(RESOURCES, STATEMENTS, RESOURCES, TEXT)
-        self.numbers = {}
+        self.whole, self.words, self.bytes = {"resource": RESOURCES, "statement": STATEMENTS}, RESOURCES, TEXT
+        self.numbers, self.triples, self.missing = {}, {}, 0
 
     def search(self, spelled):
         return self.numbers.get(shortened(spelled), 0)
+
+    # The record with a triple, and its flag.
+    def locate(self, triple):
+        n = self.triples.get(triple, 0)
+        return n, self.statement(n)["flag"][0] if n else 0
 
     # Refusal 3, unless there is room for these names and their bytes.
     def test_room(self, names):
@@ -174,21 +118,20 @@ class Tables(cases["Store"]):
         if new in self.numbers:
             return self.numbers[new]
         self.test_room([new])
+        self.table["resource"].append(None)
         self.change("resource", R + 1, ["offset", str(B), "kind", str(cases["KINDS"][new[:1]])], True)
         self.text[B : B + len(new) + 1] = new + b"\0"
         self.counters = (R + 1, T, B + len(new) + 1, N)
         self.numbers[new] = R + 1
-        self.index.pop()
-        bisect.insort(self.index, R + 1, 0, R, key=self.spelling)
+        bisect.insort(self.index, R + 1, key=self.spelling)
         return R + 1
 
-    # A line of a file: names entered before a refusal remain.
-    def load(self, line):
-        try:
-            if len(line) <= LINE and not COMMENT.fullmatch(line, gap(line, 0)):
-                self.do_assert(*[self.enter(n) for n in statement(line, 0)])
-        except Refused:
-            pass
+    def do_assert(self, *triple):
+        if len(self.table["statement"]) == self.counters[1]:
+            self.table["statement"].append(None)
+        told = super().do_assert(*triple)
+        self.triples.setdefault(triple, told[1])
+        return told
 
     # The live statements in their order, numbered from 1, in chains made anew; how many there were and are.
     def reclaim(self):
@@ -196,7 +139,7 @@ class Tables(cases["Store"]):
         if N == RECLAIMS:
             raise Refused(14)
         live = [r["triple"] for r in self.table["statement"][:T] if r["flag"] == [0]]
-        self.table["statement"][:T] = [cases["new_record"]("statement", 0) for _ in range(T)]
+        self.table["statement"], self.triples = [], {}
         for y in range(1, R + 1):
             self.resource(y).update(first=[0] * 3, count=[0] * 3, live=[0] * 3)
         self.counters = (R, 0, B, N + 1)
@@ -204,22 +147,40 @@ class Tables(cases["Store"]):
             self.do_assert(*triple)
         return T, len(live)
 
+    # The numbers of the live statements.
+    def live(self):
+        return [n for n in range(1, self.counters[1] + 1) if self.statement(n)["flag"] == [0]]
+
     # A statement as its line.
     def line(self, n):
         return b" ".join(self.spelling(y) for y in self.statement(n)["triple"]) + b" ."
 
 
-# A line for each part that is a name that the store does not have.
+# Lines of an answer, each with the stream that it goes to in a pipe.
+def rows(*lines):
+    return [(OUT, line) for line in lines]
+
+
+def notices(*lines):
+    return [(ERR, line) for line in lines]
+
+
+# The parts that are names that the store does not have.
+def absent(store, parts):
+    return [w for w in parts if w[:1] != b"?" and not store.search(w)]
+
+
+# A line for each of them.
 def unknown(store, parts):
-    return [b"unknown " + w for w in parts if w[:1] != b"?" and not store.search(w)]
+    return notices(*[b"unknown " + w for w in absent(store, parts)])
 
 
 # The commands: each gives the lines of its answer.
 def ask(store, line):
     parts, variables = question(line)
-    out, solutions, visits = [b"\t".join(variables)], 0, 0
-    if unknown(store, parts):
-        return out + unknown(store, parts) + [b"solutions 0 visits 0"]
+    out, solutions, visits = notices(b"\t".join(variables)), 0, 0
+    if absent(store, parts):
+        return out + unknown(store, parts) + notices(b"solutions 0 visits 0")
     store.question = [cases["VARIABLE"] + variables.index(w) if w in variables else store.search(w) for w in parts]
     store.ask()
     while True:
@@ -227,9 +188,9 @@ def ask(store, line):
         visits += made
         if status == "found":
             solutions += 1
-            out.append(b"\t".join(store.spelling(y) for y in solution[: len(variables)]))
+            out += rows(b"\t".join(store.spelling(y) for y in solution[: len(variables)]))
         elif status == "ended":
-            return out + [b"solutions %d visits %d" % (solutions, visits)]
+            return out + notices(b"solutions %d visits %d" % (solutions, visits))
 
 
 def list_statements(store, line, at):
@@ -238,66 +199,74 @@ def list_statements(store, line, at):
         found, at = part(line, at, True)
         parts.append(found)
     nothing_more(line, dot(line, at))
-    if unknown(store, parts):
-        return unknown(store, parts) + [b"statements 0"]
+    if absent(store, parts):
+        return unknown(store, parts) + notices(b"statements 0")
     store.open(*[store.search(w) for w in parts])
     while True:
         status, n, *_ = store.next(BUDGET)
         if status == "found":
-            out.append(store.line(n))
+            out += rows(store.line(n))
         elif status == "ended":
-            return out + [b"statements %d" % len(out)]
+            return out + notices(b"statements %d" % len(out))
 
 
 def names(store, line, at):
     if len(line) - at > NAME:
         raise Refused(2)
     listed = sorted(n for n in store.numbers if n.startswith(line[at:]))
-    return listed + [b"names %d" % len(listed)]
+    return rows(*listed) + notices(b"names %d" % len(listed))
 
 
 # Nothing is entered unless there is room for all of it. A statement with a name that the store does not have is not in the store.
 def do_assert(store, line, at):
     parts = statement(line, at)
-    absent = {shortened(w) for w in parts if not store.search(w)}
-    store.test_room(absent)
-    if absent and store.counters[1] == STATEMENTS:
+    new = list(dict.fromkeys(shortened(w) for w in absent(store, parts)))
+    store.test_room(new)
+    if new and store.counters[1] == STATEMENTS:
         raise Refused(3)
     told, n, *_ = store.do_assert(*[store.enter(w) for w in parts])
-    return [b"%s %d" % (told.encode(), n)]
+    return notices(*[b"entered " + w for w in new], b"%s %d" % (told.encode(), n))
 
 
 def retract(store, line, at):
-    parts = statement(line, at)
-    n = 0 if unknown(store, parts) else store.retract(*[store.search(w) for w in parts])
-    return [b"retracted %d" % n if n else b"absent"]
+    parts = [shortened(w) for w in statement(line, at)]
+    n = 0 if absent(store, parts) else store.retract(*[store.search(w) for w in parts])
+    return notices(b"retracted %d" % n) if n else unknown(store, parts) + notices(b"absent")
 
 
 def counts(store, line, at):
     found, end = name(line, at)
     nothing_more(line, end)
-    if unknown(store, [found]):
+    if absent(store, [found]):
         return unknown(store, [found])
     record = store.resource(store.search(found))
-    return [b"%s subject %d predicate %d object %d" % (how, *record[field]) for how, field in ((b"live", "live"), (b"chain", "count"))]
+    how = (b"live", record["live"]), (b"chain", record["count"])
+    return rows(*[b"%s subject %d predicate %d object %d" % (word, *numbers) for word, numbers in how])
 
 
 def totals(store):
     used = zip((b"resources", b"statements", b"bytes", b"reclaims"), store.counters, (RESOURCES, STATEMENTS, TEXT, RECLAIMS))
-    return [b"%s %d room %d" % (what, n, most - n) for what, n, most in used]
+    resources, statements, *others = [b"%s %d room %d" % (what, n, most - n) for what, n, most in used]
+    return rows(resources, statements, b"live %d" % len(store.live()), *others, b"missing %d" % store.missing)
 
 
 def save(store):
-    lines = sorted(store.line(n) + b"\n" for n in range(1, store.counters[1] + 1) if store.statement(n)["flag"] == [0])
+    lines = sorted(store.line(n) + b"\n" for n in store.live())
     if sum(len(line) for line in lines) > FILE:
         raise Refused(11)
-    return [line[:-1] for line in lines]
+    return rows(*[line[:-1] for line in lines])
 
 
 WITH_REST = {b"list": list_statements, b"names": names, b"assert": do_assert, b"retract": retract, b"counts": counts}
-ALONE = {b"totals": totals, b"save": save, b"help": lambda store: lines_of(read(HELP)), b"quit": lambda store: None,
-         b"check": lambda store: [store.check().encode()],
-         b"reclaim": lambda store: [b"statements before %d after %d" % store.reclaim()]}
+ALONE = {b"totals": totals, b"save": save, b"help": lambda store: rows(*lines_of(read(HELP))), b"quit": lambda store: None,
+         b"check": lambda store: rows(store.check().encode()),
+         b"reclaim": lambda store: notices(b"statements before %d after %d" % store.reclaim())}
+
+
+# What a file holds.
+def read(path):
+    with open(path, "rb") as f:
+        return f.read()
 
 
 # The lines of the answer to a line; None ends the shell.
@@ -320,33 +289,88 @@ def command(store, line):
 # A refusal: with a column, the line and a caret under it follow.
 def refused(line, number, at=None):
     if at is None:
-        return [b"refused %d: %s" % (number, WORDS[number])]
+        return notices(b"refused %d: %s" % (number, WORDS[number]))
     shown = bytes(b if b == 9 or 32 <= b <= 126 else ord("?") for b in line)
     under = bytes(9 if b == 9 else 32 for b in line[:at])
-    return [b"refused %d at column %d: %s" % (number, at + 1, WORDS[number]), shown, under + b"^"]
+    return notices(b"refused %d at column %d: %s" % (number, at + 1, WORDS[number]), shown, under + b"^")
 
 
 def answer(store, line):
     try:
-        return command(store, line) if len(line) <= LINE else [b"refused 10: over %d bytes" % LINE]
+        return command(store, line) if len(line) <= LINE else notices(b"refused 10: over %d bytes" % LINE)
     except Refused as e:
         return refused(line, *e.args)
 
 
-# What a script comes to, once the texts of the files are loaded in turn.
-def run(files, script, dialogue=False):
-    store, out = Tables(), []
-    for line in [line for text in files for line in lines_of(text)]:
-        store.load(line)
-    for line in lines_of(script):
-        told = answer(store, line)
-        out += ([b"> " + line] if dialogue else []) + (told or [])
-        if told is None:
-            break
-    return b"".join(line + b"\n" for line in out)
+# Whether an answer is a refusal, or says that something is not known, not there or not sound.
+def bad(told):
+    return any(line in (b"absent", b"unsound") or stream == ERR and line.startswith((b"unknown ", b"refused ")) for stream, line in told)
+
+
+class Shell:
+    """A run of the shell: its store, the files loaded, and what it told. `every` is --all, or a terminal on standard input."""
+
+    def __init__(self, told, every=False, store=None):
+        self.told, self.every, self.store = told, every, store or Tables()
+        self.loading = programs.Loading(told, self.store)
+
+    # What is told on a stream in a pipe.
+    def write(self, stream, *lines):
+        self.told.write(OUT if self.every else stream, *lines)
+
+    # Tells the answer to a line; whether the shell goes on.
+    def line(self, line):
+        self.store.missing = self.loading.refused
+        told = answer(self.store, line)
+        for stream, text in told or []:
+            self.write(stream, text)
+        self.told.at_least(1 if bad(told or []) else 0)
+        return told is not None
+
+    # The lines of a script, each written after the prompt in a dialogue. `fault` is why no more of it could be read.
+    def script(self, text, fault=None, dialogue=False):
+        for line in lines_of(text, fault is None):
+            self.write(OUT, *([b"> " + line] if dialogue else []))
+            if not self.line(line):
+                return
+        if fault is not None:
+            self.told.write(ERR, b"standard input: " + fault)
+            self.told.at_least(2)
+
+    # What a terminal is told at first, and the answers after its prompts.
+    def terminal(self, text):
+        R, T, *_ = self.store.counters
+        missing = [b"missing %d" % self.loading.refused] if self.loading.refused else []
+        self.write(OUT, b"resources %d statements %d" % (R, T), *missing, b"help lists the commands")
+        for line in lines_of(text):
+            self.told.written.append((OUT, b"> "))
+            if not self.line(line):
+                return
+        self.write(OUT, b"> ")
+
+
+# The program; `how` says whether it is a dialogue.
+def shell(told, args, standard_input, **how):
+    files, every = programs.arguments(told, "shell", args)
+    run = Shell(told, every)
+    run.loading.files(files, standard_input)
+    run.script(*standard_input(), **how)
+
+
+# The program with a terminal on standard input, where these lines are typed.
+def at_terminal(told, args, standard_input):
+    files, _ = programs.arguments(told, "shell", args)
+    run = Shell(told, True)
+    run.loading.files(files, standard_input)
+    run.terminal(standard_input()[0])
+
+
+# The dialogue of a script, each line after the prompt.
+def dialogue(told, args, standard_input):
+    shell(told, [b"--all", *args], standard_input, dialogue=True)
 
 
 if __name__ == "__main__":
-    dialogue = sys.argv[1:2] == ["--dialogue"]
-    files = [read(path) for path in sys.argv[1 + dialogue :]]
-    sys.stdout.buffer.write(run(files, sys.stdin.buffer.read(), dialogue))
+    given = [os.fsencode(a) for a in sys.argv[1:]]
+    program, given = (dialogue, given[1:]) if given[:1] == [b"--dialogue"] else (shell, given)
+    sys.exit(programs.deliver(programs.run(program, given, lambda: programs.drained(0))))

@@ -15,9 +15,9 @@ BETWEEN = re.compile(r"(?<=<!-- dialogue -->\n).*?(?=<!-- end of the dialogue --
 
 
 def main(check, path):
-    read = lambda name: reference.read(os.path.join(reference.HERE, name))
-    told = reference.run([read("data/bay.nt")], read("stdin"), True).decode()
-    shown = "\n```\n" + told + "```\n\n"
+    bay, script = os.fsencode(os.path.join(reference.HERE, "data", "bay.nt")), os.path.join(reference.HERE, "stdin")
+    told = reference.programs.run(reference.dialogue, [bay], reference.programs.given(reference.read(script)))
+    shown = "\n```\n" + told.text(reference.OUT).decode() + "```\n\n"
     text = open(path).read()
     if check:
         return BETWEEN.findall(text) != [shown]
