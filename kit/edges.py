@@ -12,13 +12,14 @@ import pty
 import random
 import re
 import resource
+import shutil
 import subprocess
 import sys
 import tempfile
 
 sys.path.insert(0, os.path.dirname(os.path.abspath(__file__)))
 sys.dont_write_bytecode = True
-from edge_cases import BY_HAND, CLOSED, GONE, GROUPS, REFERENCES, contents, programs, put, random_scripts
+from edge_cases import BY_HAND, CLOSED, GONE, GROUPS, REFERENCES, as_nobody, contents, programs, put, random_scripts
 
 SECONDS = 10  # for each command line
 
@@ -65,8 +66,11 @@ def execute(case, bindir):
         return at_terminal(case, argv)
     handles = {n: opened(n, where) for n, where in case.on.items() if where != CLOSED}
     streams = [handles.get(n, subprocess.DEVNULL if n in case.on else subprocess.PIPE) for n in range(3)]
-    process = subprocess.Popen(argv, stdin=streams[0], stdout=streams[1], stderr=streams[2], env={**os.environ, **case.env},
-                               preexec_fn=in_child(case), restore_signals=not case.ignore)
+    if case.nobody:
+        argv[0] = shutil.copy(argv[0], ".")
+    with as_nobody(case.nobody):
+        process = subprocess.Popen(argv, stdin=streams[0], stdout=streams[1], stderr=streams[2], env={**os.environ, **case.env},
+                                   preexec_fn=in_child(case), restore_signals=not case.ignore)
     for handle in handles.values():
         os.close(handle)
     out, err, status = finish(process, None if 0 in case.on else case.stdin)
@@ -156,6 +160,7 @@ def main(bindir, *chosen):
     here = os.getcwd()
     with tempfile.TemporaryDirectory(prefix="edges-") as folder:
         os.chdir(os.path.realpath(folder))
+        os.chmod(".", 0o755)
         try:
             return count() if bindir == "--list" else hold(where, chosen)
         finally:
