@@ -12,6 +12,7 @@ import pty
 import random
 import re
 import resource
+import signal
 import subprocess
 import sys
 import tempfile
@@ -53,7 +54,7 @@ def finish(process, typed):
         out, err = process.communicate(typed, timeout=SECONDS)
         return out or b"", err or b"", process.returncode
     except subprocess.TimeoutExpired:
-        process.kill()
+        os.killpg(process.pid, signal.SIGKILL)
         out, err = process.communicate()
         return out or b"", err or b"", f"none after {SECONDS} seconds"
 
@@ -66,7 +67,7 @@ def execute(case, bindir):
     handles = {n: opened(n, where) for n, where in case.on.items() if where != CLOSED}
     streams = [handles.get(n, subprocess.DEVNULL if n in case.on else subprocess.PIPE) for n in range(3)]
     process = subprocess.Popen(argv, stdin=streams[0], stdout=streams[1], stderr=streams[2], env={**os.environ, **case.env},
-                               preexec_fn=in_child(case), restore_signals=not case.ignore)
+                               preexec_fn=in_child(case), restore_signals=not case.ignore, start_new_session=True)
     for handle in handles.values():
         os.close(handle)
     out, err, status = finish(process, None if 0 in case.on else case.stdin)
@@ -77,7 +78,7 @@ def execute(case, bindir):
 # The same with a terminal on standard input, where the case's input is typed, and then its end.
 def at_terminal(case, argv):
     master, slave = pty.openpty()
-    process = subprocess.Popen(argv, stdin=slave, stdout=subprocess.PIPE, stderr=subprocess.PIPE)
+    process = subprocess.Popen(argv, stdin=slave, stdout=subprocess.PIPE, stderr=subprocess.PIPE, start_new_session=True)
     os.close(slave)
     os.write(master, case.stdin + b"\x04")
     try:
@@ -152,6 +153,8 @@ def count():
 
 def main(bindir, *chosen):
     where = os.path.abspath(bindir)
+    if bindir != "--list" and not all(os.path.isfile(os.path.join(where, "lemontiller-" + program)) for program in REFERENCES):
+        return f"the programs are not in {where}"
     os.environ["PATH"] = where + os.pathsep + os.environ["PATH"]
     here = os.getcwd()
     with tempfile.TemporaryDirectory(prefix="edges-") as folder:
