@@ -386,7 +386,7 @@ def arguments():
     text = b"<r:21> <p:trips> <b:7> .\n<r:21>\n"
     for words in ARGUMENTS:
         yield from each(*[w.encode() for w in words.split()], stdin=text)
-    for size in 4095, 4096, 5000:
+    for size in 4095, 4096, 4097, 5000:
         yield from each(b"--" + b"x" * (size - 2), stdin=text)
         yield from each(b"--" + b"x" * (size - 2), b"--help", stdin=text)
     yield from each(b"--\xfc\n", stdin=text)
@@ -399,7 +399,7 @@ def files():
     for name in "bay1.nt", "bay12.nt":
         put(name, b"<a> <b> <e> .\n<e>\n")
     for name in (b"", b"none.nt", b"folder", b"folder/", b"good.nt/x", b"none/x.nt", b"/proc/self/mem", b"/dev/null", b"x" * 255,
-                 b"x" * 256, b"y" * 4095, b"z" * 4096, b"w" * 5000, b"./" * 2044 + b"bay1.nt", b"./" * 2044 + b"bay12.nt"):
+                 b"x" * 256, b"y" * 4095, b"z" * 4096, b"z" * 4097, b"w" * 5000, b"./" * 2044 + b"bay1.nt", b"./" * 2044 + b"bay12.nt"):
         yield from each(name)
         yield from each(good, name, other)
         yield Case("export", [b"--partial", good, name, other])
@@ -635,7 +635,7 @@ def tellers():
     clean, part, _ = three()
     yield from each(part)
     yield from each(b"none.nt", part)
-    yield from each(b"--", b"z" * 4096, part)
+    yield from each(b"--", b"z" * 4097, part)
     yield Case("export", [b"--partial", b"none.nt", part])
     for script in (b"<a> <b> ?c\ntotals\n", b"what\ntotals\n", b"assert <a> <b> <e> .\nsave\n", b"names\ntotals\n", b"reclaim\ncheck\n"):
         yield Case("shell", [clean], script)

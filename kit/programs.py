@@ -233,7 +233,7 @@ class Loading:
         for name in names:
             if name is None:
                 self.file(b"standard input", *standard_input())
-            elif len(name) >= ARGUMENT:
+            elif len(name) > ARGUMENT:
                 self.file(b"argument", b"", os.strerror(errno.ENAMETOOLONG).encode())
             else:
                 self.file(name, *contents(name))
@@ -278,7 +278,7 @@ def usage(program):
 def arguments(told, program, args):
     files, option, only_files = [], False, False
     for a in args:
-        if only_files or len(a) >= ARGUMENT or not a.startswith(b"-"):
+        if only_files or len(a) > ARGUMENT or not a.startswith(b"-"):
             files.append(a)
         elif a == b"-":
             files.append(None)

@@ -45,15 +45,12 @@ static void must(uint32_t result, const char *doing)
     }
 }
 
+/* A name that is not there is refused here. Its number by lt_store_find would be 0, and 0 in a pattern is any. */
 static uint32_t number_of(const char *name)
 {
-    struct lt_lookup lookup;
-    must(lt_store_find(&store, (const uint8_t *)name, strlen(name), &lookup), name);
-    if (lookup.number == 0) {
-        fprintf(stderr, "%s is in no statement\n", name);
-        exit(1);
-    }
-    return lookup.number;
+    uint32_t number;
+    must(lt_store_number(&store, (const uint8_t *)name, strlen(name), &number), name);
+    return number;
 }
 
 /* The reply is a part of our own text, so there is nothing to copy or to free. */
@@ -113,11 +110,12 @@ static void list_names(const char *beginning)
     }
 }
 
-/* Tells how many live statements a relay is the subject of: a word of its record, so a screen may look as often as it draws. */
+/* Tells how many live statements a relay is the subject of: a word of its record, so a screen may ask as often as it draws. */
 static void tell_live(const char *relay)
 {
-    const uint32_t *record = store.resources + LT_RESOURCE_WORDS * (number_of(relay) - 1);
-    printf("live statements of %s: %u\n", relay, (unsigned)record[LT_RESOURCE_LIVE + LT_SUBJECT]);
+    uint32_t live;
+    must(lt_store_live(&store, number_of(relay), LT_SUBJECT, &live), relay);
+    printf("live statements of %s: %u\n", relay, (unsigned)live);
 }
 
 /* Lists the objects of a relay's statements, the highest number first. The cursor is plain numbers: it may be kept while the store changes,
@@ -127,7 +125,7 @@ static void list_contacts(const char *relay, const char *trips)
     struct lt_scan scan;
     struct lt_found found;
     struct lt_triple triple;
-    must(lt_store_scan_open(&store, number_of(relay), number_of(trips), 0, &scan), "opening the list");
+    must(lt_store_scan_open(&store, number_of(relay), number_of(trips), LT_ANY, &scan), "opening the list");
     printf("contacts of %s\n", relay);
     for (;;) {
         must(lt_store_scan_next(&store, &scan, BUDGET, &found), "listing");
@@ -197,6 +195,10 @@ int main(int argc, char **argv)
     FILE *file = argc == 2 ? fopen(argv[1], "rb") : NULL;
     if (file == NULL) {
         fprintf(stderr, "usage: contacts FILE\n");
+        return 1;
+    }
+    if (lt_version() != LT_VERSION_NUMBER) {
+        fprintf(stderr, "lemontiller.h has version %s, the library another one\n", LT_VERSION);
         return 1;
     }
     length = fread(input, 1, sizeof input, file);

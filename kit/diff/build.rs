@@ -1,4 +1,5 @@
-//! Compiles `c/structs.c`, which takes the test through the structs of the header. CC names the compiler, if it is not `cc`.
+//! Compiles `c/structs.c`, which takes the test through the structs of the header. CC names the compiler, if it is not `cc`. A step in its
+//! C that is undefined, such as null handed to the library, ends the run.
 use std::{env, path::PathBuf, process::Command};
 
 fn main() {
@@ -7,7 +8,8 @@ fn main() {
     let (source, include) = (here.join("c/structs.c"), here.join("../../include"));
     let compiler = env::var_os("CC").unwrap_or_else(|| "cc".into());
     let status = Command::new(&compiler)
-        .args(["-std=c99", "-O2", "-fPIC", "-Wall", "-Wextra", "-pedantic", "-Werror", "-c", "-I"])
+        .args(["-std=c99", "-O2", "-fPIC", "-fsanitize=undefined", "-fsanitize-undefined-trap-on-error"])
+        .args(["-Wall", "-Wextra", "-pedantic", "-Werror", "-c", "-I"])
         .args([&include, &source])
         .arg("-o")
         .arg(&object)

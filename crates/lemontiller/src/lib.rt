@@ -50,6 +50,14 @@ pub mod names;
 pub mod queries;
 pub mod reclaim;
 
+// The version of the library as a number, major * 1,000,000 + minor * 1,000 + patch: 0.2.0.
+#[no_mangle]
+pub extern "C" fn lt_version() -> u32
+    ensures { λ r. ⌜ r ≡ 2000 ⌝ }
+{
+    2000
+}
+
 // The kind of a name: 1 an IRI, 2 a blank node, 3 a literal; refusal 2 where it is malformed.
 #[no_mangle]
 pub extern "C" fn lt_name_kind(name: &[u8], reply: &mut [u32]) -> u32

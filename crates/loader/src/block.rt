@@ -41,6 +41,13 @@ pub fn keep_rest(buffer: &mut [u8], from: usize, filled: usize) -> usize {
     n
 }
 
+// A load with so many bytes at the front of the buffer.
+pub fn with_used(l: Load, used: usize) -> Load {
+    let mut m = l;
+    m.used = used;
+    m
+}
+
 // Takes what fills the buffer: loads the lines that have ended, and keeps the rest.
 pub fn load_block(
     l: Load,
@@ -54,13 +61,7 @@ pub fn load_block(
     let end = whole_lines(buffer, filled);
     let m = load::load_lines(l, resources, statements, index, text, &buffer[0..end]);
     let used = keep_rest(buffer, end, filled);
-    let c = m.counters;
-    Load {
-        counters: c,
-        lines: m.lines,
-        used: used,
-        quiet: m.quiet,
-    }
+    with_used(m, used)
 }
 
 // The input ends: a last line without its LF is loaded.
@@ -74,11 +75,5 @@ pub fn finish(
 ) -> Load {
     let end = lesser(l.used, buffer.len());
     let m = load::load_lines(l, resources, statements, index, text, &buffer[0..end]);
-    let c = m.counters;
-    Load {
-        counters: c,
-        lines: m.lines,
-        used: 0,
-        quiet: m.quiet,
-    }
+    with_used(m, 0)
 }

@@ -2,16 +2,19 @@
 //
 // The input comes in blocks into a lent buffer. One reader is carried over the whole lines in it; the bytes of the line that has not
 // ended are moved to its front, and the next block is read behind them. Every line is numbered. A statement line is answered by one
-// line of output, `NUMBER new|already N` or `NUMBER refused N`; a blank or comment line by none. A quiet load tells refused lines alone,
-// on standard error. Names are entered once the whole line is read, subject first; those entered before a refusal remain.
+// line of output, `NUMBER new|already N` or `NUMBER refused N`; a blank or comment line by none; a quiet load writes none. Standard error
+// tells where and why a line was refused. Names are entered once the whole line is read, subject first; those entered before a refusal
+// remain.
 //
 // `line` loads a line, `load` every line of a source, `block` what fills the buffer, `file` what a file or standard input has; `output`
-// writes.
+// writes, `told` tells of a line; `buffer` makes the tables and the long buffers of the shell and of the exporting program.
 pub mod block;
+pub mod buffer;
 pub mod file;
 pub mod line;
 pub mod load;
 pub mod output;
+pub mod told;
 
 // The bytes of a line that has not ended, and room for a block.
 pub const BUFFER: usize = 8192;

@@ -3,17 +3,20 @@ ghost use Rattle.store.specs.Tables.{lent};
 ghost use Rattle.loader.specs.Lines.{LoadsLines};
 ghost use Rattle.loader.specs.Steps.{Takes, ReadAt};
 use crate::line::load_line;
-use crate::output;
+use crate::told;
 use ntriples::Line;
+use report::tally;
+use report::tally::Report;
 use store::Counters;
 
 // How far a load is: the store's counters, the lines that have ended, how many bytes of the line being read stand at the front of the
-// buffer; and whether it is quiet: then refused lines alone are told, on standard error.
+// buffer; whether it is quiet: then nothing is written to standard output; and what was told of refused lines.
 pub struct Load {
     pub counters: Counters,
     pub lines: u64,
     pub used: usize,
     pub quiet: bool,
+    pub report: Report,
 }
 
 // A load that has read nothing, over tables that hold anything.
@@ -23,16 +26,30 @@ pub fn start(quiet: bool) -> Load {
         lines: 0,
         used: 0,
         quiet: quiet,
+        report: tally::fresh(),
     }
 }
 
-// One line more. No input has as many lines as the number can count.
-fn counted(lines: u64) -> u64 {
-    if lines < 18446744073709551615 {
-        lines + 1
-    } else {
-        lines
-    }
+// How many lines of all files were refused.
+pub fn missing(l: Load) -> u64 {
+    l.report.missing
+}
+
+// Whether all that was told could be written.
+pub fn written(l: Load) -> bool {
+    l.report.written
+}
+
+// 0 where all is loaded, 1 where a line was refused, 2 where something could not be read or written.
+pub fn status(l: Load) -> u32 {
+    tally::status(l.report)
+}
+
+// A load with another report.
+pub fn reported(l: Load, t: Report) -> Load {
+    let mut m = l;
+    m.report = t;
+    m
 }
 
 // Takes a line that was read: loads it, reports it, and counts it.
@@ -65,15 +82,16 @@ fn take_line(
         line,
         next,
     );
-    let number = counted(l.lines);
+    let number = tally::counted(l.lines);
     let outcome = r.outcome;
-    output::report(number, outcome, l.quiet);
     let d = r.counters;
+    let t = told::with_line(l.report, l.quiet, number, outcome, source, from, line, next);
     Load {
         counters: d,
         lines: number,
         used: l.used,
         quiet: l.quiet,
+        report: t,
     }
 }
 

@@ -1,6 +1,6 @@
 -- What is told from the opening: its refusal, or what is told of the reading from the cursor opened. Assumes nothing.
 use mathlib.Core.Path.{_≡_, sym, ap, _∙_}
-use mathlib.Core.Bool.{false}
+use mathlib.Core.Bool.{true, false}
 use mathlib.Core.List.{List}
 use Prim.Native.Nat.{ℕ}
 use Rattle.store.proofs.Numbers.{refusal-positive}
@@ -24,7 +24,7 @@ use Rattle.shell_answer.specs.Claims.{QuestionRead, ListRead}
 
 -- a refusal of this number
 abbrev unread : ℕ → Told
-unread e = record { refusal = e; ended = false; found = 0; visits = 0 }
+unread e = record { refusal = e; ended = false; found = 0; visits = 0; written = true }
 
 module _ {A Q : Type 0} {opening : ℕ} where
   refused : {read : List ℕ → List (Reply A Q)} (x : Refusal) {e : ℕ} → opening ≡ refusalNumber x → e ≡ refusalNumber x

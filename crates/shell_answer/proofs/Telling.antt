@@ -13,20 +13,24 @@ use Rattle.graph.specs.Claims.{Reply, readOn, foundIn, hasEnded, visitsIn}
 use Rattle.shell_answer.specs.declared.Told.{Told}
 use Rattle.shell_answer.specs.Told.{budget, maxCalls, budgets, refusalIn, toldOf, TellsOf}
 
-abbrev told : ℕ → Bool → ℕ → ℕ → Told
-told e y f v = record { refusal = e; ended = y; found = f; visits = v }
+abbrev told : ℕ → Bool → ℕ → ℕ → Bool → Told
+told e y f v w = record { refusal = e; ended = y; found = f; visits = v; written = w }
 
-counts-same : {e f f′ v v′ : ℕ} {y : Bool} → f ≡ f′ → v ≡ v′ → told e y f v ≡ told e y f′ v′
+counts-same : {e f f′ v v′ : ℕ} {y w : Bool} → f ≡ f′ → v ≡ v′ → told e y f v w ≡ told e y f′ v′ w
 counts-same p q = rw (p, q)
 
 -- with f more found and v more visits
 abbrev more : ℕ → ℕ → Told → Told
-more f v t = told (t .refusal) (t .ended) (f + t .found) (v + t .visits)
+more f v t = told (t .refusal) (t .ended) (f + t .found) (v + t .visits) (t .written)
+
+-- written or not
+abbrev marked : Bool → Told → Told
+marked w t = told (t .refusal) (t .ended) (t .found) (t .visits) w
 
 module _ {A Q : Type 0} (next : Q → ℕ → Reply A Q) where
-  -- what is told of n calls from a cursor
+  -- what is told of n calls from a cursor, all written
   abbrev from : Q → ℕ → Told
-  from q n = toldOf (readOn next q (budgets n))
+  from q n = toldOf (readOn next q (budgets n)) true
 
   -- `made` calls are made and `turns` are left: f found, v visits, q reached
   pub record Going (start q : Q) (turns f v : ℕ) : Type 0 where
@@ -58,15 +62,15 @@ module _ {A Q : Type 0} (next : Q → ℕ → Reply A Q) where
     unfolding readOn foundIn hasEnded visitsIn refusalIn
     one-spent z s e n = rw (replied, z, s, e) (counts-same (omega arith) (omega arith))
 
-    one-ended : r .refusal ≡ 0 → r .status ≡ 2 → from q 1 ≡ told 0 true 0 (r .visits)
+    one-ended : r .refusal ≡ 0 → r .status ≡ 2 → from q 1 ≡ told 0 true 0 (r .visits) true
     unfolding readOn foundIn hasEnded visitsIn refusalIn
     one-ended z s = rw (replied, z, s) (counts-same (omega arith) (omega arith))
 
-    one-refused : {e : ℕ} → e ≢ 0 → r .refusal ≡ e → r .status ≡ 0 → from q 1 ≡ told e false 0 (r .visits)
+    one-refused : {e : ℕ} → e ≢ 0 → r .refusal ≡ e → r .status ≡ 0 → from q 1 ≡ told e false 0 (r .visits) true
     unfolding readOn foundIn hasEnded visitsIn refusalIn
     one-refused {e = e} n z s = rw (replied, z, s, ne-eqb e 0 n) (counts-same (omega arith) (omega arith))
 
-  none-made : (q : Q) → from q 0 ≡ told 0 false 0 0
+  none-made : (q : Q) → from q 0 ≡ told 0 false 0 0 true
   unfolding readOn foundIn hasEnded visitsIn refusalIn
   none-made q = refl
 
@@ -81,18 +85,23 @@ module _ {A Q : Type 0} (next : Q → ℕ → Reply A Q) where
     fits-visits b z = omega (arith, G .paid, G .all)
 
     -- n more calls find nothing, and then none is made
-    last : {e w v′ : ℕ} {y : Bool} (n : ℕ) → n ≤ turns → (e ≡ 0 → y ≡ false → n ≡ turns) → v′ ≡ v + w
-        → from q n ≡ told e y 0 w → TellsOf (readOn next start) (told e y f v′)
-    last n h g d p = record {
+    last : {e k v′ : ℕ} {y : Bool} (w : Bool) (n : ℕ) → n ≤ turns → (e ≡ 0 → y ≡ false → w ≡ true → n ≡ turns) → v′ ≡ v + k
+        → from q n ≡ told e y 0 k true → TellsOf (readOn next start) (told e y f v′ w)
+    last w n h g d p = record {
       calls = G .made + n;
       few = omega (arith, G .all);
-      tells = counts-same (omega arith) (omega arith) ∙ sym (G .onward n ∙ ap (λ (t : Told). more f v t) p);
-      stops = λ a b. omega (arith, G .all, g a b);
+      tells =
+          counts-same (omega arith) (omega arith) ∙ sym (ap (marked w) (G .onward n ∙ ap (λ (t : Told). more f v t) p));
+      stops = λ a b c. omega (arith, G .all, g a b c);
     }
 
     -- all calls are made
-    pub stops-over : turns ≡ 0 → TellsOf (readOn next start) (told 0 false f v)
-    stops-over z = last 0 (omega arith) (λ a b. sym z) (omega arith) (none-made q)
+    pub stops-over : turns ≡ 0 → TellsOf (readOn next start) (told 0 false f v true)
+    stops-over z = last true 0 (omega arith) (λ a b c. sym z) (omega arith) (none-made q)
+
+    -- what was found last could not be written
+    pub stops-unwritten : TellsOf (readOn next start) (told 0 false f v false)
+    stops-unwritten = last false 0 (omega arith) (λ a b c. absurd (true≢false (sym c))) (omega arith) (none-made q)
 
     -- one call more finds n
     turn : {q′ : Q} {n w f′ v′ : ℕ} → 0 < turns → n ≤ 1 → w ≤ budget → f′ ≡ f + n → v′ ≡ v + w
@@ -110,14 +119,14 @@ module _ {A Q : Type 0} (next : Q → ℕ → Reply A Q) where
 
     module _ {r : Reply A Q} (replied : next q budget ≡ r) (left : 0 < turns) where
       pub stops-refused : (x : Refusal) {e v′ : ℕ} → r .refusal ≡ refusalNumber x → e ≡ refusalNumber x → r .status ≡ 0
-          → v′ ≡ v + r .visits → TellsOf (readOn next start) (told e false f v′)
+          → v′ ≡ v + r .visits → TellsOf (readOn next start) (told e false f v′ true)
       stops-refused x {e = e} z d s p =
           let n : e ≢ 0 = λ a. refusal-positive x (sym d ∙ a) in
-          last 1 (omega arith) (λ a b. absurd (n a)) p (one-refused replied n (z ∙ sym d) s)
+          last true 1 (omega arith) (λ a b c. absurd (n a)) p (one-refused replied n (z ∙ sym d) s)
 
       pub stops-ended : {v′ : ℕ} → r .refusal ≡ 0 → r .status ≡ 2 → v′ ≡ v + r .visits
-          → TellsOf (readOn next start) (told 0 true f v′)
-      stops-ended z s d = last 1 (omega arith) (λ a b. absurd (true≢false b)) d (one-ended replied z s)
+          → TellsOf (readOn next start) (told 0 true f v′ true)
+      stops-ended z s d = last true 1 (omega arith) (λ a b c. absurd (true≢false b)) d (one-ended replied z s)
 
       module _ {q′ : Q} {f′ v′ : ℕ} (zero : r .refusal ≡ 0) (within : r .visits ≤ budget) (moved : q′ ≡ r .cursor)
           (paid : v′ ≡ v + r .visits) where

@@ -36,4 +36,4 @@ lists-are-read-through c m S x known =
     let r = scan-reads c m S x known in
     let w : (t : Told) → ListRead c m x t → Whole (r .all) (scanWorkOf c m x) t =
     λ t T. whole (scanning c m x) (r .all) (scanWorkOf c m x) (r .read) (r .ends) t (T .opened (r .opened)) in
-    (r .all, r .exactly, λ t T. (w t T .ends (omega (arith, few c m S x)), w t T))
+    (r .all, r .exactly, λ t T. (λ d. w t T .ends d (omega (arith, few c m S x)), w t T))

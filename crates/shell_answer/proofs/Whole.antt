@@ -32,9 +32,9 @@ module _ {A Q : Type 0} where
         found = λ e. ap (λ (t : Told). t .found) (T .tells) ∙ ap length (read-all (R bs p) (sym told-ended ∙ e));
         visits = λ e. ap (λ (t : Told). t .visits) (T .tells) ∙ E .visits bs p (sym told-ended ∙ e);
         ends =
-            λ h.
+            λ w h.
             decide (t .ended) (λ y. y)
             (λ n.
-            let all-made = T .stops unrefused n in
+            let all-made = T .stops unrefused n w in
             told-ended ∙ E .ends bs p (omega (arith, length-replicate (T .calls) budget)));
       }

@@ -26,19 +26,20 @@ ListRead c m x t = ReadThrough ((openedValues (openOf c m x)) .refusal) (scannin
 
 -- ---- on a sound store
 
--- not refused; once ended, all are found, with these visits; ended wherever two calls more than that may be made
+-- not refused; once ended, all are found, with these visits; ended wherever all that was found was written and two calls more than that
+-- may be made
 pub record Whole {A : Type 0} (all : List A) (work : ℕ) (t : Told) : Type 0 where
   pub unrefused : t .refusal ≡ 0
   pub found : t .ended ≡ true → t .found ≡ length all
   pub visits : t .ended ≡ true → t .visits ≡ work
-  pub ends : work + 1 < maxCalls → t .ended ≡ true
+  pub ends : t .written ≡ true → work + 1 < maxCalls → t .ended ≡ true
 
 abbrev pub QuestionsAreReadThrough : Type 0
 QuestionsAreReadThrough = (c : Counters) (m : Tables) → Sound c m → (ws : List ℕ) → wordsOk (c .resources) ws ≡ true
     → (ss : List Bindings) × AllInOrder c m ws ss × ((t : Told) → QuestionRead c m ws t → Whole ss (workOf c m ws) t)
 
--- a list has always ended
+-- a list has always ended, unless something could not be written
 abbrev pub ListsAreReadThrough : Type 0
 ListsAreReadThrough = (c : Counters) (m : Tables) → Sound c m → (x : Triple) → within (c .resources) x ≡ true
     → (ns : List ℕ) × AllMatches c m x ns
-    × ((t : Told) → ListRead c m x t → (t .ended ≡ true) × Whole ns (scanWorkOf c m x) t)
+    × ((t : Told) → ListRead c m x t → (t .written ≡ true → t .ended ≡ true) × Whole ns (scanWorkOf c m x) t)

@@ -6,6 +6,9 @@ ghost use Rattle.shell_answer.specs.Claims.{ListRead};
 use crate::BUDGET;
 use crate::CALLS;
 use crate::Told;
+use crate::told_ended;
+use crate::told_refused;
+use crate::told_stopped;
 use shell_print::names;
 use store::Counters;
 use store::ScanCursor;
@@ -13,7 +16,7 @@ use store::ScanOpened;
 use store::Scanned;
 use store::Triple;
 
-// Reads on from a cursor until the reading has ended, and writes each statement as it comes.
+// Reads on from a cursor until the reading has ended, or a write fails, and writes each statement as it comes.
 fn read_on(
     c: Counters,
     resources: &[u32],
@@ -32,26 +35,14 @@ fn read_on(
     // `found` statements are written, with `visits` visits; `q` is how far the reading is.
     while turns > 0 {
         match scan::scan_next(c, resources, statements, index, text, q, BUDGET) {
-            Scanned::Refused(e) => {
-                return Told {
-                    refusal: store::refusal_number(e),
-                    ended: false,
-                    found: found,
-                    visits: visits,
-                };
-            }
-            Scanned::Ended(v, _) => {
-                return Told {
-                    refusal: 0,
-                    ended: true,
-                    found: found,
-                    visits: visits + v as u64,
-                };
-            }
+            Scanned::Refused(e) => return told_refused(store::refusal_number(e), found, visits),
+            Scanned::Ended(v, _) => return told_ended(found, visits + v as u64),
             Scanned::Found(n, v, next) => {
-                names::statement(c, resources, statements, index, text, n);
                 found += 1;
                 visits += v as u64;
+                if !names::statement(c, resources, statements, index, text, n) {
+                    return told_stopped(found, visits, false);
+                }
                 q = next;
             }
             Scanned::Spent(v, next) => {
@@ -61,12 +52,7 @@ fn read_on(
         }
         turns -= 1;
     }
-    Told {
-        refusal: 0,
-        ended: false,
-        found: found,
-        visits: visits,
-    }
+    told_stopped(found, visits, true)
 }
 
 // Reads the list of a pattern through, 0 standing for any.
@@ -81,12 +67,7 @@ pub fn read_through(
     ensures { λ r. ⌜ ListRead c (lent (resources .entry) (statements .entry) (index .entry) (text .entry)) x r ⌝ }
 {
     match scan::scan_open(c, resources, statements, index, text, x) {
-        ScanOpened::Refused(e) => Told {
-            refusal: store::refusal_number(e),
-            ended: false,
-            found: 0,
-            visits: 0,
-        },
+        ScanOpened::Refused(e) => told_refused(store::refusal_number(e), 0, 0),
         ScanOpened::Cursor(q) => read_on(c, resources, statements, index, text, q),
     }
 }

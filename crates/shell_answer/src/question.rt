@@ -6,13 +6,16 @@ ghost use Rattle.shell_answer.specs.Claims.{QuestionRead};
 use crate::BUDGET;
 use crate::CALLS;
 use crate::Told;
+use crate::told_ended;
+use crate::told_refused;
+use crate::told_stopped;
 use graph::QueryCursor;
 use graph::QueryOpening;
 use graph::QueryStep;
 use shell_print::names;
 use store::Counters;
 
-// Reads on from a cursor until the reading has ended, and writes each solution as it comes.
+// Reads on from a cursor until the reading has ended, or a write fails, and writes each solution as it comes.
 fn read_on(
     c: Counters,
     resources: &[u32],
@@ -36,38 +39,21 @@ fn read_on(
         let step = a.step;
         visits += a.visits as u64;
         match step {
-            QueryStep::Refused(e) => {
-                return Told {
-                    refusal: store::refusal_number(e),
-                    ended: false,
-                    found: found,
-                    visits: visits,
-                };
-            }
-            QueryStep::Ended => {
-                return Told {
-                    refusal: 0,
-                    ended: true,
-                    found: found,
-                    visits: visits,
-                };
-            }
+            QueryStep::Refused(e) => return told_refused(store::refusal_number(e), found, visits),
+            QueryStep::Ended => return told_ended(found, visits),
             QueryStep::Found => {
                 let s = a.solution;
-                names::solution(c, resources, statements, index, text, s, variables);
                 found += 1;
+                if !names::solution(c, resources, statements, index, text, s, variables) {
+                    return told_stopped(found, visits, false);
+                }
             }
             QueryStep::Spent => {}
         }
         q = a.cursor;
         turns -= 1;
     }
-    Told {
-        refusal: 0,
-        ended: false,
-        found: found,
-        visits: visits,
-    }
+    told_stopped(found, visits, true)
 }
 
 // Reads the question of these words through. The solutions' first `variables` variables are written.
@@ -86,12 +72,7 @@ pub fn read_through(
     let o = query::query_open(c, resources, statements, index, text, words);
     let opening = o.opening;
     match opening {
-        QueryOpening::Refused(e) => Told {
-            refusal: store::refusal_number(e),
-            ended: false,
-            found: 0,
-            visits: 0,
-        },
+        QueryOpening::Refused(e) => told_refused(store::refusal_number(e), 0, 0),
         QueryOpening::Opened => {
             let q = o.cursor;
             read_on(c, resources, statements, index, text, words, variables, q)

@@ -1,9 +1,10 @@
-// Lines of names, each written at once.
+// Lines of names, each written at once. Each function answers whether its line was written.
 ghost use Rattle.io.specs.Counts.{Counts};
 use graph::Solution;
 use graph::VARIABLES;
 use libc::STDOUT_FILENO;
-use loader::output::append;
+use report::output::append;
+use report::output::put;
 use store::Counters;
 use store::NameRead;
 use store::ResourceId;
@@ -44,19 +45,22 @@ fn append_name(
     }
 }
 
-// Writes the name of a number, and a LF.
+// Writes a label and the name of a number to a descriptor, and a LF.
 pub fn name(
+    fd: i32,
+    label: &[u8],
     c: Counters,
     resources: &[u32],
     statements: &[u32],
     index: &[u32],
     text: &[u8],
     n: ResourceId,
-) {
+) -> bool {
     let mut out = [0u8; LINE];
-    let a = append_name(&mut out, 0, c, resources, statements, index, text, n);
-    let b = append(&mut out, a, b"\n");
-    io::write_all(STDOUT_FILENO, &out[..b]);
+    let a = append(&mut out, 0, label);
+    let b = append_name(&mut out, a, c, resources, statements, index, text, n);
+    let d = append(&mut out, b, b"\n");
+    put(fd, &out[..d])
 }
 
 // Appends the tab before the name of variable v; before the first stands none.
@@ -78,7 +82,7 @@ pub fn solution(
     text: &[u8],
     s: Solution,
     variables: usize,
-) {
+) -> bool {
     let mut out = [0u8; LINE];
     let stop = lesser(variables, VARIABLES);
     let mut v = 0;
@@ -99,7 +103,7 @@ pub fn solution(
         v += 1;
     }
     let end = append(&mut out, at, b"\n");
-    io::write_all(STDOUT_FILENO, &out[..end]);
+    put(STDOUT_FILENO, &out[..end])
 }
 
 // Writes a triple as a line of N-Triples.
@@ -110,7 +114,7 @@ fn triple(
     index: &[u32],
     text: &[u8],
     x: Triple,
-) {
+) -> bool {
     let mut out = [0u8; LINE];
     let a = append_name(
         &mut out,
@@ -136,7 +140,7 @@ fn triple(
     let e = append(&mut out, d, b" ");
     let f = append_name(&mut out, e, c, resources, statements, index, text, x.object);
     let g = append(&mut out, f, b" .\n");
-    io::write_all(STDOUT_FILENO, &out[..g]);
+    put(STDOUT_FILENO, &out[..g])
 }
 
 // Writes the statement with this number as a line of N-Triples; one that cannot be read, which no sound store has, is passed over.
@@ -147,9 +151,9 @@ pub fn statement(
     index: &[u32],
     text: &[u8],
     n: StatementId,
-) {
+) -> bool {
     match table::read_statement(c, resources, statements, index, text, n) {
         StatementRead::Is(x, _) => triple(c, resources, statements, index, text, x),
-        StatementRead::Refused(_) => {}
+        StatementRead::Refused(_) => true,
     }
 }

@@ -1,8 +1,9 @@
-// Refusals in words, and where a line cannot be read.
+// Refusals in words, and where a line cannot be read, written to a descriptor. What tells a whole refusal answers the status.
 ghost use Rattle.io.specs.Counts.{Counts};
-use libc::STDOUT_FILENO;
-use loader::output::append;
-use loader::output::append_decimal;
+use crate::status;
+use report::output::append;
+use report::output::append_decimal;
+use report::output::put;
 
 // A line of the input, or what is written above it.
 const LINE: usize = 1280;
@@ -63,26 +64,26 @@ fn append_words(out: &mut [u8], at: usize, n: u32) -> usize
 }
 
 // Writes a refusal.
-pub fn refused(n: u32) {
+pub fn refused(fd: i32, n: u32) -> u32 {
     let mut out = [0u8; LINE];
     let a = append_number(&mut out, n);
     let b = append_words(&mut out, a, n);
-    io::write_all(STDOUT_FILENO, &out[..b]);
+    status::told(put(fd, &out[..b]), status::REFUSED)
 }
 
 // A line that is too long.
-pub fn too_long() {
-    io::write_all(STDOUT_FILENO, b"refused 10: over 1024 bytes\n");
+pub fn too_long(fd: i32) -> u32 {
+    status::told(put(fd, b"refused 10: over 1024 bytes\n"), status::REFUSED)
 }
 
 // Writes the refusal of a line at an offset, and its column: one more.
-fn heading(n: u32, offset: usize) {
+fn heading(fd: i32, n: u32, offset: usize) -> bool {
     let mut out = [0u8; LINE];
     let a = append_number(&mut out, n);
     let b = append(&mut out, a, b" at column ");
     let d = append_decimal(&mut out, b, std::num::wrapping_add_u64(offset as u64, 1));
     let e = append_words(&mut out, d, n);
-    io::write_all(STDOUT_FILENO, &out[..e]);
+    put(fd, &out[..e])
 }
 
 // A byte of the line as it is shown.
@@ -100,7 +101,7 @@ fn under(b: u8) -> u8 {
 }
 
 // Writes the line as it is shown.
-fn copy_of(line: &[u8]) {
+fn copy_of(fd: i32, line: &[u8]) -> bool {
     let mut out = [0u8; LINE];
     let mut at = 0;
     let mut i = 0;
@@ -110,11 +111,11 @@ fn copy_of(line: &[u8]) {
         i += 1;
     }
     let end = append(&mut out, at, b"\n");
-    io::write_all(STDOUT_FILENO, &out[..end]);
+    put(fd, &out[..end])
 }
 
 // Writes the caret under an offset of the line.
-fn caret(line: &[u8], offset: usize) {
+fn caret(fd: i32, line: &[u8], offset: usize) -> bool {
     let mut out = [0u8; LINE];
     let stop = table::word::lesser(offset, line.len());
     let mut at = 0;
@@ -125,12 +126,16 @@ fn caret(line: &[u8], offset: usize) {
         i += 1;
     }
     let end = append(&mut out, at, b"^\n");
-    io::write_all(STDOUT_FILENO, &out[..end]);
+    put(fd, &out[..end])
 }
 
 // Writes the refusal of a line at an offset: the column, the line, a caret under it.
-pub fn refused_at(line: &[u8], n: u32, offset: usize) {
-    heading(n, offset);
-    copy_of(line);
-    caret(line, offset);
+pub fn refused_at(fd: i32, line: &[u8], n: u32, offset: usize) -> u32 {
+    if !heading(fd, n, offset) {
+        return status::FAILED;
+    }
+    if !copy_of(fd, line) {
+        return status::FAILED;
+    }
+    status::told(caret(fd, line, offset), status::REFUSED)
 }

@@ -1,6 +1,7 @@
 /* The header's functions on structs, behind functions on slices, for the differential test: each takes what the library's function takes
  * whose name it has, makes the call by structs, and puts what their fields hold where the words belong. Counters, cursors and replies have
- * at least the words that the header names, so they come without a length. Replies hold junk before the call. */
+ * at least the words that the header names, so they come without a length; a slice of length 0 may come as null. Replies hold junk before
+ * the call. The library has no number and no live: these are the header's own. */
 #include <string.h>
 
 #include "lemontiller.h"
@@ -114,6 +115,12 @@ uint32_t structs_find(STORE, const uint8_t *name, size_t name_len, uint32_t *rep
     return result;
 }
 
+uint32_t structs_number(STORE, const uint8_t *name, size_t name_len, uint32_t *reply)
+{
+    const struct lt_store store = STORE_OF_SLICES;
+    return lt_store_number(&store, name, name_len, reply);
+}
+
 uint32_t structs_names_with_prefix(STORE, const uint8_t *prefix, size_t prefix_len, uint32_t *numbers, size_t numbers_len, uint32_t *reply)
 {
     const struct lt_store store = STORE_OF_SLICES;
@@ -138,6 +145,12 @@ uint32_t structs_name(STORE, uint32_t number, uint32_t *reply)
     reply[0] = (uint32_t)name.start;
     reply[1] = (uint32_t)name.length;
     return result;
+}
+
+uint32_t structs_live(STORE, uint32_t number, uint32_t position, uint32_t *reply)
+{
+    const struct lt_store store = STORE_OF_SLICES;
+    return lt_store_live(&store, number, (enum lt_position)position, reply);
 }
 
 uint32_t structs_statement(STORE, uint32_t number, uint32_t *reply)

@@ -751,6 +751,25 @@ fn damaged(lent: &mut Lent, asked: Call) {
     assert!(lent.index == before.index && lent.text == before.text);
 }
 
+/// The header's two own calls: a name that is not there is refused 4, after 1 and 2; a live count is the record's word, for numbers from 1
+/// to R and the three positions, and 4 comes after 1.
+#[test]
+fn calls_of_the_header() {
+    let mut lent = bay();
+    let number = |lent: &mut Lent, name: &str| call(lent, Call::Number { name: name.as_bytes().to_vec() });
+    let told = |lent: &mut Lent, number: u32, position: u32| call(lent, Call::Live { number, position });
+    assert_eq!((number(&mut lent, "<b:4>"), number(&mut lent, "<b:9>")), ((0, vec![3]), (4, vec![0])));
+    assert_eq!((number(&mut lent, "b:9"), number(&mut lent, "")), ((2, vec![0]), (2, vec![0])));
+    assert_eq!((told(&mut lent, 1, 0), told(&mut lent, 2, 1), told(&mut lent, 4, 2)), ((0, vec![2]), (0, vec![2]), (0, vec![1])));
+    for (named, position) in [(0, 0), (5, 0), (u32::MAX, 2), (1, 3), (1, u32::MAX)] {
+        assert_eq!(told(&mut lent, named, position), (4, vec![0]));
+    }
+    set_live(&mut lent, 3, 2, u32::MAX);
+    assert_eq!(told(&mut lent, 3, 2), (0, vec![u32::MAX]));
+    lent.resources.truncate(4 * RESOURCE_WORDS - 1);
+    assert_eq!((told(&mut lent, 1, 0), told(&mut lent, 0, 0), number(&mut lent, "b")), ((1, vec![0]), (1, vec![0]), (1, vec![0])));
+}
+
 /// Paper 02, live counts: new and revived raise all three, already none, retracting lowers them; the counts of paper 01 stay.
 #[test]
 fn live_counts() {

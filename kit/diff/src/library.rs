@@ -4,6 +4,7 @@
 use crate::plain::{Call, Lent};
 use crate::structs;
 use lemontiller::ffi;
+use std::ptr;
 
 const GUARDS: usize = 16;
 
@@ -22,9 +23,12 @@ impl<T: Copy + PartialEq> Guarded<T> {
         Guarded { all, guard }
     }
 
-    /// The slice as it is lent.
-    fn lend(&mut self) -> (*mut T, usize) {
+    /// The slice as it is lent, or null for none at all.
+    fn lend(&mut self, or_null: bool) -> (*mut T, usize) {
         let length = self.all.len() - 2 * GUARDS;
+        if or_null && length == 0 {
+            return (ptr::null_mut(), 0);
+        }
         (self.all[GUARDS..].as_mut_ptr(), length)
     }
 
@@ -43,13 +47,15 @@ impl<T: Copy + PartialEq> Guarded<T> {
 pub enum Way {
     /// The library's function.
     Slices,
-    /// The header's function on structs, for which every slice must have its words.
+    /// The header's function on structs, for which counters, cursor and reply must have their words.
     Structs,
+    /// The same, with null for every slice that is empty.
+    StructsOrNull,
 }
 
 /// Makes the call on a copy of what is lent: its result, and what the copy holds afterwards.
 pub fn make(call: &Call, lent: &Lent, way: Way) -> Result<(u32, Lent), String> {
-    assert!(way == Way::Slices || !call.lacks_words(lent));
+    assert!(if way == Way::Slices { !call.of_the_header() } else { !call.lacks_words(lent) });
     const WORD: u32 = 0xA5A5_5A5A;
     let mut counters = Guarded::new(&lent.counters, WORD);
     let mut resources = Guarded::new(&lent.resources, WORD);
@@ -66,19 +72,20 @@ pub fn make(call: &Call, lent: &Lent, way: Way) -> Result<(u32, Lent), String> {
     let mut bytes = Guarded::new(call.bytes(), 0xA5);
     let mut question = Guarded::new(call.words(), WORD);
 
-    let (c, c_len) = counters.lend();
-    let (r, r_len) = resources.lend();
-    let (s, s_len) = statements.lend();
-    let (i, i_len) = index.lend();
-    let (t, t_len) = text.lend();
-    let (at, at_len) = cursor.lend();
-    let (list, list_len) = numbers.lend();
-    let (f, f_len) = file.lend();
-    let (w, w_len) = work.lend();
-    let (out, out_len) = reply.lend();
-    let (line, line_len) = line_reply.lend();
-    let (name, name_len) = bytes.lend();
-    let (words, words_len) = question.lend();
+    let or_null = way == Way::StructsOrNull;
+    let (c, c_len) = counters.lend(or_null);
+    let (r, r_len) = resources.lend(or_null);
+    let (s, s_len) = statements.lend(or_null);
+    let (i, i_len) = index.lend(or_null);
+    let (t, t_len) = text.lend(or_null);
+    let (at, at_len) = cursor.lend(or_null);
+    let (list, list_len) = numbers.lend(or_null);
+    let (f, f_len) = file.lend(or_null);
+    let (w, w_len) = work.lend(or_null);
+    let (out, out_len) = reply.lend(or_null);
+    let (line, line_len) = line_reply.lend(or_null);
+    let (name, name_len) = bytes.lend(or_null);
+    let (words, words_len) = question.lend(or_null);
     macro_rules! store {
         ($function:ident $(, $arg:expr)*) => {
             ffi::$function(c, c_len, r, r_len, s, s_len, i, i_len, t, t_len $(, $arg)*)
@@ -89,8 +96,8 @@ pub fn make(call: &Call, lent: &Lent, way: Way) -> Result<(u32, Lent), String> {
             structs::$function(c, r, r_len, s, s_len, i, i_len, t, t_len $(, $arg)*)
         };
     }
-    // SAFETY: every pointer and length is that of a live slice, and those that are written are apart from each other. What is lent without
-    // a length has all its words.
+    // SAFETY: every pointer and length is that of a live slice, but for null at length 0, which the structs take; and those that are
+    // written are apart from each other. What is lent without a length has all its words.
     let result = unsafe {
         match way {
             Way::Slices => match call {
@@ -110,15 +117,18 @@ pub fn make(call: &Call, lent: &Lent, way: Way) -> Result<(u32, Lent), String> {
                 Call::QueryOpen { .. } => store!(lt_query_open, words, words_len, at, at_len),
                 Call::QueryNext { budget, .. } => store!(lt_query_next, words, words_len, at, at_len, *budget, out, out_len),
                 Call::Export => store!(lt_export, f, f_len, w, w_len, out, out_len),
+                Call::Number { .. } | Call::Live { .. } => unreachable!("the library has no such function"),
             },
-            Way::Structs => match call {
+            Way::Structs | Way::StructsOrNull => match call {
                 Call::NameKind { .. } => structs::structs_name_kind(name, name_len, out),
                 Call::ReadLine { at, .. } => structs::structs_read_line(name, name_len, *at, line),
                 Call::Check => by_structs!(structs_check, out),
                 Call::Find { .. } => by_structs!(structs_find, name, name_len, out),
+                Call::Number { .. } => by_structs!(structs_number, name, name_len, out),
                 Call::NamesWithPrefix { .. } => by_structs!(structs_names_with_prefix, name, name_len, list, list_len, out),
                 Call::Enter { .. } => by_structs!(structs_enter, name, name_len, out),
                 Call::Name { number } => by_structs!(structs_name, *number, out),
+                Call::Live { number, position } => by_structs!(structs_live, *number, *position, out),
                 Call::Statement { number } => by_structs!(structs_statement, *number, out),
                 Call::Assert { triple: [a, b, o] } => by_structs!(structs_assert, *a, *b, *o, out),
                 Call::Retract { triple: [a, b, o] } => by_structs!(structs_retract, *a, *b, *o, out),

@@ -315,8 +315,12 @@ impl Run {
             }
             self.compare(&Call::Retract { triple: [1, 1, 1] }, lent)?;
             self.compare(&Call::Check, lent)?;
+            for number in 0..=4 {
+                self.compare(&Call::Live { number, position: PLACES as u32 - 1 }, lent)?;
+            }
             lent.counters[0] += 1;
             self.compare(&Call::Name { number: 1 }, lent)?;
+            self.compare(&Call::Live { number: 1, position: 0 }, lent)?;
         }
         Ok(())
     }
@@ -339,7 +343,8 @@ impl Run {
         let [r, t, reclaims] = [lent.r(), lent.t(), lent.reclaims()];
         self.compare(&Call::Check, lent)?;
         for name in [named(1, length), named(r, SHORT), named(0, length)] {
-            self.compare(&Call::Find { name }, lent)?;
+            self.compare(&Call::Find { name: name.clone() }, lent)?;
+            self.compare(&Call::Number { name }, lent)?;
         }
         // All names; a sixteenth of them, and a 256th; one, by the whole of it; none, by a zero
         // byte after it (at 255 bytes in place of its last), by another last byte, and below all.
@@ -352,6 +357,11 @@ impl Run {
         self.compare(&Call::Enter { name: named(1, length) }, lent)?;
         for number in [1, 13, r - 1, r, r + 1] {
             self.compare(&Call::Name { number }, lent)?;
+        }
+        for number in [0, 1, PREDICATE, r - 1, r, r + 1, u32::MAX] {
+            for position in 0..=PLACES as u32 {
+                self.compare(&Call::Live { number, position }, lent)?;
+            }
         }
         for number in [1, 13, t / 2, t - 1, t, t + 1] {
             self.compare(&Call::Statement { number }, lent)?;

@@ -8,9 +8,10 @@ const AS: [&str; PLACES] = ["as subject", "as predicate", "as object"];
 /// The ways that are to be met. "Above" is a live count above its count: where it alone is the reason for a refusal, by its place and by
 /// what is given else; in listings and questions, which do not look, at a bound place, by the answer. "Wrong" is one that is not the number
 /// of live records, by the answer. "Twice" is a resource at two places of the triple.
-pub const WAYS: [(&str, &[&str]); 7] = [
+pub const WAYS: [(&str, &[&str]); 8] = [
     ("lt_check", &["not sound as subject alone", "not sound as predicate alone", "not sound as object alone"]),
     ("lt_enter", &["new over other words"]),
+    ("lt_store_live", &["above: a number", "wrong: a number", "wrong: 0"]),
     (
         "lt_assert",
         &[
@@ -104,6 +105,7 @@ pub fn met(call: &Call, result: u32, own: &str, before: &Lent, after: &Lent, bou
         }
         Call::Assert { triple } | Call::Retract { triple } if result == 9 => met_refused(call, *triple, before),
         Call::Assert { triple } | Call::Retract { triple } if result == 0 => met_answered(call, *triple, own, before),
+        Call::Live { number, position } if result == 0 => met_told(*number, *position as usize, own, before),
         Call::ScanOpen { pattern } => looked_past(*pattern),
         Call::ScanNext { .. } => looked_past([0, 1, 2].map(|place| before.cursor[place])),
         Call::QueryNext { words, .. } => {
@@ -112,6 +114,13 @@ pub fn met(call: &Call, result: u32, own: &str, before: &Lent, after: &Lent, bou
         }
         _ => vec![],
     }
+}
+
+/// A live count was told.
+fn met_told(number: u32, place: usize, own: &str, before: &Lent) -> Vec<String> {
+    let live = before.live(number, place);
+    let all = [("above", live > before.count(number, place)), ("wrong", live as usize != living(before, number, place))];
+    all.into_iter().filter(|(_, met)| *met).map(|(way, _)| format!("{way}: {own}")).collect()
 }
 
 /// The way of one place, if there is one place only.

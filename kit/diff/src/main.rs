@@ -4,13 +4,13 @@
 //!
 //!     diff SEED CALLS SECONDS
 //!
-//! makes calls from a seed until there are so many or so much time has passed, about half of them by the structs of the header. After
-//! each call the result, the reply, the cursor, the words of a list, a file and its working words, the counters and every byte of the
+//! makes calls from a seed until there are so many or so much time has passed, about half of them by the structs of the header, and of
+//! these half with null for every empty slice. After each call the result, the reply, the cursor, the words of a list, a file and its working words, the counters and every byte of the
 //! tables must be what the paper says; where find, a listing by a beginning and enter meet a dictionary that is not sound, what the paper
 //! leaves open is bounded. The first difference is told with the seed, the call's number and both answers, and ends the run with status 1.
 //! A run that made fewer calls than it was to make, and fewer than a million, has failed too. At the end stands how many calls of each kind
-//! had each result, and how many met the string ending, the index of names, files, live counts, reclaims and the limit of patterns in which
-//! way; a run of 300,000 calls or more must have met all of these.
+//! had each result, and how many met null, the string ending, the index of names, files, live counts, reclaims and the limit of patterns in
+//! which way; a run of 300,000 calls or more must have met all of these.
 
 mod beginnings;
 mod damage;
@@ -21,6 +21,7 @@ mod library;
 mod limits;
 mod live;
 mod names;
+mod nulls;
 mod patterns;
 mod plain;
 mod random;
@@ -48,8 +49,8 @@ const MIDDLE: usize = 300;
 /// A run that is to make so many calls or more has failed with fewer, also where its time is over.
 const LEAST: u64 = 1_000_000;
 
-/// Calls after which every result, and everything of the string ending, of the index of names, of files, of live counts, of reclaims and of
-/// the limit of patterns, must have been met.
+/// Calls after which every result, and everything of null, of the string ending, of the index of names, of files, of live counts, of
+/// reclaims and of the limit of patterns, must have been met.
 const ENOUGH: u64 = 300_000;
 
 struct Run {
@@ -83,7 +84,12 @@ impl Run {
     fn compare(&mut self, call: &Call, lent: &mut Lent) -> Result<u32, Difference> {
         self.made += 1;
         let before = lent.clone();
-        let way = if self.random.one_in(2) && !call.lacks_words(lent) { Way::Structs } else { Way::Slices };
+        let way = match self.random.below(4) {
+            0 | 1 if !call.of_the_header() => Way::Slices,
+            _ if call.lacks_words(lent) => Way::Slices,
+            0 | 2 => Way::Structs,
+            _ => Way::StructsOrNull,
+        };
         let told = |what: String| {
             let lent = if before.resources.len() < 1000 { format!("{before:?}") } else { "the tables of the limits".to_string() };
             format!("call {}, by {way:?}: {call:?}\n{what}\nlent: {lent}", self.made)
@@ -164,7 +170,7 @@ impl Run {
             Phase::Building if random.one_in(100) => 38,
             Phase::Building if random.one_in(if few { 2 } else { 4 }) => 0,
             Phase::Building => random.of(&[17, 17, 17, 31]),
-            Phase::Sound | Phase::Damaged => random.below(118),
+            Phase::Sound | Phase::Damaged => random.below(124),
         };
         let alone = |call| (call, vec![], None);
         match choice {
@@ -195,6 +201,8 @@ impl Run {
             80..=84 => (Call::QueryOpen { words: random.words(lent) }, vec![], None),
             85..=92 => alone(Call::NamesWithPrefix { prefix: random.beginning(lent) }),
             93..=98 => alone(Call::Export),
+            99..=101 => alone(Call::Number { name: random.short_name(lent) }),
+            102..=104 => alone(Call::Live { number: random.resource(lent), position: random.position(lent) }),
             _ => {
                 if open.queries.is_empty() || random.one_in(4) {
                     let words = random.words(lent);
@@ -214,10 +222,10 @@ impl Run {
         }
     }
 
-    /// A length for a slice that must have so many words: mostly those, sometimes more, seldom fewer.
-    fn length(&mut self, words: usize) -> usize {
+    /// A length for a slice that must have so many words: mostly those, sometimes more, seldom fewer where the library tests that.
+    fn length(&mut self, call: &Call, words: usize) -> usize {
         match self.random.below(60) {
-            0 if words > 0 => self.random.below(words),
+            0 if words > 0 && !call.of_the_header() => self.random.below(words),
             1..=6 => words + self.random.from_to(1, 3),
             _ => words,
         }
@@ -244,7 +252,7 @@ impl Run {
     fn step(&mut self, lent: &mut Lent, open: &mut Open, phase: Phase) -> Result<(), Difference> {
         let (call, mut cursor, which) = self.choose(lent, open, phase);
         if call.cursor_words() > 0 {
-            cursor.resize(self.length(call.cursor_words()), UNWRITTEN);
+            cursor.resize(self.length(&call, call.cursor_words()), UNWRITTEN);
         }
         if phase == Phase::Damaged && matches!(call, Call::QueryNext { .. }) && self.random.one_in(2) {
             damage::entered_records(&mut self.random, lent, &cursor);
@@ -252,9 +260,9 @@ impl Run {
         lent.cursor = cursor;
         lent.numbers = self.list(&call, lent);
         (lent.out, lent.work) = self.file_space(&call, lent);
-        lent.reply = vec![UNWRITTEN; if call.reply_words() > 0 { self.length(call.reply_words()) } else { 0 }];
-        lent.line_reply = vec![UNWRITTEN.into(); if call.line_words() > 0 { self.length(call.line_words()) } else { 0 }];
-        if call.takes_tables() && self.random.one_in(100) {
+        lent.reply = vec![UNWRITTEN; if call.reply_words() > 0 { self.length(&call, call.reply_words()) } else { 0 }];
+        lent.line_reply = vec![UNWRITTEN.into(); if call.line_words() > 0 { self.length(&call, call.line_words()) } else { 0 }];
+        if call.takes_tables() && !call.of_the_header() && self.random.one_in(100) {
             let whole = lent.counters.clone();
             lent.counters.truncate(self.random.below(COUNTER_WORDS));
             self.compare(&call, lent)?;

@@ -1,7 +1,8 @@
 //! The store, plainly: paper 01, "Tables and counters" and "Operations and refusals", and paper 02 on files of the statements, on names by
 //! their beginning, on live counts, on getting room back, on the same label typed two ways and on six patterns, as read in
 //! `docs/DECISIONS.md`. Nothing here is meant to be fast. Every operation works on what is lent, as the library's does, so that the two
-//! can be compared byte by byte. Refusals are the `Err` of a `Result`, by their number.
+//! can be compared byte by byte. Refusals are the `Err` of a `Result`, by their number. Two calls are the C header's own, and go by its
+//! sentences: the number of a name that must be there, and a live count.
 
 use crate::names::{has_ending, kind_of, read_line, without_ending, Line, MAX_NAME};
 use std::fmt::Display;
@@ -84,9 +85,11 @@ pub enum Call {
     ReadLine { line_text: Vec<u8>, at: usize },
     Check,
     Find { name: Vec<u8> },
+    Number { name: Vec<u8> },
     NamesWithPrefix { prefix: Vec<u8> },
     Enter { name: Vec<u8> },
     Name { number: u32 },
+    Live { number: u32, position: u32 },
     Statement { number: u32 },
     Assert { triple: [u32; 3] },
     Retract { triple: [u32; 3] },
@@ -98,8 +101,8 @@ pub enum Call {
     Export,
 }
 
-/// What the paper says of a call: the one result, or no more than bounds (find, names by their beginning and enter, where the dictionary is
-/// not sound).
+/// What the paper says of a call: the one result, or no more than bounds (find, a name's number, names by their beginning and enter, where
+/// the dictionary is not sound).
 #[derive(Debug, PartialEq)]
 pub enum Expected {
     Exactly(u32),
@@ -354,6 +357,14 @@ impl Lent {
         Ok((number, names.iter().filter(|&&n| n < name).count() as u32))
     }
 
+    /// The number of a name that must be there.
+    fn number(&self, name: &[u8]) -> Result<u32, u32> {
+        match self.find(name)? {
+            (0, _) => Err(4),
+            (number, _) => Ok(number),
+        }
+    }
+
     /// The numbers of all names that begin with some bytes, which are taken as they are, in byte order of name.
     pub fn names_with_prefix(&self, prefix: &[u8]) -> Result<Vec<u32>, u32> {
         self.capacity()?;
@@ -405,6 +416,15 @@ impl Lent {
         }
         let length = self.text[offset..end.min(offset + MAX_NAME + 1)].iter().position(|&b| b == 0).ok_or(9u32)?;
         Ok((offset as u32, length as u32))
+    }
+
+    /// A live count, as the record has it.
+    fn live_count(&self, number: u32, position: u32) -> Result<u32, u32> {
+        self.capacity()?;
+        if !self.is_resource(number) || position as usize >= PLACES {
+            return Err(4);
+        }
+        Ok(self.live(number, position as usize))
     }
 
     pub fn statement(&self, number: u32) -> Result<[u32; 4], u32> {
@@ -782,6 +802,11 @@ fn put(reply: &mut [u32], length: usize, answer: Result<Vec<u32>, u32>) -> u32 {
 }
 
 impl Call {
+    /// Whether the call is one of the C header's structs, and the library has no function of it.
+    pub fn of_the_header(&self) -> bool {
+        matches!(self, Call::Number { .. } | Call::Live { .. })
+    }
+
     /// Whether the call takes the five slices of the store.
     pub fn takes_tables(&self) -> bool {
         !matches!(self, Call::NameKind { .. } | Call::ReadLine { .. })
@@ -790,7 +815,7 @@ impl Call {
     /// The name, its beginning or the text of lines that the call is given; empty if it takes none.
     pub fn bytes(&self) -> &[u8] {
         match self {
-            Call::NameKind { name } | Call::Find { name } | Call::Enter { name } => name,
+            Call::NameKind { name } | Call::Find { name } | Call::Number { name } | Call::Enter { name } => name,
             Call::NamesWithPrefix { prefix } => prefix,
             Call::ReadLine { line_text, .. } => line_text,
             _ => &[],
@@ -816,7 +841,7 @@ impl Call {
     /// Words of the reply; a line's are in `line_reply`.
     pub fn reply_words(&self) -> usize {
         match self {
-            Call::NameKind { .. } | Call::Check | Call::NamesWithPrefix { .. } => 1,
+            Call::NameKind { .. } | Call::Check | Call::NamesWithPrefix { .. } | Call::Number { .. } | Call::Live { .. } => 1,
             Call::Enter { .. } | Call::Retract { .. } | Call::Export => 1,
             Call::Find { .. } | Call::Name { .. } | Call::Assert { .. } => 2,
             Call::ScanNext { .. } => 3,
@@ -847,7 +872,7 @@ impl Call {
             return Expected::Exactly(100);
         }
         let by_name = match self {
-            Call::Find { name } | Call::Enter { name } => kind_of(name).is_some(),
+            Call::Find { name } | Call::Number { name } | Call::Enter { name } => kind_of(name).is_some(),
             Call::NamesWithPrefix { prefix } => prefix.len() <= MAX_NAME,
             _ => false,
         };
@@ -859,12 +884,14 @@ impl Call {
             Call::ReadLine { line_text, at } => return Expected::Exactly(put_line(lent, line_text, *at)),
             Call::Check => Ok(vec![lent.sound() as u32]),
             Call::Find { name } => lent.find(name).map(|(n, position)| vec![n, position]),
+            Call::Number { name } => lent.number(name).map(|n| vec![n]),
             Call::NamesWithPrefix { prefix } => lent.names_with_prefix(prefix).map(|listed| {
                 lent.numbers.iter_mut().zip(&listed).for_each(|(word, &number)| *word = number);
                 vec![listed.len() as u32]
             }),
             Call::Enter { name } => lent.enter(name).map(|n| vec![n]),
             Call::Name { number } => lent.name(*number).map(|(start, length)| vec![start, length]),
+            Call::Live { number, position } => lent.live_count(*number, *position).map(|live| vec![live]),
             Call::Statement { number } => lent.statement(*number).map(|words| words.to_vec()),
             Call::Assert { triple } => lent.assert(*triple).map(|(status, n)| vec![status, n]),
             Call::Retract { triple } => lent.retract(*triple).map(|n| vec![n]),
@@ -890,17 +917,19 @@ impl Call {
         Expected::Exactly(put(&mut lent.reply, self.reply_words(), answer))
     }
 
-    /// What holds of find, names by their beginning and enter where the dictionary is not sound: 9, which writes nothing but zeros into the
-    /// reply; or what is within bounds, and writes nothing beyond them.
+    /// What holds of find, a name's number, names by their beginning and enter where the dictionary is not sound: 9, which writes nothing
+    /// but zeros into the reply; or what is within bounds, and writes nothing beyond them.
     pub fn bounds_kept(&self, before: &Lent, result: u32, after: &Lent) -> Result<(), String> {
         let words = self.reply_words();
         let mut expected = before.clone();
         let within = match self {
             _ if result == 9 => Some(vec![0; words]),
             Call::Find { .. } => (result == 0).then(|| found_within(before, after)).flatten(),
+            Call::Number { .. } if result == 4 => Some(vec![0]),
+            Call::Number { .. } => (result == 0 && before.is_resource(after.reply[0])).then(|| vec![after.reply[0]]),
             Call::NamesWithPrefix { .. } => (result == 0).then(|| listed_within(before, after, &mut expected)).flatten(),
             Call::Enter { name } => entered_within(without_ending(name), before, result, after, &mut expected),
-            _ => return Err("only find, names by their beginning and enter are bounded".into()),
+            _ => return Err("only find, a name's number, names by their beginning and enter are bounded".into()),
         };
         let answer = &after.reply[..words];
         let Some(reply) = within else { return Err(format!("{result} with {answer:?} is out of bounds")) };

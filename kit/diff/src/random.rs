@@ -56,6 +56,15 @@ impl Random {
         self.number(lent, 0)
     }
 
+    /// A position of a triple, mostly.
+    pub fn position(&mut self, lent: &Lent) -> u32 {
+        if self.one_in(12) {
+            self.wild(&lent.counters)
+        } else {
+            self.below(PLACES) as u32
+        }
+    }
+
     /// A statement's number, mostly one that exists.
     pub fn statement(&mut self, lent: &Lent) -> u32 {
         self.number(lent, 1)
@@ -224,6 +233,9 @@ impl Random {
     pub fn short_name(&mut self, lent: &Lent) -> Vec<u8> {
         const NAMES: [&str; 14] =
             ["<a>", "<b>", "<c>", "<d>", "<ab>", "<a/b>", "_:a", "_:b", "_:a.b", "\"\"", "\"a\"", "\"a\"@en", "\"b\"^^<a>", "<B>"];
+        if self.one_in(150) {
+            return vec![];
+        }
         if self.one_in(60) {
             return self.name();
         }
@@ -372,8 +384,11 @@ impl Random {
         }
     }
 
-    /// A name, mostly well formed, of any kind and of lengths around the limit too.
+    /// A name, mostly well formed, of any kind and of lengths around the limit too, or no bytes.
     pub fn name(&mut self) -> Vec<u8> {
+        if self.one_in(100) {
+            return vec![];
+        }
         let length = self.inner_length();
         let mut name = match self.below(9) {
             0..=2 => [b"<".to_vec(), self.bytes(length.max(1), b"ab/#:._-~!"), b">".to_vec()].concat(),

@@ -1,5 +1,6 @@
 //! The functions of `c/structs.c`, which go through the structs of the header. Each takes what the library's function takes whose name it
-//! has; counters, cursor and reply have all their words and come without a length.
+//! has; counters, cursor and reply have all their words and come without a length, and an empty slice may come as null. Number and live
+//! are the header's own.
 
 /// Declares store functions, each after the five slices with which it begins.
 macro_rules! store_functions {
@@ -25,9 +26,11 @@ extern "C" {
 store_functions! {
     structs_check(reply: *mut u32);
     structs_find(name: *const u8, name_len: usize, reply: *mut u32);
+    structs_number(name: *const u8, name_len: usize, reply: *mut u32);
     structs_names_with_prefix(prefix: *const u8, prefix_len: usize, numbers: *mut u32, numbers_len: usize, reply: *mut u32);
     structs_enter(name: *const u8, name_len: usize, reply: *mut u32);
     structs_name(number: u32, reply: *mut u32);
+    structs_live(number: u32, position: u32, reply: *mut u32);
     structs_statement(number: u32, reply: *mut u32);
     structs_assert(subject: u32, predicate: u32, object: u32, reply: *mut u32);
     structs_retract(subject: u32, predicate: u32, object: u32, reply: *mut u32);

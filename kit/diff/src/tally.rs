@@ -1,11 +1,12 @@
-//! How many calls of each kind had each result, and of them by the structs, and how many met the string ending, the index of names, files,
-//! live counts, reclaims and the limit of patterns in which way.
+//! How many calls of each kind had each result, and of them by the structs, and how many met null, the string ending, the index of names,
+//! files, live counts, reclaims and the limit of patterns in which way.
 
 use crate::beginnings;
 use crate::files;
 use crate::library::Way;
 use crate::live;
 use crate::names::{quoted_and_suffix, MAX_NAME, STRING_ENDING};
+use crate::nulls;
 use crate::patterns;
 use crate::plain::{Call, Lent};
 use crate::reclaims;
@@ -15,11 +16,12 @@ use std::fmt;
 type Counts = BTreeMap<(&'static str, String), u64>;
 
 /// Calls by function and result, where the paper only bounds the answer apart from the others; those of them by the structs. Then those
-/// that meet the string ending, the index of names, files, live counts, reclaims and the limit of patterns, by function and how.
+/// that meet null, the string ending, the index of names, files, live counts, reclaims and the limit of patterns, by function and how.
 #[derive(Default)]
 pub struct Tally {
     calls: Counts,
     by_structs: Counts,
+    nulls: Counts,
     endings: Counts,
     beginnings: Counts,
     files: Counts,
@@ -28,15 +30,18 @@ pub struct Tally {
     patterns: Counts,
 }
 
-/// Every function with the results that the paper gives it. Find, a listing by a beginning and enter may answer 9, and need not.
-const RESULTS: [(&str, &[&str]); 16] = [
+/// Every function with the results that the paper gives it. Find, a name's number, a listing by a beginning and enter may answer 9, and
+/// need not. Two functions are the header's alone.
+const RESULTS: [(&str, &[&str]); 18] = [
     ("lt_name_kind", &["kind 1", "kind 2", "kind 3", "refused 2", "refused 100"]),
     ("lt_read_line", &["end", "nothing", "triple", "refused 10", "refused 100"]),
     ("lt_check", &["sound", "not sound", "refused 100"]),
     ("lt_find", &["a number", "0", "bounded", "refused 1", "refused 2", "refused 100"]),
+    ("lt_store_number", &["a number", "bounded", "refused 1", "refused 2", "refused 4"]),
     ("lt_names_with_prefix", &["some", "none", "bounded", "refused 1", "refused 2", "refused 100"]),
     ("lt_enter", &["a number", "bounded", "refused 1", "refused 2", "refused 3", "refused 100"]),
     ("lt_name", &["answered", "refused 1", "refused 4", "refused 9", "refused 100"]),
+    ("lt_store_live", &["a number", "0", "refused 1", "refused 4"]),
     ("lt_statement", &["answered", "refused 1", "refused 4", "refused 9", "refused 100"]),
     ("lt_assert", &["new", "already", "revived", "refused 1", "refused 3", "refused 4", "refused 5", "refused 9", "refused 100"]),
     ("lt_retract", &["a number", "0", "refused 1", "refused 4", "refused 9", "refused 100"]),
@@ -60,11 +65,12 @@ const TOO_LONG: &str = "over 255 bytes as spelled";
 
 /// How the string ending is to be met: a name or an object that has it, by the answer, and what is close to one. "Full" is no room for
 /// what is left of the name; "no room as spelled" is room for that alone.
-const ENDINGS: [(&str, &[&str]); 6] = [
+const ENDINGS: [(&str, &[&str]); 7] = [
     ("lt_name_kind", &["kind 3", TOO_LONG, "close: kind 1", "close: kind 3", "close: refused 2"]),
     ("lt_read_line", &["triple", "dot at once", "255 bytes", TOO_LONG, "close: triple", "close: refused 10"]),
     ("lt_check", &["not sound for it alone", "close: sound"]),
     ("lt_find", &["a number", "0", "bounded", TOO_LONG, "close: a number", "close: 0", "close: refused 2"]),
+    ("lt_store_number", &["a number", "refused 4", "bounded", "close: refused 4", "close: refused 2"]),
     (
         "lt_enter",
         &[
@@ -90,9 +96,11 @@ fn function(call: &Call) -> &'static str {
         Call::ReadLine { .. } => "lt_read_line",
         Call::Check => "lt_check",
         Call::Find { .. } => "lt_find",
+        Call::Number { .. } => "lt_store_number",
         Call::NamesWithPrefix { .. } => "lt_names_with_prefix",
         Call::Enter { .. } => "lt_enter",
         Call::Name { .. } => "lt_name",
+        Call::Live { .. } => "lt_store_live",
         Call::Statement { .. } => "lt_statement",
         Call::Assert { .. } => "lt_assert",
         Call::Retract { .. } => "lt_retract",
@@ -115,7 +123,8 @@ pub fn label(call: &Call, result: u32, lent: &Lent) -> String {
         Call::NameKind { .. } => return format!("kind {}", lent.reply[0]),
         Call::ReadLine { .. } => ["end", "nothing", "triple"][lent.line_reply[0] as usize],
         Call::Check => ["not sound", "sound"][lent.reply[0] as usize],
-        Call::Find { .. } | Call::Enter { .. } | Call::Retract { .. } => number(lent.reply[0]),
+        Call::Find { .. } | Call::Number { .. } | Call::Enter { .. } => number(lent.reply[0]),
+        Call::Retract { .. } | Call::Live { .. } => number(lent.reply[0]),
         Call::NamesWithPrefix { .. } => ["none", "some"][lent.reply[0].min(1) as usize],
         Call::Assert { .. } => ["", "new", "already", "revived"][lent.reply[0] as usize],
         Call::ScanNext { .. } | Call::QueryNext { .. } => ["", "found", "ended", "spent"][lent.reply[0] as usize],
@@ -136,13 +145,15 @@ fn met(call: &Call, result: u32, before: &Lent, after: &Lent, bounded: bool) -> 
     let own = label(call, result, after);
     let entered = matches!(call, Call::Enter { .. }) && result == 0;
     let met = match call {
-        Call::NameKind { name } | Call::Find { name } | Call::Enter { name } => match quoted_and_suffix(name) {
-            Some((_, STRING_ENDING)) if name.len() > MAX_NAME => vec![TOO_LONG],
-            Some((quoted, STRING_ENDING)) if entered => met_entering(quoted, name, before, after, bounded),
-            Some((_, STRING_ENDING)) => vec![if bounded { "bounded" } else { own.as_str() }],
-            _ if close(name) && !bounded => return vec![format!("close: {own}")],
-            _ => vec![],
-        },
+        Call::NameKind { name } | Call::Find { name } | Call::Number { name } | Call::Enter { name } => {
+            match quoted_and_suffix(name) {
+                Some((_, STRING_ENDING)) if name.len() > MAX_NAME => vec![TOO_LONG],
+                Some((quoted, STRING_ENDING)) if entered => met_entering(quoted, name, before, after, bounded),
+                Some((_, STRING_ENDING)) => vec![if bounded { "bounded" } else { own.as_str() }],
+                _ if close(name) && !bounded => return vec![format!("close: {own}")],
+                _ => vec![],
+            }
+        }
         Call::ReadLine { line_text, .. } if result == 0 => met_in_triple(line_text, &after.line_reply),
         Call::ReadLine { line_text, at } => met_in_broken_line(line_text, *at, &after.line_reply),
         Call::Check if close(after.used_text()) => match after.reply[0] {
@@ -218,9 +229,12 @@ impl Tally {
         let own = label(call, result, after);
         for label in [own.clone(), "bounded".to_string()].into_iter().take(if bounded { 2 } else { 1 }) {
             one_more(&mut self.calls, label.clone());
-            if way == Way::Structs {
+            if way != Way::Slices {
                 one_more(&mut self.by_structs, label);
             }
+        }
+        if way == Way::StructsOrNull {
+            nulls::met(call, before).into_iter().for_each(|label| one_more(&mut self.nulls, label));
         }
         if result != 1 && result != 100 {
             met(call, result, before, after, bounded).into_iter().for_each(|label| one_more(&mut self.endings, label));
@@ -245,13 +259,14 @@ impl Tally {
     pub fn missing(&self) -> Vec<String> {
         let results = RESULTS.iter().map(|row| (row, &self.calls, ""));
         let by_structs = RESULTS.iter().map(|row| (row, &self.by_structs, BY_STRUCTS));
+        let nulls = nulls::WAYS.iter().map(|row| (row, &self.nulls, "without a pointer to the "));
         let endings = ENDINGS.iter().map(|row| (row, &self.endings, "with the string ending "));
         let beginnings = beginnings::WAYS.iter().map(|row| (row, &self.beginnings, "in the index "));
         let files = files::WAYS.iter().map(|row| (row, &self.files, "in a file "));
         let live_counts = live::WAYS.iter().map(|row| (row, &self.live_counts, "with a live count "));
         let reclaims = reclaims::WAYS.iter().map(|row| (row, &self.reclaims, "with reclaims "));
         let patterns = patterns::WAYS.iter().map(|row| (row, &self.patterns, "at the limit of patterns "));
-        let ways = endings.chain(beginnings).chain(files).chain(live_counts).chain(reclaims).chain(patterns);
+        let ways = nulls.chain(endings).chain(beginnings).chain(files).chain(live_counts).chain(reclaims).chain(patterns);
         let mut missing = vec![];
         for (&(function, labels), counts, with) in results.chain(by_structs).chain(ways) {
             let due = labels.iter().filter(|&&label| with != BY_STRUCTS || label != TOO_SHORT);
@@ -277,6 +292,8 @@ impl fmt::Display for Tally {
         table(f, &RESULTS, &self.calls)?;
         writeln!(f, "of these by the structs:")?;
         table(f, &RESULTS, &self.by_structs)?;
+        writeln!(f, "with null for what is empty:")?;
+        table(f, &nulls::WAYS, &self.nulls)?;
         writeln!(f, "with the string ending, or close to it:")?;
         table(f, &ENDINGS, &self.endings)?;
         writeln!(f, "in the index of names:")?;

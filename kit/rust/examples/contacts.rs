@@ -8,7 +8,7 @@
 //! <b:4> to <b:9>, gets the room of the retracted statement back and lists again, the names that begin with <b: too. Last it writes the
 //! statements as a file. Refused lines are told and passed over; any other refusal ends the program with status 1.
 
-use lemontiller::{Error, Line, Lines, Outcome, Position, Question, ResourceId, Store, Term};
+use lemontiller::{Error, Line, Lines, Outcome, Place, Position, Question, ResourceId, Store, Term};
 use lemontiller::{COUNTER_WORDS, RESOURCE_WORDS, STATEMENT_WORDS};
 use std::{env, fs, process::ExitCode};
 
@@ -45,8 +45,7 @@ fn load(store: &mut Store, input: &[u8]) {
 }
 
 fn number_of(store: &Store, name: &str) -> Result<ResourceId, String> {
-    let found = store.find(name.as_bytes()).map_err(|error| format!("{name}: {error}"))?;
-    found.number.ok_or_else(|| format!("{name} is in no statement"))
+    store.number(name.as_bytes()).map_err(|error| format!("{name}: {error}"))
 }
 
 fn name_of(store: &Store, id: ResourceId) -> Result<String, Error> {
@@ -73,7 +72,7 @@ fn tell_live(store: &Store, relay: &str) -> Result<(), String> {
 
 /// Lists the objects of a relay's statements, the highest number first, a few visits at a time. `store.scan` would give them all as an iterator.
 fn list_contacts(store: &Store, relay: &str, trips: &str) -> Result<(), String> {
-    let pattern = [Some(number_of(store, relay)?), Some(number_of(store, trips)?), None];
+    let pattern = [Place::Is(number_of(store, relay)?), Place::Is(number_of(store, trips)?), Place::Any];
     let mut cursor = store.scan_open(pattern).map_err(|error| error.to_string())?;
     println!("contacts of {relay}");
     loop {
@@ -129,6 +128,9 @@ fn write_file(store: &Store) -> Result<(), String> {
 }
 
 fn run(path: &str) -> Result<(), String> {
+    if lemontiller::version() != lemontiller::VERSION_NUMBER {
+        return Err("the library has another version than the wrapper".to_string());
+    }
     let input = fs::read(path).map_err(|error| format!("{path}: {error}"))?;
     let mut counters = [0; COUNTER_WORDS];
     let mut resources = vec![0; RESOURCES * RESOURCE_WORDS];

@@ -1,12 +1,17 @@
 //! The Lemontiller store for Rust, `std` only. A [`Store`] holds the five slices that the caller lends, so the borrow checker sees to it
 //! that one table is not lent twice, that nothing is written while a scan or a solution is read through an iterator, and that a name
 //! does not outlive its text. Refusals are values of [`Error`], slices that are too short among them. Cursors are plain arrays, which the
-//! caller may keep while the store changes, up to the next [`Store::reclaim`].
+//! caller may keep while the store changes, up to the next [`Store::reclaim`]; the header says what they see then.
+//!
+//! A name is looked up by [`Store::find`], which answers where it is not there, and by [`Store::number`], which refuses that. A place of a
+//! scan's pattern is a [`Place`]: any is spelled out, and a name that is not there cannot turn into it.
 //!
 //! A literal that has the string ending, `^^<http://www.w3.org/2001/XMLSchema#string>`, is the literal without it: entering, finding and
 //! reading a line drop it. The 255 bytes that a name may have are those of the name as spelled.
 //!
 //! `include/lemontiller.h` has the layout of the tables and what each refusal means.
+
+#![deny(missing_docs, missing_debug_implementations)]
 
 use std::{fmt, mem, slice};
 
@@ -15,16 +20,22 @@ pub mod ffi;
 #[cfg(test)]
 mod tests;
 
-/// Words of the counters, of a resource's record and of a statement's.
+/// The number of this wrapper's version, as [`version`] gives the library's: the two belong together where they are equal.
+pub const VERSION_NUMBER: u32 = 2_000;
+
+/// Words of the counters.
 pub const COUNTER_WORDS: usize = 4;
+/// Words of a resource's record.
 pub const RESOURCE_WORDS: usize = 11;
+/// Words of a statement's record.
 pub const STATEMENT_WORDS: usize = 7;
 
 /// Where in a resource's record the live counts begin, in the order of [`Position`].
 const LIVE: usize = 8;
 
-/// The most patterns of a question, and its variables: 0 to 15.
+/// The most patterns of a question.
 pub const MAX_PATTERNS: usize = 6;
+/// The variables of a question: 0 to 15.
 pub const VARIABLES: usize = 16;
 const FIRST_VARIABLE: u32 = 1 << 31;
 
@@ -37,40 +48,62 @@ pub const MAX_LINE: usize = 3 * 255 + 5;
 /// The most reclaims of a store.
 pub const MAX_RECLAIMS: u32 = 65_535;
 
+/// Words of a scan's cursor.
 pub const SCAN_CURSOR_WORDS: usize = 6;
+/// Words of a question's cursor.
 pub const QUERY_CURSOR_WORDS: usize = 3 + 2 * MAX_PATTERNS;
 const QUERY_REPLY_WORDS: usize = 2 + VARIABLES;
 const LINE_WORDS: usize = 8;
 
-/// Where a scan or a question stands, with the store's number of reclaims at the opening: with any other it is [`Error::StaleCursor`].
-/// So the start of a question is what [`Store::query_open`] gives, and zeros are no start once the store has been reclaimed.
+/// Where a scan stands, with the store's number of reclaims at the opening: with any other it is [`Error::StaleCursor`].
 pub type ScanCursor = [u32; SCAN_CURSOR_WORDS];
+/// Where a question stands, with the number of reclaims as for a [`ScanCursor`]. So its start is what [`Store::query_open`] gives, and
+/// zeros are no start once the store has been reclaimed.
 pub type QueryCursor = [u32; QUERY_CURSOR_WORDS];
 
-/// A refusal. Nothing is written where one is given, lent words for numbers and memory for a file included.
+/// A refusal. Nothing is written where one is given, lent words for numbers and memory for a file included. More may come with a later
+/// version: [`Error::number`] and the text tell of each.
 #[derive(Clone, Copy, Debug, PartialEq, Eq)]
+#[non_exhaustive]
 pub enum Error {
+    /// A counter exceeds its capacity, or the reclaims [`MAX_RECLAIMS`].
     Capacity,
+    /// A name that is not well formed, or over 255 bytes; a name's beginning over 255 bytes.
     Malformed,
+    /// No room for one more.
     Full,
+    /// A number that names nothing; for [`Store::number`] a name that is not there.
     UnknownNumber,
+    /// A literal as subject, or a predicate that is no IRI.
     KindNotPermitted,
+    /// A cursor that does not fit the store, the pattern or the question.
     BadCursor,
+    /// A budget of 0.
     NoBudget,
+    /// Words that are no question: over [`MAX_PATTERNS`] patterns, or a number that names nothing.
     BadQuery,
+    /// A word that a step needs is out of range; for [`Store::reclaim`] the store is not sound.
     Damaged,
-    /// `offset` is that of the first byte in the line that fits no line.
+    /// Bytes that are no line.
     BadLine {
+        /// That of the first byte in the line that fits no line.
         offset: usize,
     },
+    /// Bytes or working words too few for the file of the statements.
     ExportSpace,
+    /// No match carries a time; nothing gives it yet, nor those on paths and groups.
     NoTimes,
     /// The cursor has another number of reclaims than the store: open it again.
     StaleCursor,
+    /// A reclaim after [`MAX_RECLAIMS`] of them.
     ReclaimLimit,
+    /// A text that is no property path.
     BadPath,
+    /// Working memory or answer space shorter than a path needs.
     PathSpace,
+    /// No group of scans, or an allowance below the number not ended.
     BadGroup,
+    /// Counters or a cursor with fewer words than they have.
     TooShort,
 }
 
@@ -79,7 +112,7 @@ const REFUSALS: [(Error, u32, &str); 18] = [
     (Error::Capacity, 1, "a counter exceeds its capacity"),
     (Error::Malformed, 2, "the name is not well formed or too long"),
     (Error::Full, 3, "no room for one more"),
-    (Error::UnknownNumber, 4, "the number names nothing"),
+    (Error::UnknownNumber, 4, "no such name or number"),
     (Error::KindNotPermitted, 5, "a literal as subject, or a predicate that is no IRI"),
     (Error::BadCursor, 6, "the cursor does not fit the store or the pattern"),
     (Error::NoBudget, 7, "a budget of 0"),
@@ -103,6 +136,7 @@ impl Error {
     }
 
     /// The number that the paper and the C header give to this refusal.
+    #[must_use]
     pub fn number(self) -> u32 {
         self.row().1
     }
@@ -132,69 +166,126 @@ impl fmt::Display for Error {
 
 impl std::error::Error for Error {}
 
-/// A resource's number, and a statement's: one is never taken for the other.
+/// A resource's number, never taken for a statement's. Those of a store are from 1 on; reclaims leave them.
 #[derive(Clone, Copy, Debug, PartialEq, Eq, PartialOrd, Ord, Hash)]
 pub struct ResourceId(pub u32);
+/// A statement's number, never taken for a resource's. Those of a store are from 1 on; a reclaim may give another one.
 #[derive(Clone, Copy, Debug, PartialEq, Eq, PartialOrd, Ord, Hash)]
 pub struct StatementId(pub u32);
 
+/// What a name names.
 #[derive(Clone, Copy, Debug, PartialEq, Eq)]
 pub enum Kind {
+    /// `<r:21>`.
     Iri,
+    /// `_:ct`. One label is one node in all that is entered into a store, also from several files.
     Blank,
+    /// `"open"`, `"Nord"@de` or `"18400"^^<t:us>`.
     Literal,
 }
 
 /// A place of a triple.
 #[derive(Clone, Copy, Debug, PartialEq, Eq)]
 pub enum Position {
+    /// The first place: an IRI or a blank node.
     Subject,
+    /// The second place: an IRI.
     Predicate,
+    /// The third place.
     Object,
+}
+
+/// A place of a scan's pattern. It is no `Option`, so that what a [`Lookup`] has for a name that is not there is not taken for any:
+///
+/// ```compile_fail,E0308
+/// # fn contacts(store: &lemontiller::Store<'_>) -> Result<usize, lemontiller::Error> {
+/// let relay = store.find(b"<r:21>")?.number;
+/// Ok(store.scan([relay, None, None])?.count())
+/// # }
+/// ```
+///
+/// [`Store::number`] is what a pattern takes:
+///
+/// ```
+/// # use lemontiller::Place;
+/// # fn contacts(store: &lemontiller::Store<'_>) -> Result<usize, lemontiller::Error> {
+/// let relay = store.number(b"<r:21>")?;
+/// Ok(store.scan([Place::Is(relay), Place::Any, Place::Any])?.count())
+/// # }
+/// ```
+#[derive(Clone, Copy, Debug, PartialEq, Eq)]
+pub enum Place {
+    /// Any resource.
+    Any,
+    /// This resource. A number of 0 names nothing here too, and is not any.
+    Is(ResourceId),
 }
 
 /// How much of the tables is in use, and how often the store was reclaimed.
 #[derive(Clone, Copy, Debug, PartialEq, Eq)]
 pub struct Counters {
+    /// R, the resources.
     pub resources: u32,
+    /// T, the statements, retracted ones too.
     pub statements: u32,
+    /// B, the bytes of the names, a closing zero for each included.
     pub text: u32,
+    /// The reclaims so far.
     pub reclaims: u32,
 }
 
-/// Where a name stands in the index, or would stand: a position from 0, so how many names are below it; and its number, if it is there.
+/// Where a name stands in the index, or would stand, and its number, if it is there.
 #[derive(Clone, Copy, Debug, PartialEq, Eq)]
+#[must_use]
 pub struct Lookup {
+    /// None for a name that is not there. For a pattern take [`Store::number`].
     pub number: Option<ResourceId>,
+    /// From 0, so how many names are below it.
     pub position: u32,
 }
 
+/// A statement's resources, and whether it is retracted.
 #[derive(Clone, Copy, Debug, PartialEq, Eq)]
+#[must_use]
 pub struct Statement {
+    /// What it is about.
     pub subject: ResourceId,
+    /// What is said.
     pub predicate: ResourceId,
+    /// Of what.
     pub object: ResourceId,
+    /// Struck out: no scan and no question finds it.
     pub retracted: bool,
 }
 
 /// What became of a triple that was asserted, with its statement's number.
 #[derive(Clone, Copy, Debug, PartialEq, Eq)]
 pub enum Asserted {
+    /// It was not there.
     New(StatementId),
+    /// It was live before.
     Already(StatementId),
+    /// It was retracted, and has its old number.
     Revived(StatementId),
 }
 
-/// What one next call did, within its budget of visits.
+/// What one next call did, within its budget of visits. What it found is not found again.
 #[derive(Clone, Copy, Debug, PartialEq, Eq)]
+#[must_use = "what was found is not found again"]
 pub struct Step<T> {
+    /// What it came to.
     pub outcome: Outcome<T>,
+    /// The records visited, at most the budget.
     pub visits: u32,
 }
 
+/// What one next call came to.
 #[derive(Clone, Copy, Debug, PartialEq, Eq)]
+#[must_use = "what was found is not found again"]
 pub enum Outcome<T> {
+    /// The next one: call again with the same cursor for what follows.
     Found(T),
+    /// No record remains.
     Ended,
     /// The budget is gone and a record remains: call again with the same cursor.
     Spent,
@@ -215,17 +306,21 @@ impl<T> Step<T> {
 /// A place of a question's pattern: a resource, or a variable below [`VARIABLES`].
 #[derive(Clone, Copy, Debug, PartialEq, Eq)]
 pub enum Term {
+    /// This resource.
     Resource(ResourceId),
+    /// Any resource, the same wherever the variable stands.
     Variable(u8),
 }
 
 /// A question: triples that must all be live statements, one resource standing for each variable throughout.
 #[derive(Clone, Debug, PartialEq, Eq)]
+#[must_use]
 pub struct Question {
     words: Vec<u32>,
 }
 
 impl Question {
+    /// A question of these patterns. What is none is refused where it is asked, [`Error::BadQuery`].
     pub fn new(patterns: &[[Term; 3]]) -> Question {
         let word = |term: &Term| match *term {
             // A number among the variables' words names nothing; 0 is refused, as any number that names nothing is.
@@ -244,12 +339,14 @@ impl Question {
 
 /// The resource that stands for each variable in one answer to a question.
 #[derive(Clone, Copy, Debug, PartialEq, Eq)]
+#[must_use]
 pub struct Solution {
     numbers: [u32; VARIABLES],
 }
 
 impl Solution {
     /// None for a variable that the question does not use.
+    #[must_use]
     pub fn get(&self, variable: u8) -> Option<ResourceId> {
         self.numbers.get(usize::from(variable)).and_then(|&number| resource(number))
     }
@@ -261,12 +358,19 @@ fn resource(number: u32) -> Option<ResourceId> {
 
 /// The word for a place of a scan's pattern, 0 for any. A resource's number of 0 names nothing and is not to mean any: it goes over as a
 /// number that no store has.
-fn number_or_any(place: Option<ResourceId>) -> u32 {
+fn number_or_any(place: Place) -> u32 {
     match place {
-        None => 0,
-        Some(ResourceId(0)) => u32::MAX,
-        Some(ResourceId(number)) => number,
+        Place::Any => 0,
+        Place::Is(ResourceId(0)) => u32::MAX,
+        Place::Is(ResourceId(number)) => number,
     }
+}
+
+/// The version of the library that is linked, major * 1,000,000 + minor * 1,000 + patch.
+#[must_use]
+pub fn version() -> u32 {
+    // SAFETY: it takes nothing and gives a number.
+    unsafe { ffi::lt_version() }
 }
 
 /// The kind of a name, which goes by the name as spelled, or [`Error::Malformed`].
@@ -284,11 +388,13 @@ pub fn name_kind(name: &[u8]) -> Result<Kind, Error> {
 
 /// Reads N-Triples, line by line. It carries the text and how far it has read, and moves past a line that it refuses too.
 #[derive(Clone, Debug)]
+#[must_use = "lines are read as they are taken"]
 pub struct Lines<'t> {
     text: &'t [u8],
     at: usize,
 }
 
+/// A line that could be read.
 #[derive(Clone, Copy, Debug, PartialEq, Eq)]
 pub enum Line<'t> {
     /// A blank line or a comment.
@@ -298,11 +404,13 @@ pub enum Line<'t> {
 }
 
 impl<'t> Lines<'t> {
+    /// The lines of a text, from its first.
     pub fn new(text: &'t [u8]) -> Lines<'t> {
         Lines { text, at: 0 }
     }
 
     /// The position after what has been read.
+    #[must_use]
     pub fn position(&self) -> usize {
         self.at
     }
@@ -378,6 +486,19 @@ pub struct Store<'a> {
     text: &'a mut [u8],
 }
 
+/// The counters and the tables' lengths, for the tables may be long.
+impl fmt::Debug for Store<'_> {
+    fn fmt(&self, f: &mut fmt::Formatter<'_>) -> fmt::Result {
+        f.debug_struct("Store")
+            .field("counters", &self.counters())
+            .field("resource_words", &self.resources.len())
+            .field("statement_words", &self.statements.len())
+            .field("index_words", &self.index.len())
+            .field("text_bytes", &self.text.len())
+            .finish()
+    }
+}
+
 impl<'a> Store<'a> {
     /// Lends the tables. Counters of fewer than [`COUNTER_WORDS`] words are [`Error::TooShort`]; the other slices may have any length.
     pub fn new(
@@ -393,12 +514,15 @@ impl<'a> Store<'a> {
         Ok(Store { counters, resources, statements, index, text })
     }
 
+    /// How much of the tables is in use.
+    #[must_use]
     pub fn counters(&self) -> Counters {
         let [resources, statements, text, reclaims] = [0, 1, 2, 3].map(|word| self.counters[word]);
         Counters { resources, statements, text, reclaims }
     }
 
     /// Whether every word of the store is as entering, asserting, retracting and reclaiming leave it. So no name in it has the string ending.
+    #[must_use]
     pub fn is_sound(&self) -> bool {
         let mut reply = [0u32; 1];
         reading!(lt_check, self, reply.as_mut_ptr(), reply.len()).is_ok() && reply[0] == 1
@@ -410,6 +534,11 @@ impl<'a> Store<'a> {
         let mut reply = [0u32; 2];
         reading!(lt_find, self, name.as_ptr(), name.len(), reply.as_mut_ptr(), reply.len())?;
         Ok(Lookup { number: resource(reply[0]), position: reply[1] })
+    }
+
+    /// The number of a name that must be there, as for a [`Place`] or a [`Term`]: one that is not is [`Error::UnknownNumber`].
+    pub fn number(&self, name: &[u8]) -> Result<ResourceId, Error> {
+        self.find(name)?.number.ok_or(Error::UnknownNumber)
     }
 
     /// Lists the resources whose names begin with `prefix`, up to 255 bytes of any value, in byte order of name: the total. As many of the
@@ -471,6 +600,7 @@ impl<'a> Store<'a> {
         Ok(self.resources[RESOURCE_WORDS * (id.0 as usize - 1) + LIVE + position as usize])
     }
 
+    /// Reads a statement, a retracted one too.
     pub fn statement(&self, id: StatementId) -> Result<Statement, Error> {
         let mut reply = [0u32; 4];
         reading!(lt_statement, self, id.0, reply.as_mut_ptr(), reply.len())?;
@@ -478,6 +608,8 @@ impl<'a> Store<'a> {
         Ok(Statement { subject, predicate, object, retracted: reply[3] == 1 })
     }
 
+    /// Asserts a triple: it is live from now on, and what it was before is told. A retracted one is revived and keeps its old number, but
+    /// after a reclaim it is new.
     pub fn assert(&mut self, subject: ResourceId, predicate: ResourceId, object: ResourceId) -> Result<Asserted, Error> {
         let mut reply = [0u32; 2];
         writing!(lt_assert, self, subject.0, predicate.0, object.0, reply.as_mut_ptr(), reply.len())?;
@@ -509,15 +641,17 @@ impl<'a> Store<'a> {
         writing!(lt_reclaim, self)
     }
 
-    /// Opens a scan of the live statements with the resources given, `None` for any; a number of 0 is [`Error::UnknownNumber`].
-    pub fn scan_open(&self, pattern: [Option<ResourceId>; 3]) -> Result<ScanCursor, Error> {
+    /// Opens a scan of the live statements with these resources as subject, predicate and object; a number that names nothing, 0 too, is
+    /// [`Error::UnknownNumber`].
+    pub fn scan_open(&self, pattern: [Place; 3]) -> Result<ScanCursor, Error> {
         let [subject, predicate, object] = pattern.map(number_or_any);
         let mut cursor = [0; SCAN_CURSOR_WORDS];
         reading!(lt_scan_open, self, subject, predicate, object, cursor.as_mut_ptr(), cursor.len())?;
         Ok(cursor)
     }
 
-    /// Next of a scan, the statement of the highest number first. The cursor may be any slice that holds one; a short one is [`Error::TooShort`].
+    /// Next of a scan, the statement of the highest number first, of those there at its opening and live now. The cursor may be any slice
+    /// that holds one; a short one is [`Error::TooShort`].
     pub fn scan_next(&self, cursor: &mut [u32], budget: u32) -> Result<Step<StatementId>, Error> {
         let mut reply = [0u32; 3];
         reading!(lt_scan_next, self, cursor.as_mut_ptr(), cursor.len(), budget, reply.as_mut_ptr(), reply.len())?;
@@ -575,7 +709,7 @@ impl<'a> Store<'a> {
     }
 
     /// All statements of a scan. The store cannot change meanwhile; for that, keep a cursor.
-    pub fn scan(&self, pattern: [Option<ResourceId>; 3]) -> Result<Scan<'_, 'a>, Error> {
+    pub fn scan(&self, pattern: [Place; 3]) -> Result<Scan<'_, 'a>, Error> {
         Ok(Scan { store: self, cursor: self.scan_open(pattern)?, refused: false })
     }
 
@@ -587,6 +721,7 @@ impl<'a> Store<'a> {
 
 /// The resources whose names begin alike.
 #[derive(Clone, Debug)]
+#[must_use = "names are listed as they are taken"]
 pub struct WithPrefix<'s> {
     numbers: slice::Iter<'s, u32>,
 }
@@ -610,6 +745,8 @@ impl Iterator for WithPrefix<'_> {
 impl ExactSizeIterator for WithPrefix<'_> {}
 
 /// The statements of a scan; a refusal is given once and ends it.
+#[derive(Debug)]
+#[must_use = "statements are found as they are taken"]
 pub struct Scan<'s, 'a> {
     store: &'s Store<'a>,
     cursor: ScanCursor,
@@ -636,6 +773,8 @@ impl Iterator for Scan<'_, '_> {
 }
 
 /// The solutions of a question; a refusal is given once and ends them.
+#[derive(Debug)]
+#[must_use = "solutions are found as they are taken"]
 pub struct Solutions<'s, 'a> {
     store: &'s Store<'a>,
     question: &'s Question,

@@ -4,6 +4,9 @@ use super::*;
 
 const LAST: u8 = VARIABLES as u8 - 1;
 
+/// The pattern of all statements.
+const ALL: [Place; 3] = [Place::Any; 3];
+
 /// Tables of six resources and four statements, and a store over them, which the test body is given.
 fn with_store(body: impl FnOnce(&mut Store)) {
     let (mut counters, mut resources, mut statements) = ([0; COUNTER_WORDS], [7; 6 * RESOURCE_WORDS], [7; 4 * STATEMENT_WORDS]);
@@ -44,6 +47,60 @@ fn names_come_back() {
         assert_eq!(store.name(ids[3]), Ok(&b"<b:7>"[..]));
         assert_eq!(store.counters(), Counters { resources: 4, statements: 2, text: 7 + 10 + 6 + 6, reclaims: 0 });
         assert!(store.is_sound());
+    })
+}
+
+/// The number as find has it, and refused where find has none, after all that find refuses.
+#[test]
+fn a_number_is_that_of_a_name_that_is_there() {
+    with_bay(|store, ids| {
+        for (name, id) in ["<r:21>", "<p:trips>", "<b:4>", "<b:7>"].into_iter().zip(ids) {
+            assert_eq!(store.number(name.as_bytes()), Ok(id));
+        }
+        assert_eq!(store.number(b"<b:9>"), Err(Error::UnknownNumber));
+        assert_eq!((store.number(b"b:9"), store.number(b"")), (Err(Error::Malformed), Err(Error::Malformed)));
+        let label = store.enter(b"\"A\"").unwrap();
+        assert_eq!(store.number(b"\"A\"^^<http://www.w3.org/2001/XMLSchema#string>"), Ok(label));
+        store.index.fill(9);
+        assert_eq!(store.number(b"<b:4>"), Err(Error::Damaged));
+    });
+    let (mut counters, mut over) = ([0; COUNTER_WORDS], [1, 0, 0, 0]);
+    let store = Store::new(&mut counters, &mut [], &mut [], &mut [], &mut []).unwrap();
+    assert_eq!(store.number(b"<a>"), Err(Error::UnknownNumber));
+    let store = Store::new(&mut over, &mut [], &mut [], &mut [], &mut []).unwrap();
+    assert_eq!(store.number(b"a"), Err(Error::Capacity));
+}
+
+/// A relay that is not there lists nothing, where any would list all.
+#[test]
+fn a_miss_is_not_any() {
+    with_bay(|store, _| {
+        let contacts = |relay: &[u8]| Ok(answers(store.scan([Place::Is(store.number(relay)?), Place::Any, Place::Any])).len());
+        assert_eq!((contacts(b"<r:21>"), contacts(b"<r:22>")), (Ok(2), Err(Error::UnknownNumber)));
+        assert_eq!(answers(store.scan(ALL)).len(), 2);
+    })
+}
+
+/// The library's version is the wrapper's, and that is the package's.
+#[test]
+fn one_version() {
+    let part = |digits: &str| digits.parse::<u32>().unwrap();
+    let [major, minor, patch] =
+        [env!("CARGO_PKG_VERSION_MAJOR"), env!("CARGO_PKG_VERSION_MINOR"), env!("CARGO_PKG_VERSION_PATCH")].map(part);
+    assert_eq!(VERSION_NUMBER, major * 1_000_000 + minor * 1_000 + patch);
+    assert_eq!(version(), VERSION_NUMBER);
+}
+
+/// A store is told by its counters and lengths, whatever its tables hold.
+#[test]
+fn everything_has_a_debug_form() {
+    with_bay(|store, _| {
+        let told = "Store { counters: Counters { resources: 4, statements: 2, text: 29, reclaims: 0 }, resource_words: 66, \
+                    statement_words: 28, index_words: 6, text_bytes: 64 }";
+        assert_eq!(format!("{store:?}"), told);
+        let question = Question::new(&[[Term::Variable(0), Term::Variable(1), Term::Variable(2)]]);
+        let (scan, solutions) = (store.scan(ALL).unwrap(), store.ask(&question).unwrap());
+        assert!([format!("{scan:?}"), format!("{solutions:?}")].iter().all(|form| form.contains(told)));
     })
 }
 
@@ -213,11 +270,11 @@ fn statements_live_and_die() {
         assert_eq!(store.retract(relay, trips, b4), Ok(None));
         let read = Statement { subject: relay, predicate: trips, object: b4, retracted: true };
         assert_eq!(store.statement(StatementId(1)), Ok(read));
-        assert_eq!(store.scan([None; 3]).unwrap().collect::<Vec<_>>(), [Ok(StatementId(2))]);
+        assert_eq!(store.scan(ALL).unwrap().collect::<Vec<_>>(), [Ok(StatementId(2))]);
         assert_eq!(store.assert(relay, trips, b4), Ok(Asserted::Revived(StatementId(1))));
-        let scan = store.scan([Some(relay), None, None]).unwrap();
+        let scan = store.scan([Place::Is(relay), Place::Any, Place::Any]).unwrap();
         assert_eq!(scan.collect::<Vec<_>>(), [Ok(StatementId(2)), Ok(StatementId(1))]);
-        assert_eq!(answers(store.scan([None, None, Some(b7)])).len(), 1);
+        assert_eq!(answers(store.scan([Place::Any, Place::Any, Place::Is(b7)])).len(), 1);
     })
 }
 
@@ -283,12 +340,12 @@ fn live_counts_of_any_tables() {
 #[test]
 fn a_cursor_outlives_a_change() {
     with_bay(|store, [relay, trips, b4, _]| {
-        let mut cursor = store.scan_open([Some(relay), Some(trips), None]).unwrap();
+        let mut cursor = store.scan_open([Place::Is(relay), Place::Is(trips), Place::Any]).unwrap();
         let found = Step { outcome: Outcome::Found(StatementId(2)), visits: 1 };
         assert_eq!(store.scan_next(&mut cursor, 1), Ok(found));
         store.retract(relay, trips, b4).unwrap();
         assert_eq!(store.scan_next(&mut cursor, 1), Ok(Step { outcome: Outcome::Ended, visits: 1 }));
-        let mut opened = store.scan_open([Some(relay), None, None]).unwrap();
+        let mut opened = store.scan_open([Place::Is(relay), Place::Any, Place::Any]).unwrap();
         store.retract(relay, trips, ResourceId(4)).unwrap();
         assert_eq!(store.scan_next(&mut opened, 1), Ok(Step { outcome: Outcome::Spent, visits: 1 }));
     })
@@ -306,7 +363,7 @@ fn a_reclaim_gives_room_back() {
         let before = store.counters();
         assert_eq!(store.reclaim(), Ok(()));
         assert_eq!(store.counters(), Counters { statements: 2, reclaims: 1, ..before });
-        assert_eq!(store.scan([None; 3]).unwrap().collect::<Vec<_>>(), [Ok(StatementId(2)), Ok(StatementId(1))]);
+        assert_eq!(store.scan(ALL).unwrap().collect::<Vec<_>>(), [Ok(StatementId(2)), Ok(StatementId(1))]);
         assert_eq!(store.statement(StatementId(1)).unwrap().object, b7);
         assert_eq!([relay, trips, b4, b7].map(|id| live(store, id)), [[1, 0, 0], [0, 2, 0], [1, 0, 0], [0, 0, 2]]);
         assert_eq!(store.statements[2 * STATEMENT_WORDS..], [0; 2 * STATEMENT_WORDS]);
@@ -325,7 +382,8 @@ fn a_reclaim_gives_room_back() {
 fn cursors_end_with_a_reclaim() {
     with_bay(|store, [relay, _, _, _]| {
         let question = Question::new(&[[Term::Variable(0), Term::Variable(1), Term::Variable(2)]]);
-        let (opened, mut scan) = (store.scan_open([Some(relay), None, None]).unwrap(), store.scan_open([None; 3]).unwrap());
+        let (opened, mut scan) =
+            (store.scan_open([Place::Is(relay), Place::Any, Place::Any]).unwrap(), store.scan_open(ALL).unwrap());
         let (start, mut query) = (store.query_open(&question).unwrap(), store.query_open(&question).unwrap());
         assert_eq!((opened[SCAN_CURSOR_WORDS - 1], start), (0, [0; QUERY_CURSOR_WORDS]));
         assert!(store.scan_next(&mut scan, 9).is_ok() && store.query_next(&question, &mut query, 9).is_ok());
@@ -348,7 +406,7 @@ fn cursors_end_with_a_reclaim() {
         let mut again = store.query_open(&question).unwrap();
         assert_eq!(again[..4], [0, 0, 1, 0]);
         assert!(store.query_next(&question, &mut again, 9).is_ok());
-        assert_eq!((answers(store.ask(&question)).len(), answers(store.scan([None; 3])).len()), (2, 2));
+        assert_eq!((answers(store.ask(&question)).len(), answers(store.scan(ALL)).len()), (2, 2));
     })
 }
 
@@ -412,7 +470,7 @@ fn refusals_are_values() {
         assert_eq!(store.assert(literal, trips, b4), Err(Error::KindNotPermitted));
         store.enter(b"_:x").unwrap();
         assert_eq!(store.enter(b"_:y"), Err(Error::Full));
-        let mut cursor = store.scan_open([Some(relay), None, None]).unwrap();
+        let mut cursor = store.scan_open([Place::Is(relay), Place::Any, Place::Any]).unwrap();
         assert_eq!(store.scan_next(&mut cursor, 0), Err(Error::NoBudget));
         cursor[4] = 9;
         assert_eq!(store.scan_next(&mut cursor, 1), Err(Error::BadCursor));
@@ -427,17 +485,17 @@ fn refusals_are_values() {
 fn a_number_of_0_is_not_any() {
     with_bay(|store, [relay, trips, _, _]| {
         for place in 0..3 {
-            let mut pattern = [None; 3];
-            pattern[place] = Some(ResourceId(0));
+            let mut pattern = ALL;
+            pattern[place] = Place::Is(ResourceId(0));
             assert_eq!(store.scan_open(pattern), Err(Error::UnknownNumber));
             assert_eq!(store.scan(pattern).err(), Some(Error::UnknownNumber));
         }
-        assert_eq!(store.scan_open([Some(relay), Some(trips), Some(ResourceId(0))]), Err(Error::UnknownNumber));
-        assert_eq!(answers(store.scan([Some(relay), Some(trips), None])).len(), 2);
+        assert_eq!(store.scan_open([Place::Is(relay), Place::Is(trips), Place::Is(ResourceId(0))]), Err(Error::UnknownNumber));
+        assert_eq!(answers(store.scan([Place::Is(relay), Place::Is(trips), Place::Any])).len(), 2);
     });
     let mut over = [1, 0, 0, 0];
     let store = Store::new(&mut over, &mut [], &mut [], &mut [], &mut []).unwrap();
-    assert_eq!(store.scan_open([Some(ResourceId(0)), None, None]), Err(Error::Capacity));
+    assert_eq!(store.scan_open([Place::Is(ResourceId(0)), Place::Any, Place::Any]), Err(Error::Capacity));
 }
 
 #[test]
@@ -468,7 +526,7 @@ fn damage_is_a_value_and_ends_an_iterator() {
     let store = Store::new(&mut counters, &mut resources, &mut statements, &mut index, &mut text).unwrap();
     assert!(!store.is_sound());
     assert_eq!(store.statement(StatementId(1)), Err(Error::Damaged));
-    assert_eq!(store.scan([None; 3]).unwrap().collect::<Vec<_>>(), [Err(Error::Damaged)]);
+    assert_eq!(store.scan(ALL).unwrap().collect::<Vec<_>>(), [Err(Error::Damaged)]);
 }
 
 #[test]
@@ -476,7 +534,7 @@ fn short_slices_are_values() {
     let mut three = [0; COUNTER_WORDS - 1];
     assert_eq!(Store::new(&mut three, &mut [], &mut [], &mut [], &mut []).err(), Some(Error::TooShort));
     with_bay(|store, _| {
-        let cursor = store.scan_open([None; 3]).unwrap();
+        let cursor = store.scan_open(ALL).unwrap();
         let mut short = cursor[..SCAN_CURSOR_WORDS - 1].to_vec();
         assert_eq!(store.scan_next(&mut short, 1), Err(Error::TooShort));
         assert_eq!(short, cursor[..SCAN_CURSOR_WORDS - 1]);
@@ -498,7 +556,7 @@ fn empty_tables_have_pointers() {
     assert!(store.is_sound());
     assert_eq!(store.enter(b"<a>"), Err(Error::Full));
     assert_eq!(store.find(&[]), Err(Error::Malformed));
-    assert_eq!(answers(store.scan([None; 3])).len(), 0);
+    assert_eq!(answers(store.scan(ALL)).len(), 0);
     let mut over = [1, 0, 0, 0];
     let store = Store::new(&mut over, &mut [], &mut [], &mut [], &mut []).unwrap();
     assert_eq!(store.find(b"<a>"), Err(Error::Capacity));

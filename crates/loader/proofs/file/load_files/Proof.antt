@@ -7,16 +7,16 @@ use Rattle.loader.proofs.file.load_files.Statement.{statement}
 use Rattle.loader.proofs.file.load_files.Tie as tie
 use Rattle.loader.proofs.file.load_files.Reads as reads
 use Rattle.loader.proofs.file.load_files.Lts as lts
-use Rattle.loader.proofs.file.load_argument.Reads as load-argument-reads
+use Rattle.loader.proofs.file.load_named.Reads as load-named-reads
 use Rattle.os.proofs.arg_count.Reads as arg-count-reads
 
 abbrev Inv-loop : tie.InvT-loop
-Inv-loop resources₀ statements₀ index₀ text₀ line₀ m₀ count i₀ resources statements index text line m i =
+Inv-loop resources₀ statements₀ index₀ text₀ line₀ m₀ count files₀ i₀ resources statements index text line m files i =
     (length resources ≡ length resources₀) × (length statements ≡ length statements₀) × (length index ≡ length index₀)
     × (length text ≡ length text₀) × (length line ≡ length line₀)
 
 abbrev μ-loop : tie.MeasureT-loop
-μ-loop resources₀ statements₀ index₀ text₀ line₀ m₀ count i₀ resources statements index text line m i = count - i
+μ-loop resources₀ statements₀ index₀ text₀ line₀ m₀ count files₀ i₀ resources statements index text line m files i = count - i
 
 arg-count-requires : tie.Need-arg-count-requires Inv-loop μ-loop
 arg-count-requires c κs = search needs
@@ -24,8 +24,14 @@ arg-count-requires c κs = search needs
 loop-holds : tie.Need-loop-holds Inv-loop μ-loop
 loop-holds c = search needs
 
-load-argument-requires : tie.Need-load-argument-requires Inv-loop μ-loop
-load-argument-requires c κs = search needs
+kind-requires : tie.Need-kind-requires Inv-loop μ-loop
+kind-requires c κs = search needs
+
+load-named-requires : tie.Need-load-named-requires Inv-loop μ-loop
+load-named-requires c κs = search needs
+
+ends-requires : tie.Need-ends-requires Inv-loop μ-loop
+ends-requires c κs = search needs
 
 add-i : tie.Need-add-i Inv-loop μ-loop
 add-i c = search needs
@@ -62,7 +68,9 @@ load-files-spec =
     μ-loop
     arg-count-requires
     loop-holds
-    load-argument-requires
+    kind-requires
+    load-named-requires
+    ends-requires
     add-i
     loop-less
     loop-again

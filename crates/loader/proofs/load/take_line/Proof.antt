@@ -4,9 +4,7 @@ use Rattle.loader.proofs.load.take_line.Statement.{statement}
 use Rattle.loader.proofs.load.take_line.Tie as tie
 use Rattle.loader.proofs.load.take_line.Reads as reads
 use Rattle.loader.proofs.load.take_line.Lts as lts
-use Rattle.loader.proofs.load.counted.Reads as counted-reads
 use Rattle.loader.proofs.line.load_line.Reads as load-line-reads
-use Rattle.loader.proofs.output.report.Reads as report-reads
 
 load-line-requires : tie.Need-load-line-requires
 load-line-requires c κs = search needs
@@ -14,8 +12,8 @@ load-line-requires c κs = search needs
 counted-requires : tie.Need-counted-requires
 counted-requires c κs = search needs
 
-report-requires : tie.Need-report-requires
-report-requires c κs = search needs
+with-line-requires : tie.Need-with-line-requires
+with-line-requires c κs = search needs
 
 same-length : tie.Need-same-length
 same-length c = search needs
@@ -40,7 +38,7 @@ take-line-spec =
     (tie.spec
     load-line-requires
     counted-requires
-    report-requires
+    with-line-requires
     same-length
     same-length-2
     same-length-3

@@ -9,8 +9,8 @@ use Rattle.store.specs.Values.{scannedValues}
 use Rattle.store.specs.Scan.{nextOf}
 use Rattle.shell_answer.specs.Told.{budget}
 use Rattle.graph.specs.Claims.{scanNext, scanReply}
-use Rattle.shell_answer.proofs.Telling.{Going, begins, fits-found, fits-visits, stops-over, stops-refused, stops-ended}
-use Rattle.shell_answer.proofs.Telling.{goes-found, goes-spent}
+use Rattle.shell_answer.proofs.Telling.{Going, begins, fits-found, fits-visits, stops-over, stops-unwritten, stops-refused}
+use Rattle.shell_answer.proofs.Telling.{stops-ended, goes-found, goes-spent}
 use Rattle.shell_answer.proofs.Visits.{scanned-within}
 use borrow.Author.Needs.{needs}
 use Rattle.shell_answer.proofs.list.read_on.Statement.{statement}
@@ -63,42 +63,57 @@ enum-known-e c = search needs
 refusal-number-requires : tie.Need-refusal-number-requires Inv-loop μ-loop
 refusal-number-requires c κs = search needs
 
+told-refused-requires : tie.Need-told-refused-requires Inv-loop μ-loop
+told-refused-requires c κs = search needs
+
 returns : tie.Need-returns Inv-loop μ-loop
 returns c =
-    let d = c .before .before .before .before in
-    stops-refused _ (going d) (replied d (c .before .before .e .given .1)) (left d)
-    (c .before .before .e .given .0 .0) refl (c .refusal-number .ensures) refl (omega arith)
+    let d = c .before .before .before .before .before in
+    let e = c .before .before .before .e .given in
+    rw (c .told-refused .ensures)
+    (stops-refused _ (going d) (replied d (e .1)) (left d) (e .0 .0) refl (c .before .refusal-number .ensures) refl (omega arith))
 
 enum-known-v : tie.Need-enum-known-v Inv-loop μ-loop
 enum-known-v c = search needs
 
-cast-t21 : tie.Need-cast-t21 Inv-loop μ-loop
-cast-t21 c = search needs
+cast-told-ended : tie.Need-cast-told-ended Inv-loop μ-loop
+cast-told-ended c = search needs
 
-add-t22 : tie.Need-add-t22 Inv-loop μ-loop
-add-t22 c = let d = c .before .before .before in record { fits = fits-visits _ (going d) (within d (c .before .v .given .1)) (left d) }
+add-told-ended : tie.Need-add-told-ended Inv-loop μ-loop
+add-told-ended c = let d = c .before .before .before in record { fits = fits-visits _ (going d) (within d (c .before .v .given .1)) (left d) }
+
+told-ended-requires : tie.Need-told-ended-requires Inv-loop μ-loop
+told-ended-requires c κs = search needs
 
 returns-2 : tie.Need-returns-2 Inv-loop μ-loop
 returns-2 c =
-    let d = c .before .before .before in stops-ended _ (going d) (replied d (c .before .v .given .1)) (left d) refl refl refl
+    let d = c .before .before .before .before in
+    rw (c .told-ended .ensures) (stops-ended _ (going d) (replied d (c .before .before .v .given .1)) (left d) refl refl refl)
 
 enum-known-n : tie.Need-enum-known-n Inv-loop μ-loop
 enum-known-n c = search needs
 
-statement-requires : tie.Need-statement-requires Inv-loop μ-loop
-statement-requires c κs = search needs
-
 add-found : tie.Need-add-found Inv-loop μ-loop
-add-found c =
-    let d = c .before .before .before .before in record { fits = omega (arith, fits-found _ (going d) (left d)) }
+add-found c = let d = c .before .before .before in record { fits = omega (arith, fits-found _ (going d) (left d)) }
 
 cast-visits : tie.Need-cast-visits Inv-loop μ-loop
 cast-visits c = search needs
 
 add-visits : tie.Need-add-visits Inv-loop μ-loop
-add-visits c =
-    let d = c .before .before .before .before in
-    record { fits = fits-visits _ (going d) (within d (c .before .before .n .given .1)) (left d) }
+add-visits c = let d = c .before .before .before in record { fits = fits-visits _ (going d) (within d (c .before .n .given .1)) (left d) }
+
+statement-requires : tie.Need-statement-requires Inv-loop μ-loop
+statement-requires c κs = search needs
+
+told-stopped-requires : tie.Need-told-stopped-requires Inv-loop μ-loop
+told-stopped-requires c κs = search needs
+
+returns-3 : tie.Need-returns-3 Inv-loop μ-loop
+returns-3 c =
+    let d = c .before .before .before .before .before .before in
+    let e = c .before .before .before .before .n .given .1 in
+    rw (c .told-stopped .ensures)
+    (stops-unwritten _ (goes-found _ (going d) (replied d e) (left d) refl (within d e) refl refl refl refl))
 
 enum-known-v-2 : tie.Need-enum-known-v-2 Inv-loop μ-loop
 enum-known-v-2 c = search needs
@@ -107,8 +122,7 @@ cast-visits-2 : tie.Need-cast-visits-2 Inv-loop μ-loop
 cast-visits-2 c = search needs
 
 add-visits-2 : tie.Need-add-visits-2 Inv-loop μ-loop
-add-visits-2 c =
-    let d = c .before .before .before in record { fits = fits-visits _ (going d) (within d (c .before .v2 .given .1)) (left d) }
+add-visits-2 c = let d = c .before .before .before in record { fits = fits-visits _ (going d) (within d (c .before .v2 .given .1)) (left d) }
 
 sub-turns : tie.Need-sub-turns Inv-loop μ-loop
 sub-turns c = search needs
@@ -120,12 +134,15 @@ loop-again : tie.Need-loop-again Inv-loop μ-loop
 loop-again c =
     let d = c .before in
     ⊎-elim
-    (λ w. goes-found _ (going d) (replied d (w .1 .given .1)) (left d) refl (within d (w .1 .given .1)) (w .4) (w .6) refl (w .5))
+    (λ w. goes-found _ (going d) (replied d (w .1 .given .1)) (left d) refl (within d (w .1 .given .1)) (w .5) (w .7) refl (w .6))
     (λ w. goes-spent _ (going d) (replied d (w .1 .given .1)) (left d) refl (within d (w .1 .given .1)) (w .3) (w .5) refl (w .4))
     (c .match .came)
 
-returns-3 : tie.Need-returns-3 Inv-loop μ-loop
-returns-3 c = stops-over _ (c .before .loop .inv) (omega arith)
+told-stopped-requires-2 : tie.Need-told-stopped-requires-2 Inv-loop μ-loop
+told-stopped-requires-2 c κs = search needs
+
+returns-4 : tie.Need-returns-4 Inv-loop μ-loop
+returns-4 c = rw (c .told-stopped2 .ensures) (stops-over _ (c .before .before .loop .inv) (omega arith))
 
 pub read-on-spec : {M : Type 1} → statement M
 read-on-spec =
@@ -137,20 +154,25 @@ read-on-spec =
     scan-next-requires
     enum-known-e
     refusal-number-requires
+    told-refused-requires
     returns
     enum-known-v
-    cast-t21
-    add-t22
+    cast-told-ended
+    add-told-ended
+    told-ended-requires
     returns-2
     enum-known-n
-    statement-requires
     add-found
     cast-visits
     add-visits
+    statement-requires
+    told-stopped-requires
+    returns-3
     enum-known-v-2
     cast-visits-2
     add-visits-2
     sub-turns
     loop-less
     loop-again
-    returns-3)
+    told-stopped-requires-2
+    returns-4)

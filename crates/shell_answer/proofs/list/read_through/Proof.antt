@@ -14,6 +14,9 @@ enum-known-e c = search needs
 refusal-number-requires : tie.Need-refusal-number-requires
 refusal-number-requires c κs = search needs
 
+told-refused-requires : tie.Need-told-refused-requires
+told-refused-requires c κs = search needs
+
 enum-known-q : tie.Need-enum-known-q
 enum-known-q c = search needs
 
@@ -22,8 +25,10 @@ read-on-requires c κs = search needs
 
 returns : tie.Need-returns
 returns c =
-    let e = c .before .before .e .given in
-    list-refused _ _ _ (e .0 .0) (sym (c .before .before .before .before .scan-open .ensures) ∙ e .1) (c .refusal-number .ensures)
+    let e = c .before .before .before .e .given in
+    rw (c .told-refused .ensures)
+    (list-refused _ _ _ (e .0 .0) (sym (c .before .before .before .before .before .scan-open .ensures) ∙ e .1)
+    (c .before .refusal-number .ensures))
 
 returns-2 : tie.Need-returns-2
 returns-2 c =
@@ -37,6 +42,7 @@ read-through-spec =
     scan-open-requires
     enum-known-e
     refusal-number-requires
+    told-refused-requires
     enum-known-q
     read-on-requires
     returns

@@ -11,8 +11,8 @@ use Rattle.graph.specs.Words.{Bindings}
 use Rattle.graph.specs.Values.{queryValues, stepRefusal, stepStatus}
 use Rattle.graph.specs.Claims.{Reply, queryReply, nextReply}
 use Rattle.shell_answer.specs.Told.{budget}
-use Rattle.shell_answer.proofs.Telling.{Going, begins, fits-found, fits-visits, stops-over, stops-refused, stops-ended}
-use Rattle.shell_answer.proofs.Telling.{goes-found, goes-spent}
+use Rattle.shell_answer.proofs.Telling.{Going, begins, fits-found, fits-visits, stops-over, stops-unwritten, stops-refused}
+use Rattle.shell_answer.proofs.Telling.{stops-ended, goes-found, goes-spent}
 use Rattle.shell_answer.proofs.Visits.{answered-within}
 use borrow.Author.Needs.{needs}
 use Rattle.shell_answer.proofs.question.read_on.Statement.{statement}
@@ -66,30 +66,47 @@ enum-known-step c = search needs
 refusal-number-requires : tie.Need-refusal-number-requires Inv-loop μ-loop
 refusal-number-requires c κs = search needs
 
+told-refused-requires : tie.Need-told-refused-requires Inv-loop μ-loop
+told-refused-requires c κs = search needs
+
 returns : tie.Need-returns Inv-loop μ-loop
 returns c =
-    let d = c .before .before .before .before .before in
-    let e = c .before .before .step .given in
-    stops-refused _ (going d) (replied d) (left d) (e .0 .0) (ap stepRefusal (e .1)) (c .refusal-number .ensures)
-    (ap stepStatus (e .1)) refl
+    let d = c .before .before .before .before .before .before in
+    let e = c .before .before .before .step .given in
+    rw (c .told-refused .ensures)
+    (stops-refused _ (going d) (replied d) (left d) (e .0 .0) (ap stepRefusal (e .1)) (c .before .refusal-number .ensures)
+    (ap stepStatus (e .1)) refl)
 
 enum-told : tie.Need-enum-told Inv-loop μ-loop
 enum-told c = search needs
 
+told-ended-requires : tie.Need-told-ended-requires Inv-loop μ-loop
+told-ended-requires c κs = search needs
+
 returns-2 : tie.Need-returns-2 Inv-loop μ-loop
 returns-2 c =
-    let d = c .before .before .before in
-    let e = c .enum-told .given .1 in
-    stops-ended _ (going d) (replied d) (left d) (ap stepRefusal e) (ap stepStatus e) refl
+    let d = c .before .before .before .before in
+    let e = c .before .enum-told .given .1 in
+    rw (c .told-ended .ensures) (stops-ended _ (going d) (replied d) (left d) (ap stepRefusal e) (ap stepStatus e) refl)
 
 enum-told-2 : tie.Need-enum-told-2 Inv-loop μ-loop
 enum-told-2 c = search needs
 
+add-found : tie.Need-add-found Inv-loop μ-loop
+add-found c = let d = c .before .before .before .before in record { fits = fits-found _ (going d) (left d) }
+
 solution-requires : tie.Need-solution-requires Inv-loop μ-loop
 solution-requires c κs = search needs
 
-add-found : tie.Need-add-found Inv-loop μ-loop
-add-found c = let d = c .before .before .before .before .before in record { fits = fits-found _ (going d) (left d) }
+told-stopped-requires : tie.Need-told-stopped-requires Inv-loop μ-loop
+told-stopped-requires c κs = search needs
+
+returns-3 : tie.Need-returns-3 Inv-loop μ-loop
+returns-3 c =
+    let d = c .before .before .before .before .before .before .before in
+    let e = c .before .before .before .before .enum-told2 .given .1 in
+    rw (c .told-stopped .ensures)
+    (stops-unwritten _ (goes-found _ (going d) (replied d) (left d) (ap stepRefusal e) (within d) refl refl (ap stepStatus e) refl))
 
 enum-told-3 : tie.Need-enum-told-3 Inv-loop μ-loop
 enum-told-3 c = search needs
@@ -106,14 +123,17 @@ loop-again c =
     ⊎-elim
     (λ w.
     let e = w .1 .given .1 in
-    goes-found _ (going d) (replied d) (left d) (ap stepRefusal e) (within d) refl refl (ap stepStatus e) (w .4))
+    goes-found _ (going d) (replied d) (left d) (ap stepRefusal e) (within d) refl refl (ap stepStatus e) (w .5))
     (λ w.
     let e = w .1 .given .1 in
     goes-spent _ (going d) (replied d) (left d) (ap stepRefusal e) (within d) refl refl (ap stepStatus e) (w .2))
     (c .before .match .came)
 
-returns-3 : tie.Need-returns-3 Inv-loop μ-loop
-returns-3 c = stops-over _ (c .before .loop .inv) (omega arith)
+told-stopped-requires-2 : tie.Need-told-stopped-requires-2 Inv-loop μ-loop
+told-stopped-requires-2 c κs = search needs
+
+returns-4 : tie.Need-returns-4 Inv-loop μ-loop
+returns-4 c = rw (c .told-stopped2 .ensures) (stops-over _ (c .before .before .loop .inv) (omega arith))
 
 pub read-on-spec : {M : Type 1} → statement M
 read-on-spec =
@@ -127,14 +147,19 @@ read-on-spec =
     add-visits
     enum-known-step
     refusal-number-requires
+    told-refused-requires
     returns
     enum-told
+    told-ended-requires
     returns-2
     enum-told-2
-    solution-requires
     add-found
+    solution-requires
+    told-stopped-requires
+    returns-3
     enum-told-3
     sub-turns
     loop-less
     loop-again
-    returns-3)
+    told-stopped-requires-2
+    returns-4)

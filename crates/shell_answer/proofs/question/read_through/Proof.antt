@@ -14,6 +14,9 @@ enum-known-opening c = search needs
 refusal-number-requires : tie.Need-refusal-number-requires
 refusal-number-requires c κs = search needs
 
+told-refused-requires : tie.Need-told-refused-requires
+told-refused-requires c κs = search needs
+
 enum-told : tie.Need-enum-told
 enum-told c = search needs
 
@@ -22,8 +25,10 @@ read-on-requires c κs = search needs
 
 returns : tie.Need-returns
 returns c =
-    let e = c .before .before .opening .given in
-    question-refused _ _ _ (sym (c .before .before .before .before .query-open .ensures)) (e .0 .0) (e .1) (c .refusal-number .ensures)
+    let e = c .before .before .before .opening .given in
+    rw (c .told-refused .ensures)
+    (question-refused _ _ _ (sym (c .before .before .before .before .before .query-open .ensures)) (e .0 .0) (e .1)
+    (c .before .refusal-number .ensures))
 
 returns-2 : tie.Need-returns-2
 returns-2 c =
@@ -37,6 +42,7 @@ read-through-spec =
     query-open-requires
     enum-known-opening
     refusal-number-requires
+    told-refused-requires
     enum-told
     read-on-requires
     returns

@@ -7,10 +7,10 @@ use Rattle.shell_print.proofs.refusal.caret.Statement.{statement}
 use Rattle.shell_print.proofs.refusal.caret.Tie as tie
 
 abbrev Inv-loop : tie.InvT-loop
-Inv-loop line offset out₀ stop at₀ i₀ t8 out at i = (length out ≡ 1280) × (stop ≤ length line) × (i ≤ stop)
+Inv-loop fd line offset out₀ stop at₀ i₀ t8 out at i = (length out ≡ 1280) × (stop ≤ length line) × (i ≤ stop)
 
 abbrev μ-loop : tie.MeasureT-loop
-μ-loop line offset out₀ stop at₀ i₀ t8 out at i = stop - i
+μ-loop fd line offset out₀ stop at₀ i₀ t8 out at i = stop - i
 
 lesser-requires : tie.Need-lesser-requires Inv-loop μ-loop
 lesser-requires c κs = search needs
@@ -54,11 +54,11 @@ append-requires-2 c κs = search needs
 array-share-prefix-out : tie.Need-array-share-prefix-out Inv-loop μ-loop
 array-share-prefix-out c = search needs
 
-slice-aggregate-write-all : tie.Need-slice-aggregate-write-all Inv-loop μ-loop
-slice-aggregate-write-all c = search needs
+slice-aggregate-put : tie.Need-slice-aggregate-put Inv-loop μ-loop
+slice-aggregate-put c = search needs
 
-write-all-requires : tie.Need-write-all-requires Inv-loop μ-loop
-write-all-requires c κs = search needs
+put-requires : tie.Need-put-requires Inv-loop μ-loop
+put-requires c κs = search needs
 
 returns : tie.Need-returns Inv-loop μ-loop
 returns c = search needs
@@ -83,6 +83,6 @@ caret-spec =
     slice-aggregate-append-4
     append-requires-2
     array-share-prefix-out
-    slice-aggregate-write-all
-    write-all-requires
+    slice-aggregate-put
+    put-requires
     returns)

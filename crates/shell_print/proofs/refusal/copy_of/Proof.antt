@@ -7,10 +7,10 @@ use Rattle.shell_print.proofs.refusal.copy_of.Statement.{statement}
 use Rattle.shell_print.proofs.refusal.copy_of.Tie as tie
 
 abbrev Inv-loop : tie.InvT-loop
-Inv-loop line out₀ at₀ i₀ t6 out at i = (length out ≡ 1280) × (i ≤ length line)
+Inv-loop fd line out₀ at₀ i₀ t6 out at i = (length out ≡ 1280) × (i ≤ length line)
 
 abbrev μ-loop : tie.MeasureT-loop
-μ-loop line out₀ at₀ i₀ t6 out at i = length line - i
+μ-loop fd line out₀ at₀ i₀ t6 out at i = length line - i
 
 loop-holds : tie.Need-loop-holds Inv-loop μ-loop
 loop-holds c = search needs
@@ -51,11 +51,11 @@ append-requires-2 c κs = search needs
 array-share-prefix-out : tie.Need-array-share-prefix-out Inv-loop μ-loop
 array-share-prefix-out c = search needs
 
-slice-aggregate-write-all : tie.Need-slice-aggregate-write-all Inv-loop μ-loop
-slice-aggregate-write-all c = search needs
+slice-aggregate-put : tie.Need-slice-aggregate-put Inv-loop μ-loop
+slice-aggregate-put c = search needs
 
-write-all-requires : tie.Need-write-all-requires Inv-loop μ-loop
-write-all-requires c κs = search needs
+put-requires : tie.Need-put-requires Inv-loop μ-loop
+put-requires c κs = search needs
 
 returns : tie.Need-returns Inv-loop μ-loop
 returns c = search needs
@@ -79,6 +79,6 @@ copy-of-spec =
     slice-aggregate-append-4
     append-requires-2
     array-share-prefix-out
-    slice-aggregate-write-all
-    write-all-requires
+    slice-aggregate-put
+    put-requires
     returns)
