@@ -293,6 +293,7 @@ class Case:
     env: dict = dataclasses.field(default_factory=dict)
     nobody: bool = False  # run without root's right to read everything
     told: object = None  # what the reference says, if it was asked already
+    name: str = ""  # of what is no command line of a program
 
     # What the reference says where nothing fails.
     def reference(self):
@@ -317,6 +318,8 @@ class Case:
 
     # The case in one line.
     def label(self):
+        if self.name:
+            return self.name
         words = " ".join(shlex.quote(os.fsdecode(a)) for a in self.args)
         where = "".join(f" {'<' if n == 0 else f'{n}>'}{path}" for n, path in self.on.items())
         how = " limit %s" % self.limit * (self.limit is not None) + " SIGPIPE ignored" * self.ignore + " terminal" * self.terminal
@@ -750,25 +753,28 @@ def limits():
 # ---- reads that fail
 
 
-# Reads that fail after some bytes, and reads of few bytes at a time. One fails after `_:b.` of `_:b.4`, others about the ends of lines.
+# Reads that fail after some bytes, and reads of few bytes at a time.
 def failed_reads():
-    library = reading_library()
-    if not library:
-        return
+    library, text = reading_library(), b"<a> <b> <c> .\n<a> <b> _:b.4 .\r\n<d>\n<a> <b> <e> .\n<a> <b> <f> ."
+    script = b"totals\nassert <a> <b> _:b.4 .\nwhat\nsave\nassert <a> <b> <c> .\nsave\nquit\ntotals\n"
     three()
-    text = b"<a> <b> <c> .\n<a> <b> _:b.4 .\r\n<d>\n<a> <b> <e> .\n<a> <b> <f> ."
+    if library:
+        yield from broken_off(library, text, script)
+        yield from small_reads(library, text, script)
+    yield from hung_up(text)
+
+
+# A read that fails after `_:b.` of `_:b.4`, others about the ends of lines.
+def broken_off(library, text, script):
     for kept in (0, 1, 13, 14, 26, 27, 29, 30, 31, 33, 34, 35, 48, 49, 61, 62):
         for program, options in ("load", []), ("export", []), ("export", [b"--partial"]):
             yield broken_file(program, options, library, text, kept)
             yield broken_input(program, options, library, text, kept)
         yield broken_file("shell", [], library, text, kept)
         yield broken_file("shell", [b"--all"], library, text, kept)
-    script = b"totals\nassert <a> <b> _:b.4 .\nwhat\nsave\nassert <a> <b> <c> .\nsave\nquit\ntotals\n"
     for kept in (0, 3, 6, 7, 22, 26, 27, 29, 30, 34, 35, 39, 40, 61, 65, 66, 68, 70, 71):
         yield broken_input("shell", [], library, script, kept)
         yield broken_input("shell", [b"--all", b"clean.nt"], library, script, kept)
-    yield from small_reads(library, text, script)
-    yield from hung_up(text)
 
 
 # The object of `READ`, built; nothing, and a word why, if it cannot be.
@@ -776,6 +782,9 @@ def reading_library():
     compiler = shutil.which("cc") or shutil.which("gcc") or shutil.which("clang")
     if not compiler:
         return skipped("reads that fail", "there is no C compiler")
+    program = contents(shutil.which("lemontiller-load") or sys.executable)[:4096]
+    if program[:4] == b"\x7fELF" and b"/ld" not in program:
+        return skipped("reads that fail", "the programs are linked statically")
     put("read.c", READ.encode())
     built = subprocess.run([compiler, "-shared", "-fPIC", "-O1", "-o", "read.so", "read.c"], capture_output=True)
     if built.returncode:
@@ -839,11 +848,16 @@ def recipes():
         os.symlink(os.path.join(ROOT, "samples"), "samples")
     shown = RECIPE.findall(contents(ours("README.md")).decode())
     assert len(shown) == 2
-    for script, written in shown:
-        yield Case("bash", [b"-c", script.encode()], out=written.encode(), err=Anything(), status=0)
+    for n, (script, written) in enumerate(shown, 1):
+        yield recipe(f"recipe {n} of the README", script, written, 0)
         for name in sorted(set(re.findall(r"<[a-z]+:[^>]*>", script))):
-            yield Case("bash", [b"-c", script.replace(name, name[:-1] + "x>").encode()], out=b"", err=Anything(), status=1)
-        yield Case("bash", [b"-c", script.replace("samples/", "sample/").encode()], out=b"", err=Anything(), status=2)
+            yield recipe(f"recipe {n} of the README with {name} misspelt", script.replace(name, name[:-1] + "x>"), "", 1)
+        yield recipe(f"recipe {n} of the README with samples/ misspelt", script.replace("samples/", "sample/"), "", 2)
+
+
+# A script, what it writes to standard output, and its status.
+def recipe(name, script, written, status):
+    return Case("bash", [b"-c", script.encode()], out=written.encode(), err=Anything(), status=status, name=name)
 
 
 GROUPS = [written_out, arguments, files, every_byte, lines, lengths, names, refused_lines, garbage, w3c, samples, full, commands, terminal,

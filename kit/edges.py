@@ -13,6 +13,7 @@ import random
 import re
 import resource
 import shutil
+import signal
 import subprocess
 import sys
 import tempfile
@@ -54,7 +55,7 @@ def finish(process, typed):
         out, err = process.communicate(typed, timeout=SECONDS)
         return out or b"", err or b"", process.returncode
     except subprocess.TimeoutExpired:
-        process.kill()
+        os.killpg(process.pid, signal.SIGKILL)
         out, err = process.communicate()
         return out or b"", err or b"", f"none after {SECONDS} seconds"
 
@@ -70,7 +71,7 @@ def execute(case, bindir):
         argv[0] = shutil.copy(argv[0], ".")
     with as_nobody(case.nobody):
         process = subprocess.Popen(argv, stdin=streams[0], stdout=streams[1], stderr=streams[2], env={**os.environ, **case.env},
-                                   preexec_fn=in_child(case), restore_signals=not case.ignore)
+                                   preexec_fn=in_child(case), restore_signals=not case.ignore, start_new_session=True)
     for handle in handles.values():
         os.close(handle)
     out, err, status = finish(process, None if 0 in case.on else case.stdin)
@@ -81,7 +82,7 @@ def execute(case, bindir):
 # The same with a terminal on standard input, where the case's input is typed, and then its end.
 def at_terminal(case, argv):
     master, slave = pty.openpty()
-    process = subprocess.Popen(argv, stdin=slave, stdout=subprocess.PIPE, stderr=subprocess.PIPE)
+    process = subprocess.Popen(argv, stdin=slave, stdout=subprocess.PIPE, stderr=subprocess.PIPE, start_new_session=True)
     os.close(slave)
     os.write(master, case.stdin + b"\x04")
     try:
@@ -156,6 +157,8 @@ def count():
 
 def main(bindir, *chosen):
     where = os.path.abspath(bindir)
+    if bindir != "--list" and not all(os.path.isfile(os.path.join(where, "lemontiller-" + program)) for program in REFERENCES):
+        return f"the programs are not in {where}"
     os.environ["PATH"] = where + os.pathsep + os.environ["PATH"]
     here = os.getcwd()
     with tempfile.TemporaryDirectory(prefix="edges-") as folder:

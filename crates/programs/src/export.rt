@@ -59,9 +59,18 @@ fn tell_missing(t: Report) -> bool {
     tell(b"lines missing from the file: ", t.missing)
 }
 
+// Tells what the file lacks and writes it, and answers the status.
+fn write_told(t: Report, file: &[u8]) -> u32 {
+    if !tell_missing(t) {
+        return 2;
+    }
+    if put(STDOUT_FILENO, file) { 0 } else { 2 }
+}
+
 // Writes the file, and answers the status. A sound store is refused for the file's length alone.
 fn write_file(
     c: Counters,
+    t: Report,
     resources: &[u32],
     statements: &[u32],
     index: &[u32],
@@ -89,10 +98,26 @@ fn write_file(
 }
 
 // Makes room for the file and writes it.
-fn write(c: Counters, resources: &[u32], statements: &[u32], index: &[u32], text: &[u8]) -> u32 {
+fn write(
+    c: Counters,
+    t: Report,
+    resources: &[u32],
+    statements: &[u32],
+    index: &[u32],
+    text: &[u8],
+) -> u32 {
     let mut out = buffer::file();
     let mut work = buffer::statement_list();
-    write_file(c, resources, statements, index, text, &mut out, &mut work)
+    write_file(
+        c,
+        t,
+        resources,
+        statements,
+        index,
+        text,
+        &mut out,
+        &mut work,
+    )
 }
 
 // The greater of two statuses.
@@ -120,10 +145,7 @@ fn end(
         }
         return 2;
     }
-    if !tell_missing(t) {
-        return 2;
-    }
-    worse(status, write(c, resources, statements, index, text))
+    worse(status, write(c, t, resources, statements, index, text))
 }
 
 // The program; `named` says that a file is named, `partial` that what there is is asked for.

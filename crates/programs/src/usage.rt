@@ -86,7 +86,7 @@ Loads N-Triples files and answers the questions and commands on standard input,
 one a line; the command help lists them. In a pipe standard output has the rows
 alone, and standard error what else there is to tell.
 
-  --all      everything on standard output
+  --all      all answers on standard output
   -          standard input, as a file, up to its end
   --         what follows are files
   --help     this text
