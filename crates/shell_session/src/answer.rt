@@ -246,8 +246,8 @@ pub fn reclaimed(notices: i32, before: u32, after: u32) -> u32 {
 }
 
 // The commands, in one screen: `help.txt`.
-pub fn help() -> u32 {
-    let written = put(
+fn page() -> bool {
+    put(
         STDOUT_FILENO,
         b"Questions: one to six patterns of subject, predicate and object, dots between.
   <r:21> <p:trips> ?b . ?b <p:in> ?bay     ?b and ?bay stand for any name
@@ -270,6 +270,9 @@ A name is an IRI <r:21>, a blank node _:ct or a literal \"open\", \"Nord\"@de,
 
 A line that begins with # is a comment. What is refused changes nothing.
 ",
-    );
-    status::told(written, status::DONE)
+    )
+}
+
+pub fn help() -> u32 {
+    status::told(page(), status::DONE)
 }

@@ -22,6 +22,14 @@ pub struct Changed {
     pub status: u32,
 }
 
+// The counters with a command's status.
+pub fn with_status(c: Counters, status: u32) -> Changed {
+    Changed {
+        counters: c,
+        status: status,
+    }
+}
+
 // The rest of a line, from an offset on.
 fn rest_of(line: &[u8], from: usize) -> &[u8] {
     bytes_of(line, from, line.len())
@@ -35,6 +43,17 @@ fn unreadable(notices: i32, line: &[u8], from: usize, offset: usize) -> u32 {
         10,
         std::num::wrapping_add_usize(from, offset),
     )
+}
+
+// Done where the rest of the line has a statement; otherwise it cannot be read, which is told.
+fn tell_unreadable(notices: i32, line: &[u8], from: usize) -> u32 {
+    let read = ntriples::read_line(rest_of(line, from), 0);
+    let found = read.line;
+    match found {
+        Line::Triple(_, _, _) => status::DONE,
+        Line::Refused(k) => unreadable(notices, line, from, k),
+        _ => unreadable(notices, line, from, 0),
+    }
 }
 
 // Tells the names that were entered: those with the numbers after `before`.
@@ -85,16 +104,22 @@ fn tell_asserted(
     answer::outcome(notices, outcome)
 }
 
-// Asserts the first line of the source, which has a statement, whole or not at all.
-fn assert_source(
+// Asserts the statement in the rest of the line, whole or not at all.
+pub fn assert(
     notices: i32,
     c: Counters,
     resources: &mut [u32],
     statements: &mut [u32],
     index: &mut [u32],
     text: &mut [u8],
-    source: &[u8],
+    line: &[u8],
+    from: usize,
 ) -> Changed {
+    let told = tell_unreadable(notices, line, from);
+    if told != status::DONE {
+        return with_status(c, told);
+    }
+    let source = rest_of(line, from);
     let r = whole_line::load_whole(c, resources, statements, index, text, source);
     let d = r.counters;
     let outcome = r.outcome;
@@ -108,51 +133,7 @@ fn assert_source(
         text,
         outcome,
     );
-    Changed {
-        counters: d,
-        status: status,
-    }
-}
-
-// Asserts the statement in the rest of the line.
-pub fn assert(
-    notices: i32,
-    c: Counters,
-    resources: &mut [u32],
-    statements: &mut [u32],
-    index: &mut [u32],
-    text: &mut [u8],
-    line: &[u8],
-    from: usize,
-) -> Changed {
-    let source = rest_of(line, from);
-    let read = ntriples::read_line(source, 0);
-    let found = read.line;
-    match found {
-        Line::Triple(_, _, _) => assert_source(
-            notices,
-            c,
-            resources,
-            statements,
-            index,
-            text,
-            source,
-        ),
-        Line::Refused(k) => Changed {
-            counters: c,
-            status: unreadable(notices, line, from, k),
-        },
-        _ => Changed {
-            counters: c,
-            status: unreadable(notices, line, from, 0),
-        },
-    }
-}
-
-// The triple of three names, with 0 for one that the store does not have, or a refusal's number.
-struct FoundTriple {
-    refusal: u32,
-    triple: Triple,
+    with_status(d, status)
 }
 
 // The first refusal of three, 0 if there is none.
@@ -166,8 +147,61 @@ fn first_refusal(s: Found, p: Found, o: Found) -> u32 {
     o.refusal
 }
 
+// Tells a name that the store does not have.
+fn tell_name(notices: i32, name: &[u8], f: Found) -> bool {
+    if f.number != UNKNOWN {
+        return true;
+    }
+    answer::unknown(notices, name)
+}
+
+// Tells a refused name, or the names that the store does not have and that there is no such statement.
+fn tell_absent(
+    notices: i32,
+    subject: &[u8],
+    predicate: &[u8],
+    object: &[u8],
+    s: Found,
+    p: Found,
+    o: Found,
+) -> u32 {
+    let refused = first_refusal(s, p, o);
+    if refused != 0 {
+        return refusal::refused(notices, refused);
+    }
+    if !tell_name(notices, subject, s) {
+        return status::FAILED;
+    }
+    if !tell_name(notices, predicate, p) {
+        return status::FAILED;
+    }
+    if !tell_name(notices, object, o) {
+        return status::FAILED;
+    }
+    answer::absent(notices)
+}
+
+// The triple of a statement to retract. Done where the store has its names; otherwise that is told.
+struct Sought {
+    status: u32,
+    triple: Triple,
+}
+
+// No triple.
+fn not_sought(status: u32) -> Sought {
+    Sought {
+        status: status,
+        triple: Triple {
+            subject: ResourceId(UNKNOWN),
+            predicate: ResourceId(UNKNOWN),
+            object: ResourceId(UNKNOWN),
+        },
+    }
+}
+
 // The triple of these parts.
-fn triple_of(
+fn seek_parts(
+    notices: i32,
     c: Counters,
     resources: &[u32],
     statements: &[u32],
@@ -177,7 +211,7 @@ fn triple_of(
     s: Span,
     p: Span,
     o: Span,
-) -> FoundTriple {
+) -> Sought {
     let subject = bytes_of(source, s.start, s.end);
     let predicate = bytes_of(source, p.start, p.end);
     let object = bytes_of(source, o.start, o.end);
@@ -189,73 +223,45 @@ fn triple_of(
         predicate: ResourceId(b.number),
         object: ResourceId(d.number),
     };
-    FoundTriple {
-        refusal: first_refusal(a, b, d),
+    if !table::known(c.resources, x) {
+        return not_sought(tell_absent(notices, subject, predicate, object, a, b, d));
+    }
+    Sought {
+        status: status::DONE,
         triple: x,
     }
 }
 
-// Tells a part whose name the store does not have.
-fn tell_part(notices: i32, source: &[u8], part: Span, n: ResourceId) -> bool {
-    if n.0 != UNKNOWN {
-        return true;
-    }
-    answer::unknown(notices, bytes_of(source, part.start, part.end))
-}
-
-// Tells that there is no such statement, since the store does not have a name of it.
-fn tell_absent(notices: i32, source: &[u8], s: Span, p: Span, o: Span, x: Triple) -> u32 {
-    if !tell_part(notices, source, s, x.subject) {
-        return status::FAILED;
-    }
-    if !tell_part(notices, source, p, x.predicate) {
-        return status::FAILED;
-    }
-    if !tell_part(notices, source, o, x.object) {
-        return status::FAILED;
-    }
-    answer::absent(notices)
-}
-
-// Retracts the statement of a triple whose names the store has.
-fn retract_triple(
+// The triple in the rest of the line.
+fn seek(
     notices: i32,
     c: Counters,
-    resources: &mut [u32],
-    statements: &mut [u32],
+    resources: &[u32],
+    statements: &[u32],
     index: &[u32],
     text: &[u8],
-    x: Triple,
-) -> u32 {
-    match statement::retract(c, resources, statements, index, text, x) {
-        Retracted::Number(n) => answer::became(notices, b"retracted", n.0),
-        Retracted::Absent => answer::absent(notices),
-        Retracted::Refused(e) => refusal::refused(notices, store::refusal_number(e)),
+    line: &[u8],
+    from: usize,
+) -> Sought {
+    let source = rest_of(line, from);
+    let read = ntriples::read_line(source, 0);
+    let found = read.line;
+    match found {
+        Line::Triple(s, p, o) => seek_parts(
+            notices,
+            c,
+            resources,
+            statements,
+            index,
+            text,
+            source,
+            s,
+            p,
+            o,
+        ),
+        Line::Refused(k) => not_sought(unreadable(notices, line, from, k)),
+        _ => not_sought(unreadable(notices, line, from, 0)),
     }
-}
-
-// Retracts the statement of these parts.
-fn retract_parts(
-    notices: i32,
-    c: Counters,
-    resources: &mut [u32],
-    statements: &mut [u32],
-    index: &[u32],
-    text: &[u8],
-    source: &[u8],
-    s: Span,
-    p: Span,
-    o: Span,
-) -> u32 {
-    let f = triple_of(c, resources, statements, index, text, source, s, p, o);
-    let x = f.triple;
-    if f.refusal != 0 {
-        return refusal::refused(notices, f.refusal);
-    }
-    if !table::known(c.resources, x) {
-        return tell_absent(notices, source, s, p, o, x);
-    }
-    retract_triple(notices, c, resources, statements, index, text, x)
 }
 
 // Retracts the statement in the rest of the line.
@@ -269,24 +275,15 @@ pub fn retract(
     line: &[u8],
     from: usize,
 ) -> u32 {
-    let source = rest_of(line, from);
-    let read = ntriples::read_line(source, 0);
-    let found = read.line;
-    match found {
-        Line::Triple(s, p, o) => retract_parts(
-            notices,
-            c,
-            resources,
-            statements,
-            index,
-            text,
-            source,
-            s,
-            p,
-            o,
-        ),
-        Line::Refused(k) => unreadable(notices, line, from, k),
-        _ => unreadable(notices, line, from, 0),
+    let f = seek(notices, c, resources, statements, index, text, line, from);
+    if f.status != status::DONE {
+        return f.status;
+    }
+    let x = f.triple;
+    match statement::retract(c, resources, statements, index, text, x) {
+        Retracted::Number(n) => answer::became(notices, b"retracted", n.0),
+        Retracted::Absent => answer::absent(notices),
+        Retracted::Refused(e) => refusal::refused(notices, store::refusal_number(e)),
     }
 }
 
@@ -300,13 +297,11 @@ pub fn reclaim(
     text: &[u8],
 ) -> Changed {
     match compaction::reclaim(c, resources, statements, index, text) {
-        Reclaimed::Done(d) => Changed {
-            counters: d,
-            status: answer::reclaimed(notices, c.statements, d.statements),
-        },
-        Reclaimed::Refused(e) => Changed {
-            counters: c,
-            status: refusal::refused(notices, store::refusal_number(e)),
-        },
+        Reclaimed::Done(d) => {
+            with_status(d, answer::reclaimed(notices, c.statements, d.statements))
+        }
+        Reclaimed::Refused(e) => {
+            with_status(c, refusal::refused(notices, store::refusal_number(e)))
+        }
     }
 }

@@ -1,6 +1,7 @@
 // A line taken to its command.
 use crate::change;
 use crate::change::Changed;
+use crate::change::with_status;
 use crate::reading;
 use loader::line::LINE_LIMIT;
 use shell_line::command;
@@ -52,14 +53,6 @@ fn tell_refused(notices: i32, line: &[u8], k: CommandRead) -> u32 {
     }
 }
 
-// A command that changed nothing, and its status.
-fn unchanged(c: Counters, status: u32) -> Changed {
-    Changed {
-        counters: c,
-        status: status,
-    }
-}
-
 // Runs the command, and answers the counters from now on, and its status.
 fn run_command(
     s: State,
@@ -85,18 +78,13 @@ fn run_command(
             line,
             rest,
         ),
-        Command::Retract => unchanged(
-            c,
-            change::retract(notices, c, resources, statements, index, text, line, rest),
-        ),
+        Command::Retract => {
+            let told = change::retract(notices, c, resources, statements, index, text, line, rest);
+            with_status(c, told)
+        }
         Command::Reclaim => change::reclaim(notices, c, resources, statements, index, text),
-        Command::Totals => unchanged(
-            c,
-            reading::totals(c, resources, statements, index, text, s.missing),
-        ),
-        _ => unchanged(
-            c,
-            reading::answer(
+        _ => {
+            let told = reading::answer(
                 notices,
                 c,
                 resources,
@@ -106,8 +94,10 @@ fn run_command(
                 line,
                 command,
                 rest,
-            ),
-        ),
+                s.missing,
+            );
+            with_status(c, told)
+        }
     }
 }
 

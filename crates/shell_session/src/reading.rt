@@ -391,7 +391,7 @@ fn live(statements: &[u32], total: u32) -> u32 {
 }
 
 // Tells what is in use, and how many lines of the files were refused.
-pub fn totals(
+fn totals(
     c: Counters,
     resources: &[u32],
     statements: &[u32],
@@ -461,8 +461,10 @@ fn answer_bare(
     index: &[u32],
     text: &[u8],
     command: Command,
+    missing: u64,
 ) -> u32 {
     match command {
+        Command::Totals => totals(c, resources, statements, index, text, missing),
         Command::Check => answer::checked(integrity::check(c, resources, statements, index, text)),
         Command::Save => save(notices, c, resources, statements, index, text),
         Command::Help => answer::help(),
@@ -470,7 +472,7 @@ fn answer_bare(
     }
 }
 
-// Answers a command that only reads the store, but for `totals`.
+// Answers a command that only reads the store; `missing` lines of the files were refused.
 pub fn answer(
     notices: i32,
     c: Counters,
@@ -481,12 +483,22 @@ pub fn answer(
     line: &[u8],
     command: Command,
     from: usize,
+    missing: u64,
 ) -> u32 {
     match command {
         Command::Question => ask(notices, c, resources, statements, index, text, line, from),
         Command::List => list_matches(notices, c, resources, statements, index, text, line, from),
         Command::Names => names(notices, c, resources, statements, index, text, line, from),
         Command::Counts => counts(notices, c, resources, statements, index, text, line, from),
-        _ => answer_bare(notices, c, resources, statements, index, text, command),
+        _ => answer_bare(
+            notices,
+            c,
+            resources,
+            statements,
+            index,
+            text,
+            command,
+            missing,
+        ),
     }
 }
