@@ -81,11 +81,7 @@ fn write_file(
     match exporter::export_file(c, resources, statements, index, text, out, work) {
         Exported::Length(n) => {
             let end = table::word::lesser(n as usize, out.len());
-            if put(STDOUT_FILENO, &out[0..end]) {
-                0
-            } else {
-                2
-            }
+            write_told(t, &out[0..end])
         }
         Exported::Refused(_) => {
             if put(STDERR_FILENO, b"no file written, over 4194304 bytes\n") {
