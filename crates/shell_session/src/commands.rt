@@ -66,38 +66,18 @@ fn run_command(
     let notices = s.notices;
     let c = s.counters;
     let command = k.command;
-    let rest = k.rest;
+    let at = k.rest;
     match command {
-        Command::Assert => change::assert(
-            notices,
-            c,
-            resources,
-            statements,
-            index,
-            text,
-            line,
-            rest,
-        ),
+        Command::Assert => change::assert(notices, c, resources, statements, index, text, line, at),
         Command::Retract => {
-            let told = change::retract(notices, c, resources, statements, index, text, line, rest);
+            let told = change::retract(notices, c, resources, statements, index, text, line, at);
             with_status(c, told)
         }
         Command::Reclaim => change::reclaim(notices, c, resources, statements, index, text),
-        _ => {
-            let told = reading::answer(
-                notices,
-                c,
-                resources,
-                statements,
-                index,
-                text,
-                line,
-                command,
-                rest,
-                s.missing,
-            );
-            with_status(c, told)
-        }
+        _ => with_status(
+            c,
+            reading::answer(s, resources, statements, index, text, line, k),
+        ),
     }
 }
 

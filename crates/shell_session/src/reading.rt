@@ -6,6 +6,7 @@ ghost use Rattle.store.specs.Tables.{lent};
 ghost use Rattle.shell_answer.specs.Claims.{QuestionRead};
 ghost use Rattle.shell_session.specs.Asked.{Asked, Listed};
 use crate::answer;
+use crate::commands::State;
 use libc::STDOUT_FILENO;
 use lines::Exported;
 use loader::buffer;
@@ -16,6 +17,7 @@ use shell_answer::list;
 use shell_answer::question;
 use shell_answer::told_refused;
 use shell_line::command::Command;
+use shell_line::command::CommandRead;
 use shell_line::part;
 use shell_line::parts;
 use shell_line::parts::MAX_PARTS;
@@ -118,7 +120,8 @@ fn ask_parts(
     line: &[u8],
     p: Parts,
 ) -> Replied
-    ensures { λ r. ⌜ Asked c (lent (resources .entry) (statements .entry) (index .entry) (text .entry)) (now (line .entry)) p (r .told) ⌝ }
+    ensures { λ r. ⌜ Asked c (lent (resources .entry) (statements .entry) (index .entry) (text .entry))
+        (now (line .entry)) p (r .told) ⌝ }
 {
     let w = words_of(c, resources, statements, index, text, line, p);
     if w.refusal != 0 {
@@ -175,7 +178,8 @@ fn list_parts(
     line: &[u8],
     p: Parts,
 ) -> Replied
-    ensures { λ r. ⌜ Listed c (lent (resources .entry) (statements .entry) (index .entry) (text .entry)) (now (line .entry)) p (r .told) ⌝ }
+    ensures { λ r. ⌜ Listed c (lent (resources .entry) (statements .entry) (index .entry) (text .entry))
+        (now (line .entry)) p (r .told) ⌝ }
 {
     let w = words_of(c, resources, statements, index, text, line, p);
     if w.refusal != 0 {
@@ -452,7 +456,7 @@ fn save(
     )
 }
 
-// Answers a command that takes no rest.
+// Answers a command that takes no rest, but for `totals`.
 fn answer_bare(
     notices: i32,
     c: Counters,
@@ -461,10 +465,8 @@ fn answer_bare(
     index: &[u32],
     text: &[u8],
     command: Command,
-    missing: u64,
 ) -> u32 {
     match command {
-        Command::Totals => totals(c, resources, statements, index, text, missing),
         Command::Check => answer::checked(integrity::check(c, resources, statements, index, text)),
         Command::Save => save(notices, c, resources, statements, index, text),
         Command::Help => answer::help(),
@@ -472,33 +474,26 @@ fn answer_bare(
     }
 }
 
-// Answers a command that only reads the store; `missing` lines of the files were refused.
+// Answers a command that only reads the store.
 pub fn answer(
-    notices: i32,
-    c: Counters,
+    s: State,
     resources: &[u32],
     statements: &[u32],
     index: &[u32],
     text: &[u8],
     line: &[u8],
-    command: Command,
-    from: usize,
-    missing: u64,
+    k: CommandRead,
 ) -> u32 {
+    let notices = s.notices;
+    let c = s.counters;
+    let command = k.command;
+    let at = k.rest;
     match command {
-        Command::Question => ask(notices, c, resources, statements, index, text, line, from),
-        Command::List => list_matches(notices, c, resources, statements, index, text, line, from),
-        Command::Names => names(notices, c, resources, statements, index, text, line, from),
-        Command::Counts => counts(notices, c, resources, statements, index, text, line, from),
-        _ => answer_bare(
-            notices,
-            c,
-            resources,
-            statements,
-            index,
-            text,
-            command,
-            missing,
-        ),
+        Command::Question => ask(notices, c, resources, statements, index, text, line, at),
+        Command::List => list_matches(notices, c, resources, statements, index, text, line, at),
+        Command::Names => names(notices, c, resources, statements, index, text, line, at),
+        Command::Counts => counts(notices, c, resources, statements, index, text, line, at),
+        Command::Totals => totals(c, resources, statements, index, text, s.missing),
+        _ => answer_bare(notices, c, resources, statements, index, text, command),
     }
 }

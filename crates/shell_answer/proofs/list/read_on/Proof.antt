@@ -80,7 +80,9 @@ cast-told-ended : tie.Need-cast-told-ended Inv-loop μ-loop
 cast-told-ended c = search needs
 
 add-told-ended : tie.Need-add-told-ended Inv-loop μ-loop
-add-told-ended c = let d = c .before .before .before in record { fits = fits-visits _ (going d) (within d (c .before .v .given .1)) (left d) }
+add-told-ended c =
+    let d = c .before .before .before in
+    record { fits = fits-visits _ (going d) (within d (c .before .v .given .1)) (left d) }
 
 told-ended-requires : tie.Need-told-ended-requires Inv-loop μ-loop
 told-ended-requires c κs = search needs
@@ -100,7 +102,9 @@ cast-visits : tie.Need-cast-visits Inv-loop μ-loop
 cast-visits c = search needs
 
 add-visits : tie.Need-add-visits Inv-loop μ-loop
-add-visits c = let d = c .before .before .before in record { fits = fits-visits _ (going d) (within d (c .before .n .given .1)) (left d) }
+add-visits c =
+    let d = c .before .before .before in
+    record { fits = fits-visits _ (going d) (within d (c .before .n .given .1)) (left d) }
 
 statement-requires : tie.Need-statement-requires Inv-loop μ-loop
 statement-requires c κs = search needs
@@ -122,7 +126,9 @@ cast-visits-2 : tie.Need-cast-visits-2 Inv-loop μ-loop
 cast-visits-2 c = search needs
 
 add-visits-2 : tie.Need-add-visits-2 Inv-loop μ-loop
-add-visits-2 c = let d = c .before .before .before in record { fits = fits-visits _ (going d) (within d (c .before .v2 .given .1)) (left d) }
+add-visits-2 c =
+    let d = c .before .before .before in
+    record { fits = fits-visits _ (going d) (within d (c .before .v2 .given .1)) (left d) }
 
 sub-turns : tie.Need-sub-turns Inv-loop μ-loop
 sub-turns c = search needs
