@@ -32,7 +32,8 @@ const LINE_END: u32 = 4;
 // The longest name.
 const NAME_LIMIT: usize = 255;
 
-// Between names, or where in a name. `Closed`: after a literal's closing quote; `Hat`, `Hats`: after one and two `^`.
+// Between names, or where in a name. `Closed`: after a literal's closing quote; `Tag`, `Subtag`: in a tag up to its first `-`, and from there
+// on; `Hat`, `Hats`: after one and two `^`.
 enum Place {
     Between,
     Comment,
@@ -42,6 +43,7 @@ enum Place {
     Escape,
     Closed,
     Tag,
+    Subtag,
     Hat,
     Hats,
     Datatype,
@@ -99,8 +101,16 @@ fn is_label_byte(b: u8) -> bool {
     }
 }
 
-// A byte that may go on in a tag.
+// A byte that may go on in a tag, up to its first `-`.
 fn is_tag_byte(b: u8) -> bool {
+    match b {
+        b'0'..=b'9' => false,
+        _ => is_subtag_byte(b),
+    }
+}
+
+// A byte that may go on in a tag after its first `-`.
+fn is_subtag_byte(b: u8) -> bool {
     if b == b'-' {
         return true;
     }
@@ -141,7 +151,10 @@ fn closed(s: Standing, i: usize, b: u8) -> Standing {
 
 // A byte of a tag, or the first after it.
 fn tag(s: Standing, i: usize, b: u8) -> Standing {
-    if is_tag_byte(b) {
+    if b == b'-' {
+        return at(Place::Subtag, s.part, s.start);
+    }
+    if is_subtag_byte(b) {
         return s;
     }
     between(DOT, i, b)
@@ -184,6 +197,7 @@ fn step(s: Standing, i: usize, b: u8, last: u8) -> Standing {
         Place::Escape => at(Place::Text, s.part, s.start),
         Place::Closed => closed(s, i, b),
         Place::Tag => tag(s, i, b),
+        Place::Subtag => tag(s, i, b),
         Place::Hat => moved(s, b, b'^', Place::Hats),
         Place::Hats => moved(s, b, b'<', Place::Datatype),
         Place::Datatype => iri(s, i, b),
@@ -238,6 +252,11 @@ fn label_complete(part: u32, length: usize, last: u8, before: u8) -> bool {
     before != b'.'
 }
 
+// Whether a literal is not complete after this byte of its tag: 0 where it is.
+fn open_tag(last: u8) -> u32 {
+    if is_letter_or_digit(last) { 0 } else { LITERAL }
+}
+
 // Within which name a position lies that is not complete there: an IRI, a label or a literal; 0 for none.
 fn open_name(s: Standing, length: usize, last: u8, before: u8) -> u32 {
     let place = s.place;
@@ -252,12 +271,8 @@ fn open_name(s: Standing, length: usize, last: u8, before: u8) -> u32 {
             }
             LABEL
         }
-        Place::Tag => {
-            if is_letter_or_digit(last) {
-                return 0;
-            }
-            LITERAL
-        }
+        Place::Tag => open_tag(last),
+        Place::Subtag => open_tag(last),
         _ => LITERAL,
     }
 }
@@ -267,6 +282,7 @@ fn goes_on(place: Place, b: u8) -> bool {
     match place {
         Place::Label => is_label_byte(b),
         Place::Tag => is_tag_byte(b),
+        Place::Subtag => is_subtag_byte(b),
         Place::Closed => {
             if b == b'@' {
                 return true;
@@ -284,6 +300,7 @@ fn due(s: Standing, last: u8) -> u32 {
         Place::Label => after_label(s.part, last),
         Place::Closed => DOT,
         Place::Tag => DOT,
+        Place::Subtag => DOT,
         _ => s.part,
     }
 }

@@ -35,6 +35,11 @@ pub fn missing(l: Load) -> u64 {
     l.report.missing
 }
 
+// How many files could not be read.
+pub fn unread(l: Load) -> u64 {
+    l.report.unread
+}
+
 // Whether all that was told could be written.
 pub fn written(l: Load) -> bool {
     l.report.written

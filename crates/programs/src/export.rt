@@ -1,67 +1,38 @@
 // Writes bay files in canonical form (02, note 1): reads N-Triples from standard input, or from the files named as arguments in turn, and
 // writes the statements to standard output, a line each, in rising byte order. A file that lacks lines looks complete: where a line found
 // no room, or something could not be read, none is written, unless what there is was asked for. The tables are the shell's.
-ghost use Rattle.io.specs.Counts.{Counts};
 use libc::STDERR_FILENO;
 use libc::STDOUT_FILENO;
 use lines::Exported;
 use loader::buffer;
 use loader::load;
-use report::output::append;
-use report::output::append_decimal;
 use report::output::put;
 use report::tally;
 use report::tally::Report;
 use store::Counters;
-
-// Words and a number.
-const LINE: usize = 128;
-
-// Tells words and a number, and answers whether they were written.
-fn tell(words: &[u8], n: u64) -> bool {
-    let mut out = [0u8; LINE];
-    let a = append(&mut out, 0, words);
-    let b = append_decimal(&mut out, a, n);
-    let c = append(&mut out, b, b"\n");
-    put(STDERR_FILENO, &out[..c])
-}
 
 // Whether no file is written: something is missing that has no place in it, and what there is was not asked for.
 fn holds_back(t: Report, partial: bool) -> bool {
     if partial {
         return false;
     }
-    t.full || t.unread
+    t.full || t.unread != 0
 }
 
 // Tells that no file is written, and why.
 fn tell_none(t: Report) -> bool {
-    if t.unread {
+    if t.unread != 0 {
         return put(
             STDERR_FILENO,
             b"no file written, not everything could be read\n",
         );
     }
-    tell(b"no file written, lines missing: ", t.missing)
-}
-
-// Tells what the file lacks, if anything, and answers whether that could be written.
-fn tell_missing(t: Report) -> bool {
-    if t.unread {
-        return tell(
-            b"not everything could be read, lines missing from the file: ",
-            t.missing,
-        );
-    }
-    if t.missing == 0 {
-        return true;
-    }
-    tell(b"lines missing from the file: ", t.missing)
+    tally::tell(b"no file written, lines missing: ", t.missing)
 }
 
 // Tells what the file lacks and writes it, and answers the status.
 fn write_told(t: Report, file: &[u8]) -> u32 {
-    if !tell_missing(t) {
+    if !tally::tell_lacks(t.missing, t.unread) {
         return 2;
     }
     if put(STDOUT_FILENO, file) { 0 } else { 2 }

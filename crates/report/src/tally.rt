@@ -16,14 +16,14 @@ const REPORT_LINE: usize = 4352;
 const FULL: u32 = 3;
 
 // The argument that names the file being read, 0 for standard input, and how many lines were read before it; how many of its lines were
-// refused, and of all files'; whether one found no room, whether something could not be read, and whether all that was told was written.
+// refused, and of all files'; whether one found no room, how many files could not be read, and whether all that was told was written.
 pub struct Report {
     pub file: usize,
     pub before: u64,
     pub refused: u64,
     pub missing: u64,
     pub full: bool,
-    pub unread: bool,
+    pub unread: u64,
     pub written: bool,
 }
 
@@ -35,7 +35,7 @@ pub fn fresh() -> Report {
         refused: 0,
         missing: 0,
         full: false,
-        unread: false,
+        unread: 0,
         written: true,
     }
 }
@@ -209,14 +209,14 @@ pub fn with_end(t: Report) -> Report {
 // With something that could not be read, by the call that just failed.
 pub fn with_unread(t: Report, name: &[u8]) -> Report {
     let mut u = t;
-    u.unread = true;
+    u.unread = counted(t.unread);
     u.written = output::cannot(name);
     u
 }
 
 // What a load comes to: 2 where something could not be read or written, 1 where a line was refused, otherwise 0.
 pub fn status(t: Report) -> u32 {
-    if t.unread {
+    if t.unread != 0 {
         return 2;
     }
     if !t.written {
@@ -226,4 +226,31 @@ pub fn status(t: Report) -> u32 {
         return 1;
     }
     0
+}
+
+// Tells words and a number, and answers whether they were written.
+pub fn tell(words: &[u8], n: u64) -> bool {
+    let mut out = [0u8; REPORT_LINE];
+    let a = append(&mut out, 0, words);
+    let b = append_decimal(&mut out, a, n);
+    let c = append(&mut out, b, b"\n");
+    output::put(STDERR_FILENO, &out[..c])
+}
+
+// Tells what a file lacks that is about to be written, where lines were refused or files could not be read, and answers whether that was
+// written.
+pub fn tell_lacks(missing: u64, unread: u64) -> bool {
+    if unread == 0 {
+        if missing == 0 {
+            return true;
+        }
+        return tell(b"lines missing from the file: ", missing);
+    }
+    if missing == 0 {
+        return output::put(STDERR_FILENO, b"not everything could be read\n");
+    }
+    tell(
+        b"not everything could be read, lines missing from the file: ",
+        missing,
+    )
 }

@@ -5,6 +5,7 @@ use mathlib.Core.Bool.{Bool, true, false, true≢false}
 use mathlib.Core.Logic.{_≢_}
 use Prim.Native.Nat.{ℕ, suc, _+_, _-_, _*_, _≤_, _<_}
 use native.Mathlib.Omega.{arith}
+use lib.ListN.{length}
 use borrow.Author.Tests.{ne-eqb}
 use Rattle.store.specs.declared.Refusal.{Refusal}
 use Rattle.store.specs.Values.{refusalNumber}
@@ -84,24 +85,33 @@ module _ {A Q : Type 0} (next : Q → ℕ → Reply A Q) where
     pub fits-visits : {w : ℕ} → w ≤ budget → 0 < turns → v + w < 18446744073709551616
     fits-visits b z = omega (arith, G .paid, G .all)
 
-    -- n more calls find nothing, and then none is made
-    last : {e k v′ : ℕ} {y : Bool} (w : Bool) (n : ℕ) → n ≤ turns → (e ≡ 0 → y ≡ false → w ≡ true → n ≡ turns) → v′ ≡ v + k
-        → from q n ≡ told e y 0 k true → TellsOf (readOn next start) (told e y f v′ w)
-    last w n h g d p = record {
+    -- what the calls made so far have found
+    found-so-far : length (foundIn (readOn next start (budgets (G .made)))) ≡ f
+    found-so-far =
+        ap (λ (i : ℕ). from start i .found) {x = G .made} {y = G .made + 0} (omega arith) ∙ ap (λ (t : Told). t .found) (G .onward 0)
+        ∙ ap (λ (t : Told). f + t .found) (none-made q) ∙ omega arith
+
+    -- n more calls find g, and then none is made
+    last : {e g k f′ v′ : ℕ} {y : Bool} (w : Bool) (n : ℕ) → n ≤ turns → (e ≡ 0 → y ≡ false → w ≡ true → n ≡ turns)
+        → (w ≡ false → (n ≡ 1) × (g ≡ 1)) → f′ ≡ f + g → v′ ≡ v + k → from q n ≡ told e y g k true
+        → TellsOf (readOn next start) (told e y f′ v′ w)
+    last w n h g u i d p = record {
       calls = G .made + n;
       few = omega (arith, G .all);
       tells =
           counts-same (omega arith) (omega arith) ∙ sym (ap (marked w) (G .onward n ∙ ap (λ (t : Told). more f v t) p));
       stops = λ a b c. omega (arith, G .all, g a b c);
+      unwritten =
+          λ z. let one = u z in (G .made, omega (arith, one .0), omega (arith, one .1, found-so-far));
     }
+
+    -- what is told to be written
+    all-written : {n g : ℕ} → true ≡ false → (n ≡ 1) × (g ≡ 1)
+    all-written z = absurd (true≢false z)
 
     -- all calls are made
     pub stops-over : turns ≡ 0 → TellsOf (readOn next start) (told 0 false f v true)
-    stops-over z = last true 0 (omega arith) (λ a b c. sym z) (omega arith) (none-made q)
-
-    -- what was found last could not be written
-    pub stops-unwritten : TellsOf (readOn next start) (told 0 false f v false)
-    stops-unwritten = last false 0 (omega arith) (λ a b c. absurd (true≢false (sym c))) (omega arith) (none-made q)
+    stops-over z = last true 0 (omega arith) (λ a b c. sym z) all-written (omega arith) (omega arith) (none-made q)
 
     -- one call more finds n
     turn : {q′ : Q} {n w f′ v′ : ℕ} → 0 < turns → n ≤ 1 → w ≤ budget → f′ ≡ f + n → v′ ≡ v + w
@@ -122,11 +132,19 @@ module _ {A Q : Type 0} (next : Q → ℕ → Reply A Q) where
           → v′ ≡ v + r .visits → TellsOf (readOn next start) (told e false f v′ true)
       stops-refused x {e = e} z d s p =
           let n : e ≢ 0 = λ a. refusal-positive x (sym d ∙ a) in
-          last true 1 (omega arith) (λ a b c. absurd (n a)) p (one-refused replied n (z ∙ sym d) s)
+          last true 1 (omega arith) (λ a b c. absurd (n a)) all-written (omega arith) p (one-refused replied n (z ∙ sym d) s)
 
       pub stops-ended : {v′ : ℕ} → r .refusal ≡ 0 → r .status ≡ 2 → v′ ≡ v + r .visits
           → TellsOf (readOn next start) (told 0 true f v′ true)
-      stops-ended z s d = last true 1 (omega arith) (λ a b c. absurd (true≢false b)) d (one-ended replied z s)
+      stops-ended z s d = last true 1 (omega arith) (λ a b c. absurd (true≢false b)) all-written (omega arith) d (one-ended replied z s)
+
+      -- what the call found could not be written
+      pub stops-unwritten : {f′ v′ : ℕ} → r .refusal ≡ 0 → r .status ≡ 1 → v′ ≡ v + r .visits → f′ ≡ f + 1
+          → TellsOf (readOn next start) (told 0 false f′ v′ false)
+      stops-unwritten z s d i =
+          last false 1 (omega arith) (λ a b c. absurd (true≢false (sym c))) (λ e. (refl, refl)) i d
+          (one-found replied z s refl 0 ∙ ap (λ (t : Told). more 1 (r .visits) t) (none-made (r .cursor))
+          ∙ counts-same (omega arith) (omega arith))
 
       module _ {q′ : Q} {f′ v′ : ℕ} (zero : r .refusal ≡ 0) (within : r .visits ≤ budget) (moved : q′ ≡ r .cursor)
           (paid : v′ ≡ v + r .visits) where

@@ -1,6 +1,6 @@
 -- What is told of a reading, of a query or of a scan, that was read through: how many calls were made, and what their replies come to.
 -- Assumes nothing.
-use Rattle.store.specs.Prelude.{_≡_, _≢_, Bool, true, false, cond, List, [], _∷_, ℕ, _≤_, length, eqb, replicate}
+use Rattle.store.specs.Prelude.{_≡_, _≢_, Bool, true, false, cond, List, [], _∷_, ℕ, suc, _≤_, length, eqb, replicate}
 use Rattle.graph.specs.Claims.{Reply, foundIn, hasEnded, visitsIn}
 use Rattle.shell_answer.specs.declared.Told.{Told}
 
@@ -33,6 +33,8 @@ module _ {A Q : Type 0} where
     pub few : calls ≤ maxCalls
     pub tells : t ≡ toldOf (read (budgets calls)) (t .written)
     pub stops : t .refusal ≡ 0 → t .ended ≡ false → t .written ≡ true → calls ≡ maxCalls
+    -- what could not be written is what the last call found
+    pub unwritten : t .written ≡ false → (n : ℕ) × (calls ≡ suc n) × (t .found ≡ suc (length (foundIn (read (budgets n)))))
 
   -- From the opening's refusal, or 0: refused, with nothing found and no visits; or told of the reading.
   pub record ReadThrough (opening : ℕ) (read : List ℕ → List (Reply A Q)) (t : Told) : Type 0 where

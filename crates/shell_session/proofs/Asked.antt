@@ -91,5 +91,5 @@ module _ (c : Counters) (m : Tables) (S : Sound c m) (line : List ℕ) (from : �
             λ k. let g = R .1 .exact y .1 k in (g .0, M .1 y .0 (g .1)),
           );
           once = R .1 .once;
-          found = λ d. A .1 .found (A .0 d) ∙ sym (length-map (R .0) (namedAt m));
+          found = λ d. A .1 .found d ∙ sym (length-map (R .0) (namedAt m));
         }

@@ -43,7 +43,7 @@ pub record Matched (c : Counters) (m : Tables) (line : List ℕ) (ps : List Part
   pub triples : List RdfTriple
   pub exact : (y : RdfTriple) → graphOf c m y × TypedMatch line ps y ↔ List·Memᴰ y triples
   pub once : NoDuplicates triples
-  pub found : t .written ≡ true → t .found ≡ length triples
+  pub found : t .ended ≡ true → t .found ≡ length triples
 
 abbrev pub Listed : Counters → Tables → List ℕ → Parts → Told → Type 0
 Listed c m line p t =

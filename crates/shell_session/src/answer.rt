@@ -1,5 +1,6 @@
 // What the commands write, a line at a time. What writes a part of an answer says whether it was written; what ends one, the status.
 ghost use Rattle.io.specs.Counts.{Counts};
+use crate::commands::State;
 use libc::STDOUT_FILENO;
 use loader::line::Outcome;
 use report::output::append;
@@ -43,16 +44,17 @@ fn two_counts(fd: i32, first: &[u8], n: u64, second: &[u8], m: u64) -> bool {
     put(fd, &out[..e])
 }
 
-// How many lines of the files were refused, if any were.
-fn missing_lines(n: u64) -> bool {
+// A label and a number, unless it is 0.
+fn count_some(label: &[u8], n: u64) -> bool {
     if n == 0 {
         return true;
     }
-    count(STDOUT_FILENO, b"missing", n)
+    count(STDOUT_FILENO, label, n)
 }
 
-// With a terminal: what was loaded, how many lines were not, and where the commands are listed.
-pub fn greet(terminal: bool, c: Counters, missing: u64) -> bool {
+// With a terminal: what was loaded, what of the files was not, and where the commands are listed.
+pub fn greet(terminal: bool, s: State) -> bool {
+    let c = s.counters;
     if !terminal {
         return true;
     }
@@ -65,7 +67,10 @@ pub fn greet(terminal: bool, c: Counters, missing: u64) -> bool {
     ) {
         return false;
     }
-    if !missing_lines(missing) {
+    if !count_some(b"missing", s.missing) {
+        return false;
+    }
+    if !count_some(b"unread", s.unread) {
         return false;
     }
     put(STDOUT_FILENO, b"help lists the commands\n")
@@ -200,31 +205,32 @@ fn in_use(label: &[u8], used: u32, capacity: usize) -> bool {
     two_counts(STDOUT_FILENO, label, used as u64, b"room", room as u64)
 }
 
-// What is in use of tables with room for so many, how many statements are live, and how many lines of the files were refused.
-pub fn totals(
-    c: Counters,
-    resources: usize,
-    statements: usize,
-    text: usize,
-    live: u32,
-    missing: u64,
-) -> u32 {
+// What is in use of tables with room for so many, and how many statements are live.
+fn used(c: Counters, resources: usize, statements: usize, text: usize, live: u32) -> bool {
     if !in_use(b"resources", c.resources, resources) {
-        return status::FAILED;
+        return false;
     }
     if !in_use(b"statements", c.statements, statements) {
-        return status::FAILED;
+        return false;
     }
     if !count(STDOUT_FILENO, b"live", live as u64) {
-        return status::FAILED;
+        return false;
     }
     if !in_use(b"bytes", c.text, text) {
+        return false;
+    }
+    in_use(b"reclaims", c.generation, Counters::MAX_RECLAIMS as usize)
+}
+
+// The same, and how many lines of the files were refused and files could not be read.
+pub fn totals(s: State, resources: usize, statements: usize, text: usize, live: u32) -> u32 {
+    if !used(s.counters, resources, statements, text, live) {
         return status::FAILED;
     }
-    if !in_use(b"reclaims", c.generation, Counters::MAX_RECLAIMS as usize) {
+    if !count(STDOUT_FILENO, b"missing", s.missing) {
         return status::FAILED;
     }
-    status::told(count(STDOUT_FILENO, b"missing", missing), status::DONE)
+    status::told(count(STDOUT_FILENO, b"unread", s.unread), status::DONE)
 }
 
 pub fn checked(sound: bool) -> u32 {
@@ -260,7 +266,8 @@ A name is an IRI <r:21>, a blank node _:ct or a literal \"open\", \"Nord\"@de,
                       in live statements, then with the retracted ones
   assert S P O .      enter a statement, or make a retracted one live again
   retract S P O .     strike a statement out
-  totals              what is in use, and the room that is left
+  totals              what is in use, the room that is left, what is live,
+                      and what of the files is missing
   check               whether the tables are sound
   reclaim             get the room of retracted statements back;
                       the others get new numbers

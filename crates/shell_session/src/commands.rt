@@ -11,11 +11,12 @@ use shell_print::refusal;
 use shell_print::status;
 use store::Counters;
 
-// How far a session is: the store's counters, how many lines of the files were refused, where notices go, the greatest status so far, and
-// whether the session is over.
+// How far a session is: the store's counters, how many lines of the files were refused and how many files could not be read, where notices
+// go, the greatest status so far, and whether the session is over.
 pub struct State {
     pub counters: Counters,
     pub missing: u64,
+    pub unread: u64,
     pub notices: i32,
     pub status: u32,
     pub over: bool,
@@ -102,6 +103,7 @@ fn after(s: State, c: Counters, status: u32, quit: bool) -> State {
     State {
         counters: c,
         missing: s.missing,
+        unread: s.unread,
         notices: s.notices,
         status: status::greater(s.status, status),
         over: is_over(status, quit),

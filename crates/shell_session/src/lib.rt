@@ -32,6 +32,7 @@ fn begun(l: Load, notices: i32) -> State {
     State {
         counters: c,
         missing: load::missing(l),
+        unread: load::unread(l),
         notices: notices,
         status: load::status(l),
         over: false,
@@ -59,7 +60,7 @@ pub fn run(all: bool) -> u32 {
     }
     let terminal = libc::isatty(libc::STDIN_FILENO) == 1;
     let s = begun(l, notices_to(terminal, all));
-    if !answer::greet(terminal, s.counters, s.missing) {
+    if !answer::greet(terminal, s) {
         return status::FAILED;
     }
     input::session(

@@ -12,6 +12,7 @@ use lines::Exported;
 use loader::buffer;
 use ntriples::TermEnd;
 use report::output::put;
+use report::tally;
 use shell_answer::Told;
 use shell_answer::list;
 use shell_answer::question;
@@ -394,29 +395,29 @@ fn live(statements: &[u32], total: u32) -> u32 {
     n
 }
 
-// Tells what is in use, and how many lines of the files were refused.
-fn totals(
-    c: Counters,
-    resources: &[u32],
-    statements: &[u32],
-    index: &[u32],
-    text: &[u8],
-    missing: u64,
-) -> u32 {
+// Tells what is in use, and what of the files is missing.
+fn totals(s: State, resources: &[u32], statements: &[u32], index: &[u32], text: &[u8]) -> u32 {
+    let c = s.counters;
     answer::totals(
-        c,
+        s,
         lesser(resources.len() / table::word::RESOURCE_WORDS, index.len()),
         statements.len() / table::word::STATEMENT_WORDS,
         text.len(),
         live(statements, c.statements),
-        missing,
     )
+}
+
+// Writes a file. What it lacks is told before it on standard error, wherever notices go: it is to stand alone on standard output.
+fn write_told(s: State, file: &[u8]) -> u32 {
+    if !tally::tell_lacks(s.missing, s.unread) {
+        return status::FAILED;
+    }
+    status::told(put(STDOUT_FILENO, file), status::DONE)
 }
 
 // Writes the live statements as a file, by way of room for the file and a word for each statement.
 fn write_file(
-    notices: i32,
-    c: Counters,
+    s: State,
     resources: &[u32],
     statements: &[u32],
     index: &[u32],
@@ -424,51 +425,37 @@ fn write_file(
     file: &mut [u8],
     work: &mut [u32],
 ) -> u32 {
+    let c = s.counters;
     match exporter::export_file(c, resources, statements, index, text, file, work) {
         Exported::Length(n) => {
             let end = lesser(n as usize, file.len());
-            status::told(put(STDOUT_FILENO, &file[0..end]), status::DONE)
+            write_told(s, &file[0..end])
         }
-        Exported::Refused(e) => refusal::refused(notices, store::refusal_number(e)),
+        Exported::Refused(e) => refusal::refused(s.notices, store::refusal_number(e)),
     }
 }
 
 // Writes the live statements as a file.
-fn save(
-    notices: i32,
-    c: Counters,
-    resources: &[u32],
-    statements: &[u32],
-    index: &[u32],
-    text: &[u8],
-) -> u32 {
+fn save(s: State, resources: &[u32], statements: &[u32], index: &[u32], text: &[u8]) -> u32 {
     let mut file = buffer::file();
     let mut work = buffer::statement_list();
-    write_file(
-        notices,
-        c,
-        resources,
-        statements,
-        index,
-        text,
-        &mut file,
-        &mut work,
-    )
+    write_file(s, resources, statements, index, text, &mut file, &mut work)
 }
 
-// Answers a command that takes no rest, but for `totals`.
+// Answers a command that takes no rest.
 fn answer_bare(
-    notices: i32,
-    c: Counters,
+    s: State,
     resources: &[u32],
     statements: &[u32],
     index: &[u32],
     text: &[u8],
     command: Command,
 ) -> u32 {
+    let c = s.counters;
     match command {
         Command::Check => answer::checked(integrity::check(c, resources, statements, index, text)),
-        Command::Save => save(notices, c, resources, statements, index, text),
+        Command::Save => save(s, resources, statements, index, text),
+        Command::Totals => totals(s, resources, statements, index, text),
         Command::Help => answer::help(),
         _ => status::DONE,
     }
@@ -493,7 +480,6 @@ pub fn answer(
         Command::List => list_matches(notices, c, resources, statements, index, text, line, at),
         Command::Names => names(notices, c, resources, statements, index, text, line, at),
         Command::Counts => counts(notices, c, resources, statements, index, text, line, at),
-        Command::Totals => totals(c, resources, statements, index, text, s.missing),
-        _ => answer_bare(notices, c, resources, statements, index, text, command),
+        _ => answer_bare(s, resources, statements, index, text, command),
     }
 }

@@ -117,7 +117,7 @@ returns-3 c =
     let d = c .before .before .before .before .before .before in
     let e = c .before .before .before .before .n .given .1 in
     rw (c .told-stopped .ensures)
-    (stops-unwritten _ (goes-found _ (going d) (replied d e) (left d) refl (within d e) refl refl refl refl))
+    (stops-unwritten _ (going d) (replied d e) (left d) refl refl refl refl)
 
 enum-known-v-2 : tie.Need-enum-known-v-2 Inv-loop μ-loop
 enum-known-v-2 c = search needs

@@ -106,7 +106,7 @@ returns-3 c =
     let d = c .before .before .before .before .before .before .before in
     let e = c .before .before .before .before .enum-told2 .given .1 in
     rw (c .told-stopped .ensures)
-    (stops-unwritten _ (goes-found _ (going d) (replied d) (left d) (ap stepRefusal e) (within d) refl refl (ap stepStatus e) refl))
+    (stops-unwritten _ (going d) (replied d) (left d) (ap stepRefusal e) (ap stepStatus e) refl refl)
 
 enum-told-3 : tie.Need-enum-told-3 Inv-loop μ-loop
 enum-told-3 c = search needs

@@ -35,7 +35,9 @@ loop-less : tie.Need-loop-less Inv-loop μ-loop
 loop-less c = search needs
 
 loop-again : tie.Need-loop-again Inv-loop μ-loop
-loop-again c = search needs
+loop-again c =
+    let inv = c .before .before .before .before .before .before .before .before .before .before .before .before .before .before .before .before .before .before .before .before .before .loop .inv in
+    search (needs, inv .0, inv .1, inv .2, inv .3, inv .4)
 
 status-after-requires : tie.Need-status-after-requires Inv-loop μ-loop
 status-after-requires c κs = search needs
