@@ -700,6 +700,8 @@ def writers():
     for name in clean, part:
         yield from each(name)
         yield Case("export", [b"--partial", name, b"none.nt"])
+    for option in [], [b"--all"]:
+        yield Case("shell", [*option, part, b"none.nt"], b"save\n")
     for line in (b"<a> <b> ?c", b"<a> <b> <c>", b"list ? ? ?", b"names", b"counts <a>", b"totals", b"check", b"save", b"help"):
         yield Case("shell", [clean], line + b"\n")
         yield Case("shell", [b"--all", clean], line + b"\n")
@@ -824,6 +826,11 @@ def limits():
             yield case.but(out=written[:limit], on={1: "out.txt"}, limit=limit, **cut)
     for case in each(put("first.nt", b"<a>\n<a> <b> <c> .\n")):
         yield case.but(out=Cut(case.reference().text(OUT), proper=True), err=b"", status=2, on={2: "err.txt"}, limit=0)
+    refused, lacks = b"first.nt:1:4: expected a predicate\n", b"lines missing from the file: 1\n"
+    for case in Case("export", [b"first.nt"]), Case("shell", [b"first.nt"], b"save\n"), Case("shell", [b"--all", b"first.nt"], b"save\n"):
+        for limit in len(refused), len(refused) + 5, len(refused + lacks) - 1:
+            yield case.but(out=b"", err=b"", status=2, on={2: "err.txt"}, limit=limit)
+        yield case.but(out=LINE + b"\n", err=b"", status=1, on={2: "err.txt"}, limit=len(refused + lacks))
 
 
 # ---- reads that fail
