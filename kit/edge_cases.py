@@ -102,6 +102,20 @@ BY_HAND = [
     (b'<a> <b> "' + b"a" * 253 + b'"x', 264, b"expected a dot"),
     (b'<a> <b> "' + b"a" * 254 + b'" .', 264, b"over 255 bytes"),
     (b'<a> <b> "' + b"a" * 253 + b"\\t", 264, b"over 255 bytes"),
+    (b'<a> <b> "' + b"a" * 249 + b'"@en1 .', 263, b"expected a dot"),
+    (b'<a> <b> "' + b"a" * 250 + b'"@en1 .', 264, b"expected a dot"),
+    (b'<a> <b> "' + b"a" * 251 + b'"@en1 .', 264, b"over 255 bytes"),
+    (b'<a> <b> "' + b"a" * 251 + b'"@e1 .', 264, b"expected a dot"),
+    (b'<a> <b> "' + b"a" * 252 + b'"@e .', 264, b"over 255 bytes"),
+    (b'<a> <b> "' + b"a" * 252 + b'"@ .', 264, b"over 255 bytes"),
+    (b'<a> <b> "' + b"a" * 248 + b'"@en-1', 264, b"expected a dot"),
+    (b'<a> <b> "' + b"a" * 248 + b'"@en-12 .', 264, b"over 255 bytes"),
+    (b'<a> <b> "' + b"a" * 249 + b'"@en-1 .', 264, b"over 255 bytes"),
+    (b'<a> <b> "' + b"a" * 250 + b'"@en-1 .', 264, b"over 255 bytes"),
+    (b'<a> <b> "' + b"a" * 248 + b'"@en- .', 263, b"byte 32 may not stand in a literal"),
+    (b'<a> <b> "' + b"a" * 249 + b'"@en- .', 264, b"over 255 bytes"),
+    (b'<a> <b> "' + b"a" * 249 + b'"@en-', 264, b"the line ends in a literal"),
+    (b'<a> <b> "' + b"a" * 250 + b'"@en- .', 264, b"over 255 bytes"),
     (b"#" + b"x" * 1024, 1025, b"over 1024 bytes"),
     (b" " * 1025, 1025, b"over 1024 bytes"),
     (b"\xef\xbb\xbf" + b"x" * 1022, 1025, b"over 1024 bytes"),
@@ -213,7 +227,8 @@ ARGUMENTS = [
 # How a name begins and ends.
 KINDS = [(b"<", b">"), (b"_:", b""), (b"_:", b".y")] + [(b'"', b'"' + last) for last in (b"", b"@en", b"@en-1", b"^^<t>", STRING)]
 
-# Fails reads of one file: BROKEN_FILE, of which BROKEN_KEEP bytes are read first, in pieces of at most BROKEN_STEP bytes.
+# Fails reads of one file: BROKEN_FILE, of which BROKEN_KEEP bytes are read first, in pieces of at most BROKEN_STEP bytes; with BROKEN_ONCE
+# set, one read fails, and those after it do not.
 READ = r"""
 #define _GNU_SOURCE
 #include <errno.h>
@@ -225,15 +240,15 @@ READ = r"""
 #include <unistd.h>
 static long word(const char *name) { const char *text = getenv(name); return text ? atol(text) : LONG_MAX; }
 ssize_t read(int fd, void *to, size_t most) {
-    static long kept = 0;
+    static long kept = 0, failed = 0;
     char link[64], path[PATH_MAX];
     const char *file = getenv("BROKEN_FILE");
     snprintf(link, sizeof link, "/proc/self/fd/%d", fd);
     ssize_t size = readlink(link, path, sizeof path - 1);
     if (!file || size < 0 || (path[size] = 0, strcmp(path, file))) return syscall(SYS_read, fd, to, most);
-    if (kept == word("BROKEN_KEEP")) { errno = EIO; return -1; }
+    if (kept == word("BROKEN_KEEP") && !failed) { failed = getenv("BROKEN_ONCE") != NULL; errno = EIO; return -1; }
     if (most > (size_t)word("BROKEN_STEP")) most = word("BROKEN_STEP");
-    if (most > (size_t)(word("BROKEN_KEEP") - kept)) most = word("BROKEN_KEEP") - kept;
+    if (!failed && most > (size_t)(word("BROKEN_KEEP") - kept)) most = word("BROKEN_KEEP") - kept;
     ssize_t got = syscall(SYS_read, fd, to, most);
     if (got > 0) kept += got;
     return got;
@@ -375,8 +390,8 @@ def written_out():
     five = bay + b":5:21: expected a dot\n"
     yield Case("load", [bay], b"", b"1 new 1\n2 new 2\n4 already 1\n5 refused 10\nresources 4 statements 2\n", five, 1)
     yield Case("export", [bay], b"", b"<r:21> <p:trips> <b:4> .\n<r:21> <p:trips> <b:7> .\n", five + b"lines missing from the file: 1\n", 1)
-    unread = five + b"none.nt: No such file or directory\nno file written, not everything could be read\n"
-    yield Case("export", [bay, b"none.nt"], b"", b"", unread, 2)
+    none = b"none.nt: No such file or directory\n"
+    yield Case("export", [bay, b"none.nt"], b"", b"", five + none + b"no file written, not everything could be read\n", 2)
     question = b"<r:21> <p:trips> ?b\n"
     yield Case("shell", [bay], question, b"<b:7>\n<b:4>\n", five + b"?b\nsolutions 2 visits 2\n", 1)
     yield Case("shell", [bay, b"--all"], question, b"?b\n<b:7>\n<b:4>\nsolutions 2 visits 2\n", five, 1)
@@ -390,11 +405,31 @@ def written_out():
     yield Case("shell", [], b"", b"", b"", 0)
     yield Case("shell", [good], b"assert <a> <b> <d> .\nsave\n", b"<a> <b> <c> .\n<a> <b> <d> .\n", b"entered <d>\nnew 2\n", 0)
     yield Case("shell", [good], b"retract <a> <b> <d> .\n", b"", b"unknown <d>\nabsent\n", 1)
-    totals = b"resources 3 room 8189\nstatements 1 room 16383\nlive 1\nbytes 12 room 524276\nreclaims 0 room 65535\nmissing 0\n"
-    yield Case("shell", [good], b"totals\n", totals, b"", 0)
+    totals = b"resources 3 room 8189\nstatements 1 room 16383\nlive 1\nbytes 12 room 524276\nreclaims 0 room 65535\n"
+    yield Case("shell", [good], b"totals\n", totals + b"missing 0\nunread 0\n", b"", 0)
+    yield from lacking_by_hand(bay, good, totals, five, none)
     yield Case("shell", [good], b"<a> x\n", b"", b"refused 10 at column 5: cannot be read\n<a> x\n    ^\n", 1)
     yield from each(b"--version", out=b"lemontiller 0.2.0\n", err=b"", status=0)
     yield from each(b"--al", out=b"", err=b"unknown option --al\n--help tells what there is\n", status=2)
+
+
+# What is told of a file that lacks something: of the bay's, whose fifth line is refused, and of one without faults.
+def lacking_by_hand(bay, good, totals, five, none):
+    file, one = b"<r:21> <p:trips> <b:4> .\n<r:21> <p:trips> <b:7> .\n", b"<a> <b> <c> .\n"
+    lines, unread = b"lines missing from the file: 1\n", b"not everything could be read"
+    for option in [], [b"--all"]:
+        yield Case("shell", [*option, bay], b"save\n", file, five + lines, 1)
+        yield Case("shell", [*option, bay, b"none.nt"], b"save\n", file, five + none + unread + b", " + lines, 2)
+        both = one + totals + b"missing 0\nunread 1\n"
+        yield Case("shell", [*option, b"none.nt", good], b"save\ntotals\n", both, none + unread + b"\n", 2)
+        yield Case("shell", [*option, good], b"save\n", one, b"", 0)
+    greeting = b"resources 4 statements 2\nmissing 1\nunread 2\nhelp lists the commands\n> "
+    yield Case("shell", [bay, b"none.nt", b"none.nt"], b"", greeting + b"\n", five + none + none, 2, terminal=True)
+    told = five + none + none + unread + b", " + lines
+    yield Case("shell", [bay, b"none.nt", b"none.nt"], b"save\n", greeting + file + b"> \n", told, 2, terminal=True)
+    yield Case("export", [b"--partial", good, b"none.nt"], b"", one, none + unread + b"\n", 2)
+    yield Case("export", [b"--partial", b"none.nt"], b"", b"", none + unread + b"\n", 2)
+    yield Case("export", [b"--partial", bay, b"none.nt"], b"", file, five + none + unread + b", " + lines, 2)
 
 
 # Options, dashes, standard input.
@@ -483,6 +518,21 @@ def names():
     tails = [b".", b"..", b". ", b".b", b" .", b"...", b". #", b".#", b".<", b". .", b". b", b"", b".b.", b".-", b"-."]
     for size in range(251, 259):
         yield from each(put(f"dots{size}.nt", b"".join(b"<a> <b> _:" + b"x" * (size - 2) + tail + b"\n" for tail in tails)))
+
+
+# Tags about byte 255 of a literal: complete or not, and what stands after them.
+def tags():
+    tails = [b" .", b".", b"", b"1 .", b"-1 .", b"- .", b"x .", b"@e .", b'" .', b"\t.", b"\xff .", b"\x01", b" x", b"^^<t> .", b"\\"]
+    for tag in (b"@en1", b"@en-1", b"@en-", b"@e", b"@en", b"@", b"@e1", b"@en-1-", b"@en--", b"@en-12", b"@1", b"^", b"^^", b"^^<",
+                b"^^<t"):
+        named, asked = [], []
+        for size in range(251, 260):
+            literal = b'"' + b"a" * (size - len(tag) - 2) + b'"' + tag
+            name = f"tag-{re.sub(b'[^0-9a-z-]', b'x', tag).decode()}-{size}.nt"
+            named.append(put(name, b"".join(b"<a> <b> " + literal + tail + b"\n" for tail in tails)))
+            asked += [b"counts " + literal + b"\n", b"?a <b> " + literal + b" .\n", b"assert <a> <b> " + literal + b" .\n"]
+        yield from each(*named)
+        yield Case("shell", [b"--all", named[0]], b"".join(asked))
 
 
 # Files with so many refused lines, each after a good one.
@@ -586,6 +636,12 @@ def long_files():
         yield Case("export", [name])
         yield Case("export", [b"--partial", name])
         yield Case("shell", [name], b"save\ntotals\n")
+        for others in [b"tail-broken.nt"], [b"none.nt"], [b"tail-broken.nt", b"none.nt"]:
+            yield Case("export", [name, *others])
+            yield Case("export", [b"--partial", name, *others])
+        yield Case("shell", [b"--all", name, b"tail-broken.nt"], b"save\ntotals\n")
+    for others in [b"none.nt"], [b"none.nt", b"tail-broken.nt"]:
+        yield Case("shell", [*others, name], b"save\ntotals\nretract <s:0> <p:x> " + iri("o:", 100) + b" .\nsave\n")
 
 
 # ---- the shell
@@ -603,6 +659,25 @@ def commands():
     for script in SCRIPTS:
         yield Case("shell", [], script)
         yield Case("shell", [b"--all", bay], script)
+
+
+# What `totals`, `save` and the greeting tell of refused lines and files that could not be read.
+def lacking():
+    clean, part, empty = three()
+    os.makedirs("folder", exist_ok=True)
+    many = put("many.nt", b"<a> <b> <c> .\n" + b"<a>\n" * 25)
+    scripts = (SHOW, b"save\nsave\n", b"retract <a> <b> <c> .\nsave\nreclaim\ntotals\nsave\n",
+               b"what\nsave\nassert <a> <b> <e> .\nsave\nquit\n")
+    for args in ([clean], [empty], [part], [many], [b"none.nt"], [b"folder"], [b"/proc/self/mem"], [part, part], [part, b"none.nt"],
+                 [b"none.nt", part, b"none.nt", many], [clean, b"z" * 4097], [b"z" * 4097, part, b"z" * 4097], [empty, b"none.nt"]):
+        for script in scripts:
+            yield Case("shell", args, script)
+            yield Case("shell", [b"--all", *args], script)
+            yield Case("shell", args, script, terminal=True)
+        yield Case("shell", args, terminal=True)
+        yield Case("export", [b"--partial", *args])
+        yield Case("export", args)
+    yield Case("shell", [b"-", part], b"<a> <b> <c> .\n<a>\n")
 
 
 # With a terminal on standard input.
@@ -625,6 +700,8 @@ def writers():
     for name in clean, part:
         yield from each(name)
         yield Case("export", [b"--partial", name, b"none.nt"])
+    for option in [], [b"--all"]:
+        yield Case("shell", [*option, part, b"none.nt"], b"save\n")
     for line in (b"<a> <b> ?c", b"<a> <b> <c>", b"list ? ? ?", b"names", b"counts <a>", b"totals", b"check", b"save", b"help"):
         yield Case("shell", [clean], line + b"\n")
         yield Case("shell", [b"--all", clean], line + b"\n")
@@ -711,7 +788,7 @@ def closed():
 # With a standard input that cannot be read.
 def no_input(on, words):
     one = put("one.nt", LINE + b"\n")
-    nothing, lacks = b"no file written, not everything could be read\n", b"not everything could be read, lines missing from the file: 0\n"
+    nothing, lacks = b"no file written, not everything could be read\n", b"not everything could be read\n"
     yield Case("load", [], out=b"resources 0 statements 0\n", err=words, status=2, on=on)
     for args in [one, b"-"], [b"-", one]:
         yield Case("load", args, out=b"1 new 1\nresources 3 statements 1\n", err=words, status=2, on=on)
@@ -721,6 +798,7 @@ def no_input(on, words):
     yield Case("export", [b"--partial"], out=b"", err=words + lacks, status=2, on=on)
     for args in [], [one], [b"--all", one]:
         yield Case("shell", args, out=b"", err=words, status=2, on=on)
+    yield Case("shell", [b"-", one], out=b"", err=words + words, status=2, on=on)
     yield Case("load", [one], on=on)
     yield Case("export", [one], on=on)
     yield from each(b"--version", on=on)
@@ -748,6 +826,11 @@ def limits():
             yield case.but(out=written[:limit], on={1: "out.txt"}, limit=limit, **cut)
     for case in each(put("first.nt", b"<a>\n<a> <b> <c> .\n")):
         yield case.but(out=Cut(case.reference().text(OUT), proper=True), err=b"", status=2, on={2: "err.txt"}, limit=0)
+    refused, lacks = b"first.nt:1:4: expected a predicate\n", b"lines missing from the file: 1\n"
+    for case in Case("export", [b"first.nt"]), Case("shell", [b"first.nt"], b"save\n"), Case("shell", [b"--all", b"first.nt"], b"save\n"):
+        for limit in len(refused), len(refused) + 5, len(refused + lacks) - 1:
+            yield case.but(out=b"", err=b"", status=2, on={2: "err.txt"}, limit=limit)
+        yield case.but(out=LINE + b"\n", err=b"", status=1, on={2: "err.txt"}, limit=len(refused + lacks))
 
 
 # ---- reads that fail
@@ -760,8 +843,11 @@ def failed_reads():
     three()
     if library:
         yield from broken_off(library, text, script)
+        yield from after_refused(library)
+        yield from numbered(library)
         yield from small_reads(library, text, script)
     yield from hung_up(text)
+    yield from hung_up(text + b"\n" + b"<a>\n" * 21 + b"<a> <b>")
 
 
 # A read that fails after `_:b.` of `_:b.4`, others about the ends of lines.
@@ -775,6 +861,40 @@ def broken_off(library, text, script):
     for kept in (0, 3, 6, 7, 22, 26, 27, 29, 30, 34, 35, 39, 40, 61, 65, 66, 68, 70, 71):
         yield broken_input("shell", [], library, script, kept)
         yield broken_input("shell", [b"--all", b"clean.nt"], library, script, kept)
+
+
+# A read that fails after twenty refused lines and about as many, of a file and of standard input; one more after it does not.
+def after_refused(library):
+    text = LINE + b"\n" + b"<a>\n" * 30 + b"<a> <b> <d> .\n"
+    for kept in (14, 14 + 4 * 19 + 3, 14 + 4 * 20, 14 + 4 * 20 + 3, 14 + 4 * 21, 14 + 4 * 21 + 2, 14 + 4 * 30, len(text) - 1, len(text)):
+        for program, options in ("load", []), ("export", []), ("export", [b"--partial"]), ("shell", []), ("shell", [b"--all"]):
+            for names in ([b"broken.nt"], [b"clean.nt", b"broken.nt"], [b"broken.nt", b"part.nt"], [b"broken.nt", b"none.nt"]):
+                yield broken_file(program, options, library, text, kept, names)
+            yield broken_input(program, [*options, b"-"], library, text, kept)
+            yield broken_input(program, [*options, b"part.nt", b"-", b"part.nt"], library, text, kept)
+        for option in [], [b"--all"]:
+            yield broken_once([*option, b"-"], library, text[:kept], SHOW)
+            yield broken_once([*option, b"part.nt", b"-", b"none.nt"], library, text[:kept], SHOW)
+    told = b"".join(b"broken.nt:%d:4: expected a predicate\n" % n for n in range(2, 22))
+    told += b"broken.nt: Input/output error\nbroken.nt: 21 lines refused\n"
+    case = broken_file("export", [b"--partial"], library, text, 14 + 4 * 21 + 2, [b"broken.nt"])
+    yield case.but(out=LINE + b"\n", err=told + b"not everything could be read, lines missing from the file: 21\n", status=2)
+    case = broken_file("export", [], library, text, 14 + 4 * 21, [b"broken.nt"])
+    yield case.but(out=b"", err=told + b"no file written, not everything could be read\n", status=2)
+
+
+# A line that was broken off has no number, also where it is over 1,024 bytes: the next file's first line has it.
+def numbered(library):
+    text = LINE + b"\n# x\n<a>\n" + b"<a> <b> <d> . #" + b"x" * 6000 + b"\n" + LINE
+    for kept in (0, 5, 14, 15, 18, 19, 21, 22, 23, 24, 35, 36, 1046, 1047, 1048, 1049, 4095, 4096, 4097, 5000, 6037, 6038, 6040, len(text)):
+        for names in [b"broken.nt", b"clean.nt"], [b"part.nt", b"broken.nt", b"part.nt"]:
+            yield broken_file("load", [], library, text, kept, names)
+        yield broken_input("load", [b"-", b"clean.nt"], library, text, kept)
+        yield broken_file("export", [b"--partial"], library, text, kept, [b"broken.nt", b"clean.nt"])
+        yield broken_file("shell", [], library, text, kept, [b"broken.nt", b"part.nt"])
+    case = broken_file("load", [], library, LINE + b"\n<a>", 17, [b"broken.nt", b"clean.nt"])
+    lines = b"1 new 1\n2 already 1\n3 new 2\nresources 4 statements 2\n"
+    yield case.but(out=lines, err=b"broken.nt: Input/output error\n", status=2)
 
 
 # The object of `READ`, built; nothing, and a word why, if it cannot be.
@@ -797,10 +917,10 @@ def hooked(library, path, kept, step=4096):
     return {"LD_PRELOAD": library, "BROKEN_FILE": os.path.abspath(path), "BROKEN_KEEP": str(kept), "BROKEN_STEP": str(step)}
 
 
-# A file of which so many bytes can be read, after a good one.
-def broken_file(program, options, library, text, kept):
+# A file of which so many bytes can be read, among others.
+def broken_file(program, options, library, text, kept, names=(b"clean.nt", b"broken.nt")):
     put("broken.nt", text)
-    case = Case(program, [*options, b"clean.nt", b"broken.nt"], SHOW if program == "shell" else b"", env=hooked(library, "broken.nt", kept))
+    case = Case(program, [*options, *names], SHOW if program == "shell" else b"", env=hooked(library, "broken.nt", kept))
     whole, programs.contents = programs.contents, lambda name: (text[:kept], FAULT) if name == b"broken.nt" else whole(name)
     try:
         case.reference()
@@ -809,11 +929,20 @@ def broken_file(program, options, library, text, kept):
     return case
 
 
-# Standard input of which so many bytes can be read.
+# Standard input of which so many bytes can be read; what reads it again gets nothing more of it.
 def broken_input(program, args, library, text, kept):
     put("stdin.txt", text)
-    told = programs.run(REFERENCES[program], args, lambda: (text[:kept], FAULT))
+    left = [text[:kept]]
+    told = programs.run(REFERENCES[program], args, lambda: (left.pop() if left else b"", FAULT))
     return Case(program, args, told=told, on={0: "stdin.txt"}, env=hooked(library, "stdin.txt", kept))
+
+
+# The shell with a standard input of which one read fails, as it is loaded as a file: what comes after that is the script.
+def broken_once(args, library, text, script):
+    put("once.txt", text + script)
+    left = [(script, None), (text, FAULT)]
+    told = programs.run(reference.shell, args, left.pop)
+    return Case("shell", args, told=told, on={0: "once.txt"}, env={**hooked(library, "once.txt", len(text)), "BROKEN_ONCE": "1"})
 
 
 # Files and standard input in small pieces give what they give at once.
@@ -860,5 +989,5 @@ def recipe(name, script, written, status):
     return Case("bash", [b"-c", script.encode()], out=written.encode(), err=Anything(), status=status, name=name)
 
 
-GROUPS = [written_out, arguments, files, every_byte, lines, lengths, names, refused_lines, garbage, w3c, samples, full, commands, terminal,
-          full_device, closed, pipes, limits, failed_reads, recipes]
+GROUPS = [written_out, arguments, files, every_byte, lines, lengths, names, tags, refused_lines, garbage, w3c, samples, full, commands,
+          lacking, terminal, full_device, closed, pipes, limits, failed_reads, recipes]

@@ -130,7 +130,7 @@ def check_references():
         (lines, why, status), (file, lacking, _), (saved, as_why, _) = [(told.text(1), told.text(2), told.status) for told in runs]
         refused = len(re.findall(rb"^\d+ refused 10$", lines, re.M))
         lacks = b"lines missing from the file: %d\n" % refused if refused else b""
-        if file != saved or why != as_why or lacking != why + lacks or {told.status for told in runs} != {1 if refused else 0}:
+        if file != saved or lacking != why + lacks or as_why != lacking or {told.status for told in runs} != {1 if refused else 0}:
             print(f"reference: the programs do not agree on random file {n}")
             wrong += 1
     return wrong

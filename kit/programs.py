@@ -198,7 +198,7 @@ class Loading:
 
     def __init__(self, told, store, each=False):
         self.told, self.store, self.each = told, store, each
-        self.lines, self.refused, self.full, self.unread = 0, 0, False, False
+        self.lines, self.refused, self.full, self.unread = 0, 0, False, 0
 
     # A file by its name and text; `fault` is why no more of it could be read.
     def file(self, name, text, fault=None):
@@ -217,16 +217,16 @@ class Loading:
                 self.told.write(OUT, b"%d %s %d" % (self.lines, became[0].encode(), became[1]))
         self.end(name, refused, fault)
 
-    # At the end of a file: how many lines were refused, if not all were told, and what failed.
+    # At the end of a file: what failed, and how many lines were refused, if not all were told.
     def end(self, name, refused, fault):
         self.refused += refused
         self.told.at_least(1 if refused else 0)
-        if refused > TELL:
-            self.told.write(ERR, b"%s: %d lines refused" % (name, refused))
         if fault is not None:
-            self.unread = True
+            self.unread += 1
             self.told.write(ERR, b"%s: %s" % (name, fault))
             self.told.at_least(2)
+        if refused > TELL:
+            self.told.write(ERR, b"%s: %d lines refused" % (name, refused))
 
     # The files named; None is standard input.
     def files(self, names, standard_input):
@@ -325,10 +325,13 @@ def missing(loading, partial, size):
         return [b"no file written, lines missing: %d" % loading.refused]
     if size > FILE:
         return [b"no file written, over %d bytes" % FILE]
-    lacks = b"lines missing from the file: %d" % loading.refused
-    if loading.unread:
-        return [b"not everything could be read, " + lacks]
-    return [lacks] if loading.refused else []
+    return lacks(loading.refused, loading.unread)
+
+
+# The line that tells what a file lacks after so many refused lines and files that could not be read, if it lacks anything.
+def lacks(refused, unread):
+    words = [b"not everything could be read"] * (unread > 0) + [b"lines missing from the file: %d" % refused] * (refused > 0)
+    return [b", ".join(words)] if words else []
 
 
 # What a program writes with these arguments, and its status. `standard_input` gives what can be read of it, and why no more.

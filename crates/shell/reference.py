@@ -22,6 +22,7 @@ WORDS = {2: b"no name", 3: b"no room for one more", 8: b"no question", 10: b"can
 HELP = os.path.join(HERE, "help.txt")
 WORD, VARIABLE = re.compile(rb"[^ \t]*"), re.compile(rb"\?[A-Za-z0-9_]*")
 PART = (b"<", b"_", b'"', b"?")
+APART = 3  # of a line that goes to standard error always
 
 
 # A refusal at the byte that `at` bytes stand before.
@@ -97,7 +98,7 @@ class Tables(cases["Store"]):
     def __init__(self):
         super().__init__()
         self.whole, self.words, self.bytes = {"resource": RESOURCES, "statement": STATEMENTS}, RESOURCES, TEXT
-        self.numbers, self.triples, self.missing = {}, {}, 0
+        self.numbers, self.triples, self.missing, self.unread = {}, {}, 0, 0
 
     def search(self, spelled):
         return self.numbers.get(shortened(spelled), 0)
@@ -156,13 +157,17 @@ class Tables(cases["Store"]):
         return b" ".join(self.spelling(y) for y in self.statement(n)["triple"]) + b" ."
 
 
-# Lines of an answer, each with the stream that it goes to in a pipe.
+# Lines of an answer, each with the stream that it goes to in a pipe, or in any case.
 def rows(*lines):
     return [(OUT, line) for line in lines]
 
 
 def notices(*lines):
     return [(ERR, line) for line in lines]
+
+
+def always(*lines):
+    return [(APART, line) for line in lines]
 
 
 # The parts that are names that the store does not have.
@@ -247,14 +252,15 @@ def counts(store, line, at):
 def totals(store):
     used = zip((b"resources", b"statements", b"bytes", b"reclaims"), store.counters, (RESOURCES, STATEMENTS, TEXT, RECLAIMS))
     resources, statements, *others = [b"%s %d room %d" % (what, n, most - n) for what, n, most in used]
-    return rows(resources, statements, b"live %d" % len(store.live()), *others, b"missing %d" % store.missing)
+    lacking = b"missing %d" % store.missing, b"unread %d" % store.unread
+    return rows(resources, statements, b"live %d" % len(store.live()), *others, *lacking)
 
 
 def save(store):
     lines = sorted(store.line(n) + b"\n" for n in store.live())
     if sum(len(line) for line in lines) > FILE:
         raise Refused(11)
-    return rows(*[line[:-1] for line in lines])
+    return always(*programs.lacks(store.missing, store.unread)) + rows(*[line[:-1] for line in lines])
 
 
 WITH_REST = {b"list": list_statements, b"names": names, b"assert": do_assert, b"retract": retract, b"counts": counts}
@@ -314,13 +320,13 @@ class Shell:
         self.told, self.every, self.store = told, every, store or Tables()
         self.loading = programs.Loading(told, self.store)
 
-    # What is told on a stream in a pipe.
+    # What is told on a stream in a pipe, or on standard error always.
     def write(self, stream, *lines):
-        self.told.write(OUT if self.every else stream, *lines)
+        self.told.write(ERR if stream == APART else OUT if self.every else stream, *lines)
 
     # Tells the answer to a line; whether the shell goes on.
     def line(self, line):
-        self.store.missing = self.loading.refused
+        self.store.missing, self.store.unread = self.loading.refused, self.loading.unread
         told = answer(self.store, line)
         for stream, text in told or []:
             self.write(stream, text)
@@ -340,8 +346,9 @@ class Shell:
     # What a terminal is told at first, and the answers after its prompts.
     def terminal(self, text):
         R, T, *_ = self.store.counters
-        missing = [b"missing %d" % self.loading.refused] if self.loading.refused else []
-        self.write(OUT, b"resources %d statements %d" % (R, T), *missing, b"help lists the commands")
+        lacking = (b"missing", self.loading.refused), (b"unread", self.loading.unread)
+        greeting = [b"%s %d" % (what, n) for what, n in lacking if n > 0]
+        self.write(OUT, b"resources %d statements %d" % (R, T), *greeting, b"help lists the commands")
         for line in lines_of(text):
             self.told.written.append((OUT, b"> "))
             if not self.line(line):

@@ -386,7 +386,9 @@ pub fn name_kind(name: &[u8]) -> Result<Kind, Error> {
     })
 }
 
-/// Reads N-Triples, line by line. It carries the text and how far it has read, and moves past a line that it refuses too.
+/// Reads N-Triples, line by line. It carries the text and how far it has read, and moves past a line that it refuses too. What it reads is
+/// ASCII, comments too (bytes 32 to 126, and tabs outside of names), with the escapes `\"`, `\\`, `\n` and `\r` alone, labels without a
+/// colon and names of at most 255 bytes; `docs/PROGRAMS.md` has the subset exactly, but for the 1,024 bytes that a line may have there.
 #[derive(Clone, Debug)]
 #[must_use = "lines are read as they are taken"]
 pub struct Lines<'t> {
