@@ -15,7 +15,8 @@ import os
 import re
 import sys
 
-WORD = re.compile(r"[A-Za-z_][A-Za-z0-9_']*")
+# A word; a hexadecimal number (0xD7FF, #xD7FF) is none.
+WORD = re.compile(r"(?<![0-9A-Za-z_#])[A-Za-z_][A-Za-z0-9_']*")
 CAMEL = re.compile(r"[a-z_]+[a-z0-9_]*[A-Z]")
 # Lemmas, or names that a proof binds, whose name a definition takes in a file that uses both.
 LEMMAS = (

@@ -54,22 +54,22 @@ iri_char c = except (60 ∷ 62 ∷ 34 ∷ 123 ∷ 125 ∷ 124 ∷ 94 ∷ 96 ∷ 
 unfoldable pub string_char : ℕ → Bool
 string_char c = except (0x22 ∷ 0x5C ∷ 0xA ∷ 0xD ∷ []) 0 c
 
--- [157s] PN_CHARS_BASE ::= [A-Z] | [a-z] | [#x00_c0-#x00_d6] | [#x00_d8-#x00_f6] | [#x00_f8-#x02_ff] | [#x0370-#x037_d] | [#x037_f-#x1_fff]
---   | [#x200_c-#x200_d] | [#x2070-#x218_f] | [#x2_c00-#x2_fef] | [#x3001-#x_d7_ff] | [#x_f900-#x_fdcf] | [#x_fdf0-#x_fffd] | [#x10000-#x_effff]
+-- [157s] PN_CHARS_BASE ::= [A-Z] | [a-z] | [#x00C0-#x00D6] | [#x00D8-#x00F6] | [#x00F8-#x02FF] | [#x0370-#x037D] | [#x037F-#x1FFF]
+--   | [#x200C-#x200D] | [#x2070-#x218F] | [#x2C00-#x2FEF] | [#x3001-#xD7FF] | [#xF900-#xFDCF] | [#xFDF0-#xFFFD] | [#x10000-#xEFFFF]
 unfoldable pub PN-CHARS-BASE : ℕ → Bool
 PN-CHARS-BASE c =
-    between 65 90 c || between 97 122 c || between 0x00_c0 0x00_d6 c || between 0x00_d8 0x00_f6 c || between 0x00_f8 0x02_ff c
-    || between 0x0370 0x037_d c || between 0x037_f 0x1_fff c || between 0x200_c 0x200_d c || between 0x2070 0x218_f c
-    || between 0x2_c00 0x2_fef c || between 0x3001 0x_d7_ff c || between 0x_f900 0x_fdcf c || between 0x_fdf0 0x_fffd c
-    || between 0x10000 0x_effff c
+    between 65 90 c || between 97 122 c || between 0x00C0 0x00D6 c || between 0x00D8 0x00F6 c || between 0x00F8 0x02FF c
+    || between 0x0370 0x037D c || between 0x037F 0x1FFF c || between 0x200C 0x200D c || between 0x2070 0x218F c
+    || between 0x2C00 0x2FEF c || between 0x3001 0xD7FF c || between 0xF900 0xFDCF c || between 0xFDF0 0xFFFD c
+    || between 0x10000 0xEFFFF c
 
 -- [158s] PN_CHARS_U ::= PN_CHARS_BASE | '_' | ':'
 unfoldable pub PN-CHARS-U : ℕ → Bool
 PN-CHARS-U c = PN-CHARS-BASE c || eqb c 95 || eqb c 58
 
--- [160s] PN_CHARS ::= PN_CHARS_U | '-' | [0-9] | #x00_b7 | [#x0300-#x036_f] | [#x203_f-#x2040]
+-- [160s] PN_CHARS ::= PN_CHARS_U | '-' | [0-9] | #x00B7 | [#x0300-#x036F] | [#x203F-#x2040]
 unfoldable pub PN-CHARS : ℕ → Bool
-PN-CHARS c = PN-CHARS-U c || eqb c 45 || between 48 57 c || eqb c 0x00_b7 || between 0x0300 0x036_f c || between 0x203_f 0x2040 c
+PN-CHARS c = PN-CHARS-U c || eqb c 45 || between 48 57 c || eqb c 0x00B7 || between 0x0300 0x036F c || between 0x203F 0x2040 c
 
 -- [162s] HEX ::= [0-9] | [A-F] | [a-f]
 unfoldable pub HEX : ℕ → Bool
