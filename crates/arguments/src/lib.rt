@@ -1,8 +1,9 @@
 // The arguments of the programs (`docs/PROGRAMS.md`, "Arguments"): options, `--`, and files, of which `-` is standard input. Each is read
 // anew from the system where it is needed, so that nothing has to hold it.
+#![tactic(auto)]
 
 // What an argument is. `Ends` is `--`; `Input` is `-`.
-#[derive(Drop)]
+#[derive(Clone, Copy)]
 pub enum Argument {
     Option,
     Ends,
@@ -12,7 +13,7 @@ pub enum Argument {
 
 // What the arguments ask for: a text and nothing else (`help`, `version`), or where an option stands that the program does not have (its
 // number, or 0); whether the program's own option is given, and whether a file is named.
-#[derive(Drop)]
+#[derive(Clone, Copy)]
 pub struct Asked {
     pub help: bool,
     pub version: bool,

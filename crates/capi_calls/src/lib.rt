@@ -4,6 +4,8 @@
 // `specs/Words.antt` and `specs/QueryWords.antt` say what the words tell, `specs/Calls.antt` and
 // `specs/QueryCalls.antt` what each function answers and leaves, `specs/Claims.antt` what a caller relies on. There is
 // no code here.
+#![tactic(auto)]
+
 use graph::{MAX_PATTERNS, VARIABLES};
 
 // The words of the lent counters: R, T, B, the reclaims so far.
@@ -39,14 +41,14 @@ pub const TOO_SHORT: u32 = 100;
 // What a call gives back, and its reply in the order of the words, each 0 beside a refusal.
 
 // A kind, 1 or 0 for sound or not, the number of a resource or of a statement, a total.
-#[derive(Drop)]
+#[derive(Clone, Copy)]
 pub struct NumberReply {
     pub result: u32,
     pub number: u32,
 }
 
 // The number of a resource, or 0, and the position of its name in the index, from 0.
-#[derive(Drop)]
+#[derive(Clone, Copy)]
 pub struct FindReply {
     pub result: u32,
     pub number: u32,
@@ -54,7 +56,7 @@ pub struct FindReply {
 }
 
 // Where a name starts in the text, and how many bytes it has.
-#[derive(Drop)]
+#[derive(Clone, Copy)]
 pub struct NameReply {
     pub result: u32,
     pub start: u32,
@@ -62,7 +64,7 @@ pub struct NameReply {
 }
 
 // A statement's resources, and its flag.
-#[derive(Drop)]
+#[derive(Clone, Copy)]
 pub struct StatementReply {
     pub result: u32,
     pub subject: u32,
@@ -72,7 +74,7 @@ pub struct StatementReply {
 }
 
 // What asserting did, and the statement's number.
-#[derive(Drop)]
+#[derive(Clone, Copy)]
 pub struct AssertReply {
     pub result: u32,
     pub status: u32,
@@ -80,7 +82,7 @@ pub struct AssertReply {
 }
 
 // What a next call of a scan did, the statement's number, and the visits made.
-#[derive(Drop)]
+#[derive(Clone, Copy)]
 pub struct ScanReply {
     pub result: u32,
     pub status: u32,
@@ -89,7 +91,7 @@ pub struct ScanReply {
 }
 
 // A part of a line: where it starts in the text, and how many bytes it has.
-#[derive(Drop)]
+#[derive(Clone, Copy)]
 pub struct Part {
     pub start: u64,
     pub size: u64,
@@ -97,7 +99,7 @@ pub struct Part {
 
 // What a line is, the position after it, and its three parts; beside a refusal the first part starts at the refusal's
 // offset.
-#[derive(Drop)]
+#[derive(Clone, Copy)]
 pub struct LineReply {
     pub result: u32,
     pub what: u64,

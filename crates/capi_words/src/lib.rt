@@ -3,5 +3,7 @@
 //
 // A function of `words` that reads or writes a slice asks its caller for one that is long enough; `lemontiller` tests
 // it first.
+#![tactic(auto)]
+
 pub mod replies;
 pub mod words;

@@ -49,6 +49,8 @@
 // | show resource Y, show statement N  | the record's words, each field after its name                            |
 // | show resources                     | every whole resource record that is lent                                 |
 // | show index, show text              | the words or bytes that are lent                                         |
+#![tactic(auto)]
+
 ghost use Rattle.std.specs.Prelude.{◌≡◌, ◌*◌, length};
 ghost use Rattle.store.specs.Tables.{statement_words};
 

@@ -2,6 +2,8 @@
 //
 // `script` takes a line apart, `state` keeps what the lines before it set, `setup` and `words` write tables, `print` and `reply` write a
 // case's line.
+#![tactic(auto)]
+
 pub mod print;
 pub mod reply;
 pub mod script;

@@ -9,7 +9,7 @@ use graph::{Level, MAX_PATTERNS, Progress, QueryCursor};
 use store::{Chain, Counters, Position, ResourceId, ScanCursor, StatementId, Triple};
 use table::word::{RESOURCE_WORDS, STATEMENT_WORDS};
 
-#[derive(Drop)]
+#[derive(Clone, Copy)]
 pub struct State {
     pub words: [u32; WORDS],
 }

@@ -8,7 +8,7 @@ use table::triple::at;
 
 // The pattern and the chain; the chain's resource, 0 for all records; for each position whether the pattern binds it,
 // its bound mark; whether it binds none but the chain's.
-#[derive(Drop)]
+#[derive(Clone, Copy)]
 pub struct Plan {
     pub pattern: Triple,
     pub chain: Chain,

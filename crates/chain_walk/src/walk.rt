@@ -21,7 +21,7 @@ use table::word::{flag_at, next_at, term_at, triple_at};
 
 // What a walk seeks: the record with the pattern's three numbers, retracted or not, or the first live match of a
 // pattern.
-#[derive(Drop)]
+#[derive(Clone, Copy)]
 pub enum Sought {
     Same,
     LiveMatch,
@@ -29,21 +29,21 @@ pub enum Sought {
 
 // Where a chain leads after a record: nowhere, since the record has not the chain's resource at the chain's position or
 // its next does not fall; or to the next record.
-#[derive(Drop)]
+#[derive(Clone, Copy)]
 enum Followed {
     Broken,
     To(StatementId),
 }
 
 // What the tests of a record give: it is damaged; or the next record on the chain, its three resources and its flag.
-#[derive(Drop)]
+#[derive(Clone, Copy)]
 enum Tested {
     Damaged,
     Is(StatementId, Triple, u32),
 }
 
 // What a visit finds: a damaged record, what is sought, or another record; with the next record on the chain.
-#[derive(Drop)]
+#[derive(Clone, Copy)]
 pub enum Visited {
     Damaged,
     Hit(StatementId),
@@ -52,7 +52,7 @@ pub enum Visited {
 
 // What a walk comes to: the record found, the visits made, the next record; no record left; no budget left; or a
 // damaged record.
-#[derive(Drop)]
+#[derive(Clone, Copy)]
 pub enum Walked {
     Found(StatementId, u32, StatementId),
     Ended(u32),
@@ -61,7 +61,7 @@ pub enum Walked {
 }
 
 // What seeking a record comes to: its number, 0 for none; or a damaged record.
-#[derive(Drop)]
+#[derive(Clone, Copy)]
 pub enum Searched {
     At(StatementId),
     Damaged,

@@ -4,6 +4,8 @@
 // the records given up are 0, names stay. Refusals, tested in this order, nothing written beside one: 1; 14 after
 // 65,535 reclaims; 9 where the store is not sound. After the check one pass over the resources and one over the
 // statements, in place; no working memory is asked for.
+#![tactic(auto)]
+
 ghost use Rattle.std.specs.Prelude.{◌≡◌, ◌≤◌};
 ghost use Rattle.store.specs.Tables.{lent};
 ghost use Rattle.store.specs.Shared.{max_statements};

@@ -6,6 +6,8 @@
 //
 // Refusals, in the order tested: 1 a counter over its capacity; 2 a name that is not well formed or over 255 bytes, as
 // spelled; 9 a word met on the way that no sound store has; 3 no room for one name more.
+#![tactic(auto)]
+
 ghost use Rattle.store.specs.Tables.{lent};
 ghost use Rattle.store.specs.Dictionary.{FindAnswer, InternAnswer};
 

@@ -7,7 +7,7 @@ use store::{Counters, IndexPlace, ResourceId};
 
 // The bytes at an offset of the text against a name: less, the same, more, or unreadable: it needs a byte past the
 // text in use, or the index word is no number.
-#[derive(Drop)]
+#[derive(Clone, Copy)]
 pub enum Compared {
     Less,
     Same,

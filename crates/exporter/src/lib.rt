@@ -6,6 +6,8 @@
 //
 // Refusals, in the order tested: 1 a counter over its capacity; 9 a statement or a name that cannot be read; 11 output or working words
 // too short.
+#![tactic(auto)]
+
 ghost use Rattle.std.specs.Prelude.{◌≡◌};
 ghost use Rattle.store.specs.Tables.{lent};
 ghost use Rattle.lines.specs.Export.{export_of, written};

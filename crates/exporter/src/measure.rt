@@ -10,14 +10,14 @@ ghost use Rattle.exporter.specs.Legible.{Readable, bytes_if, name_legible, line_
 use store::{Counters, NameRead, ResourceId, StatementId};
 
 // How many statements can be read, from the first up to one that cannot, and the bytes of the live ones' lines among them.
-#[derive(Drop)]
+#[derive(Clone, Copy)]
 pub struct Measured {
     pub read: u32,
     pub bytes: u32,
 }
 
 // The bytes counted so far, or a statement or a name that cannot be read.
-#[derive(Drop)]
+#[derive(Clone, Copy)]
 enum Counted {
     Bytes(u32),
     Unreadable,

@@ -3,6 +3,8 @@
 // A query is a list of words, three a pattern: a resource's number, or `FIRST_VARIABLE` + v for the variable v. What
 // open and next answer is said by the definitions in `specs/Query.antt`, on tables, words and cursors that hold
 // anything; `specs/Values.antt` gives the paper's number and values for each case.
+#![tactic(auto)]
+
 use store::{Chain, Refusal, ResourceId, StatementId};
 
 // How many patterns a query has at most.
@@ -15,7 +17,7 @@ pub const VARIABLES: usize = 16;
 pub const FIRST_VARIABLE: u32 = 2147483648;
 
 // A pattern's three words.
-#[derive(Drop)]
+#[derive(Clone, Copy)]
 pub struct QueryPattern {
     pub subject: u32,
     pub predicate: u32,
@@ -23,14 +25,14 @@ pub struct QueryPattern {
 }
 
 // A resource for each variable, 0 for a variable not used.
-#[derive(Drop)]
+#[derive(Clone, Copy)]
 pub struct Solution {
     pub values: [ResourceId; VARIABLES],
 }
 
 // A pattern entered: its chain, and a record on it; of the deepest level the next record to visit, or 0. A cursor's
 // arrays of chains and of records are one array of these.
-#[derive(Drop)]
+#[derive(Clone, Copy)]
 pub struct Level {
     pub chain: Chain,
     pub statement: StatementId,
@@ -38,7 +40,7 @@ pub struct Level {
 
 // Where a reading stands. A cursor at the start or at the end carries no levels. Within with no levels is the same as
 // the start.
-#[derive(Drop)]
+#[derive(Clone, Copy)]
 pub enum Progress {
     Start,
     Within,
@@ -48,7 +50,7 @@ pub enum Progress {
 // The place of a query: how far it is, how many patterns are entered, the number of reclaims when it was answered, and
 // the chains and records of the patterns entered, the first pattern first. Words past the levels entered are ignored
 // where a cursor is taken, and zero in a cursor that is answered.
-#[derive(Drop)]
+#[derive(Clone, Copy)]
 pub struct QueryCursor {
     pub progress: Progress,
     pub depth: u32,
@@ -57,21 +59,21 @@ pub struct QueryCursor {
 }
 
 // How an opening comes out.
-#[derive(Drop)]
+#[derive(Clone, Copy)]
 pub enum QueryOpening {
     Opened,
     Refused(Refusal),
 }
 
 // Open a query: the cursor at the start.
-#[derive(Drop)]
+#[derive(Clone, Copy)]
 pub struct QueryOpened {
     pub opening: QueryOpening,
     pub cursor: QueryCursor,
 }
 
 // How a next call comes out.
-#[derive(Drop)]
+#[derive(Clone, Copy)]
 pub enum QueryStep {
     Found,
     Ended,
@@ -81,7 +83,7 @@ pub enum QueryStep {
 
 // Next of a query: the visits made, the solution found, the cursor from now on; whatever a case does not give is
 // zero. Beside a refusal the cursor is zero: the caller goes on from the cursor it had.
-#[derive(Drop)]
+#[derive(Clone, Copy)]
 pub struct QueryAnswer {
     pub step: QueryStep,
     pub visits: u32,

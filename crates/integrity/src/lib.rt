@@ -12,6 +12,8 @@
 // One pass over each table and over the chains at each position, so linear in R + T + B, but for the last test: for
 // each record it walks the shortest of its three chains below it. Nothing is written, and no working memory is asked
 // for.
+#![tactic(auto)]
+
 ghost use Rattle.std.specs.Prelude.{◌≡◌, true, ◌↔◌};
 ghost use Rattle.store.specs.Tables.{lent};
 ghost use Rattle.store.specs.Soundness.{Sound};

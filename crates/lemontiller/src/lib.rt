@@ -6,6 +6,8 @@
 // nothing is written. Beside a refusal the reply's words are 0. Words past those that a reply names keep their values.
 // The contracts are equations with the definitions in `specs/Calls.antt` of `capi_calls`, or records there where an
 // operation's contract is one.
+#![tactic(auto)]
+
 ghost use Rattle.std.specs.Prelude.{◌≡◌};
 ghost use Rattle.store.specs.Tables.{lent};
 ghost use Rattle.store.specs.Shared.{triple};

@@ -3,10 +3,11 @@
 //
 // The bytes before it begin some line, so a reading of them that looks for nothing but the ends of names tells within which name the fault
 // lies, or which part is due. What is told here has no contract: the offset is the reader's.
+#![tactic(auto)]
 
 // The fault. `Ends` and `Within`: in an IRI (1), a label (2) or a literal (3) that is not complete. `Due`: a subject (0), a predicate (1),
 // an object (2), a dot (3) or the line's end (4).
-#[derive(Drop)]
+#[derive(Clone, Copy)]
 pub enum Fault {
     Mark,
     NotAscii,
@@ -35,7 +36,7 @@ const NAME_LIMIT: usize = 255;
 
 // Between names, or where in a name. `Closed`: after a literal's closing quote; `Tag`, `Subtag`: in a tag up to its first `-`, and from there
 // on; `Hat`, `Hats`: after one and two `^`.
-#[derive(Drop)]
+#[derive(Clone, Copy)]
 enum Place {
     Between,
     Comment,
@@ -52,7 +53,7 @@ enum Place {
 }
 
 // Where a reading stands: the part that is due or being read, and where the name at hand begins.
-#[derive(Drop)]
+#[derive(Clone, Copy)]
 struct Standing {
     place: Place,
     part: u32,

@@ -3,6 +3,8 @@
 //
 // Resources with one number have one name, and what two names have in common is passed over in one go; on a sound store the next byte
 // then decides. Each function asks that the names are closed by zero bytes; the export sees to it.
+#![tactic(auto)]
+
 ghost use Rattle.std.specs.Prelude.{◌≡◌};
 ghost use Rattle.store.specs.Tables.{offset_at};
 ghost use Rattle.store.specs.Names.{compare_bytes};
@@ -15,7 +17,7 @@ ghost use Rattle.line_order.specs.Heads.{ByteAt, head_after, OneOn, Common};
 use store::{Position, ResourceId, StatementId, Triple};
 
 // Where the reading of a line stands: in the name at a position, at an offset of the text; at the dot; at LF; at the end.
-#[derive(Drop)]
+#[derive(Clone, Copy)]
 pub enum Head {
     Name(Position, usize),
     Dot,

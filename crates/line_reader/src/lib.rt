@@ -3,6 +3,8 @@
 //
 // A function that takes, makes or holds a `LineReader` is proved by a walk of its code, since the struct holds a reference:
 // `proofs/Carried.antt` has the steps for one that carries it in a local.
+#![tactic(auto)]
+
 ghost use Rattle.std.specs.Prelude.{◌≡◌};
 ghost use Rattle.term.specs.Grammar.{name_limit};
 ghost use Rattle.ntriples.specs.Reader.{read_of};
@@ -10,7 +12,7 @@ ghost use Rattle.ntriples.specs.Reader.{read_of};
 use ntriples::Line;
 
 // The text, and the position of the next line.
-#[derive(Drop)]
+#[derive(Clone, Copy)]
 pub struct LineReader<'a> {
     pub text: &'a [u8],
     pub at: usize,

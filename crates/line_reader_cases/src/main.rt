@@ -3,6 +3,8 @@
 //
 // A line that is refused stands before others, so the output shows that a reader moves past it. The expected output is
 // worked out by hand from paper 01.
+#![tactic(auto)]
+
 ghost use Rattle.std.specs.Prelude.{◌≡◌};
 ghost use Rattle.line_reader_cases.specs.End.{is_end};
 

@@ -1,6 +1,8 @@
 // The numbers of statements sorted by their lines: a merge sort in the words that hold them, at most n log2 n comparisons.
 //
 // A statement's number takes 16 bits and a word has 32, so a word holds two: the low half the order so far, the high half the merged one.
+#![tactic(auto)]
+
 ghost use Rattle.std.specs.Prelude.{◌≡◌, map, ◌+◌, ◌≤◌, ◌<◌, length, take, drop};
 ghost use Rattle.line_sort.specs.Sorted.{All, Sortable, Sorted, Merge, Held, Chosen, ByLine, high};
 

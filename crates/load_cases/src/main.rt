@@ -1,5 +1,7 @@
 // Edges of the loading program: each file named as an argument goes into a store of its own, with fresh counters over the tables as the
 // file before left them. A line `== NAME` stands before each file's output.
+#![tactic(auto)]
+
 use libc::STDOUT_FILENO;
 
 // Writes the heading of argument i.

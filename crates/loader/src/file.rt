@@ -7,7 +7,7 @@ use report::tally;
 use table::word::lesser;
 
 // What reading a block brought: the load after it, and whether to go on.
-#[derive(Drop)]
+#[derive(Clone, Copy)]
 pub struct Block {
     pub load: Load,
     pub more: bool,

@@ -13,7 +13,7 @@ use store::{Asserted, Counters, Interned, Refusal, ResourceId, Triple, refusal_n
 pub const LINE_LIMIT: usize = 1024;
 
 // What a line comes to. Nothing: it is blank or a comment.
-#[derive(Drop)]
+#[derive(Clone, Copy)]
 pub enum Outcome {
     Nothing,
     New(u32),
@@ -23,7 +23,7 @@ pub enum Outcome {
 }
 
 // What a line comes to, and the counters after it.
-#[derive(Drop)]
+#[derive(Clone, Copy)]
 pub struct LineLoaded {
     pub counters: Counters,
     pub outcome: Outcome,

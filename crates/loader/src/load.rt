@@ -12,7 +12,7 @@ use store::Counters;
 
 // How far a load is: the store's counters, the lines that have ended, how many bytes of the line being read stand at the front of the
 // buffer; whether it is quiet: then nothing is written to standard output; and what was told of refused lines.
-#[derive(Drop)]
+#[derive(Clone, Copy)]
 pub struct Load {
     pub counters: Counters,
     pub lines: u64,

@@ -3,6 +3,8 @@
 //
 // A function that takes, makes or holds a `NamePart` is proved by a walk of its code, since the struct holds a
 // reference.
+#![tactic(auto)]
+
 ghost use Rattle.std.specs.Prelude.{◌≡◌};
 ghost use Rattle.store.specs.Tables.{lent};
 ghost use Rattle.store.specs.Reading.{name_span_of};
@@ -14,7 +16,7 @@ use store::{Counters, NameRead, ResourceId, refusal_number};
 // The refusal's number, 0 where there is none, and the name's bytes, empty beside a refusal. The part lives as long as
 // the text is lent: while it is in use nothing can be written to the text, so an intern may follow only once the part
 // is no longer needed.
-#[derive(Drop)]
+#[derive(Clone, Copy)]
 pub struct NamePart<'t> {
     pub refusal: u32,
     pub part: &'t [u8],

@@ -6,6 +6,8 @@
 // continues no line. A run of bytes of one class is one loop, so reading is linear in the line's length.
 //
 // The only refusal is 10, with its offset in the line.
+#![tactic(auto)]
+
 ghost use Rattle.std.specs.Prelude.{◌+◌, ◌≤◌, ◌≡◌, [], ◌∷◌, length};
 ghost use Rattle.term.specs.Grammar.{name_limit};
 ghost use Rattle.ntriples.specs.Grammar.{white, comment_byte};
@@ -18,7 +20,7 @@ ghost use Rattle.ntriples.specs.Productions.{EolAt};
 use term::production::Scan;
 
 // A part of the text: the position of its first byte, and the position after its last.
-#[derive(Drop)]
+#[derive(Clone, Copy)]
 pub struct Span {
     pub start: usize,
     pub end: usize,
@@ -27,7 +29,7 @@ pub struct Span {
 // What reading a line answers. End: the position is at or past the text's end. Nothing: a blank line or a comment line.
 // Triple: the parts of the subject, the predicate and the object, without the string ending. Refused: refusal 10, with
 // its offset in the line.
-#[derive(Drop)]
+#[derive(Clone, Copy)]
 pub enum Line {
     End,
     Nothing,
@@ -36,21 +38,21 @@ pub enum Line {
 }
 
 // The answer, and the position after the line.
-#[derive(Drop)]
+#[derive(Clone, Copy)]
 pub struct LineRead {
     pub line: Line,
     pub next: usize,
 }
 
 // Where a subject or a predicate ends, or the position of the byte that continues no line.
-#[derive(Drop)]
+#[derive(Clone, Copy)]
 pub enum TermEnd {
     Whole(usize),
     Broken(usize),
 }
 
 // Where an object ends. Dotted: it is a blank node, and the byte after it is the line's dot.
-#[derive(Drop)]
+#[derive(Clone, Copy)]
 pub enum ObjectEnd {
     Whole(usize),
     Dotted(usize),

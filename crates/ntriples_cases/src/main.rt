@@ -4,6 +4,8 @@
 //
 // The input and the expected output are those of `reference.py`, which follows paper 01 and knows nothing of this
 // library; the answers that docs/DECISIONS.md gives as examples are written out there by hand.
+#![tactic(auto)]
+
 ghost use Rattle.std.specs.Prelude.{◌≤◌, ◌<◌, ◌≡◌, length};
 
 use bytes::scan::find;
@@ -16,14 +18,14 @@ const ROOM: usize = 8192;
 const LINE_ROOM: usize = 600;
 
 // A number, and the position after it.
-#[derive(Drop)]
+#[derive(Clone, Copy)]
 struct Number {
     value: usize,
     next: usize,
 }
 
 // A byte `count` times, and the position in the table after what stands for it.
-#[derive(Drop)]
+#[derive(Clone, Copy)]
 struct Run {
     byte: u8,
     count: usize,
@@ -31,7 +33,7 @@ struct Run {
 }
 
 // How many bytes of a text were laid out, and the position in the table after them.
-#[derive(Drop)]
+#[derive(Clone, Copy)]
 struct Laid {
     len: usize,
     next: usize,

@@ -12,7 +12,7 @@ use store::{ResourceId, Triple};
 
 // Whether a triple meets a pattern, and what is bound from now on; where it does not, what was bound before.
 // The array comes first: copies of it then start at a whole word.
-#[derive(Drop)]
+#[derive(Clone, Copy)]
 pub struct Matched {
     pub bound: Solution,
     pub hit: bool,

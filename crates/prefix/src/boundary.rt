@@ -8,7 +8,7 @@ use store::{Counters, ResourceId};
 
 // On which side of a boundary a name lies; or unreadable: it needs a byte past the text in use, or the index word is not
 // in 1..R.
-#[derive(Drop)]
+#[derive(Clone, Copy)]
 pub enum Side {
     Below,
     Alike,
@@ -18,14 +18,14 @@ pub enum Side {
 
 // How many entries of the index lie below a boundary, and a position from which on all names are more than those with
 // the prefix: the lowest that the search has met, or the end of the part searched.
-#[derive(Drop)]
+#[derive(Clone, Copy)]
 pub enum Edge {
     At(u32, u32),
     Unreadable,
 }
 
 // The run of the index that has the names with a prefix: where it starts, and where it ends.
-#[derive(Drop)]
+#[derive(Clone, Copy)]
 pub enum Run {
     Between(u32, u32),
     Unreadable,

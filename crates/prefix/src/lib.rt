@@ -5,6 +5,8 @@
 //
 // Refusals, in the order tested: 1 a counter over its capacity; 2 a beginning over 255 bytes; 9 a word met on the way
 // that no sound store has. The bytes are taken as they are: a zero byte meets no name.
+#![tactic(auto)]
+
 ghost use Rattle.store.specs.Tables.{lent};
 ghost use Rattle.store.specs.Prefix.{PrefixAnswer};
 

@@ -2,6 +2,8 @@
 // ends with status 0 always, so these functions are exported: a `main` of C hands their answer on (`kit/c/program.c`).
 //
 // `load` and `export` have the work of two of them, `shell_session` that of the third; `usage` answers arguments that ask for a text.
+#![tactic(auto)]
+
 mod export;
 mod load;
 mod usage;

@@ -3,6 +3,8 @@
 //
 // The words are passed at each call, and the cursor holds none of them: a cursor of another query, or of another
 // store, is judged by refusals 13 and 6 alone. Refusals, in the order tested: open 1, 8; next 1, 8, 13, 6, 7, 9.
+#![tactic(auto)]
+
 ghost use Rattle.std.specs.Prelude.{◌≡◌};
 ghost use Rattle.store.specs.Tables.{lent};
 ghost use Rattle.graph.specs.Query.{open_query_of, next_query_of};

@@ -1,5 +1,7 @@
 // The second opening of a query: its most selective pattern first (paper 02, note 11). The words are arranged in place,
 // so that a caller goes on with words that fit the cursor.
+#![tactic(auto)]
+
 ghost use Rattle.std.specs.Prelude.{◌≡◌};
 ghost use Rattle.store.specs.Tables.{lent};
 ghost use Rattle.graph.specs.Query.{opened_with};

@@ -26,7 +26,7 @@ use table::word::triple_at;
 
 // Where the walk stands: the deepest level, from 0; the levels; what those before the deepest bind;
 // the deepest level's pattern under them, 0 for an open variable.
-#[derive(Drop)]
+#[derive(Clone, Copy)]
 pub struct Stack {
     pub top: u32,
     pub levels: [Level; MAX_PATTERNS],
@@ -35,7 +35,7 @@ pub struct Stack {
 }
 
 // What a turn leads to: refusal 9, another place, or a whole solution, which is then what the stack has bound.
-#[derive(Drop)]
+#[derive(Clone, Copy)]
 pub enum Outcome {
     Damaged,
     Onward,
@@ -44,7 +44,7 @@ pub enum Outcome {
 
 // What a turn writes over the stack: what the levels before the deepest bind; the deepest level's pattern under them;
 // that level; its number, from 0. The array comes first: copies of it then start at a whole word.
-#[derive(Drop)]
+#[derive(Clone, Copy)]
 pub struct Turned {
     pub bound: Solution,
     pub asked: Triple,

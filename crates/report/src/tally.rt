@@ -17,7 +17,7 @@ const FULL: u32 = 3;
 
 // The argument that names the file being read, 0 for standard input, and how many lines were read before it; how many of its lines were
 // refused, and of all files'; whether one found no room, how many files could not be read, and whether all that was told was written.
-#[derive(Drop)]
+#[derive(Clone, Copy)]
 pub struct Report {
     pub file: usize,
     pub before: u64,

@@ -3,6 +3,8 @@
 // Each operation takes the counters and all four tables and answers on any words in them, and on any cursor: what it
 // answers is its definition in `store`. Refusals are tested in the paper's order: open 1, 4, 9; next 1, 13, 6, 7, 9.
 // Nothing is written.
+#![tactic(auto)]
+
 ghost use Rattle.std.specs.Prelude.{◌≡◌, ◌*◌, ◌≤◌, length};
 ghost use Rattle.store.specs.Tables.{lent, statement_words};
 ghost use Rattle.store.specs.Scan.{cursor_in, open_of, next_of};

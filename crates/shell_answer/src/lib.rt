@@ -2,6 +2,8 @@
 //
 // `question` and `list` go on until the reading has ended, and answer how many solutions or statements they found and how many visits
 // were made. Where one cannot be written they stop at once.
+#![tactic(auto)]
+
 ghost use Rattle.std.specs.Prelude.{◌≡◌, true, false};
 
 pub mod list;
@@ -15,7 +17,7 @@ pub const CALLS: u64 = 4503599627370495;
 
 // How a reading came out: the refusal's number, or 0; whether it has ended; how many were found, and the visits made; and whether all that
 // was found was written. One that was not refused has ended, unless something could not be written, or all calls were made.
-#[derive(Drop)]
+#[derive(Clone, Copy)]
 pub struct Told {
     pub refusal: u32,
     pub ended: bool,

@@ -4,7 +4,7 @@ ghost use Rattle.shell_line.specs.Commands.{words, bare_words, named, all_of, co
 
 use crate::part;
 
-#[derive(Drop)]
+#[derive(Clone, Copy)]
 pub enum Command {
     // Blank, or a comment.
     Nothing,
@@ -25,7 +25,7 @@ pub enum Command {
 }
 
 // The command; where its first byte stands; and where its rest begins, after the word and white. A question is all rest.
-#[derive(Drop)]
+#[derive(Clone, Copy)]
 pub struct CommandRead {
     pub command: Command,
     pub start: usize,

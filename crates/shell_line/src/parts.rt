@@ -12,7 +12,7 @@ use ntriples::{Span, TermEnd};
 pub const MAX_PARTS: usize = 3 * MAX_PATTERNS;
 
 // What is read: a question, whose variables have names, or the pattern of a list, where a lone `?` stands for any.
-#[derive(Drop)]
+#[derive(Clone, Copy)]
 pub struct Form {
     pub any: bool,
     pub patterns: usize,
@@ -21,7 +21,7 @@ pub struct Form {
 // How far the reading is: the refusal's number, 0 while there is none, and its offset in the line; where to read on; the parts read,
 // three a pattern; whether a dot stands after the last one; the variables so far, each with the part where it first stands; for each part
 // its word, 0 where it is a name or any.
-#[derive(Drop)]
+#[derive(Clone, Copy)]
 pub struct Parts {
     pub refusal: u32,
     pub offset: usize,

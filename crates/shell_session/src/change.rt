@@ -8,7 +8,7 @@ use shell_words::{Found, UNKNOWN, number_of};
 use store::{Counters, Reclaimed, ResourceId, Retracted, Triple};
 
 // The counters after a command, and its status.
-#[derive(Drop)]
+#[derive(Clone, Copy)]
 pub struct Changed {
     pub counters: Counters,
     pub status: u32,
@@ -174,7 +174,7 @@ fn tell_absent(
 }
 
 // The triple of a statement to retract. Done where the store has its names; otherwise that is told.
-#[derive(Drop)]
+#[derive(Clone, Copy)]
 struct Sought {
     status: u32,
     triple: Triple,

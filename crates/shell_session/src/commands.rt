@@ -9,7 +9,7 @@ use store::Counters;
 
 // How far a session is: the store's counters, how many lines of the files were refused and how many files could not be read, where notices
 // go, the greatest status so far, and whether the session is over.
-#[derive(Drop)]
+#[derive(Clone, Copy)]
 pub struct State {
     pub counters: Counters,
     pub missing: u64,

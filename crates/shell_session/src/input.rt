@@ -14,7 +14,7 @@ const TURNS: u64 = 18446744073709551615;
 // How far the input is read. The line at hand, if one is found, stands in the buffer from `start` up to `end`; what is read beyond it, from
 // `at` up to `filled`. Once standard input has ended, what is left is the last line; where a read failed, or the write of a prompt, nothing
 // is left.
-#[derive(Drop)]
+#[derive(Clone, Copy)]
 struct Input {
     start: usize,
     end: usize,

@@ -4,6 +4,8 @@
 // `input` reads the lines; `commands` takes a line to its command; `change` has the commands that write to the store, `reading` those that
 // only read it, `answer` what they write. Rows go to standard output, notices to a descriptor that is handed down. Every command answers
 // its status; after a write that failed nothing more is written, and the session is over.
+#![tactic(auto)]
+
 mod answer;
 mod change;
 mod commands;

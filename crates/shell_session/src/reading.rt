@@ -23,7 +23,7 @@ use store::{Counters, Prefixed, ResourceId, Triple};
 use table::word::lesser;
 
 // How a question or a list came out, and the status of one that has ended.
-#[derive(Drop)]
+#[derive(Clone, Copy)]
 struct Replied {
     told: Told,
     status: u32,

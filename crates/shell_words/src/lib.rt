@@ -1,5 +1,7 @@
 // The words of a question or of a list, as the store knows them: for each part that was read a variable's word, 0 for any, or the number of
 // its name.
+#![tactic(auto)]
+
 ghost use Rattle.std.specs.Prelude.{◌≡◌, ◌<◌};
 ghost use Rattle.store.specs.Tables.{lent};
 ghost use Rattle.shell_line.specs.Questions.{max_parts, part_bytes};
@@ -13,7 +15,7 @@ use store::{Counters, Lookup};
 pub const UNKNOWN: u32 = 0;
 
 // The refusal's number, or 0; how many parts are names that the store does not have; the words, `UNKNOWN` for each such name.
-#[derive(Drop)]
+#[derive(Clone, Copy)]
 pub struct Words {
     pub refusal: u32,
     pub unknown: u32,
@@ -21,7 +23,7 @@ pub struct Words {
 }
 
 // A name's number, or `UNKNOWN`, and the refusal's number, or 0.
-#[derive(Drop)]
+#[derive(Clone, Copy)]
 pub struct Found {
     pub refusal: u32,
     pub number: u32,

@@ -4,6 +4,8 @@
 // writes is its definition in `store`. `statement_target` finds the record, `statement_record` writes. Refusals are
 // tested in the paper's order, and beside a refusal nothing is written. Assert and retract come by value and on
 // counters that the caller keeps and lends.
+#![tactic(auto)]
+
 ghost use Rattle.std.specs.Prelude.{◌≡◌};
 ghost use Rattle.store.specs.Tables.{after, lent};
 ghost use Rattle.store.specs.Statement.{assert_of, retract_of, counters_after};
@@ -55,7 +57,7 @@ pub fn retract(
 }
 
 // What assert answers where the caller keeps the counters: the counters from now on, and the reply.
-#[derive(Drop)]
+#[derive(Clone, Copy)]
 struct AssertKept {
     counters: Counters,
     reply: Asserted,
@@ -110,7 +112,7 @@ pub fn assert_updating(
 }
 
 // What retract answers where the caller keeps the counters: these, unchanged, and the reply.
-#[derive(Drop)]
+#[derive(Clone, Copy)]
 struct RetractKept {
     counters: Counters,
     reply: Retracted,

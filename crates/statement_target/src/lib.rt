@@ -2,4 +2,6 @@
 //
 // `target` tests the refusals 1, 4, 5 and 9 in the paper's order and finds the record with a triple. Nothing here is
 // written.
+#![tactic(auto)]
+
 pub mod target;

@@ -15,7 +15,7 @@ use table::word::{count_at, kind_at, kinds_permitted, live_at};
 use table::{fits, in_range, known};
 
 // Where the record with a triple is: its number, 0 for none; or why the operation refuses.
-#[derive(Drop)]
+#[derive(Clone, Copy)]
 pub enum Located {
     Refused(Refusal),
     At(StatementId),

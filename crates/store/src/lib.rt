@@ -3,21 +3,23 @@
 // Every operation of the store takes the counters by value and the four lent tables; what it answers is said by the
 // definitions in `specs/`, which `specs/Values.antt` ties to the paper's numbers: the refusal's number, and zeros
 // beside it.
+#![tactic(auto)]
+
 ghost use Rattle.std.specs.Prelude.{◌≡◌};
 ghost use Rattle.store.specs.Shared.{fresh_counters};
 ghost use Rattle.store.specs.Values.{refusal_number};
 
 // A resource's number, from 1; 0 is null, or "any" in a pattern.
-#[derive(Drop)]
+#[derive(Clone, Copy)]
 pub struct ResourceId(pub u32);
 
 // A statement's number, from 1; 0 is null. It is never a resource's number.
-#[derive(Drop)]
+#[derive(Clone, Copy)]
 pub struct StatementId(pub u32);
 
 // How much of the lent tables is in use: resources R, statements T, text bytes B. The generation is the number of
 // reclaims so far.
-#[derive(Drop)]
+#[derive(Clone, Copy)]
 pub struct Counters {
     pub resources: u32,
     pub statements: u32,
@@ -50,7 +52,7 @@ impl Counters {
 }
 
 // A position in a statement (the paper's place). Facts about chains are stated once, over it.
-#[derive(Drop)]
+#[derive(Clone, Copy)]
 pub enum Position {
     Subject,
     Predicate,
@@ -58,14 +60,14 @@ pub enum Position {
 }
 
 // Which records a walk follows: all of them, falling from the last, or those with one resource at one position.
-#[derive(Drop)]
+#[derive(Clone, Copy)]
 pub enum Chain {
     All,
     By(Position),
 }
 
 // Three resource numbers: a statement's, or a pattern's with 0 for any.
-#[derive(Drop)]
+#[derive(Clone, Copy)]
 pub struct Triple {
     pub subject: ResourceId,
     pub predicate: ResourceId,
@@ -74,7 +76,7 @@ pub struct Triple {
 
 // Where a pattern scan stands (the paper's place of a listing): the pattern, the chain picked at the opening, the next
 // record or 0, the number of reclaims at the opening.
-#[derive(Drop)]
+#[derive(Clone, Copy)]
 pub struct ScanCursor {
     pub pattern: Triple,
     pub chain: Chain,
@@ -89,7 +91,7 @@ pub const LITERAL: u32 = 3;
 
 // Why an operation refuses; `specs/Values.antt` gives the paper's number of each. No operation answers 12 or 15 to 17
 // yet: they are those of the paper's notes 2, 9 and 12.
-#[derive(Drop)]
+#[derive(Clone, Copy)]
 pub enum Refusal {
     // 1: a counter exceeds its capacity.
     Capacity,
@@ -153,14 +155,14 @@ pub fn refusal_number(e: Refusal) -> u32
 }
 
 // Read a statement: the triple, and 1 if it is retracted, else 0.
-#[derive(Drop)]
+#[derive(Clone, Copy)]
 pub enum StatementRead {
     Is(Triple, u32),
     Refused(Refusal),
 }
 
 // Name of a number: where its bytes start in the text, and how many they are.
-#[derive(Drop)]
+#[derive(Clone, Copy)]
 pub enum NameRead {
     Span(u32, u32),
     Refused(Refusal),
@@ -168,7 +170,7 @@ pub enum NameRead {
 
 // Where a name stands in the index: under its number at a position, before a position, or the search met a damaged
 // word.
-#[derive(Drop)]
+#[derive(Clone, Copy)]
 pub enum IndexPlace {
     At(ResourceId, u32),
     Before(u32),
@@ -176,7 +178,7 @@ pub enum IndexPlace {
 }
 
 // Find a name: its number, or absent; and its position in the index, from 0, where it stands or would stand.
-#[derive(Drop)]
+#[derive(Clone, Copy)]
 pub enum Lookup {
     Number(ResourceId, u32),
     Absent(u32),
@@ -184,21 +186,21 @@ pub enum Lookup {
 }
 
 // List the names with a prefix: how many there are.
-#[derive(Drop)]
+#[derive(Clone, Copy)]
 pub enum Prefixed {
     Total(u32),
     Refused(Refusal),
 }
 
 // Enter a name: its number, and the counters from now on.
-#[derive(Drop)]
+#[derive(Clone, Copy)]
 pub enum Interned {
     Number(ResourceId, Counters),
     Refused(Refusal),
 }
 
 // Assert: the statement's number, and the counters from now on.
-#[derive(Drop)]
+#[derive(Clone, Copy)]
 pub enum Asserted {
     New(StatementId, Counters),
     Already(StatementId, Counters),
@@ -207,7 +209,7 @@ pub enum Asserted {
 }
 
 // Retract: the number of the statement that was live until now, if there was one.
-#[derive(Drop)]
+#[derive(Clone, Copy)]
 pub enum Retracted {
     Number(StatementId),
     Absent,
@@ -215,21 +217,21 @@ pub enum Retracted {
 }
 
 // Reclaim: the counters from now on.
-#[derive(Drop)]
+#[derive(Clone, Copy)]
 pub enum Reclaimed {
     Done(Counters),
     Refused(Refusal),
 }
 
 // Open a pattern scan.
-#[derive(Drop)]
+#[derive(Clone, Copy)]
 pub enum ScanOpened {
     Cursor(ScanCursor),
     Refused(Refusal),
 }
 
 // Next of a pattern scan: the statement found, the visits made, the cursor from now on.
-#[derive(Drop)]
+#[derive(Clone, Copy)]
 pub enum Scanned {
     Found(StatementId, u32, ScanCursor),
     Ended(u32, ScanCursor),

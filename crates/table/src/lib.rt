@@ -8,6 +8,8 @@
 // | text       | bytes  | names in resource order, each closed by a zero byte                                                 |
 //
 // Records are numbered from 1. A record's words are read and written through `word`, for a position in general.
+#![tactic(auto)]
+
 ghost use Rattle.std.specs.Prelude.{◌≡◌};
 ghost use Rattle.store.specs.Shared.{known};
 ghost use Rattle.store.specs.Tables.{lent, fits};

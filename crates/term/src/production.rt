@@ -5,7 +5,7 @@ ghost use Rattle.term.specs.Scanner.{halt_of, label_place_of};
 ghost use Rattle.term.specs.declared.production.Scan.TheVariants.{Start, IriOpen, Under, Text, Quote, At, Hyphen, Caret};
 
 // The place in a name where a scan stands, by what it read last. `Bad`: no name begins with what was read.
-#[derive(Drop)]
+#[derive(Clone, Copy)]
 pub enum Scan {
     Start,
     IriOpen,
@@ -29,7 +29,7 @@ pub enum Scan {
 }
 
 // Where a scan halts: the place, and the offset of the first byte that it did not take.
-#[derive(Drop)]
+#[derive(Clone, Copy)]
 pub struct Halt {
     pub state: Scan,
     pub at: usize,

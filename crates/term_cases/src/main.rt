@@ -1,6 +1,8 @@
 // Runs the spellings of `stdin` (paper 01, "Names"), one a line: the case's name, a space, and the bytes to test,
 // where `%` and two hexadecimal digits stand for one byte. It writes a line for each: the case's number and name, what
 // `kind_of_name` answers (`kind` and its number, or `refused 2`), and the offset at which `scan_term` halts.
+#![tactic(auto)]
+
 ghost use Rattle.std.specs.Prelude.{◌≤◌};
 ghost use Rattle.io.specs.Counts.{IsPrefixLen};
 

@@ -7,6 +7,8 @@
 //
 // The files are the W3C's, unchanged, with their licence, in `data`. The expected output is that of `expected.py`,
 // which follows paper 01 and knows nothing of this library. `docs/W3C.md` compares it with the W3C's verdicts.
+#![tactic(auto)]
+
 use libc::{STDERR_FILENO, STDOUT_FILENO};
 use store::{Refusal, refusal_number};
 

@@ -1,6 +1,8 @@
 // A line loaded whole or not at all: `load_whole` does what the loading program does with a line, but where that would be refused, it
 // changes nothing. The loading program enters the names of a line one by one, and those entered before a refusal remain; here `room` tells
 // beforehand whether all of them, and the statement, have room.
+#![tactic(auto)]
+
 ghost use Rattle.term.specs.Grammar.{name_limit};
 ghost use Rattle.store.specs.Tables.{lent};
 ghost use Rattle.ntriples.specs.Reader.{read_of};
