@@ -133,6 +133,7 @@ tag-parts (g.TagRest.byte e r) = byte-parts e (tag-parts r)
 tag-parts (g.TagRest.group e r) = parts-after letter e (group-parts r)
 
 tag-spelled : (l : List ℕ) → g.Suffix (64 ∷ l) → SpelledTag l
+tag-spelled [] x' = elim x' [ ]
 tag-spelled (b ∷ s) (g.Suffix.tag e r) =
     let p = tag-parts r in
     record {

@@ -16,6 +16,7 @@ pub fn byte_at(bytes: &[u8], i: usize) -> u8
 
 // Of an IRI: 33..126 except < > " { } | ^ \ and the backquote. A match of single bytes beside ranges is compiled to a
 // table of jumps, so the class is tested range by range, the most frequent bytes first.
+#[tactic(auto, unfolding(crate::specs::Bytes::iri_byte, crate::specs::Bytes::among))]
 pub fn is_iri_byte(b: u8) -> bool
     ensures { result ≡ iri_byte b }
 {
@@ -26,6 +27,7 @@ pub fn is_iri_byte(b: u8) -> bool
 }
 
 // No small letter: up to `;`, the digits among them.
+#[tactic(auto, unfolding(crate::specs::Bytes::iri_byte, crate::specs::Bytes::among))]
 fn is_iri_low(b: u8) -> bool
     requires { (b < 97) ⊎ (122 < b) }
     ensures { result ≡ iri_byte b }
@@ -38,6 +40,7 @@ fn is_iri_low(b: u8) -> bool
 }
 
 // No small letter, and after `;`: up to `[`, the capital letters among them.
+#[tactic(auto, unfolding(crate::specs::Bytes::iri_byte, crate::specs::Bytes::among))]
 fn is_iri_middle(b: u8) -> bool
     requires { (59 < b) × ((b < 97) ⊎ (122 < b)) }
     ensures { result ≡ iri_byte b }
@@ -50,6 +53,7 @@ fn is_iri_middle(b: u8) -> bool
 }
 
 // No small letter, and after `[`.
+#[tactic(auto, unfolding(crate::specs::Bytes::iri_byte, crate::specs::Bytes::among))]
 fn is_iri_high(b: u8) -> bool
     requires { (91 < b) × ((b < 97) ⊎ (122 < b)) }
     ensures { result ≡ iri_byte b }
@@ -61,6 +65,7 @@ fn is_iri_high(b: u8) -> bool
 }
 
 // Of a literal's text by itself: 32..126 except " and \.
+#[tactic(auto, unfolding(crate::specs::Bytes::text_byte, crate::specs::Bytes::among))]
 pub fn is_text_byte(b: u8) -> bool
     ensures { result ≡ text_byte b }
 {
@@ -72,6 +77,7 @@ pub fn is_text_byte(b: u8) -> bool
 }
 
 // Of a literal's text after \: the letters n and r stand for LF and CR.
+#[tactic(auto, unfolding(crate::specs::Bytes::pair_byte, crate::specs::Bytes::among))]
 pub fn is_pair_byte(b: u8) -> bool
     ensures { result ≡ pair_byte b }
 {
@@ -82,6 +88,7 @@ pub fn is_pair_byte(b: u8) -> bool
 }
 
 // The first of a blank node's label: a letter, a digit or _.
+#[tactic(auto, unfolding(crate::specs::Bytes::first_byte, crate::specs::Bytes::alnum, crate::specs::Bytes::letter))]
 pub fn is_label_first(b: u8) -> bool
     ensures { result ≡ first_byte b }
 {
@@ -92,6 +99,7 @@ pub fn is_label_first(b: u8) -> bool
 }
 
 // A later one: a letter, a digit, _, - or a dot.
+#[tactic(auto, unfolding(crate::specs::Spelling::label_or_dot, crate::specs::Bytes::label_byte, crate::specs::Bytes::first_byte, crate::specs::Bytes::alnum, crate::specs::Bytes::letter))]
 pub fn is_label_byte(b: u8) -> bool
     ensures { result ≡ label_or_dot b }
 {
@@ -102,6 +110,7 @@ pub fn is_label_byte(b: u8) -> bool
 }
 
 // Of a language tag's first group.
+#[tactic(auto, unfolding(crate::specs::Bytes::letter))]
 pub fn is_letter(b: u8) -> bool
     ensures { result ≡ letter b }
 {
@@ -112,6 +121,7 @@ pub fn is_letter(b: u8) -> bool
 }
 
 // Of a language tag's later groups: a letter or a digit.
+#[tactic(auto, unfolding(crate::specs::Bytes::alnum, crate::specs::Bytes::letter))]
 pub fn is_alnum(b: u8) -> bool
     ensures { result ≡ alnum b }
 {
