@@ -1,6 +1,6 @@
 -- The grammar of specs/Grammar.antt and that of proofs/Rest.antt derive the same lines with the same parts, and so with
 -- terms equally long. Assumes nothing.
-use Prim.Native.Nat.{ℕ, suc, ◌+◌, ◌-◌}
+use Prim.Native.Nat.{ℕ, suc, ◌+◌}
 use mathlib.Core.Path.{◌≡◌, refl, ◌∙◌, ap}
 use mathlib.Core.List.{List, [], ◌∷◌, ◌++◌}
 use mathlib.Core.Bool.{true}

@@ -60,6 +60,7 @@ pub enum ObjectEnd {
 }
 
 // A space or a tab.
+#[tactic(auto, unfolding(crate::specs::Grammar::white, term::specs::Bytes::among))]
 pub fn is_white(b: u8) -> bool
     ensures { result ≡ white b }
 {
@@ -70,6 +71,7 @@ pub fn is_white(b: u8) -> bool
 }
 
 // A byte of a comment: a tab or 32..126.
+#[tactic(auto, unfolding(crate::specs::Grammar::comment_byte))]
 fn is_comment_byte(b: u8) -> bool
     ensures { result ≡ comment_byte b }
 {
@@ -113,6 +115,7 @@ fn comment(text: &[u8], from: usize, stop: usize) -> usize
 }
 
 // A lone dot after a label's byte, which may be the line's.
+#[tactic(auto, unfolding(crate::specs::Reader::is_dot))]
 fn is_dot(q: Scan) -> bool
     ensures { result ≡ is_dot q }
 {
