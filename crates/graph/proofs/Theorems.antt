@@ -87,7 +87,7 @@ pub more-triples : MoreTriplesClaim
 more-triples = arrangements.more-triples
 
 pub one_more_lem : MonotoneClaim
-one_more_lem = arrangements.one_more
+one_more_lem = arrangements.one_more_lem
 
 pub least-counts : KeyClaim
 least-counts = fronting.keys
