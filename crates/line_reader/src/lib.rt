@@ -1,8 +1,5 @@
 // A reader that carries the text and how far it has read (paper 01, "The right form for each place"): thin over
 // `ntriples::read_line`, which takes a plain text and a position.
-//
-// A function that takes, makes or holds a `LineReader` is proved by a walk of its code, since the struct holds a reference:
-// `proofs/Carried.antt` has the steps for one that carries it in a local.
 #![tactic(auto)]
 
 ghost use Rattle.std.specs.Prelude.{◌≡◌};
