@@ -1,4 +1,4 @@
-//! Links the static library that `rt staticlib` writes. LEMONTILLER_LIB names its folder, if it is not the checkout's own.
+//! Links the static library that `kit/build library` writes. LEMONTILLER_LIB names its folder, if it is not the checkout's own.
 use std::{env, path::PathBuf};
 
 /// The crate that the library is built from, and so its name.
