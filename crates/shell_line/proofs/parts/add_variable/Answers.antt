@@ -1,0 +1,27 @@
+-- A variable more, way by way. Assumes nothing.
+use mathlib.Core.Path.{refl, sym, ap}
+use Rattle.ntriples.specs.Grammar.{span}
+use Rattle.shell_line.specs.Questions.{Variable, span_of, word_of}
+use Rattle.shell_line.proofs.QuestionLaws.{variable-beyond, variable-known, variable-new}
+use Rattle.shell_line.proofs.parts.add_variable.Goals as goal
+
+pub returns-then-v-ge-VARIABLES : goal.returns-then-v-ge-VARIABLES
+returns-then-v-ge-VARIABLES c s h k = let n = c.variable_number-v in
+    variable-beyond h c.args.end n.result (n.ensures s h) c.fault.result
+    c.if-v-ge-VARIABLES.true c.fault.ensures
+
+pub returns-then-v-p : goal.returns-then-v-p
+unfolding span_of word_of
+returns-then-v-p c s h k = let e = c.args.end in
+    let n = c.variable_number-v in
+    let a = c.add-r in
+    variable-new h e n.result (n.ensures s h) a.result c.if-v-ge-VARIABLES.false c.if-v-p.true
+    (a.ensures s (Variable n.result (span s.at e)) h k (ap (λ i. span i e) (sym h.at)) refl)
+
+pub returns-else-v-p : goal.returns-else-v-p
+unfolding span_of word_of
+returns-else-v-p c s h k = let e = c.args.end in
+    let n = c.variable_number-v in
+    let a = c.add-r in
+    variable-known h e n.result (n.ensures s h) a.result c.if-v-ge-VARIABLES.false c.if-v-p.false
+    (a.ensures s (Variable n.result (span s.at e)) h k (ap (λ i. span i e) (sym h.at)) refl)
