@@ -36,7 +36,11 @@ fn write_told(rt: &impl Outputs, t: Report, file: &[u8]) -> u32 {
     if !tally::tell_lacks(rt, t.missing, t.unread) {
         return 2;
     }
-    if put(rt, Output::Standard, file) { 0 } else { 2 }
+    if put(rt, Output::Standard, file) {
+        0
+    } else {
+        2
+    }
 }
 
 // Writes the file, and answers the status. A sound store is refused for the file's length alone.

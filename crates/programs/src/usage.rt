@@ -11,7 +11,11 @@ const LINE: usize = 4352;
 
 // Writes a text that was asked for, and answers the status.
 fn text(rt: &impl Outputs, bytes: &[u8]) -> u32 {
-    if put(rt, Output::Standard, bytes) { 0 } else { 2 }
+    if put(rt, Output::Standard, bytes) {
+        0
+    } else {
+        2
+    }
 }
 
 // Tells that argument i is no option of the program.
