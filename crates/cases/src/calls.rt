@@ -2,6 +2,7 @@
 use cases_script::state::State;
 use cases_script::{print, reply, script, setup, state};
 use store::{Counters, ResourceId, StatementId, Triple};
+use streams::Outputs;
 
 // As many words as the script may lend for the numbers of names, or to work in.
 const WORDS: usize = 16;
@@ -22,6 +23,7 @@ fn triple(line: &[u8]) -> Triple {
 }
 
 pub fn enter(
+    rt: &impl Outputs,
     s: State,
     line: &[u8],
     resources: &mut [u32],
@@ -31,10 +33,11 @@ pub fn enter(
 ) -> State {
     let c = state::counters(s);
     let a = dictionary::intern(c, resources, statements, index, text, script::rest(line, 2));
-    reply::interned(s, a)
+    reply::interned(rt, s, a)
 }
 
 pub fn statements(
+    rt: &impl Outputs,
     s: State,
     verb: u32,
     line: &[u8],
@@ -46,19 +49,23 @@ pub fn statements(
     let c = state::counters(s);
     if verb == script::RECLAIM {
         let a = compaction::reclaim(c, resources, statements, index, text);
-        return reply::reclaimed(s, a);
+        return reply::reclaimed(rt, s, a);
     }
     let x = triple(line);
     if verb == script::ASSERT {
         let a = statement::assert(c, resources, statements, index, text, x);
-        return reply::asserted(s, a);
+        return reply::asserted(rt, s, a);
     }
-    reply::retracted(statement::retract(c, resources, statements, index, text, x));
+    reply::retracted(
+        rt,
+        statement::retract(c, resources, statements, index, text, x),
+    );
     s
 }
 
 // Calls that write to no table.
 pub fn readings(
+    rt: &impl Outputs,
     s: State,
     verb: u32,
     line: &[u8],
@@ -68,12 +75,15 @@ pub fn readings(
     text: &[u8],
 ) -> State {
     match verb {
-        script::OPEN | script::NEXT => listings(s, verb, line, resources, statements, index, text),
+        script::OPEN | script::NEXT => listings(
+            rt, s, verb, line, resources, statements, index, text,
+        ),
         script::ASK | script::ANSWER => questions(
-            s, verb, line, resources, statements, index, text,
+            rt, s, verb, line, resources, statements, index, text,
         ),
         _ => {
             others(
+                rt,
                 state::counters(s),
                 verb,
                 line,
@@ -88,6 +98,7 @@ pub fn readings(
 }
 
 fn others(
+    rt: &impl Outputs,
     c: Counters,
     verb: u32,
     line: &[u8],
@@ -97,23 +108,30 @@ fn others(
     text: &[u8],
 ) {
     match verb {
-        script::FIND | script::NAME => names(c, verb, line, resources, statements, index, text),
-        script::PREFIX => prefixed(c, line, resources, statements, index, text),
-        script::EXPORT => exported(c, line, resources, statements, index, text),
-        script::READ => reply::read(table::read_statement(
-            c,
-            resources,
-            statements,
-            index,
-            text,
-            StatementId(script::number(line, 2)),
-        )),
-        script::CHECK => reply::checked(integrity::check(c, resources, statements, index, text)),
-        _ => print::show(line, resources, statements, index, text),
+        script::FIND | script::NAME => names(rt, c, verb, line, resources, statements, index, text),
+        script::PREFIX => prefixed(rt, c, line, resources, statements, index, text),
+        script::EXPORT => exported(rt, c, line, resources, statements, index, text),
+        script::READ => reply::read(
+            rt,
+            table::read_statement(
+                c,
+                resources,
+                statements,
+                index,
+                text,
+                StatementId(script::number(line, 2)),
+            ),
+        ),
+        script::CHECK => reply::checked(
+            rt,
+            integrity::check(c, resources, statements, index, text),
+        ),
+        _ => print::show(rt, line, resources, statements, index, text),
     }
 }
 
 fn names(
+    rt: &impl Outputs,
     c: Counters,
     verb: u32,
     line: &[u8],
@@ -124,16 +142,20 @@ fn names(
 ) {
     if verb == script::FIND {
         let a = dictionary::find(c, resources, statements, index, text, script::rest(line, 2));
-        reply::looked_up(a);
+        reply::looked_up(rt, a);
         return;
     }
     let n = ResourceId(script::number(line, 2));
-    reply::spanned(table::name_span(c, resources, statements, index, text, n));
-    named(c, resources, statements, index, text, n);
+    reply::spanned(
+        rt,
+        table::name_span(c, resources, statements, index, text, n),
+    );
+    named(rt, c, resources, statements, index, text, n);
 }
 
 // A listing by prefix, into words that hold 77; a bar in the beginning stands for a zero byte.
 fn prefixed(
+    rt: &impl Outputs,
     c: Counters,
     line: &[u8],
     resources: &[u32],
@@ -147,6 +169,7 @@ fn prefixed(
     let k = table::word::lesser(beginning.len(), BEGINNING);
     let n = table::word::lesser(script::number(line, 2) as usize, WORDS);
     list(
+        rt,
         c,
         beginning,
         resources,
@@ -159,6 +182,7 @@ fn prefixed(
 }
 
 fn list(
+    rt: &impl Outputs,
     c: Counters,
     beginning: &[u8],
     resources: &[u32],
@@ -170,11 +194,12 @@ fn list(
 ) {
     setup::bytes(bytes, 0, beginning);
     let a = prefix::names_with_prefix(c, resources, statements, index, text, bytes, words);
-    reply::prefixed(a, words);
+    reply::prefixed(rt, a, words);
 }
 
 // The file, into bytes and words that hold 77.
 fn exported(
+    rt: &impl Outputs,
     c: Counters,
     line: &[u8],
     resources: &[u32],
@@ -187,6 +212,7 @@ fn exported(
     let n = table::word::lesser(script::number(line, 2) as usize, OUTPUT);
     let k = table::word::lesser(script::number(line, 3) as usize, WORDS);
     export(
+        rt,
         c,
         resources,
         statements,
@@ -198,6 +224,7 @@ fn exported(
 }
 
 fn export(
+    rt: &impl Outputs,
     c: Counters,
     resources: &[u32],
     statements: &[u32],
@@ -207,11 +234,12 @@ fn export(
     work: &mut [u32],
 ) {
     let a = exporter::export_file(c, resources, statements, index, text, out, work);
-    reply::exported(a, out, work);
+    reply::exported(rt, a, out, work);
 }
 
 // A name's reply, printed. Proved by a walk of its code, since it holds the reply.
 fn named(
+    rt: &impl Outputs,
     c: Counters,
     resources: &[u32],
     statements: &[u32],
@@ -220,10 +248,11 @@ fn named(
     n: ResourceId,
 ) {
     let a = name_part::name(c, resources, statements, index, text, n);
-    reply::named(a.refusal, a.part);
+    reply::named(rt, a.refusal, a.part);
 }
 
 fn listings(
+    rt: &impl Outputs,
     s: State,
     verb: u32,
     line: &[u8],
@@ -235,7 +264,7 @@ fn listings(
     let c = state::counters(s);
     if verb == script::OPEN {
         let a = scan::scan_open(c, resources, statements, index, text, triple(line));
-        return reply::opened(s, a);
+        return reply::opened(rt, s, a);
     }
     let q = state::listing(s);
     let a = scan::scan_next(
@@ -247,10 +276,11 @@ fn listings(
         q,
         script::number(line, 2),
     );
-    reply::scanned(s, a)
+    reply::scanned(rt, s, a)
 }
 
 fn questions(
+    rt: &impl Outputs,
     s: State,
     verb: u32,
     line: &[u8],
@@ -270,7 +300,7 @@ fn questions(
             text,
             state::question(&words),
         );
-        return reply::asked(s, a);
+        return reply::asked(rt, s, a);
     }
     let q = state::place(s);
     let a = query::query_next(
@@ -283,5 +313,5 @@ fn questions(
         q,
         script::number(line, 2),
     );
-    reply::answered(s, a)
+    reply::answered(rt, s, a)
 }

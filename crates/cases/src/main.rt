@@ -56,7 +56,7 @@ ghost use Rattle.store.specs.Tables.{statement_words};
 
 use cases_script::state::State;
 use cases_script::{print, script, setup, state};
-use libc::STDIN_FILENO;
+use streams::Outputs;
 use table::word::{RESOURCE_WORDS, STATEMENT_WORDS};
 
 mod calls;
@@ -86,25 +86,27 @@ fn statement_table() -> [u32; STATEMENTS * STATEMENT_WORDS]
     [0; STATEMENTS * STATEMENT_WORDS]
 }
 
-fn main() {
+fn main(rt: HostRuntime) {
     let mut script = script_buffer();
-    let n = io::read_full(STDIN_FILENO, &mut script);
+    let n = streams::read_full(&mut rt.stdin(), &mut script);
     let mut resources = [0u32; RESOURCES * RESOURCE_WORDS];
     let mut statements = statement_table();
     let mut index = [0u32; INDEX];
     let mut text = [0u8; TEXT];
     run(
+        &rt,
         &script[..n],
         &mut resources,
         &mut statements,
         &mut index,
         &mut text,
     );
-    print::end();
+    print::end(&rt);
 }
 
 // Every line of the script. A case's line is ended when the next case begins, and the last one's by `main`.
 fn run(
+    rt: &impl Outputs,
     script: &[u8],
     resources: &mut [u32],
     statements: &mut [u32],
@@ -119,6 +121,7 @@ fn run(
         let end = script::until(script, start, b'\n');
         at = end + 1;
         state = step(
+            rt,
             state,
             &script[start..end],
             resources,
@@ -131,6 +134,7 @@ fn run(
 
 // One line, on the lent parts of the tables.
 fn step(
+    rt: &impl Outputs,
     s: State,
     line: &[u8],
     resources: &mut [u32],
@@ -144,7 +148,8 @@ fn step(
     let i = state::lent(s, state::LENT_INDEX, index.len());
     let b = state::lent(s, state::LENT_TEXT, text.len());
     act(
-        print::begin(s, verb, line),
+        rt,
+        print::begin(rt, s, verb, line),
         verb,
         line,
         &mut resources[0..r],
@@ -156,6 +161,7 @@ fn step(
 
 // A set-up of the state, a set-up of the tables, or a case.
 fn act(
+    rt: &impl Outputs,
     s: State,
     verb: u32,
     line: &[u8],
@@ -170,8 +176,8 @@ fn act(
             setup::tables(verb, line, resources, statements, index, text);
             s
         }
-        2 => calls::enter(s, line, resources, statements, index, text),
-        3 => calls::statements(s, verb, line, resources, statements, index, text),
-        _ => calls::readings(s, verb, line, resources, statements, index, text),
+        2 => calls::enter(rt, s, line, resources, statements, index, text),
+        3 => calls::statements(rt, s, verb, line, resources, statements, index, text),
+        _ => calls::readings(rt, s, verb, line, resources, statements, index, text),
     }
 }

@@ -6,7 +6,7 @@ pub fn until(line: &[u8], at: usize, stop: u8) -> usize
     requires { at ≤ length line.now }
     ensures { (at ≤ result) × (result ≤ length line.now) }
 {
-    bytes::scan::find(line, at, line.len(), stop)
+    find_byte::find(line, at, line.len(), stop)
 }
 
 // The offset of word k, from 0, or the line's end.
@@ -117,6 +117,22 @@ pub fn count(line: &[u8]) -> u32 {
     n
 }
 
+// Whether two byte strings are equal.
+fn same(a: &[u8], b: &[u8]) -> bool {
+    if a.len() != b.len() {
+        return false;
+    }
+    let mut i = 0;
+    // The first i bytes are equal.
+    while i < a.len() {
+        if a[i] != b[i] {
+            return false;
+        }
+        i += 1;
+    }
+    true
+}
+
 // Which word of a list a word is, from 0; as many as the list has if it is none of them.
 pub fn position(word: &[u8], list: &[u8]) -> u32 {
     let mut n: u32 = 0;
@@ -126,7 +142,7 @@ pub fn position(word: &[u8], list: &[u8]) -> u32 {
         let from = at;
         let end = until(list, from, b' ');
         at = end + 1;
-        if check::same(word, &list[from..end]) {
+        if same(word, &list[from..end]) {
             return n;
         }
         n = std::num::wrapping_add_u32(n, 1);

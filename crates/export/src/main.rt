@@ -1,6 +1,8 @@
-// The program `export` without its status: see crate `programs`.
+// The program `export`: see crate `programs`.
 #![tactic(auto)]
 
-fn main() {
-    programs::lemontiller_export();
+use std::process::ExitCode;
+
+fn main(rt: HostRuntime) -> ExitCode {
+    programs::ending(programs::lemontiller_export(&rt))
 }

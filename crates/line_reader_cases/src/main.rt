@@ -9,49 +9,54 @@ ghost use Rattle.std.specs.Prelude.{◌≡◌};
 ghost use Rattle.line_reader_cases.specs.End.{is_end};
 
 use store::{Refusal, refusal_number};
+use streams::{Output, Outputs, print_decimal, write_all};
 
 // Room for the text.
 const ROOM: usize = 256;
 
-fn print_span(p: ntriples::Span) {
-    io::write_all(1, b" ");
-    io::print_decimal(1, p.start as u64);
-    io::write_all(1, b"..");
-    io::print_decimal(1, p.end as u64);
+fn print_span(rt: &impl Outputs, p: ntriples::Span) {
+    write_all(rt, Output::Standard, b" ");
+    print_decimal(rt, Output::Standard, p.start as u64);
+    write_all(rt, Output::Standard, b"..");
+    print_decimal(rt, Output::Standard, p.end as u64);
 }
 
-fn print_answer(line: ntriples::Line) {
+fn print_answer(rt: &impl Outputs, line: ntriples::Line) {
     match line {
         ntriples::Line::End => {
-            io::write_all(1, b" end");
+            write_all(rt, Output::Standard, b" end");
         }
         ntriples::Line::Nothing => {
-            io::write_all(1, b" nothing");
+            write_all(rt, Output::Standard, b" nothing");
         }
         ntriples::Line::Triple(s, p, o) => {
-            io::write_all(1, b" triple");
-            print_span(s);
-            print_span(p);
-            print_span(o);
+            write_all(rt, Output::Standard, b" triple");
+            print_span(rt, s);
+            print_span(rt, p);
+            print_span(rt, o);
         }
         ntriples::Line::Refused(k) => {
-            io::write_all(1, b" refused ");
-            io::print_decimal(1, refusal_number(Refusal::BadLine) as u64);
-            io::write_all(1, b" ");
-            io::print_decimal(1, k as u64);
+            write_all(rt, Output::Standard, b" refused ");
+            print_decimal(
+                rt,
+                Output::Standard,
+                refusal_number(Refusal::BadLine) as u64,
+            );
+            write_all(rt, Output::Standard, b" ");
+            print_decimal(rt, Output::Standard, k as u64);
         }
     }
 }
 
 // Prints what line n of the text gave, and where the reader stands after it. Answers whether the text has ended.
-fn report_line(n: u64, line: ntriples::Line, next: usize) -> bool
+fn report_line(rt: &impl Outputs, n: u64, line: ntriples::Line, next: usize) -> bool
     ensures { result ≡ is_end line }
 {
-    io::print_decimal(1, n);
-    print_answer(line);
-    io::write_all(1, b" next ");
-    io::print_decimal(1, next as u64);
-    io::write_all(1, b"\n");
+    print_decimal(rt, Output::Standard, n);
+    print_answer(rt, line);
+    write_all(rt, Output::Standard, b" next ");
+    print_decimal(rt, Output::Standard, next as u64);
+    write_all(rt, Output::Standard, b"\n");
     match line {
         ntriples::Line::End => true,
         ntriples::Line::Nothing => false,
@@ -61,21 +66,21 @@ fn report_line(n: u64, line: ntriples::Line, next: usize) -> bool
 }
 
 // Reads every line of a text, and once more at its end, by one reader. Proved by a walk of its code, since it holds the reader.
-fn report_lines(text: &[u8]) {
+fn report_lines(rt: &impl Outputs, text: &[u8]) {
     let mut r = line_reader::reader(text);
     let mut n: u64 = 0;
     // The first n lines are read and told; `r` stands after them.
     loop {
         let line = line_reader::read_line(&mut r);
         n += 1;
-        if report_line(n, line, r.at) {
+        if report_line(rt, n, line, r.at) {
             break;
         }
     }
 }
 
-fn main() {
+fn main(rt: HostRuntime) {
     let mut text = [0u8; ROOM];
-    let got = io::read_full(0, &mut text);
-    report_lines(&text[..got]);
+    let got = streams::read_full(&mut rt.stdin(), &mut text);
+    report_lines(&rt, &text[..got]);
 }

@@ -1,6 +1,8 @@
-// The program `load` without its status: see crate `programs`.
+// The program `load`: see crate `programs`.
 #![tactic(auto)]
 
-fn main() {
-    programs::lemontiller_load();
+use std::process::ExitCode;
+
+fn main(rt: HostRuntime) -> ExitCode {
+    programs::ending(programs::lemontiller_load(&rt))
 }

@@ -4,6 +4,8 @@ ghost use Rattle.std.specs.Prelude.{◌≤◌, length};
 use crate::line::LINE_LIMIT;
 use crate::load;
 use crate::load::Load;
+use std::rt::Env;
+use streams::Outputs;
 use table::word::lesser;
 
 // Of a line that has not ended, at most so many bytes are kept: with a CR among them and a LF after them, it is over the limit.
@@ -50,6 +52,7 @@ pub fn with_used(l: Load, used: usize) -> Load {
 
 // Takes what fills the buffer: loads the lines that have ended, and keeps the rest.
 pub fn load_block(
+    rt: &(impl Outputs + Env),
     l: Load,
     resources: &mut [u32],
     statements: &mut [u32],
@@ -59,13 +62,14 @@ pub fn load_block(
     filled: usize,
 ) -> Load {
     let end = whole_lines(buffer, filled);
-    let m = load::load_lines(l, resources, statements, index, text, &buffer[0..end]);
+    let m = load::load_lines(rt, l, resources, statements, index, text, &buffer[0..end]);
     let used = keep_rest(buffer, end, filled);
     with_used(m, used)
 }
 
 // The input ends: a last line without its LF is loaded.
 pub fn finish(
+    rt: &(impl Outputs + Env),
     l: Load,
     resources: &mut [u32],
     statements: &mut [u32],
@@ -74,6 +78,6 @@ pub fn finish(
     buffer: &mut [u8],
 ) -> Load {
     let end = lesser(l.used, buffer.len());
-    let m = load::load_lines(l, resources, statements, index, text, &buffer[0..end]);
+    let m = load::load_lines(rt, l, resources, statements, index, text, &buffer[0..end]);
     with_used(m, 0)
 }

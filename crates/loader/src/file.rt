@@ -4,6 +4,9 @@ use crate::load::Load;
 use crate::{block, load};
 use arguments::Argument;
 use report::tally;
+use std::io::{Error, Input, Read};
+use std::rt::{Env, Files};
+use streams::Outputs;
 use table::word::lesser;
 
 // What reading a block brought: the load after it, and whether to go on.
@@ -13,57 +16,59 @@ pub struct Block {
     pub more: bool,
 }
 
-// A load that something could not be read of, by the call that just failed. A line that this broke off is not loaded.
-fn unread(l: Load, name: &[u8]) -> Load {
-    let t = tally::with_unread(l.report, name);
+// A load that something could not be read of, and why. A line that this broke off is not loaded.
+fn unread(rt: &impl Outputs, l: Load, name: &[u8], error: Error) -> Load {
+    let t = tally::with_unread(rt, l.report, name, error);
     block::with_used(load::reported(l, t), 0)
 }
 
 // Reads one block and takes it.
-fn load_some(
+fn load_some<R: Outputs + Env, S: Read>(
+    rt: &R,
     l: Load,
     resources: &mut [u32],
     statements: &mut [u32],
     index: &mut [u32],
     text: &mut [u8],
     buffer: &mut [u8],
-    fd: i32,
+    source: &mut S,
     name: &[u8],
 ) -> Block {
     let used = lesser(l.used, buffer.len());
-    let got = libc::read(fd, &mut buffer[used..]);
-    if got < 0 {
-        let u = unread(l, name);
-        return Block {
-            load: u,
+    match source.read(&mut buffer[used..]) {
+        Err(e) => Block {
+            load: unread(rt, l, name, e),
             more: false,
-        };
-    }
-    let n = io::count(got, &buffer[used..]);
-    let m = block::load_block(l, resources, statements, index, text, buffer, used + n);
-    let more = got > 0 && load::written(m);
-    Block {
-        load: m,
-        more: more,
+        },
+        Ok(n) => {
+            let m = block::load_block(rt, l, resources, statements, index, text, buffer, used + n);
+            Block {
+                load: m,
+                more: n > 0 && load::written(m),
+            }
+        }
     }
 }
 
 // Reads an open file to its end. Nothing says that a file ends, so the turns are counted down from a number that no run uses up.
-fn load_blocks(
+fn load_blocks<R: Outputs + Env, S: Read>(
+    rt: &R,
     l: Load,
     resources: &mut [u32],
     statements: &mut [u32],
     index: &mut [u32],
     text: &mut [u8],
     buffer: &mut [u8],
-    fd: i32,
+    source: &mut S,
     name: &[u8],
 ) -> Load {
     let mut m = l;
     let mut turns = 18446744073709551615u64;
     // The blocks read so far are taken; `m` is how far the load is.
     while turns > 0 {
-        let r = load_some(m, resources, statements, index, text, buffer, fd, name);
+        let r = load_some(
+            rt, m, resources, statements, index, text, buffer, source, name,
+        );
         m = r.load;
         if !r.more {
             return m;
@@ -74,18 +79,21 @@ fn load_blocks(
 }
 
 // Reads an open file to its end, and loads a last line without its LF.
-fn load_to_end(
+fn load_to_end<R: Outputs + Env, S: Read>(
+    rt: &R,
     l: Load,
     resources: &mut [u32],
     statements: &mut [u32],
     index: &mut [u32],
     text: &mut [u8],
     buffer: &mut [u8],
-    fd: i32,
+    source: &mut S,
     name: &[u8],
 ) -> Load {
-    let m = load_blocks(l, resources, statements, index, text, buffer, fd, name);
-    block::finish(m, resources, statements, index, text, buffer)
+    let m = load_blocks(
+        rt, l, resources, statements, index, text, buffer, source, name,
+    );
+    block::finish(rt, m, resources, statements, index, text, buffer)
 }
 
 // A load that begins the file that an argument names, or standard input (0).
@@ -95,30 +103,34 @@ fn begun(l: Load, file: usize) -> Load {
 }
 
 // A load that has ended a file.
-fn ended(l: Load) -> Load {
-    let t = tally::with_end(l.report);
+fn ended(rt: &(impl Outputs + Env), l: Load) -> Load {
+    let t = tally::with_end(rt, l.report);
     load::reported(l, t)
 }
 
 // Loads an open file or standard input; `file` is the argument that names it, 0 for standard input.
-fn load_open(
+fn load_open<R: Outputs + Env, S: Read>(
+    rt: &R,
     l: Load,
     resources: &mut [u32],
     statements: &mut [u32],
     index: &mut [u32],
     text: &mut [u8],
     buffer: &mut [u8],
-    fd: i32,
+    source: &mut S,
     name: &[u8],
     file: usize,
 ) -> Load {
     let k = begun(l, file);
-    let m = load_to_end(k, resources, statements, index, text, buffer, fd, name);
-    ended(m)
+    let m = load_to_end(
+        rt, k, resources, statements, index, text, buffer, source, name,
+    );
+    ended(rt, m)
 }
 
 // Loads the file with this path, which argument i names.
-fn load_path(
+fn load_path<R: Outputs + Env + Files>(
+    rt: &R,
     l: Load,
     resources: &mut [u32],
     statements: &mut [u32],
@@ -128,17 +140,17 @@ fn load_path(
     path: &[u8],
     i: usize,
 ) -> Load {
-    let fd = os::open_read(path);
-    if fd < 0 {
-        return unread(l, path);
+    match streams::open(rt, path) {
+        Err(e) => unread(rt, l, path, e),
+        Ok(mut file) => load_open(
+            rt, l, resources, statements, index, text, buffer, &mut file, path, i,
+        ),
     }
-    let m = load_open(l, resources, statements, index, text, buffer, fd, path, i);
-    libc::close(fd);
-    m
 }
 
 // Loads the file that argument i names.
-pub fn load_argument(
+pub fn load_argument<R: Outputs + Env + Files>(
+    rt: &R,
     l: Load,
     resources: &mut [u32],
     statements: &mut [u32],
@@ -147,25 +159,26 @@ pub fn load_argument(
     buffer: &mut [u8],
     i: usize,
 ) -> Load {
-    let mut path = io::buffer();
-    let length = os::arg(i, &mut path);
-    if os::errno() != 0 {
-        return unread(l, b"argument");
+    let mut path = streams::buffer();
+    match streams::argument(rt, i, &mut path) {
+        Err(e) => unread(rt, l, b"argument", e),
+        Ok(length) => load_path(
+            rt,
+            l,
+            resources,
+            statements,
+            index,
+            text,
+            buffer,
+            &path[..length],
+            i,
+        ),
     }
-    load_path(
-        l,
-        resources,
-        statements,
-        index,
-        text,
-        buffer,
-        &path[..length],
-        i,
-    )
 }
 
 // Loads standard input.
 pub fn load_input(
+    rt: &(impl Outputs + Env + Input),
     l: Load,
     resources: &mut [u32],
     statements: &mut [u32],
@@ -173,21 +186,24 @@ pub fn load_input(
     text: &mut [u8],
     buffer: &mut [u8],
 ) -> Load {
+    let mut source = rt.reader();
     load_open(
+        rt,
         l,
         resources,
         statements,
         index,
         text,
         buffer,
-        libc::STDIN_FILENO,
+        &mut source,
         b"standard input",
         0,
     )
 }
 
 // Loads what argument i names, if it is a file.
-fn load_named(
+fn load_named<R: Outputs + Env + Files + Input>(
+    rt: &R,
     l: Load,
     resources: &mut [u32],
     statements: &mut [u32],
@@ -201,14 +217,15 @@ fn load_named(
         return l;
     }
     match kind {
-        Argument::File => load_argument(l, resources, statements, index, text, buffer, i),
-        Argument::Input => load_input(l, resources, statements, index, text, buffer),
+        Argument::File => load_argument(rt, l, resources, statements, index, text, buffer, i),
+        Argument::Input => load_input(rt, l, resources, statements, index, text, buffer),
         _ => l,
     }
 }
 
 // Loads the files named as arguments, in turn.
-pub fn load_files(
+pub fn load_files<R: Outputs + Env + Files + Input>(
+    rt: &R,
     l: Load,
     resources: &mut [u32],
     statements: &mut [u32],
@@ -217,13 +234,13 @@ pub fn load_files(
     buffer: &mut [u8],
 ) -> Load {
     let mut m = l;
-    let count = os::arg_count();
+    let count = streams::argument_count(rt);
     let mut files = false;
     let mut i = 1;
     // The arguments before i are loaded; `m` is how far the load is, and `files` whether one of them is `--`.
     while i < count {
-        let kind = arguments::kind(i, files);
-        m = load_named(m, resources, statements, index, text, buffer, i, kind);
+        let kind = arguments::kind(rt, i, files);
+        m = load_named(rt, m, resources, statements, index, text, buffer, i, kind);
         files = files || arguments::ends(kind);
         i += 1;
     }
@@ -231,7 +248,8 @@ pub fn load_files(
 }
 
 // Loads the files named as arguments, in turn, or standard input where there is none.
-pub fn load_arguments(
+pub fn load_arguments<R: Outputs + Env + Files + Input>(
+    rt: &R,
     l: Load,
     resources: &mut [u32],
     statements: &mut [u32],
@@ -241,7 +259,7 @@ pub fn load_arguments(
     named: bool,
 ) -> Load {
     if named {
-        return load_files(l, resources, statements, index, text, buffer);
+        return load_files(rt, l, resources, statements, index, text, buffer);
     }
-    load_input(l, resources, statements, index, text, buffer)
+    load_input(rt, l, resources, statements, index, text, buffer)
 }

@@ -8,7 +8,9 @@ use crate::told;
 use ntriples::Line;
 use report::tally;
 use report::tally::Report;
+use std::rt::Env;
 use store::Counters;
+use streams::Outputs;
 
 // How far a load is: the store's counters, the lines that have ended, how many bytes of the line being read stand at the front of the
 // buffer; whether it is quiet: then nothing is written to standard output; and what was told of refused lines.
@@ -61,6 +63,7 @@ pub fn reported(l: Load, t: Report) -> Load {
 
 // Takes a line that was read: loads it, reports it, and counts it.
 fn take_line(
+    rt: &(impl Outputs + Env),
     l: Load,
     resources: &mut [u32],
     statements: &mut [u32],
@@ -84,7 +87,9 @@ fn take_line(
     let number = tally::counted(l.lines);
     let outcome = r.outcome;
     let d = r.counters;
-    let t = told::with_line(l.report, l.quiet, number, outcome, source, from, line, next);
+    let t = told::with_line(
+        rt, l.report, l.quiet, number, outcome, source, from, line, next,
+    );
     Load {
         counters: d,
         lines: number,
@@ -96,6 +101,7 @@ fn take_line(
 
 // Loads every line of the source, by one reader. Proved by a walk of its code, since it holds the reader.
 pub fn load_lines(
+    rt: &(impl Outputs + Env),
     l: Load,
     resources: &mut [u32],
     statements: &mut [u32],
@@ -118,7 +124,7 @@ pub fn load_lines(
         }
         let line = line_reader::read_line(&mut r);
         m = take_line(
-            m, resources, statements, index, text, source, from, line, r.at,
+            rt, m, resources, statements, index, text, source, from, line, r.at,
         );
     }
     m

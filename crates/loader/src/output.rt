@@ -1,41 +1,41 @@
 // The lines that a load writes to standard output: one for each statement line, and the totals. Each is written at once, and every write is
 // tested.
 use crate::line::Outcome;
-use libc::STDOUT_FILENO;
 use report::output::{append, append_decimal, put};
 use store::Counters;
+use streams::{Output, Outputs};
 
 // A line of output fits: at most two numbers of 20 digits and 24 other bytes.
 const OUTPUT_LINE: usize = 64;
 
 // Writes `NUMBER word N`; the word has a space on either side.
-fn write_line(number: u64, word: &[u8], n: u32) -> bool {
+fn write_line(rt: &impl Outputs, number: u64, word: &[u8], n: u32) -> bool {
     let mut out = [0u8; OUTPUT_LINE];
     let a = append_decimal(&mut out, 0, number);
     let b = append(&mut out, a, word);
     let c = append_decimal(&mut out, b, n as u64);
     let d = append(&mut out, c, &[b'\n']);
-    put(STDOUT_FILENO, &out[..d])
+    put(rt, Output::Standard, &out[..d])
 }
 
 // Writes what a line came to.
-pub fn outcome(number: u64, outcome: Outcome) -> bool {
+pub fn outcome(rt: &impl Outputs, number: u64, outcome: Outcome) -> bool {
     match outcome {
         Outcome::Nothing => true,
-        Outcome::New(n) => write_line(number, b" new ", n),
-        Outcome::Already(n) => write_line(number, b" already ", n),
-        Outcome::Revived(n) => write_line(number, b" revived ", n),
-        Outcome::Refused(n) => write_line(number, b" refused ", n),
+        Outcome::New(n) => write_line(rt, number, b" new ", n),
+        Outcome::Already(n) => write_line(rt, number, b" already ", n),
+        Outcome::Revived(n) => write_line(rt, number, b" revived ", n),
+        Outcome::Refused(n) => write_line(rt, number, b" refused ", n),
     }
 }
 
 // Writes the totals, `resources R statements T`.
-pub fn totals(c: Counters) -> bool {
+pub fn totals(rt: &impl Outputs, c: Counters) -> bool {
     let mut out = [0u8; OUTPUT_LINE];
     let a = append(&mut out, 0, b"resources ");
     let b = append_decimal(&mut out, a, c.resources as u64);
     let d = append(&mut out, b, b" statements ");
     let e = append_decimal(&mut out, d, c.statements as u64);
     let f = append(&mut out, e, &[b'\n']);
-    put(STDOUT_FILENO, &out[..f])
+    put(rt, Output::Standard, &out[..f])
 }

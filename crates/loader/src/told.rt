@@ -4,6 +4,8 @@ use crate::output;
 use ntriples::Line;
 use report::tally;
 use report::tally::Report;
+use std::rt::Env;
+use streams::Outputs;
 use table::word::lesser;
 
 // A byte of the source, 0 past its end.
@@ -56,16 +58,23 @@ fn refusal_of(outcome: Outcome) -> u32 {
 }
 
 // With line `number`, which came to `outcome`, written to standard output, unless the load is quiet.
-fn with_outcome(t: Report, quiet: bool, number: u64, outcome: Outcome) -> Report {
+fn with_outcome(
+    rt: &impl Outputs,
+    t: Report,
+    quiet: bool,
+    number: u64,
+    outcome: Outcome,
+) -> Report {
     if quiet {
         return t;
     }
-    tally::with_written(t, output::outcome(number, outcome))
+    tally::with_written(t, output::outcome(rt, number, outcome))
 }
 
 // With line `number`, which stands in the source from `from` up to `next`, was read as `line` and came to `outcome`. Nothing is told once a
 // write has failed.
 pub fn with_line(
+    rt: &(impl Outputs + Env),
     t: Report,
     quiet: bool,
     number: u64,
@@ -78,7 +87,7 @@ pub fn with_line(
     if !t.written {
         return t;
     }
-    let u = with_outcome(t, quiet, number, outcome);
+    let u = with_outcome(rt, t, quiet, number, outcome);
     if !u.written {
         return u;
     }
@@ -87,5 +96,5 @@ pub fn with_line(
         return u;
     }
     let bytes = bytes_of(source, from, content_end(source, from, next));
-    tally::with_refused(u, number, n, bytes, offset_of(line), LINE_LIMIT)
+    tally::with_refused(rt, u, number, n, bytes, offset_of(line), LINE_LIMIT)
 }

@@ -8,8 +8,9 @@
 
 ghost use Rattle.std.specs.Prelude.{◌≤◌, ◌<◌, ◌≡◌, length};
 
-use bytes::scan::find;
+use find_byte::find;
 use store::{Refusal, refusal_number};
+use streams::{Output, Outputs, print_decimal, write_all};
 use term::class::byte_at;
 
 // Room for the table, and for the text of one case.
@@ -39,36 +40,40 @@ struct Laid {
     next: usize,
 }
 
-fn print_number(n: usize) {
-    io::print_decimal(1, n as u64);
+fn print_number(rt: &impl Outputs, n: usize) {
+    print_decimal(rt, Output::Standard, n as u64);
 }
 
-fn print_span(p: ntriples::Span) {
-    io::write_all(1, b" ");
-    print_number(p.start);
-    io::write_all(1, b"..");
-    print_number(p.end);
+fn print_span(rt: &impl Outputs, p: ntriples::Span) {
+    write_all(rt, Output::Standard, b" ");
+    print_number(rt, p.start);
+    write_all(rt, Output::Standard, b"..");
+    print_number(rt, p.end);
 }
 
-fn print_answer(line: ntriples::Line) {
+fn print_answer(rt: &impl Outputs, line: ntriples::Line) {
     match line {
         ntriples::Line::End => {
-            io::write_all(1, b"end");
+            write_all(rt, Output::Standard, b"end");
         }
         ntriples::Line::Nothing => {
-            io::write_all(1, b"nothing");
+            write_all(rt, Output::Standard, b"nothing");
         }
         ntriples::Line::Triple(s, p, o) => {
-            io::write_all(1, b"triple");
-            print_span(s);
-            print_span(p);
-            print_span(o);
+            write_all(rt, Output::Standard, b"triple");
+            print_span(rt, s);
+            print_span(rt, p);
+            print_span(rt, o);
         }
         ntriples::Line::Refused(k) => {
-            io::write_all(1, b"refused ");
-            io::print_decimal(1, refusal_number(Refusal::BadLine) as u64);
-            io::write_all(1, b" ");
-            print_number(k);
+            write_all(rt, Output::Standard, b"refused ");
+            print_decimal(
+                rt,
+                Output::Standard,
+                refusal_number(Refusal::BadLine) as u64,
+            );
+            write_all(rt, Output::Standard, b" ");
+            print_number(rt, k);
         }
     }
 }
@@ -236,20 +241,20 @@ fn lay(table: &[u8], from: usize, text: &mut [u8]) -> Laid
 }
 
 // Prints the line of the case number `n`.
-fn report(n: usize, name: &[u8], read: ntriples::LineRead) {
-    print_number(n);
-    io::write_all(1, b" ");
-    io::write_all(1, name);
-    io::write_all(1, b" ");
+fn report(rt: &impl Outputs, n: usize, name: &[u8], read: ntriples::LineRead) {
+    print_number(rt, n);
+    write_all(rt, Output::Standard, b" ");
+    write_all(rt, Output::Standard, name);
+    write_all(rt, Output::Standard, b" ");
     let line = read.line;
-    print_answer(line);
-    io::write_all(1, b" next ");
-    print_number(read.next);
-    io::write_all(1, b"\n");
+    print_answer(rt, line);
+    write_all(rt, Output::Standard, b" next ");
+    print_number(rt, read.next);
+    write_all(rt, Output::Standard, b"\n");
 }
 
 // Runs the case number `n`, which begins at `from`; the position after it.
-fn case(n: usize, table: &[u8], from: usize, text: &mut [u8]) -> usize
+fn case(rt: &impl Outputs, n: usize, table: &[u8], from: usize, text: &mut [u8]) -> usize
     requires { from < length table.now }
     ensures { result ≤ length table.now }
 {
@@ -260,19 +265,19 @@ fn case(n: usize, table: &[u8], from: usize, text: &mut [u8]) -> usize
     let end = laid.next;
     let len = laid.len;
     let read = ntriples::read_line(&text[0..len], at.value);
-    report(n, &table[from..space], read);
+    report(rt, n, &table[from..space], read);
     past(table, end)
 }
 
-fn main() {
+fn main(rt: HostRuntime) {
     let mut table = [0; ROOM];
     let mut text = [0; LINE_ROOM];
-    let got = io::read_full(0, &mut table);
+    let got = streams::read_full(&mut rt.stdin(), &mut table);
     // The cases before `i` are run, and `n` is the next one's number.
     let mut i = 0;
     let mut n = 1;
     while i < got {
-        let next = case(n, &table[0..got], i, &mut text);
+        let next = case(&rt, n, &table[0..got], i, &mut text);
         if next <= i {
             return;
         }

@@ -1,13 +1,15 @@
 // Writes bay files in canonical form (02, note 1): reads N-Triples from standard input, or from the files named as arguments in turn, and
 // writes the statements to standard output, a line each, in rising byte order. A file that lacks lines looks complete: where a line found
 // no room, or something could not be read, none is written, unless what there is was asked for. The tables are the shell's.
-use libc::{STDERR_FILENO, STDOUT_FILENO};
 use lines::Exported;
 use loader::{buffer, load};
 use report::output::put;
 use report::tally;
 use report::tally::Report;
+use std::io::Input;
+use std::rt::{Env, Files};
 use store::Counters;
+use streams::{Output, Outputs};
 
 // Whether no file is written: something is missing that has no place in it, and what there is was not asked for.
 fn holds_back(t: Report, partial: bool) -> bool {
@@ -18,26 +20,32 @@ fn holds_back(t: Report, partial: bool) -> bool {
 }
 
 // Tells that no file is written, and why.
-fn tell_none(t: Report) -> bool {
+fn tell_none(rt: &impl Outputs, t: Report) -> bool {
     if t.unread != 0 {
         return put(
-            STDERR_FILENO,
+            rt,
+            Output::Error,
             b"no file written, not everything could be read\n",
         );
     }
-    tally::tell(b"no file written, lines missing: ", t.missing)
+    tally::tell(rt, b"no file written, lines missing: ", t.missing)
 }
 
 // Tells what the file lacks and writes it, and answers the status.
-fn write_told(t: Report, file: &[u8]) -> u32 {
-    if !tally::tell_lacks(t.missing, t.unread) {
+fn write_told(rt: &impl Outputs, t: Report, file: &[u8]) -> u32 {
+    if !tally::tell_lacks(rt, t.missing, t.unread) {
         return 2;
     }
-    if put(STDOUT_FILENO, file) { 0 } else { 2 }
+    if put(rt, Output::Standard, file) {
+        0
+    } else {
+        2
+    }
 }
 
 // Writes the file, and answers the status. A sound store is refused for the file's length alone.
 fn write_file(
+    rt: &impl Outputs,
     c: Counters,
     t: Report,
     resources: &[u32],
@@ -50,10 +58,10 @@ fn write_file(
     match exporter::export_file(c, resources, statements, index, text, out, work) {
         Exported::Length(n) => {
             let end = table::word::lesser(n as usize, out.len());
-            write_told(t, &out[0..end])
+            write_told(rt, t, &out[0..end])
         }
         Exported::Refused(_) => {
-            if put(STDERR_FILENO, b"no file written, over 4194304 bytes\n") {
+            if put(rt, Output::Error, b"no file written, over 4194304 bytes\n") {
                 1
             } else {
                 2
@@ -64,6 +72,7 @@ fn write_file(
 
 // Makes room for the file and writes it.
 fn write(
+    rt: &impl Outputs,
     c: Counters,
     t: Report,
     resources: &[u32],
@@ -74,7 +83,7 @@ fn write(
     let mut out = buffer::file();
     let mut work = buffer::statement_list();
     write_file(
-        c, t, resources, statements, index, text, &mut out, &mut work,
+        rt, c, t, resources, statements, index, text, &mut out, &mut work,
     )
 }
 
@@ -85,6 +94,7 @@ fn worse(a: u32, b: u32) -> u32 {
 
 // What is written once all is loaded: nothing after a failed write, no file where it is held back.
 fn end(
+    rt: &impl Outputs,
     c: Counters,
     t: Report,
     resources: &[u32],
@@ -98,22 +108,23 @@ fn end(
     }
     let status = tally::status(t);
     if holds_back(t, partial) {
-        if tell_none(t) {
+        if tell_none(rt, t) {
             return status;
         }
         return 2;
     }
-    worse(status, write(c, t, resources, statements, index, text))
+    worse(status, write(rt, c, t, resources, statements, index, text))
 }
 
 // The program; `named` says that a file is named, `partial` that what there is is asked for.
-pub fn run(named: bool, partial: bool) -> u32 {
+pub fn run<R: Outputs + Env + Files + Input>(rt: &R, named: bool, partial: bool) -> u32 {
     let mut resources = buffer::resource_table();
     let mut statements = buffer::statement_table();
     let mut index = buffer::resource_list();
     let mut text = buffer::text_table();
     let mut block = [0u8; loader::BUFFER];
     let l = loader::file::load_arguments(
+        rt,
         load::start(true),
         &mut resources,
         &mut statements,
@@ -123,6 +134,7 @@ pub fn run(named: bool, partial: bool) -> u32 {
         named,
     );
     end(
+        rt,
         l.counters,
         l.report,
         &resources,

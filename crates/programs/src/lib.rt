@@ -1,39 +1,49 @@
-// The programs (`docs/PROGRAMS.md`): each reads its arguments, does its work and answers the status that it ends with. A program of Rattle
-// ends with status 0 always, so these functions are exported: a `main` of C hands their answer on (`kit/c/program.c`).
+// The programs (`docs/PROGRAMS.md`): each reads its arguments, does its work and answers the status that it ends with, which its `main` hands
+// on.
 //
 // `load` and `export` have the work of two of them, `shell_session` that of the third; `usage` answers arguments that ask for a text.
 #![tactic(auto)]
+
+use std::io::Input;
+use std::process::ExitCode;
+use std::rt::{Env, Files};
+use streams::{Outputs, Terminal};
 
 mod export;
 mod load;
 mod usage;
 
 // The loading program.
-#[unsafe(no_mangle)]
-pub extern "C" fn lemontiller_load() -> u32 {
-    let a = arguments::read(b"");
+pub fn lemontiller_load<R: Outputs + Env + Files + Input>(rt: &R) -> u32 {
+    let a = arguments::read(rt, b"");
     if arguments::ended(a) {
-        return usage::load(a);
+        return usage::load(rt, a);
     }
-    load::run(a.files)
+    load::run(rt, a.files)
 }
 
 // The program that writes bay files in canonical form.
-#[unsafe(no_mangle)]
-pub extern "C" fn lemontiller_export() -> u32 {
-    let a = arguments::read(b"--partial");
+pub fn lemontiller_export<R: Outputs + Env + Files + Input>(rt: &R) -> u32 {
+    let a = arguments::read(rt, b"--partial");
     if arguments::ended(a) {
-        return usage::export(a);
+        return usage::export(rt, a);
     }
-    export::run(a.files, a.own)
+    export::run(rt, a.files, a.own)
 }
 
 // The technician's shell.
-#[unsafe(no_mangle)]
-pub extern "C" fn lemontiller_shell() -> u32 {
-    let a = arguments::read(b"--all");
+pub fn lemontiller_shell<R: Outputs + Env + Files + Input + Terminal>(rt: &R) -> u32 {
+    let a = arguments::read(rt, b"--all");
     if arguments::ended(a) {
-        return usage::shell(a);
+        return usage::shell(rt, a);
     }
-    shell_session::run(a.own)
+    shell_session::run(rt, a.own)
+}
+
+// A status as the system takes it. No program answers one that does not fit; that would be something that went wrong.
+pub fn ending(status: u32) -> ExitCode {
+    match u8::try_from(status) {
+        Ok(code) => ExitCode::from(code),
+        Err(_) => ExitCode::FAILURE,
+    }
 }

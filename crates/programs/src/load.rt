@@ -2,26 +2,30 @@
 // writes a line for each statement line and the totals. Lines are numbered through all files; a file's end ends its last line.
 use loader::load;
 use loader::load::Load;
+use std::io::Input;
+use std::rt::{Env, Files};
+use streams::Outputs;
 
 // Writes the totals, and answers the status.
-fn end(l: Load) -> u32 {
+fn end(rt: &impl Outputs, l: Load) -> u32 {
     if !load::written(l) {
         return 2;
     }
-    if !loader::output::totals(l.counters) {
+    if !loader::output::totals(rt, l.counters) {
         return 2;
     }
     load::status(l)
 }
 
 // The program; `named` says that a file is named.
-pub fn run(named: bool) -> u32 {
+pub fn run<R: Outputs + Env + Files + Input>(rt: &R, named: bool) -> u32 {
     let mut resources = [0u32; loader::RESOURCE_TABLE];
     let mut statements = [0u32; loader::STATEMENT_TABLE];
     let mut index = [0u32; loader::INDEX_TABLE];
     let mut text = [0u8; loader::TEXT_TABLE];
     let mut buffer = [0u8; loader::BUFFER];
     let l = loader::file::load_arguments(
+        rt,
         load::start(false),
         &mut resources,
         &mut statements,
@@ -30,5 +34,5 @@ pub fn run(named: bool) -> u32 {
         &mut buffer,
         named,
     );
-    end(l)
+    end(rt, l)
 }

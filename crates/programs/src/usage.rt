@@ -1,43 +1,49 @@
 // What is written where an argument asks for a text, or is an option that the program does not have.
-ghost use Rattle.io.specs.Counts.{IsPrefixLen};
+ghost use Rattle.streams.specs.Counts.{IsPrefixLen};
 
 use arguments::Asked;
-use libc::{STDERR_FILENO, STDOUT_FILENO};
 use report::output::{append, put};
+use std::rt::Env;
+use streams::{Output, Outputs};
 
 // An option of at most 4,096 bytes, and the words around it.
 const LINE: usize = 4352;
 
 // Writes a text that was asked for, and answers the status.
-fn text(bytes: &[u8]) -> u32 {
-    if put(STDOUT_FILENO, bytes) { 0 } else { 2 }
+fn text(rt: &impl Outputs, bytes: &[u8]) -> u32 {
+    if put(rt, Output::Standard, bytes) {
+        0
+    } else {
+        2
+    }
 }
 
 // Tells that argument i is no option of the program.
-fn unknown(i: usize) -> u32 {
+fn unknown(rt: &(impl Outputs + Env), i: usize) -> u32 {
     let mut out = [0u8; LINE];
-    let mut option = io::buffer();
-    let n = os::arg(i, &mut option);
+    let mut option = streams::buffer();
+    let n = streams::argument_or_nothing(rt, i, &mut option);
     let a = append(&mut out, 0, b"unknown option ");
     let b = append(&mut out, a, &option[..n]);
     let c = append(&mut out, b, b"\n--help tells what there is\n");
-    put(STDERR_FILENO, &out[..c]);
+    put(rt, Output::Error, &out[..c]);
     2
 }
 
 // Answers what was asked for; `help` is the program's usage.
-fn answer(a: Asked, help: &[u8]) -> u32 {
+fn answer(rt: &(impl Outputs + Env), a: Asked, help: &[u8]) -> u32 {
     if a.help {
-        return text(help);
+        return text(rt, help);
     }
     if a.version {
-        return text(b"lemontiller 0.2.0\n");
+        return text(rt, b"lemontiller 0.2.0\n");
     }
-    unknown(a.unknown)
+    unknown(rt, a.unknown)
 }
 
-pub fn load(a: Asked) -> u32 {
+pub fn load(rt: &(impl Outputs + Env), a: Asked) -> u32 {
     answer(
+        rt,
         a,
         b"usage: lemontiller-load [FILE...]
 
@@ -55,8 +61,9 @@ written.
     )
 }
 
-pub fn export(a: Asked) -> u32 {
+pub fn export(rt: &(impl Outputs + Env), a: Asked) -> u32 {
     answer(
+        rt,
         a,
         b"usage: lemontiller-export [--partial] [FILE...]
 
@@ -76,8 +83,9 @@ written.
     )
 }
 
-pub fn shell(a: Asked) -> u32 {
+pub fn shell(rt: &(impl Outputs + Env), a: Asked) -> u32 {
     answer(
+        rt,
         a,
         b"usage: lemontiller-shell [--all] [FILE...]
 

@@ -1,6 +1,8 @@
-// The program `shell` without its status: see crate `programs`.
+// The program `shell`: see crate `programs`.
 #![tactic(auto)]
 
-fn main() {
-    programs::lemontiller_shell();
+use std::process::ExitCode;
+
+fn main(rt: HostRuntime) -> ExitCode {
+    programs::ending(programs::lemontiller_shell(&rt))
 }

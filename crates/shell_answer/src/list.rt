@@ -7,9 +7,11 @@ ghost use Rattle.shell_answer.specs.Claims.{ListRead};
 use crate::{BUDGET, CALLS, Told, told_ended, told_refused, told_stopped};
 use shell_print::names;
 use store::{Counters, ScanCursor, ScanOpened, Scanned, Triple};
+use streams::Outputs;
 
 // Reads on from a cursor until the reading has ended, or a write fails, and writes each statement as it comes.
 fn read_on(
+    rt: &impl Outputs,
     c: Counters,
     resources: &[u32],
     statements: &[u32],
@@ -32,7 +34,7 @@ fn read_on(
             Scanned::Found(n, v, next) => {
                 found += 1;
                 visits += v as u64;
-                if !names::statement(c, resources, statements, index, text, n) {
+                if !names::statement(rt, c, resources, statements, index, text, n) {
                     return told_stopped(found, visits, false);
                 }
                 q = next;
@@ -49,6 +51,7 @@ fn read_on(
 
 // Reads the list of a pattern through, 0 standing for any.
 pub fn read_through(
+    rt: &impl Outputs,
     c: Counters,
     resources: &[u32],
     statements: &[u32],
@@ -60,6 +63,6 @@ pub fn read_through(
 {
     match scan::scan_open(c, resources, statements, index, text, x) {
         ScanOpened::Refused(e) => told_refused(store::refusal_number(e), 0, 0),
-        ScanOpened::Cursor(q) => read_on(c, resources, statements, index, text, q),
+        ScanOpened::Cursor(q) => read_on(rt, c, resources, statements, index, text, q),
     }
 }

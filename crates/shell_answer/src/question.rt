@@ -8,9 +8,11 @@ use crate::{BUDGET, CALLS, Told, told_ended, told_refused, told_stopped};
 use graph::{QueryCursor, QueryOpening, QueryStep};
 use shell_print::names;
 use store::Counters;
+use streams::Outputs;
 
 // Reads on from a cursor until the reading has ended, or a write fails, and writes each solution as it comes.
 fn read_on(
+    rt: &impl Outputs,
     c: Counters,
     resources: &[u32],
     statements: &[u32],
@@ -38,7 +40,7 @@ fn read_on(
             QueryStep::Found => {
                 let s = a.solution;
                 found += 1;
-                if !names::solution(c, resources, statements, index, text, s, variables) {
+                if !names::solution(rt, c, resources, statements, index, text, s, variables) {
                     return told_stopped(found, visits, false);
                 }
             }
@@ -52,6 +54,7 @@ fn read_on(
 
 // Reads the question of these words through. The solutions' first `variables` variables are written.
 pub fn read_through(
+    rt: &impl Outputs,
     c: Counters,
     resources: &[u32],
     statements: &[u32],
@@ -69,7 +72,9 @@ pub fn read_through(
         QueryOpening::Refused(e) => told_refused(store::refusal_number(e), 0, 0),
         QueryOpening::Opened => {
             let q = o.cursor;
-            read_on(c, resources, statements, index, text, words, variables, q)
+            read_on(
+                rt, c, resources, statements, index, text, words, variables, q,
+            )
         }
     }
 }

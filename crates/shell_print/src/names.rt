@@ -1,10 +1,10 @@
 // Lines of names, each written at once. Each function answers whether its line was written.
-ghost use Rattle.io.specs.Counts.{IsPrefixLen};
+ghost use Rattle.streams.specs.Counts.{IsPrefixLen};
 
 use graph::{Solution, VARIABLES};
-use libc::STDOUT_FILENO;
 use report::output::{append, put};
 use store::{Counters, NameRead, ResourceId, StatementId, StatementRead, Triple};
+use streams::{Output, Outputs};
 use table::word::lesser;
 
 // Sixteen names of 255 bytes, each with a tab or a LF.
@@ -39,9 +39,10 @@ fn append_name(
     }
 }
 
-// Writes a label and the name of a number to a descriptor, and a LF.
+// Writes a label and the name of a number to an output, and a LF.
 pub fn name(
-    fd: i32,
+    rt: &impl Outputs,
+    to: Output,
     label: &[u8],
     c: Counters,
     resources: &[u32],
@@ -54,7 +55,7 @@ pub fn name(
     let a = append(&mut out, 0, label);
     let b = append_name(&mut out, a, c, resources, statements, index, text, n);
     let d = append(&mut out, b, b"\n");
-    put(fd, &out[..d])
+    put(rt, to, &out[..d])
 }
 
 // Appends the tab before the name of variable v; before the first stands none.
@@ -69,6 +70,7 @@ pub fn append_tab(out: &mut [u8], at: usize, v: usize) -> usize
 
 // Writes the names of a solution's first `variables` variables, with tabs between them.
 pub fn solution(
+    rt: &impl Outputs,
     c: Counters,
     resources: &[u32],
     statements: &[u32],
@@ -97,11 +99,12 @@ pub fn solution(
         v += 1;
     }
     let end = append(&mut out, at, b"\n");
-    put(STDOUT_FILENO, &out[..end])
+    put(rt, Output::Standard, &out[..end])
 }
 
 // Writes a triple as a line of N-Triples.
 fn triple(
+    rt: &impl Outputs,
     c: Counters,
     resources: &[u32],
     statements: &[u32],
@@ -127,11 +130,12 @@ fn triple(
     let e = append(&mut out, d, b" ");
     let f = append_name(&mut out, e, c, resources, statements, index, text, x.object);
     let g = append(&mut out, f, b" .\n");
-    put(STDOUT_FILENO, &out[..g])
+    put(rt, Output::Standard, &out[..g])
 }
 
 // Writes the statement with this number as a line of N-Triples; one that cannot be read, which no sound store has, is passed over.
 pub fn statement(
+    rt: &impl Outputs,
     c: Counters,
     resources: &[u32],
     statements: &[u32],
@@ -140,7 +144,7 @@ pub fn statement(
     n: StatementId,
 ) -> bool {
     match table::read_statement(c, resources, statements, index, text, n) {
-        StatementRead::Is(x, _) => triple(c, resources, statements, index, text, x),
+        StatementRead::Is(x, _) => triple(rt, c, resources, statements, index, text, x),
         StatementRead::Refused(_) => true,
     }
 }

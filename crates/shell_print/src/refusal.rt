@@ -1,8 +1,9 @@
-// Refusals in words, and where a line cannot be read, written to a descriptor. What tells a whole refusal answers the status.
-ghost use Rattle.io.specs.Counts.{IsPrefixLen};
+// Refusals in words, and where a line cannot be read, written to an output. What tells a whole refusal answers the status.
+ghost use Rattle.streams.specs.Counts.{IsPrefixLen};
 
 use crate::status;
 use report::output::{append, append_decimal, put};
+use streams::{Output, Outputs};
 
 // A line of the input, or what is written above it.
 const LINE: usize = 1280;
@@ -63,26 +64,29 @@ fn append_words(out: &mut [u8], at: usize, n: u32) -> usize
 }
 
 // Writes a refusal.
-pub fn refused(fd: i32, n: u32) -> u32 {
+pub fn refused(rt: &impl Outputs, to: Output, n: u32) -> u32 {
     let mut out = [0u8; LINE];
     let a = append_number(&mut out, n);
     let b = append_words(&mut out, a, n);
-    status::told(put(fd, &out[..b]), status::REFUSED)
+    status::told(put(rt, to, &out[..b]), status::REFUSED)
 }
 
 // A line that is too long.
-pub fn too_long(fd: i32) -> u32 {
-    status::told(put(fd, b"refused 10: over 1024 bytes\n"), status::REFUSED)
+pub fn too_long(rt: &impl Outputs, to: Output) -> u32 {
+    status::told(
+        put(rt, to, b"refused 10: over 1024 bytes\n"),
+        status::REFUSED,
+    )
 }
 
 // Writes the refusal of a line at an offset, and its column: one more.
-fn heading(fd: i32, n: u32, offset: usize) -> bool {
+fn heading(rt: &impl Outputs, to: Output, n: u32, offset: usize) -> bool {
     let mut out = [0u8; LINE];
     let a = append_number(&mut out, n);
     let b = append(&mut out, a, b" at column ");
     let d = append_decimal(&mut out, b, std::num::wrapping_add_u64(offset as u64, 1));
     let e = append_words(&mut out, d, n);
-    put(fd, &out[..e])
+    put(rt, to, &out[..e])
 }
 
 // A byte of the line as it is shown.
@@ -100,7 +104,7 @@ fn under(b: u8) -> u8 {
 }
 
 // Writes the line as it is shown.
-fn copy_of(fd: i32, line: &[u8]) -> bool {
+fn copy_of(rt: &impl Outputs, to: Output, line: &[u8]) -> bool {
     let mut out = [0u8; LINE];
     let mut at = 0;
     let mut i = 0;
@@ -110,11 +114,11 @@ fn copy_of(fd: i32, line: &[u8]) -> bool {
         i += 1;
     }
     let end = append(&mut out, at, b"\n");
-    put(fd, &out[..end])
+    put(rt, to, &out[..end])
 }
 
 // Writes the caret under an offset of the line.
-fn caret(fd: i32, line: &[u8], offset: usize) -> bool {
+fn caret(rt: &impl Outputs, to: Output, line: &[u8], offset: usize) -> bool {
     let mut out = [0u8; LINE];
     let stop = table::word::lesser(offset, line.len());
     let mut at = 0;
@@ -125,16 +129,16 @@ fn caret(fd: i32, line: &[u8], offset: usize) -> bool {
         i += 1;
     }
     let end = append(&mut out, at, b"^\n");
-    put(fd, &out[..end])
+    put(rt, to, &out[..end])
 }
 
 // Writes the refusal of a line at an offset: the column, the line, a caret under it.
-pub fn refused_at(fd: i32, line: &[u8], n: u32, offset: usize) -> u32 {
-    if !heading(fd, n, offset) {
+pub fn refused_at(rt: &impl Outputs, to: Output, line: &[u8], n: u32, offset: usize) -> u32 {
+    if !heading(rt, to, n, offset) {
         return status::FAILED;
     }
-    if !copy_of(fd, line) {
+    if !copy_of(rt, to, line) {
         return status::FAILED;
     }
-    status::told(caret(fd, line, offset), status::REFUSED)
+    status::told(caret(rt, to, line, offset), status::REFUSED)
 }

@@ -1,8 +1,7 @@
 // What the commands write, a line at a time. What writes a part of an answer says whether it was written; what ends one, the status.
-ghost use Rattle.io.specs.Counts.{IsPrefixLen};
+ghost use Rattle.streams.specs.Counts.{IsPrefixLen};
 
 use crate::commands::State;
-use libc::STDOUT_FILENO;
 use loader::line::Outcome;
 use report::output::{append, append_decimal, put};
 use shell_answer::Told;
@@ -11,6 +10,7 @@ use shell_line::parts::Parts;
 use shell_print::names::append_tab;
 use shell_print::{refusal, status};
 use store::Counters;
+use streams::{Output, Outputs};
 
 // A line of at most 1,024 bytes with what is written beside it. The variables stand in the line, with white between them, and so they fit.
 const LINE: usize = 1280;
@@ -25,39 +25,40 @@ fn append_count(out: &mut [u8], at: usize, label: &[u8], n: u64) -> usize
 }
 
 // Writes a label and a number.
-fn count(fd: i32, label: &[u8], n: u64) -> bool {
+fn count(rt: &impl Outputs, to: Output, label: &[u8], n: u64) -> bool {
     let mut out = [0u8; LINE];
     let a = append_count(&mut out, 0, label, n);
     let b = append(&mut out, a, b"\n");
-    put(fd, &out[..b])
+    put(rt, to, &out[..b])
 }
 
 // Writes two labels, each with a number.
-fn two_counts(fd: i32, first: &[u8], n: u64, second: &[u8], m: u64) -> bool {
+fn two_counts(rt: &impl Outputs, to: Output, first: &[u8], n: u64, second: &[u8], m: u64) -> bool {
     let mut out = [0u8; LINE];
     let a = append_count(&mut out, 0, first, n);
     let b = append(&mut out, a, b" ");
     let d = append_count(&mut out, b, second, m);
     let e = append(&mut out, d, b"\n");
-    put(fd, &out[..e])
+    put(rt, to, &out[..e])
 }
 
 // A label and a number, unless it is 0.
-fn count_some(label: &[u8], n: u64) -> bool {
+fn count_some(rt: &impl Outputs, label: &[u8], n: u64) -> bool {
     if n == 0 {
         return true;
     }
-    count(STDOUT_FILENO, label, n)
+    count(rt, Output::Standard, label, n)
 }
 
 // With a terminal: what was loaded, what of the files was not, and where the commands are listed.
-pub fn greet(terminal: bool, s: State) -> bool {
+pub fn greet(rt: &impl Outputs, terminal: bool, s: State) -> bool {
     let c = s.counters;
     if !terminal {
         return true;
     }
     if !two_counts(
-        STDOUT_FILENO,
+        rt,
+        Output::Standard,
         b"resources",
         c.resources as u64,
         b"statements",
@@ -65,30 +66,30 @@ pub fn greet(terminal: bool, s: State) -> bool {
     ) {
         return false;
     }
-    if !count_some(b"missing", s.missing) {
+    if !count_some(rt, b"missing", s.missing) {
         return false;
     }
-    if !count_some(b"unread", s.unread) {
+    if !count_some(rt, b"unread", s.unread) {
         return false;
     }
-    put(STDOUT_FILENO, b"help lists the commands\n")
+    put(rt, Output::Standard, b"help lists the commands\n")
 }
 
 // With a terminal: the prompt, unless `begun` bytes of the line are read already.
-pub fn prompt(terminal: bool, begun: usize) -> bool {
+pub fn prompt(rt: &impl Outputs, terminal: bool, begun: usize) -> bool {
     if begun > 0 {
         return true;
     }
     if terminal {
-        return put(STDOUT_FILENO, b"> ");
+        return put(rt, Output::Standard, b"> ");
     }
     true
 }
 
 // With a terminal: the input has ended after a prompt.
-pub fn end_prompt(terminal: bool) -> bool {
+pub fn end_prompt(rt: &impl Outputs, terminal: bool) -> bool {
     if terminal {
-        return put(STDOUT_FILENO, b"\n");
+        return put(rt, Output::Standard, b"\n");
     }
     true
 }
@@ -112,134 +113,164 @@ fn append_variables(out: &mut [u8], bytes: &[u8], p: Parts) -> usize
 }
 
 // The variables of a question.
-pub fn variables(notices: i32, bytes: &[u8], p: Parts) -> bool {
+pub fn variables(rt: &impl Outputs, notices: Output, bytes: &[u8], p: Parts) -> bool {
     let mut out = [0u8; LINE];
     let a = append_variables(&mut out, bytes, p);
     let b = append(&mut out, a, b"\n");
-    put(notices, &out[..b])
+    put(rt, notices, &out[..b])
 }
 
 // A name that the store does not have.
-pub fn unknown(notices: i32, name: &[u8]) -> bool {
+pub fn unknown(rt: &impl Outputs, notices: Output, name: &[u8]) -> bool {
     let mut out = [0u8; LINE];
     let a = append(&mut out, 0, b"unknown ");
     let b = append(&mut out, a, name);
     let d = append(&mut out, b, b"\n");
-    put(notices, &out[..d])
+    put(rt, notices, &out[..d])
 }
 
 // Done where a reading has ended and all was written; otherwise that is told.
-fn ended(notices: i32, t: Told) -> u32 {
+fn ended(rt: &impl Outputs, notices: Output, t: Told) -> u32 {
     if !t.written {
         return status::FAILED;
     }
     if t.refusal != 0 {
-        return refusal::refused(notices, t.refusal);
+        return refusal::refused(rt, notices, t.refusal);
     }
     if !t.ended {
-        return status::told(put(notices, b"not ended\n"), status::REFUSED);
+        return status::told(put(rt, notices, b"not ended\n"), status::REFUSED);
     }
     status::DONE
 }
 
 // The last line of a question; `status` is that of one that has ended.
-pub fn solutions(notices: i32, t: Told, status: u32) -> u32 {
-    let e = ended(notices, t);
+pub fn solutions(rt: &impl Outputs, notices: Output, t: Told, status: u32) -> u32 {
+    let e = ended(rt, notices, t);
     if e != status::DONE {
         return e;
     }
-    let written = two_counts(notices, b"solutions", t.found, b"visits", t.visits);
+    let written = two_counts(rt, notices, b"solutions", t.found, b"visits", t.visits);
     status::told(written, status)
 }
 
 // The last line of a list; `status` is that of one that has ended.
-pub fn listed(notices: i32, t: Told, status: u32) -> u32 {
-    let e = ended(notices, t);
+pub fn listed(rt: &impl Outputs, notices: Output, t: Told, status: u32) -> u32 {
+    let e = ended(rt, notices, t);
     if e != status::DONE {
         return e;
     }
-    status::told(count(notices, b"statements", t.found), status)
+    status::told(count(rt, notices, b"statements", t.found), status)
 }
 
 // What a command came to: a label and a number.
-pub fn became(notices: i32, label: &[u8], n: u32) -> u32 {
-    status::told(count(notices, label, n as u64), status::DONE)
+pub fn became(rt: &impl Outputs, notices: Output, label: &[u8], n: u32) -> u32 {
+    status::told(count(rt, notices, label, n as u64), status::DONE)
 }
 
 // What an assert came to.
-pub fn outcome(notices: i32, o: Outcome) -> u32 {
+pub fn outcome(rt: &impl Outputs, notices: Output, o: Outcome) -> u32 {
     match o {
         Outcome::Nothing => status::DONE,
-        Outcome::New(n) => became(notices, b"new", n),
-        Outcome::Already(n) => became(notices, b"already", n),
-        Outcome::Revived(n) => became(notices, b"revived", n),
-        Outcome::Refused(n) => refusal::refused(notices, n),
+        Outcome::New(n) => became(rt, notices, b"new", n),
+        Outcome::Already(n) => became(rt, notices, b"already", n),
+        Outcome::Revived(n) => became(rt, notices, b"revived", n),
+        Outcome::Refused(n) => refusal::refused(rt, notices, n),
     }
 }
 
 // There is no such statement to retract.
-pub fn absent(notices: i32) -> u32 {
-    status::told(put(notices, b"absent\n"), status::REFUSED)
+pub fn absent(rt: &impl Outputs, notices: Output) -> u32 {
+    status::told(put(rt, notices, b"absent\n"), status::REFUSED)
 }
 
 // A label, and a number for each position.
-pub fn three(label: &[u8], s: u32, p: u32, o: u32) -> bool {
+pub fn three(rt: &impl Outputs, label: &[u8], s: u32, p: u32, o: u32) -> bool {
     let mut out = [0u8; LINE];
     let a = append(&mut out, 0, label);
     let b = append_count(&mut out, a, b" subject", s as u64);
     let d = append_count(&mut out, b, b" predicate", p as u64);
     let e = append_count(&mut out, d, b" object", o as u64);
     let f = append(&mut out, e, b"\n");
-    put(STDOUT_FILENO, &out[..f])
+    put(rt, Output::Standard, &out[..f])
 }
 
 // What is in use, and how many more there is room for.
-fn in_use(label: &[u8], used: u32, capacity: usize) -> bool {
+fn in_use(rt: &impl Outputs, label: &[u8], used: u32, capacity: usize) -> bool {
     let n = used as usize;
     let mut room = 0;
     if n < capacity {
         room = capacity - n;
     }
-    two_counts(STDOUT_FILENO, label, used as u64, b"room", room as u64)
+    two_counts(
+        rt,
+        Output::Standard,
+        label,
+        used as u64,
+        b"room",
+        room as u64,
+    )
 }
 
 // What is in use of tables with room for so many, and how many statements are live.
-fn used(c: Counters, resources: usize, statements: usize, text: usize, live: u32) -> bool {
-    if !in_use(b"resources", c.resources, resources) {
+fn used(
+    rt: &impl Outputs,
+    c: Counters,
+    resources: usize,
+    statements: usize,
+    text: usize,
+    live: u32,
+) -> bool {
+    if !in_use(rt, b"resources", c.resources, resources) {
         return false;
     }
-    if !in_use(b"statements", c.statements, statements) {
+    if !in_use(rt, b"statements", c.statements, statements) {
         return false;
     }
-    if !count(STDOUT_FILENO, b"live", live as u64) {
+    if !count(rt, Output::Standard, b"live", live as u64) {
         return false;
     }
-    if !in_use(b"bytes", c.text, text) {
+    if !in_use(rt, b"bytes", c.text, text) {
         return false;
     }
-    in_use(b"reclaims", c.generation, Counters::MAX_RECLAIMS as usize)
+    in_use(
+        rt,
+        b"reclaims",
+        c.generation,
+        Counters::MAX_RECLAIMS as usize,
+    )
 }
 
 // The same, and how many lines of the files were refused and files could not be read.
-pub fn totals(s: State, resources: usize, statements: usize, text: usize, live: u32) -> u32 {
-    if !used(s.counters, resources, statements, text, live) {
+pub fn totals(
+    rt: &impl Outputs,
+    s: State,
+    resources: usize,
+    statements: usize,
+    text: usize,
+    live: u32,
+) -> u32 {
+    if !used(rt, s.counters, resources, statements, text, live) {
         return status::FAILED;
     }
-    if !count(STDOUT_FILENO, b"missing", s.missing) {
+    if !count(rt, Output::Standard, b"missing", s.missing) {
         return status::FAILED;
     }
-    status::told(count(STDOUT_FILENO, b"unread", s.unread), status::DONE)
+    status::told(
+        count(rt, Output::Standard, b"unread", s.unread),
+        status::DONE,
+    )
 }
 
-pub fn checked(sound: bool) -> u32 {
+pub fn checked(rt: &impl Outputs, sound: bool) -> u32 {
     if sound {
-        return status::told(put(STDOUT_FILENO, b"sound\n"), status::DONE);
+        return status::told(put(rt, Output::Standard, b"sound\n"), status::DONE);
     }
-    status::told(put(STDOUT_FILENO, b"unsound\n"), status::REFUSED)
+    status::told(put(rt, Output::Standard, b"unsound\n"), status::REFUSED)
 }
 
-pub fn reclaimed(notices: i32, before: u32, after: u32) -> u32 {
+pub fn reclaimed(rt: &impl Outputs, notices: Output, before: u32, after: u32) -> u32 {
     let written = two_counts(
+        rt,
         notices,
         b"statements before",
         before as u64,
@@ -250,9 +281,10 @@ pub fn reclaimed(notices: i32, before: u32, after: u32) -> u32 {
 }
 
 // The commands, in one screen: `help.txt`.
-fn page() -> bool {
+fn page(rt: &impl Outputs) -> bool {
     put(
-        STDOUT_FILENO,
+        rt,
+        Output::Standard,
         b"Questions: one to six patterns of subject, predicate and object, dots between.
   <r:21> <p:trips> ?b . ?b <p:in> ?bay     ?b and ?bay stand for any name
 A name is an IRI <r:21>, a blank node _:ct or a literal \"open\", \"Nord\"@de,
@@ -278,6 +310,6 @@ A line that begins with # is a comment. What is refused changes nothing.
     )
 }
 
-pub fn help() -> u32 {
-    status::told(page(), status::DONE)
+pub fn help(rt: &impl Outputs) -> u32 {
+    status::told(page(rt), status::DONE)
 }

@@ -6,6 +6,7 @@ use shell_line::part::bytes_of;
 use shell_print::{names, refusal, status};
 use shell_words::{Found, UNKNOWN, number_of};
 use store::{Counters, Reclaimed, ResourceId, Retracted, Triple};
+use streams::{Output, Outputs};
 
 // The counters after a command, and its status.
 #[derive(Clone, Copy)]
@@ -28,8 +29,9 @@ fn rest_of(line: &[u8], from: usize) -> &[u8] {
 }
 
 // Tells that a line cannot be read: at an offset of its rest, which begins at `from`.
-fn unreadable(notices: i32, line: &[u8], from: usize, offset: usize) -> u32 {
+fn unreadable(rt: &impl Outputs, notices: Output, line: &[u8], from: usize, offset: usize) -> u32 {
     refusal::refused_at(
+        rt,
         notices,
         line,
         10,
@@ -38,19 +40,20 @@ fn unreadable(notices: i32, line: &[u8], from: usize, offset: usize) -> u32 {
 }
 
 // Done where the rest of the line has a statement; otherwise it cannot be read, which is told.
-fn tell_unreadable(notices: i32, line: &[u8], from: usize) -> u32 {
+fn tell_unreadable(rt: &impl Outputs, notices: Output, line: &[u8], from: usize) -> u32 {
     let read = ntriples::read_line(rest_of(line, from), 0);
     let found = read.line;
     match found {
         Line::Triple(_, _, _) => status::DONE,
-        Line::Refused(k) => unreadable(notices, line, from, k),
-        _ => unreadable(notices, line, from, 0),
+        Line::Refused(k) => unreadable(rt, notices, line, from, k),
+        _ => unreadable(rt, notices, line, from, 0),
     }
 }
 
 // Tells the names that were entered: those with the numbers after `before`.
 fn tell_entered(
-    notices: i32,
+    rt: &impl Outputs,
+    notices: Output,
     before: u32,
     d: Counters,
     resources: &[u32],
@@ -64,6 +67,7 @@ fn tell_entered(
     while n < last {
         n += 1;
         if !names::name(
+            rt,
             notices,
             b"entered ",
             d,
@@ -81,7 +85,8 @@ fn tell_entered(
 
 // Tells what an assert came to, with the names that it entered.
 fn tell_asserted(
-    notices: i32,
+    rt: &impl Outputs,
+    notices: Output,
     before: u32,
     d: Counters,
     resources: &[u32],
@@ -90,15 +95,16 @@ fn tell_asserted(
     text: &[u8],
     outcome: Outcome,
 ) -> u32 {
-    if !tell_entered(notices, before, d, resources, statements, index, text) {
+    if !tell_entered(rt, notices, before, d, resources, statements, index, text) {
         return status::FAILED;
     }
-    answer::outcome(notices, outcome)
+    answer::outcome(rt, notices, outcome)
 }
 
 // Asserts the statement in the rest of the line, whole or not at all.
 pub fn assert(
-    notices: i32,
+    rt: &impl Outputs,
+    notices: Output,
     c: Counters,
     resources: &mut [u32],
     statements: &mut [u32],
@@ -107,7 +113,7 @@ pub fn assert(
     line: &[u8],
     from: usize,
 ) -> Changed {
-    let told = tell_unreadable(notices, line, from);
+    let told = tell_unreadable(rt, notices, line, from);
     if told != status::DONE {
         return with_status(c, told);
     }
@@ -116,6 +122,7 @@ pub fn assert(
     let d = r.counters;
     let outcome = r.outcome;
     let status = tell_asserted(
+        rt,
         notices,
         c.resources,
         d,
@@ -140,16 +147,17 @@ fn first_refusal(s: Found, p: Found, o: Found) -> u32 {
 }
 
 // Tells a name that the store does not have.
-fn tell_name(notices: i32, name: &[u8], f: Found) -> bool {
+fn tell_name(rt: &impl Outputs, notices: Output, name: &[u8], f: Found) -> bool {
     if f.number != UNKNOWN {
         return true;
     }
-    answer::unknown(notices, name)
+    answer::unknown(rt, notices, name)
 }
 
 // Tells a refused name, or the names that the store does not have and that there is no such statement.
 fn tell_absent(
-    notices: i32,
+    rt: &impl Outputs,
+    notices: Output,
     subject: &[u8],
     predicate: &[u8],
     object: &[u8],
@@ -159,18 +167,18 @@ fn tell_absent(
 ) -> u32 {
     let refused = first_refusal(s, p, o);
     if refused != 0 {
-        return refusal::refused(notices, refused);
+        return refusal::refused(rt, notices, refused);
     }
-    if !tell_name(notices, subject, s) {
+    if !tell_name(rt, notices, subject, s) {
         return status::FAILED;
     }
-    if !tell_name(notices, predicate, p) {
+    if !tell_name(rt, notices, predicate, p) {
         return status::FAILED;
     }
-    if !tell_name(notices, object, o) {
+    if !tell_name(rt, notices, object, o) {
         return status::FAILED;
     }
-    answer::absent(notices)
+    answer::absent(rt, notices)
 }
 
 // The triple of a statement to retract. Done where the store has its names; otherwise that is told.
@@ -194,7 +202,8 @@ fn not_sought(status: u32) -> Sought {
 
 // The triple of these parts.
 fn seek_parts(
-    notices: i32,
+    rt: &impl Outputs,
+    notices: Output,
     c: Counters,
     resources: &[u32],
     statements: &[u32],
@@ -217,7 +226,7 @@ fn seek_parts(
         object: ResourceId(d.number),
     };
     if !table::known(c.resources, x) {
-        return not_sought(tell_absent(notices, subject, predicate, object, a, b, d));
+        return not_sought(tell_absent(rt, notices, subject, predicate, object, a, b, d));
     }
     Sought {
         status: status::DONE,
@@ -227,7 +236,8 @@ fn seek_parts(
 
 // The triple in the rest of the line.
 fn seek(
-    notices: i32,
+    rt: &impl Outputs,
+    notices: Output,
     c: Counters,
     resources: &[u32],
     statements: &[u32],
@@ -241,16 +251,17 @@ fn seek(
     let found = read.line;
     match found {
         Line::Triple(s, p, o) => seek_parts(
-            notices, c, resources, statements, index, text, source, s, p, o,
+            rt, notices, c, resources, statements, index, text, source, s, p, o,
         ),
-        Line::Refused(k) => not_sought(unreadable(notices, line, from, k)),
-        _ => not_sought(unreadable(notices, line, from, 0)),
+        Line::Refused(k) => not_sought(unreadable(rt, notices, line, from, k)),
+        _ => not_sought(unreadable(rt, notices, line, from, 0)),
     }
 }
 
 // Retracts the statement in the rest of the line.
 pub fn retract(
-    notices: i32,
+    rt: &impl Outputs,
+    notices: Output,
     c: Counters,
     resources: &mut [u32],
     statements: &mut [u32],
@@ -259,21 +270,24 @@ pub fn retract(
     line: &[u8],
     from: usize,
 ) -> u32 {
-    let f = seek(notices, c, resources, statements, index, text, line, from);
+    let f = seek(
+        rt, notices, c, resources, statements, index, text, line, from,
+    );
     if f.status != status::DONE {
         return f.status;
     }
     let x = f.triple;
     match statement::retract(c, resources, statements, index, text, x) {
-        Retracted::Number(n) => answer::became(notices, b"retracted", n.0),
-        Retracted::Absent => answer::absent(notices),
-        Retracted::Refused(e) => refusal::refused(notices, store::refusal_number(e)),
+        Retracted::Number(n) => answer::became(rt, notices, b"retracted", n.0),
+        Retracted::Absent => answer::absent(rt, notices),
+        Retracted::Refused(e) => refusal::refused(rt, notices, store::refusal_number(e)),
     }
 }
 
 // Gives the room of retracted statements back.
 pub fn reclaim(
-    notices: i32,
+    rt: &impl Outputs,
+    notices: Output,
     c: Counters,
     resources: &mut [u32],
     statements: &mut [u32],
@@ -282,10 +296,13 @@ pub fn reclaim(
 ) -> Changed {
     match compaction::reclaim(c, resources, statements, index, text) {
         Reclaimed::Done(d) => {
-            with_status(d, answer::reclaimed(notices, c.statements, d.statements))
+            with_status(
+                d,
+                answer::reclaimed(rt, notices, c.statements, d.statements),
+            )
         }
         Reclaimed::Refused(e) => {
-            with_status(c, refusal::refused(notices, store::refusal_number(e)))
+            with_status(c, refusal::refused(rt, notices, store::refusal_number(e)))
         }
     }
 }

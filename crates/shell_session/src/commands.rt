@@ -6,6 +6,7 @@ use shell_line::command;
 use shell_line::command::{Command, CommandRead};
 use shell_print::{refusal, status};
 use store::Counters;
+use streams::{Output, Outputs};
 
 // How far a session is: the store's counters, how many lines of the files were refused and how many files could not be read, where notices
 // go, the greatest status so far, and whether the session is over.
@@ -14,7 +15,7 @@ pub struct State {
     pub counters: Counters,
     pub missing: u64,
     pub unread: u64,
-    pub notices: i32,
+    pub notices: Output,
     pub status: u32,
     pub over: bool,
 }
@@ -33,12 +34,12 @@ fn is_bare(command: Command) -> bool {
 }
 
 // Tells a line that is refused: its word is no command, or something follows one that takes nothing. Done where it is none of these.
-fn tell_refused(notices: i32, line: &[u8], k: CommandRead) -> u32 {
+fn tell_refused(rt: &impl Outputs, notices: Output, line: &[u8], k: CommandRead) -> u32 {
     let command = k.command;
     let start = k.start;
     let rest = k.rest;
     match command {
-        Command::Unknown => refusal::refused_at(notices, line, 10, start),
+        Command::Unknown => refusal::refused_at(rt, notices, line, 10, start),
         _ => {
             if !is_bare(command) {
                 return status::DONE;
@@ -46,13 +47,14 @@ fn tell_refused(notices: i32, line: &[u8], k: CommandRead) -> u32 {
             if rest >= line.len() {
                 return status::DONE;
             }
-            refusal::refused_at(notices, line, 10, rest)
+            refusal::refused_at(rt, notices, line, 10, rest)
         }
     }
 }
 
 // Runs the command, and answers the counters from now on, and its status.
 fn run_command(
+    rt: &impl Outputs,
     s: State,
     resources: &mut [u32],
     statements: &mut [u32],
@@ -66,15 +68,19 @@ fn run_command(
     let command = k.command;
     let at = k.rest;
     match command {
-        Command::Assert => change::assert(notices, c, resources, statements, index, text, line, at),
+        Command::Assert => change::assert(
+            rt, notices, c, resources, statements, index, text, line, at,
+        ),
         Command::Retract => {
-            let told = change::retract(notices, c, resources, statements, index, text, line, at);
+            let told = change::retract(
+                rt, notices, c, resources, statements, index, text, line, at,
+            );
             with_status(c, told)
         }
-        Command::Reclaim => change::reclaim(notices, c, resources, statements, index, text),
+        Command::Reclaim => change::reclaim(rt, notices, c, resources, statements, index, text),
         _ => with_status(
             c,
-            reading::answer(s, resources, statements, index, text, line, k),
+            reading::answer(rt, s, resources, statements, index, text, line, k),
         ),
     }
 }
@@ -109,6 +115,7 @@ fn after(s: State, c: Counters, status: u32, quit: bool) -> State {
 
 // Runs a line.
 pub fn run_line(
+    rt: &impl Outputs,
     s: State,
     resources: &mut [u32],
     statements: &mut [u32],
@@ -118,14 +125,14 @@ pub fn run_line(
 ) -> State {
     let c = s.counters;
     if line.len() > LINE_LIMIT {
-        return after(s, c, refusal::too_long(s.notices), false);
+        return after(s, c, refusal::too_long(rt, s.notices), false);
     }
     let k = command::read_command(line);
-    let refused = tell_refused(s.notices, line, k);
+    let refused = tell_refused(rt, s.notices, line, k);
     if refused != status::DONE {
         return after(s, c, refused, false);
     }
-    let r = run_command(s, resources, statements, index, text, line, k);
+    let r = run_command(rt, s, resources, statements, index, text, line, k);
     let d = r.counters;
     let command = k.command;
     after(s, d, r.status, is_quit(command))

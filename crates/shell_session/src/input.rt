@@ -6,6 +6,8 @@ use crate::{answer, commands};
 use loader::block::keep_rest;
 use shell_line::part::bytes_of;
 use shell_print::status;
+use std::io::Read;
+use streams::Outputs;
 use table::word::lesser;
 
 // As many turns as a loop may take that waits for the input to end: nothing says that it does, and no run uses them up.
@@ -88,30 +90,42 @@ fn broken() -> Input {
 }
 
 // Reads one block, behind what is left of the last one.
-fn fill(i: Input, buffer: &mut [u8], terminal: bool) -> Input {
+fn fill<R: Outputs, S: Read>(
+    rt: &R,
+    source: &mut S,
+    i: Input,
+    buffer: &mut [u8],
+    terminal: bool,
+) -> Input {
     let used = lesser(keep_rest(buffer, i.at, i.filled), buffer.len());
-    if !answer::prompt(terminal, used) {
+    if !answer::prompt(rt, terminal, used) {
         return broken();
     }
-    let got = libc::read(libc::STDIN_FILENO, &mut buffer[used..]);
-    if got < 0 {
-        os::fail(b"standard input");
+    match source.read(&mut buffer[used..]) {
+        Err(e) => {
+            streams::fail(rt, b"standard input", e);
+            answer::end_prompt(rt, terminal);
+            broken()
+        }
+        Ok(n) if n > 0 => filled_to(used + n, false, false),
+        Ok(_) => {
+            if answer::end_prompt(rt, terminal) {
+                filled_to(used, true, false)
+            } else {
+                broken()
+            }
+        }
     }
-    let n = io::count(got, &buffer[used..]);
-    if n > 0 {
-        return filled_to(used + n, false, false);
-    }
-    if !answer::end_prompt(terminal) {
-        return broken();
-    }
-    if got < 0 {
-        return broken();
-    }
-    filled_to(used, true, false)
 }
 
 // The next line.
-fn next_line(i: Input, buffer: &mut [u8], terminal: bool) -> Input {
+fn next_line<R: Outputs, S: Read>(
+    rt: &R,
+    source: &mut S,
+    i: Input,
+    buffer: &mut [u8],
+    terminal: bool,
+) -> Input {
     let mut m = i;
     let mut turns = TURNS;
     // No line ends in the blocks read so far.
@@ -120,7 +134,7 @@ fn next_line(i: Input, buffer: &mut [u8], terminal: bool) -> Input {
         if m.found {
             return m;
         }
-        m = fill(m, buffer, terminal);
+        m = fill(rt, source, m, buffer, terminal);
         turns -= 1;
     }
     m
@@ -145,8 +159,10 @@ fn status_after(i: Input, s: State) -> u32 {
     if i.failed { status::FAILED } else { s.status }
 }
 
-// A session: runs each line, and answers the greatest status.
-pub fn session(
+// A session: runs each line of the source, which is standard input, and answers the greatest status.
+pub fn session<R: Outputs, S: Read>(
+    rt: &R,
+    source: &mut S,
     begun: State,
     terminal: bool,
     resources: &mut [u32],
@@ -160,9 +176,9 @@ pub fn session(
     let mut turns = TURNS;
     // The lines read so far are run, which left `s`.
     while turns > 0 {
-        i = next_line(i, buffer, terminal);
+        i = next_line(rt, source, i, buffer, terminal);
         let line = bytes_of(buffer, i.start, i.end);
-        s = commands::run_line(s, resources, statements, index, text, line);
+        s = commands::run_line(rt, s, resources, statements, index, text, line);
         turns = left(turns, i.ended, s.over);
     }
     status_after(i, s)

@@ -2,7 +2,7 @@
 // a line, and answers in names.
 //
 // `input` reads the lines; `commands` takes a line to its command; `change` has the commands that write to the store, `reading` those that
-// only read it, `answer` what they write. Rows go to standard output, notices to a descriptor that is handed down. Every command answers
+// only read it, `answer` what they write. Rows go to standard output, notices to an output that is handed down. Every command answers
 // its status; after a write that failed nothing more is written, and the session is over.
 #![tactic(auto)]
 
@@ -13,21 +13,23 @@ mod input;
 mod reading;
 
 use commands::State;
-use libc::{STDERR_FILENO, STDOUT_FILENO};
 use loader::load::Load;
 use loader::{buffer, load};
 use shell_print::status;
+use std::io::Input;
+use std::rt::{Env, Files};
+use streams::{Output, Outputs, Terminal};
 
 // Where notices go: to standard output with a terminal on standard input, or where all is to go there; otherwise to standard error.
-fn notices_to(terminal: bool, all: bool) -> i32 {
+fn notices_to(terminal: bool, all: bool) -> Output {
     if terminal {
-        return STDOUT_FILENO;
+        return Output::Standard;
     }
-    if all { STDOUT_FILENO } else { STDERR_FILENO }
+    if all { Output::Standard } else { Output::Error }
 }
 
 // A session that begins after a load.
-fn begun(l: Load, notices: i32) -> State {
+fn begun(l: Load, notices: Output) -> State {
     let c = l.counters;
     State {
         counters: c,
@@ -40,7 +42,7 @@ fn begun(l: Load, notices: i32) -> State {
 }
 
 // Loads the files and runs the session, and answers the greatest status.
-pub fn run(all: bool) -> u32 {
+pub fn run<R: Outputs + Env + Files + Input + Terminal>(rt: &R, all: bool) -> u32 {
     let mut resources = buffer::resource_table();
     let mut statements = buffer::statement_table();
     let mut index = buffer::resource_list();
@@ -48,6 +50,7 @@ pub fn run(all: bool) -> u32 {
     let mut buffer = [0u8; loader::BUFFER];
     let fresh = load::start(true);
     let l = loader::file::load_files(
+        rt,
         fresh,
         &mut resources,
         &mut statements,
@@ -58,12 +61,15 @@ pub fn run(all: bool) -> u32 {
     if !load::written(l) {
         return status::FAILED;
     }
-    let terminal = libc::isatty(libc::STDIN_FILENO) == 1;
+    let terminal = rt.is_terminal();
     let s = begun(l, notices_to(terminal, all));
-    if !answer::greet(terminal, s) {
+    if !answer::greet(rt, terminal, s) {
         return status::FAILED;
     }
+    let mut source = rt.reader();
     input::session(
+        rt,
+        &mut source,
         s,
         terminal,
         &mut resources,

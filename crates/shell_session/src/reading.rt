@@ -6,7 +6,6 @@ ghost use Rattle.shell_session.specs.Asked.{Asked, Listed};
 
 use crate::answer;
 use crate::commands::State;
-use libc::STDOUT_FILENO;
 use lines::Exported;
 use loader::buffer;
 use ntriples::TermEnd;
@@ -20,6 +19,7 @@ use shell_print::names::name;
 use shell_print::{refusal, status};
 use shell_words::{UNKNOWN, is_name, number_of, words_of};
 use store::{Counters, Prefixed, ResourceId, Triple};
+use streams::{Output, Outputs};
 use table::word::lesser;
 
 // How a question or a list came out, and the status of one that has ended.
@@ -30,14 +30,20 @@ struct Replied {
 }
 
 // Tells each name that the store does not have, of the parts with these words.
-fn tell_unknown(notices: i32, line: &[u8], p: Parts, words: [u32; MAX_PARTS]) -> bool {
+fn tell_unknown(
+    rt: &impl Outputs,
+    notices: Output,
+    line: &[u8],
+    p: Parts,
+    words: [u32; MAX_PARTS],
+) -> bool {
     let mut i = 0;
     // The first i parts are looked at.
     while i < MAX_PARTS {
         if i >= p.count {
             return true;
         }
-        if !tell_part(notices, line, p, i, words[i]) {
+        if !tell_part(rt, notices, line, p, i, words[i]) {
             return false;
         }
         i += 1;
@@ -46,14 +52,21 @@ fn tell_unknown(notices: i32, line: &[u8], p: Parts, words: [u32; MAX_PARTS]) ->
 }
 
 // Tells the name of part i, if the store does not have it.
-fn tell_part(notices: i32, line: &[u8], p: Parts, i: usize, word: u32) -> bool {
+fn tell_part(
+    rt: &impl Outputs,
+    notices: Output,
+    line: &[u8],
+    p: Parts,
+    i: usize,
+    word: u32,
+) -> bool {
     if word != UNKNOWN {
         return true;
     }
     if !is_name(line, p, i) {
         return true;
     }
-    answer::unknown(notices, parts::part_of(line, p, i))
+    answer::unknown(rt, notices, parts::part_of(line, p, i))
 }
 
 // A reading that finds nothing, since a name of it is unknown; that was told, or could not be written.
@@ -71,6 +84,7 @@ fn nothing(written: bool) -> Told
 
 // Reads the question of the first `count` words through.
 fn solve(
+    rt: &impl Outputs,
     c: Counters,
     resources: &[u32],
     statements: &[u32],
@@ -84,9 +98,10 @@ fn solve(
         (take count words.now) result }
 {
     if count >= words.len() {
-        return question::read_through(c, resources, statements, index, text, words, variables);
+        return question::read_through(rt, c, resources, statements, index, text, words, variables);
     }
     question::read_through(
+        rt,
         c,
         resources,
         statements,
@@ -99,7 +114,8 @@ fn solve(
 
 // Reads the question of these parts through, and writes its solutions, or the names that the store does not have.
 fn ask_parts(
-    notices: i32,
+    rt: &impl Outputs,
+    notices: Output,
     c: Counters,
     resources: &[u32],
     statements: &[u32],
@@ -121,21 +137,22 @@ fn ask_parts(
     let words = w.words;
     if w.unknown != 0 {
         return Replied {
-            told: nothing(tell_unknown(notices, line, p, words)),
+            told: nothing(tell_unknown(rt, notices, line, p, words)),
             status: status::REFUSED,
         };
     }
     let n = p.count;
     let v = p.variables;
     Replied {
-        told: solve(c, resources, statements, index, text, &words, n, v),
+        told: solve(rt, c, resources, statements, index, text, &words, n, v),
         status: status::DONE,
     }
 }
 
 // Answers the question in the line.
 fn ask(
-    notices: i32,
+    rt: &impl Outputs,
+    notices: Output,
     c: Counters,
     resources: &[u32],
     statements: &[u32],
@@ -146,18 +163,19 @@ fn ask(
 ) -> u32 {
     let p = parts::read_parts(line, from, parts::question());
     if p.refusal != 0 {
-        return refusal::refused_at(notices, line, p.refusal, p.offset);
+        return refusal::refused_at(rt, notices, line, p.refusal, p.offset);
     }
-    if !answer::variables(notices, line, p) {
+    if !answer::variables(rt, notices, line, p) {
         return status::FAILED;
     }
-    let r = ask_parts(notices, c, resources, statements, index, text, line, p);
-    answer::solutions(notices, r.told, r.status)
+    let r = ask_parts(rt, notices, c, resources, statements, index, text, line, p);
+    answer::solutions(rt, notices, r.told, r.status)
 }
 
 // Reads the list of these parts through, and writes the statements, or the names that the store does not have.
 fn list_parts(
-    notices: i32,
+    rt: &impl Outputs,
+    notices: Output,
     c: Counters,
     resources: &[u32],
     statements: &[u32],
@@ -179,7 +197,7 @@ fn list_parts(
     let words = w.words;
     if w.unknown != 0 {
         return Replied {
-            told: nothing(tell_unknown(notices, line, p, words)),
+            told: nothing(tell_unknown(rt, notices, line, p, words)),
             status: status::REFUSED,
         };
     }
@@ -189,14 +207,15 @@ fn list_parts(
         object: ResourceId(words[2]),
     };
     Replied {
-        told: list::read_through(c, resources, statements, index, text, x),
+        told: list::read_through(rt, c, resources, statements, index, text, x),
         status: status::DONE,
     }
 }
 
 // Lists the statements that match the pattern in the rest of the line.
 fn list_matches(
-    notices: i32,
+    rt: &impl Outputs,
+    notices: Output,
     c: Counters,
     resources: &[u32],
     statements: &[u32],
@@ -207,14 +226,15 @@ fn list_matches(
 ) -> u32 {
     let p = parts::read_parts(line, from, parts::list());
     if p.refusal != 0 {
-        return refusal::refused_at(notices, line, p.refusal, p.offset);
+        return refusal::refused_at(rt, notices, line, p.refusal, p.offset);
     }
-    let r = list_parts(notices, c, resources, statements, index, text, line, p);
-    answer::listed(notices, r.told, r.status)
+    let r = list_parts(rt, notices, c, resources, statements, index, text, line, p);
+    answer::listed(rt, notices, r.told, r.status)
 }
 
 // Writes the names with these numbers.
 fn write_names(
+    rt: &impl Outputs,
     c: Counters,
     resources: &[u32],
     statements: &[u32],
@@ -226,7 +246,17 @@ fn write_names(
     // The first i names are written.
     while i < numbers.len() {
         let n = ResourceId(numbers[i]);
-        if !name(STDOUT_FILENO, b"", c, resources, statements, index, text, n) {
+        if !name(
+            rt,
+            Output::Standard,
+            b"",
+            c,
+            resources,
+            statements,
+            index,
+            text,
+            n,
+        ) {
             return false;
         }
         i += 1;
@@ -236,7 +266,8 @@ fn write_names(
 
 // Lists the names with a beginning, by way of the working words, which hold a number for each resource.
 fn list_names(
-    notices: i32,
+    rt: &impl Outputs,
+    notices: Output,
     c: Counters,
     resources: &[u32],
     statements: &[u32],
@@ -246,20 +277,21 @@ fn list_names(
     work: &mut [u32],
 ) -> u32 {
     match prefix::names_with_prefix(c, resources, statements, index, text, beginning, work) {
-        Prefixed::Refused(e) => refusal::refused(notices, store::refusal_number(e)),
+        Prefixed::Refused(e) => refusal::refused(rt, notices, store::refusal_number(e)),
         Prefixed::Total(n) => {
             let end = lesser(n as usize, work.len());
-            if !write_names(c, resources, statements, index, text, &work[0..end]) {
+            if !write_names(rt, c, resources, statements, index, text, &work[0..end]) {
                 return status::FAILED;
             }
-            answer::became(notices, b"names", n)
+            answer::became(rt, notices, b"names", n)
         }
     }
 }
 
 // Lists the names that begin with the rest of the line.
 fn names(
-    notices: i32,
+    rt: &impl Outputs,
+    notices: Output,
     c: Counters,
     resources: &[u32],
     statements: &[u32],
@@ -271,7 +303,7 @@ fn names(
     let mut work = buffer::resource_list();
     let beginning = part::bytes_of(line, from, line.len());
     list_names(
-        notices, c, resources, statements, index, text, beginning, &mut work,
+        rt, notices, c, resources, statements, index, text, beginning, &mut work,
     )
 }
 
@@ -292,8 +324,9 @@ fn record_of(n: u32) -> usize {
 }
 
 // Writes three words of the resource table, from `at` on, after a label.
-fn write_three(label: &[u8], resources: &[u32], at: usize) -> bool {
+fn write_three(rt: &impl Outputs, label: &[u8], resources: &[u32], at: usize) -> bool {
     answer::three(
+        rt,
         label,
         word_at(resources, at),
         word_at(resources, std::num::wrapping_add_usize(at, 1)),
@@ -302,19 +335,20 @@ fn write_three(label: &[u8], resources: &[u32], at: usize) -> bool {
 }
 
 // Writes the counts of resource n.
-fn write_counts(resources: &[u32], n: u32) -> u32 {
+fn write_counts(rt: &impl Outputs, resources: &[u32], n: u32) -> u32 {
     let at = record_of(n);
     let live = std::num::wrapping_add_usize(at, table::word::LIVE);
     let chain = std::num::wrapping_add_usize(at, table::word::COUNT);
-    if !write_three(b"live", resources, live) {
+    if !write_three(rt, b"live", resources, live) {
         return status::FAILED;
     }
-    status::told(write_three(b"chain", resources, chain), status::DONE)
+    status::told(write_three(rt, b"chain", resources, chain), status::DONE)
 }
 
 // Tells the counts of a name.
 fn counts_of(
-    notices: i32,
+    rt: &impl Outputs,
+    notices: Output,
     c: Counters,
     resources: &[u32],
     statements: &[u32],
@@ -324,17 +358,18 @@ fn counts_of(
 ) -> u32 {
     let f = number_of(c, resources, statements, index, text, name);
     if f.refusal != 0 {
-        return refusal::refused(notices, f.refusal);
+        return refusal::refused(rt, notices, f.refusal);
     }
     if f.number == UNKNOWN {
-        return status::told(answer::unknown(notices, name), status::REFUSED);
+        return status::told(answer::unknown(rt, notices, name), status::REFUSED);
     }
-    write_counts(resources, f.number)
+    write_counts(rt, resources, f.number)
 }
 
 // Tells the counts of the name in the rest of the line.
 fn counts(
-    notices: i32,
+    rt: &impl Outputs,
+    notices: Output,
     c: Counters,
     resources: &[u32],
     statements: &[u32],
@@ -344,14 +379,14 @@ fn counts(
     from: usize,
 ) -> u32 {
     match part::name_end(line, from) {
-        TermEnd::Broken(k) => refusal::refused_at(notices, line, 10, k),
+        TermEnd::Broken(k) => refusal::refused_at(rt, notices, line, 10, k),
         TermEnd::Whole(end) => {
             let next = part::white_end(line, end);
             if next < line.len() {
-                return refusal::refused_at(notices, line, 10, next);
+                return refusal::refused_at(rt, notices, line, 10, next);
             }
             let name = part::bytes_of(line, from, end);
-            counts_of(notices, c, resources, statements, index, text, name)
+            counts_of(rt, notices, c, resources, statements, index, text, name)
         }
     }
 }
@@ -376,9 +411,17 @@ fn live(statements: &[u32], total: u32) -> u32 {
 }
 
 // Tells what is in use, and what of the files is missing.
-fn totals(s: State, resources: &[u32], statements: &[u32], index: &[u32], text: &[u8]) -> u32 {
+fn totals(
+    rt: &impl Outputs,
+    s: State,
+    resources: &[u32],
+    statements: &[u32],
+    index: &[u32],
+    text: &[u8],
+) -> u32 {
     let c = s.counters;
     answer::totals(
+        rt,
         s,
         lesser(resources.len() / table::word::RESOURCE_WORDS, index.len()),
         statements.len() / table::word::STATEMENT_WORDS,
@@ -388,15 +431,16 @@ fn totals(s: State, resources: &[u32], statements: &[u32], index: &[u32], text: 
 }
 
 // Writes a file. What it lacks is told before it on standard error, wherever notices go: it is to stand alone on standard output.
-fn write_told(s: State, file: &[u8]) -> u32 {
-    if !tally::tell_lacks(s.missing, s.unread) {
+fn write_told(rt: &impl Outputs, s: State, file: &[u8]) -> u32 {
+    if !tally::tell_lacks(rt, s.missing, s.unread) {
         return status::FAILED;
     }
-    status::told(put(STDOUT_FILENO, file), status::DONE)
+    status::told(put(rt, Output::Standard, file), status::DONE)
 }
 
 // Writes the live statements as a file, by way of room for the file and a word for each statement.
 fn write_file(
+    rt: &impl Outputs,
     s: State,
     resources: &[u32],
     statements: &[u32],
@@ -409,21 +453,31 @@ fn write_file(
     match exporter::export_file(c, resources, statements, index, text, file, work) {
         Exported::Length(n) => {
             let end = lesser(n as usize, file.len());
-            write_told(s, &file[0..end])
+            write_told(rt, s, &file[0..end])
         }
-        Exported::Refused(e) => refusal::refused(s.notices, store::refusal_number(e)),
+        Exported::Refused(e) => refusal::refused(rt, s.notices, store::refusal_number(e)),
     }
 }
 
 // Writes the live statements as a file.
-fn save(s: State, resources: &[u32], statements: &[u32], index: &[u32], text: &[u8]) -> u32 {
+fn save(
+    rt: &impl Outputs,
+    s: State,
+    resources: &[u32],
+    statements: &[u32],
+    index: &[u32],
+    text: &[u8],
+) -> u32 {
     let mut file = buffer::file();
     let mut work = buffer::statement_list();
-    write_file(s, resources, statements, index, text, &mut file, &mut work)
+    write_file(
+        rt, s, resources, statements, index, text, &mut file, &mut work,
+    )
 }
 
 // Answers a command that takes no rest.
 fn answer_bare(
+    rt: &impl Outputs,
     s: State,
     resources: &[u32],
     statements: &[u32],
@@ -433,16 +487,20 @@ fn answer_bare(
 ) -> u32 {
     let c = s.counters;
     match command {
-        Command::Check => answer::checked(integrity::check(c, resources, statements, index, text)),
-        Command::Save => save(s, resources, statements, index, text),
-        Command::Totals => totals(s, resources, statements, index, text),
-        Command::Help => answer::help(),
+        Command::Check => answer::checked(
+            rt,
+            integrity::check(c, resources, statements, index, text),
+        ),
+        Command::Save => save(rt, s, resources, statements, index, text),
+        Command::Totals => totals(rt, s, resources, statements, index, text),
+        Command::Help => answer::help(rt),
         _ => status::DONE,
     }
 }
 
 // Answers a command that only reads the store.
 pub fn answer(
+    rt: &impl Outputs,
     s: State,
     resources: &[u32],
     statements: &[u32],
@@ -456,10 +514,10 @@ pub fn answer(
     let command = k.command;
     let at = k.rest;
     match command {
-        Command::Question => ask(notices, c, resources, statements, index, text, line, at),
-        Command::List => list_matches(notices, c, resources, statements, index, text, line, at),
-        Command::Names => names(notices, c, resources, statements, index, text, line, at),
-        Command::Counts => counts(notices, c, resources, statements, index, text, line, at),
-        _ => answer_bare(s, resources, statements, index, text, command),
+        Command::Question => ask(rt, notices, c, resources, statements, index, text, line, at),
+        Command::List => list_matches(rt, notices, c, resources, statements, index, text, line, at),
+        Command::Names => names(rt, notices, c, resources, statements, index, text, line, at),
+        Command::Counts => counts(rt, notices, c, resources, statements, index, text, line, at),
+        _ => answer_bare(rt, s, resources, statements, index, text, command),
     }
 }

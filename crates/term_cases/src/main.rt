@@ -4,62 +4,66 @@
 #![tactic(auto)]
 
 ghost use Rattle.std.specs.Prelude.{◌≤◌};
-ghost use Rattle.io.specs.Counts.{IsPrefixLen};
+ghost use Rattle.streams.specs.Counts.{IsPrefixLen};
 
-use bytes::scan::find;
-use libc::{STDIN_FILENO, STDOUT_FILENO};
+use find_byte::find;
 use store::{Refusal, refusal_number};
+use streams::{Output, Outputs, print_decimal, write_all};
 use term::NameKind;
 use term::class::byte_at;
 
-fn main() {
-    let mut text = io::large_buffer();
-    let n = io::read_full(STDIN_FILENO, &mut text);
-    run(&text[..n]);
+fn main(rt: HostRuntime) {
+    let mut text = streams::large_buffer();
+    let n = streams::read_full(&mut rt.stdin(), &mut text);
+    run(&rt, &text[..n]);
 }
 
 // Every line of the text.
-fn run(text: &[u8]) {
+fn run(rt: &impl Outputs, text: &[u8]) {
     // The lines before `at` are run, and `number` is the next one's.
     let mut number: u64 = 1;
     let mut at = 0;
     while at < text.len() {
         let end = find(text, at, text.len(), b'\n');
-        run_case(number, &text[at..end]);
+        run_case(rt, number, &text[at..end]);
         number += 1;
         at = end + 1;
     }
 }
 
 // One line.
-fn run_case(number: u64, line: &[u8]) {
+fn run_case(rt: &impl Outputs, number: u64, line: &[u8]) {
     let gap = find(line, 0, line.len(), b' ');
-    io::print_decimal(STDOUT_FILENO, number);
-    io::write_all(STDOUT_FILENO, b" ");
-    io::write_all(STDOUT_FILENO, &line[0..gap]);
-    let mut name = io::buffer();
+    print_decimal(rt, Output::Standard, number);
+    write_all(rt, Output::Standard, b" ");
+    write_all(rt, Output::Standard, &line[0..gap]);
+    let mut name = streams::buffer();
     if gap < line.len() {
         let n = decode(&line[gap + 1..], &mut name);
-        answer(&name[..n]);
+        answer(rt, &name[..n]);
     }
 }
 
-fn refused() -> bool {
-    io::write_all(STDOUT_FILENO, b" refused ");
-    io::print_decimal(STDOUT_FILENO, refusal_number(Refusal::Malformed) as u64)
+fn refused(rt: &impl Outputs) -> bool {
+    write_all(rt, Output::Standard, b" refused ");
+    print_decimal(
+        rt,
+        Output::Standard,
+        refusal_number(Refusal::Malformed) as u64,
+    )
 }
 
-fn answer(name: &[u8]) {
+fn answer(rt: &impl Outputs, name: &[u8]) {
     match term::kind_of_name(name) {
-        NameKind::Iri => io::write_all(STDOUT_FILENO, b" kind 1"),
-        NameKind::Blank => io::write_all(STDOUT_FILENO, b" kind 2"),
-        NameKind::Literal => io::write_all(STDOUT_FILENO, b" kind 3"),
-        NameKind::Malformed => refused(),
+        NameKind::Iri => write_all(rt, Output::Standard, b" kind 1"),
+        NameKind::Blank => write_all(rt, Output::Standard, b" kind 2"),
+        NameKind::Literal => write_all(rt, Output::Standard, b" kind 3"),
+        NameKind::Malformed => refused(rt),
     };
     let halt = term::scan_term(name, 0, name.len());
-    io::write_all(STDOUT_FILENO, b" at ");
-    io::print_decimal(STDOUT_FILENO, halt.at as u64);
-    io::write_all(STDOUT_FILENO, b"\n");
+    write_all(rt, Output::Standard, b" at ");
+    print_decimal(rt, Output::Standard, halt.at as u64);
+    write_all(rt, Output::Standard, b"\n");
 }
 
 // The bytes that a spelling stands for, as many as there is room for.

@@ -9,14 +9,16 @@
 // which follows paper 01 and knows nothing of this library. `docs/W3C.md` compares it with the W3C's verdicts.
 #![tactic(auto)]
 
-use libc::{STDERR_FILENO, STDOUT_FILENO};
+use std::io::Read;
+use std::rt::{Env, Files};
 use store::{Refusal, refusal_number};
+use streams::{Output, Outputs, print_decimal, write_all};
 
 // Room for a file. The longest of the tests has 4,080 bytes.
 const ROOM: usize = 8192;
 
 // A part of a line that was read lies in the text, so neither test is ever true.
-fn print_part(text: &[u8], part: ntriples::Span) {
+fn print_part(rt: &impl Outputs, text: &[u8], part: ntriples::Span) {
     let start = part.start;
     let end = part.end;
     if end > text.len() {
@@ -25,53 +27,57 @@ fn print_part(text: &[u8], part: ntriples::Span) {
     if start > end {
         return;
     }
-    io::write_all(STDOUT_FILENO, b" ");
-    io::write_all(STDOUT_FILENO, &text[start..end]);
+    write_all(rt, Output::Standard, b" ");
+    write_all(rt, Output::Standard, &text[start..end]);
 }
 
-fn print_answer(text: &[u8], line: ntriples::Line) {
+fn print_answer(rt: &impl Outputs, text: &[u8], line: ntriples::Line) {
     match line {
         ntriples::Line::End => {
-            io::write_all(STDOUT_FILENO, b" end");
+            write_all(rt, Output::Standard, b" end");
         }
         ntriples::Line::Nothing => {
-            io::write_all(STDOUT_FILENO, b" nothing");
+            write_all(rt, Output::Standard, b" nothing");
         }
         ntriples::Line::Triple(s, p, o) => {
-            print_part(text, s);
-            print_part(text, p);
-            print_part(text, o);
+            print_part(rt, text, s);
+            print_part(rt, text, p);
+            print_part(rt, text, o);
         }
         ntriples::Line::Refused(k) => {
-            io::write_all(STDOUT_FILENO, b" refused ");
-            io::print_decimal(STDOUT_FILENO, refusal_number(Refusal::BadLine) as u64);
-            io::write_all(STDOUT_FILENO, b" ");
-            io::print_decimal(STDOUT_FILENO, k as u64);
+            write_all(rt, Output::Standard, b" refused ");
+            print_decimal(
+                rt,
+                Output::Standard,
+                refusal_number(Refusal::BadLine) as u64,
+            );
+            write_all(rt, Output::Standard, b" ");
+            print_decimal(rt, Output::Standard, k as u64);
         }
     }
 }
 
 // Reads the line at `at`, number `n` of the file, and prints what it gives; the position after it.
-fn report_line(name: &[u8], n: usize, text: &[u8], at: usize) -> usize {
+fn report_line(rt: &impl Outputs, name: &[u8], n: usize, text: &[u8], at: usize) -> usize {
     let read = ntriples::read_line(text, at);
     let line = read.line;
-    io::write_all(STDOUT_FILENO, name);
-    io::write_all(STDOUT_FILENO, b" ");
-    io::print_decimal(STDOUT_FILENO, n as u64);
-    print_answer(text, line);
-    io::write_all(STDOUT_FILENO, b"\n");
+    write_all(rt, Output::Standard, name);
+    write_all(rt, Output::Standard, b" ");
+    print_decimal(rt, Output::Standard, n as u64);
+    print_answer(rt, text, line);
+    write_all(rt, Output::Standard, b"\n");
     read.next
 }
 
 // Reads every line of a text. Before the text's end a line takes a byte or more, so the position moves on and the test
 // in the loop is never true.
-fn report_lines(name: &[u8], text: &[u8]) {
-    let mut at = report_line(name, 1, text, 0);
+fn report_lines(rt: &impl Outputs, name: &[u8], text: &[u8]) {
+    let mut at = report_line(rt, name, 1, text, 0);
     let mut n = 1;
     // The `n` lines before `at` are reported.
     while at < text.len() {
         n += 1;
-        let next = report_line(name, n, text, at);
+        let next = report_line(rt, name, n, text, at);
         if next <= at {
             return;
         }
@@ -80,46 +86,43 @@ fn report_lines(name: &[u8], text: &[u8]) {
 }
 
 // Reads an open file whole, and its lines. One read more tells the file's end from a failure and from a longer file.
-fn report_open(name: &[u8], fd: i32) {
+fn report_open<S: Read>(rt: &impl Outputs, name: &[u8], source: &mut S) {
     let mut text = [0u8; ROOM];
-    let got = io::read_full(fd, &mut text);
+    let got = streams::read_full(source, &mut text);
     let mut rest = [0u8; 1];
-    let more = libc::read(fd, &mut rest);
-    if more < 0 {
-        os::fail(name);
-        return;
+    match source.read(&mut rest) {
+        Err(e) => streams::fail(rt, name, e),
+        Ok(0) => report_lines(rt, name, &text[..got]),
+        Ok(_) => {
+            write_all(rt, Output::Error, name);
+            write_all(rt, Output::Error, b": longer than the buffer\n");
+        }
     }
-    if more > 0 {
-        io::write_all(STDERR_FILENO, name);
-        io::write_all(STDERR_FILENO, b": longer than the buffer\n");
-        return;
-    }
-    report_lines(name, &text[..got]);
 }
 
 // Reads the file that argument `i` names.
-fn report_file(i: usize) {
-    let mut path = io::buffer();
-    let length = os::arg(i, &mut path);
-    if os::errno() != 0 {
-        os::fail(b"argument");
-        return;
+fn report_file<R: Outputs + Env + Files>(rt: &R, i: usize) {
+    let mut path = streams::buffer();
+    match streams::argument(rt, i, &mut path) {
+        Err(e) => streams::fail(rt, b"argument", e),
+        Ok(length) => report_path(rt, &path[..length]),
     }
-    let fd = os::open_read(&path[..length]);
-    if fd < 0 {
-        os::fail(&path[..length]);
-        return;
-    }
-    report_open(&path[..length], fd);
-    libc::close(fd);
 }
 
-fn main() {
-    let count = os::arg_count();
+// Reads the file with this path.
+fn report_path<R: Outputs + Files>(rt: &R, path: &[u8]) {
+    match streams::open(rt, path) {
+        Err(e) => streams::fail(rt, path, e),
+        Ok(mut file) => report_open(rt, path, &mut file),
+    }
+}
+
+fn main(rt: HostRuntime) {
+    let count = streams::argument_count(&rt);
     // The files of the arguments before `i` are reported.
     let mut i = 1;
     while i < count {
-        report_file(i);
+        report_file(&rt, i);
         i += 1;
     }
 }

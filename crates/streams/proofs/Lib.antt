@@ -1,0 +1,3 @@
+pub mod Counting
+mod Powers
+mod Digits
