@@ -7,7 +7,7 @@
 #![tactic(auto)]
 
 ghost use Rattle.std.specs.Prelude.{◌≡◌};
-ghost use Rattle.store.specs.Tables.{after, lent};
+ghost use Rattle.store.specs.Tables.{after, tables};
 ghost use Rattle.store.specs.Statement.{assert_of, retract_of, counters_after};
 ghost use Rattle.statement.specs.Updating.{AssertedUpdating, RetractedUpdating};
 
@@ -24,8 +24,8 @@ pub fn assert(
     text: &[u8],
     x: Triple,
 ) -> Asserted
-    ensures { after (lent resources.exit statements.exit index.entry text.entry) result
-        ≡ assert_of c (lent resources.entry statements.entry index.entry text.entry) x }
+    ensures { after (tables resources.new statements.new index.now text.now) result
+        ≡ assert_of c (tables resources.old statements.old index.now text.now) x }
 {
     match assert_target(c, resources, statements, index, text, x) {
         Located::Refused(e) => Asserted::Refused(e),
@@ -47,8 +47,8 @@ pub fn retract(
     text: &[u8],
     x: Triple,
 ) -> Retracted
-    ensures { after (lent resources.exit statements.exit index.entry text.entry) result
-        ≡ retract_of c (lent resources.entry statements.entry index.entry text.entry) x }
+    ensures { after (tables resources.new statements.new index.now text.now) result
+        ≡ retract_of c (tables resources.old statements.old index.now text.now) x }
 {
     match retract_target(c, resources, statements, index, text, x) {
         Located::Refused(e) => Retracted::Refused(e),
