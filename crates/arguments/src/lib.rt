@@ -2,6 +2,8 @@
 // anew from the system where it is needed, so that nothing has to hold it.
 #![tactic(auto)]
 
+use std::rt::Env;
+
 // What an argument is. `Ends` is `--`; `Input` is `-`.
 #[derive(Clone, Copy)]
 pub enum Argument {
@@ -59,16 +61,15 @@ fn kind_of(bytes: &[u8]) -> Argument {
 }
 
 // What argument i is; `files` says that a `--` stands before it. One that is too long is a file.
-pub fn kind(i: usize, files: bool) -> Argument {
+pub fn kind(rt: &impl Env, i: usize, files: bool) -> Argument {
     if files {
         return Argument::File;
     }
-    let mut bytes = io::buffer();
-    let length = os::arg(i, &mut bytes);
-    if os::errno() != 0 {
-        return Argument::File;
+    let mut bytes = streams::buffer();
+    match streams::argument(rt, i, &mut bytes) {
+        Ok(length) => kind_of(&bytes[..length]),
+        Err(_) => Argument::File,
     }
-    kind_of(&bytes[..length])
 }
 
 // Whether an argument is `--`.
@@ -99,11 +100,11 @@ fn with_option(a: Asked, bytes: &[u8], own: &[u8], i: usize) -> Asked {
 }
 
 // With argument i, before `--`.
-fn with_argument(a: Asked, own: &[u8], i: usize) -> Asked {
-    let mut bytes = io::buffer();
-    let length = os::arg(i, &mut bytes);
+fn with_argument(rt: &impl Env, a: Asked, own: &[u8], i: usize) -> Asked {
+    let mut bytes = streams::buffer();
+    let length = streams::argument_or_nothing(rt, i, &mut bytes);
     let mut b = a;
-    match kind(i, false) {
+    match kind(rt, i, false) {
         Argument::Option => with_option(a, &bytes[..length], own, i),
         Argument::Ends => a,
         _ => {
@@ -125,7 +126,7 @@ pub fn ended(a: Asked) -> bool {
 }
 
 // What the arguments ask for, from left to right, up to what the program ends with or to `--`.
-pub fn read(own: &[u8]) -> Asked {
+pub fn read(rt: &impl Env, own: &[u8]) -> Asked {
     let mut a = Asked {
         help: false,
         version: false,
@@ -133,15 +134,15 @@ pub fn read(own: &[u8]) -> Asked {
         own: false,
         files: false,
     };
-    let count = os::arg_count();
+    let count = streams::argument_count(rt);
     let mut i = 1;
     // The arguments before i are taken; none of them is `--`, and none ends the program.
     while i < count {
-        if ends(kind(i, false)) {
+        if ends(kind(rt, i, false)) {
             a.files = a.files || i + 1 < count;
             return a;
         }
-        a = with_argument(a, own, i);
+        a = with_argument(rt, a, own, i);
         if ended(a) {
             return a;
         }

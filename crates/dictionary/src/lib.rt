@@ -8,7 +8,7 @@
 // spelled; 9 a word met on the way that no sound store has; 3 no room for one name more.
 #![tactic(auto)]
 
-ghost use Rattle.store.specs.Tables.{lent};
+ghost use Rattle.store.specs.Tables.{lent, tables};
 ghost use Rattle.store.specs.Dictionary.{FindAnswer, InternAnswer};
 
 use store::{Counters, IndexPlace, Interned, Lookup, Refusal, ResourceId};
@@ -54,8 +54,8 @@ pub fn intern(
     text: &mut [u8],
     name: &[u8],
 ) -> Interned
-    ensures { InternAnswer c (lent resources.entry statements.entry index.entry text.entry)
-        (lent resources.exit statements.entry index.exit text.exit) name.now result }
+    ensures { InternAnswer c (tables resources.old statements.now index.old text.old)
+        (tables resources.new statements.now index.new text.new) name.now result }
 {
     if !fits(c, resources, statements, index, text) {
         return Interned::Refused(Refusal::Capacity);

@@ -39,7 +39,7 @@ pub fn names_ok(resources: &[u32], used: &[u8], r: u32) -> bool
     let mut from: usize = 0;
     // The text up to `from` is the names of the first `done` resources, with right offsets and kinds.
     while done < r {
-        let end = bytes::scan::find(used, from, used.len(), 0);
+        let end = find_byte::find(used, from, used.len(), 0);
         if !name_ok(resources, used, ResourceId(done + 1), from, end) {
             return false;
         }

@@ -1,8 +1,5 @@
 // Name of a number as one reply: the refusal's number and the name's bytes, which are a part of the lent text (paper
 // 01, "Name of a number"): thin over `table::name_span`, which tells where they are.
-//
-// A function that takes, makes or holds a `NamePart` is proved by a walk of its code, since the struct holds a
-// reference.
 #![tactic(auto)]
 
 ghost use Rattle.std.specs.Prelude.{◌≡◌};

@@ -1,18 +1,17 @@
 -- The searches within the index on any tables, and the contract of the listing: exact where the dictionary is sound,
 -- within the bound elsewhere, one law for each way out of the code. Assumes nothing.
 use mathlib.Core.Path.{◌≡◌, refl, sym, ap, ap₂, ◌∙◌}
-use mathlib.Core.Logic.{◌⊎◌, inl, inr}
+use mathlib.Core.Logic.{inl, inr}
 use mathlib.Core.Bool.{Bool, true, false, true≢false}
 use mathlib.Core.List.{List}
 use Prim.Native.Nat.{ℕ, suc, zero, ◌+◌, ◌-◌, ◌<◌, ◌≤◌}
 use native.Mathlib.Omega.{arith}
 use lib.ListN.{length, take, drop, length-take, length-drop}
-use lib.Dec.{leb, ltb}
+use lib.Dec.{ltb}
 use borrow.Author.Tests.{lt-ltb, ltb-true, le-leb, lt-leb}
 use Rattle.term.specs.Grammar.{name_limit}
 use Rattle.store.specs.declared.Counters.{Counters}
 use Rattle.store.specs.declared.Refusal.TheVariants.{Capacity, Malformed, Damaged}
-use Rattle.store.specs.declared.Prefixed.{Prefixed}
 use Rattle.store.specs.declared.Prefixed.TheVariants.{Total, Refused as NotListed}
 use Rattle.store.specs.Tables.{Tables, fits}
 use Rattle.store.specs.Names.{Named}

@@ -26,9 +26,9 @@ use Rattle.dictionary.proofs.Steps.{pow2}
 use Rattle.dictionary.proofs.Named.{at_head, at_tail, clean-head}
 use Rattle.prefix.specs.Boundary.{side_of, probe_of, boundary_of, boundary_from, run_of}
 use Rattle.prefix.specs.declared.boundary.Side.{Side}
-use Rattle.prefix.specs.declared.boundary.Side.TheVariants.{Below, Alike, Above, Unreadable}
+use Rattle.prefix.specs.declared.boundary.Side.TheVariants.{Below, Alike, Above}
 use Rattle.prefix.specs.declared.boundary.Edge.{Edge}
-use Rattle.prefix.specs.declared.boundary.Edge.TheVariants.{At, Unreadable as NoEdge}
+use Rattle.prefix.specs.declared.boundary.Edge.TheVariants.{At}
 use Rattle.prefix.specs.declared.boundary.Run.TheVariants.{Between}
 
 -- ---- a name against a prefix

@@ -1,27 +1,36 @@
 // Bytes written, every write tested, and lines put together from bytes and numbers.
-ghost use Rattle.io.specs.Counts.{IsPrefixLen};
+ghost use Rattle.streams.specs.Counts.{IsPrefixLen};
 
-use libc::{STDERR_FILENO, STDOUT_FILENO};
+use std::io::Error;
+use streams::{Output, Outputs, decimal, fail};
 use table::word::lesser;
 
-// Writes to a descriptor, and answers whether all was written. Standard error tells if it was standard output that could not be.
-pub fn put(fd: i32, bytes: &[u8]) -> bool {
-    if io::write_all(fd, bytes) {
-        return true;
+// Writes to an output, and answers whether all was written. Standard error tells if it was standard output that could not be.
+pub fn put(rt: &impl Outputs, to: Output, bytes: &[u8]) -> bool {
+    match rt.write_bytes(to, bytes) {
+        Ok(()) => true,
+        Err(e) => {
+            tell_unwritten(rt, to, e);
+            false
+        }
     }
-    if fd == STDOUT_FILENO {
-        os::fail(b"standard output");
-    }
-    false
 }
 
-// Tells on standard error that something could not be read, with the system's words for the call that just failed. Whether it could be
-// written is seen by the first part.
-pub fn cannot(name: &[u8]) -> bool {
-    if !put(STDERR_FILENO, name) {
+// Tells on standard error that standard output could not be written.
+fn tell_unwritten(rt: &impl Outputs, to: Output, error: Error) {
+    match to {
+        Output::Standard => fail(rt, b"standard output", error),
+        Output::Error => {}
+    }
+}
+
+// Tells on standard error that something could not be read, with the system's words for the call that failed. Whether it could be written
+// is seen by the first part.
+pub fn cannot(rt: &impl Outputs, name: &[u8], error: Error) -> bool {
+    if !put(rt, Output::Error, name) {
         return false;
     }
-    os::fail(b"");
+    fail(rt, b"", error);
     true
 }
 
@@ -48,6 +57,6 @@ pub fn append_decimal(out: &mut [u8], at: usize, n: u64) -> usize
     ensures { IsPrefixLen result out.new }
 {
     let mut digits = [0u8; 20];
-    let k = io::decimal(n, &mut digits);
+    let k = decimal(n, &mut digits);
     append(out, at, &digits[..k])
 }

@@ -1,10 +1,12 @@
 // Refused lines and files that cannot be read: how many there were, and what is told of them.
-ghost use Rattle.io.specs.Counts.{IsPrefixLen};
+ghost use Rattle.streams.specs.Counts.{IsPrefixLen};
 
 use crate::output;
 use crate::output::{append, append_decimal};
-use libc::STDERR_FILENO;
 use line_fault::Fault;
+use std::io::Error;
+use std::rt::Env;
+use streams::{Output, Outputs};
 
 // Of one file so many refused lines are told, and then their number.
 const TOLD: u64 = 20;
@@ -47,14 +49,14 @@ pub fn counted(n: u64) -> u64 {
 }
 
 // Appends the name of a file, by the argument that names it.
-fn append_file(out: &mut [u8], at: usize, file: usize) -> usize
+fn append_file(rt: &impl Env, out: &mut [u8], at: usize, file: usize) -> usize
     ensures { IsPrefixLen result out.new }
 {
     if file == 0 {
         return append(out, at, b"standard input");
     }
-    let mut name = io::buffer();
-    let n = os::arg(file, &mut name);
+    let mut name = streams::buffer();
+    let n = streams::argument_or_nothing(rt, file, &mut name);
     append(out, at, &name[..n])
 }
 
@@ -147,19 +149,35 @@ fn append_reason(out: &mut [u8], at: usize, n: u32, line: &[u8], k: usize, limit
 }
 
 // Tells that line `number` of all was refused n: file, line and column, and why.
-fn tell_line(t: Report, number: u64, n: u32, line: &[u8], k: usize, limit: usize) -> bool {
+fn tell_line(
+    rt: &(impl Outputs + Env),
+    t: Report,
+    number: u64,
+    n: u32,
+    line: &[u8],
+    k: usize,
+    limit: usize,
+) -> bool {
     let mut out = [0u8; REPORT_LINE];
-    let a = append_file(&mut out, 0, t.file);
+    let a = append_file(rt, &mut out, 0, t.file);
     let b = append(&mut out, a, b":");
     let c = append_decimal(&mut out, b, std::num::wrapping_sub_u64(number, t.before));
     let d = append(&mut out, c, b":");
     let e = append_reason(&mut out, d, n, line, k, limit);
     let f = append(&mut out, e, b"\n");
-    output::put(STDERR_FILENO, &out[..f])
+    output::put(rt, Output::Error, &out[..f])
 }
 
 // With line `number` of all, refused n, without its ending: where it is 10, the line is over the limit, or cannot be read at offset k.
-pub fn with_refused(t: Report, number: u64, n: u32, line: &[u8], k: usize, limit: usize) -> Report {
+pub fn with_refused(
+    rt: &(impl Outputs + Env),
+    t: Report,
+    number: u64,
+    n: u32,
+    line: &[u8],
+    k: usize,
+    limit: usize,
+) -> Report {
     let mut u = t;
     u.refused = counted(t.refused);
     u.missing = counted(t.missing);
@@ -169,7 +187,7 @@ pub fn with_refused(t: Report, number: u64, n: u32, line: &[u8], k: usize, limit
     if u.refused > TOLD {
         return u;
     }
-    u.written = tell_line(t, number, n, line, k, limit);
+    u.written = tell_line(rt, t, number, n, line, k, limit);
     u
 }
 
@@ -190,7 +208,7 @@ pub fn with_file(t: Report, file: usize, lines: u64) -> Report {
 }
 
 // With a file ended: where not all of its refused lines were told, their number is.
-pub fn with_end(t: Report) -> Report {
+pub fn with_end(rt: &(impl Outputs + Env), t: Report) -> Report {
     let mut u = t;
     if !t.written {
         return t;
@@ -199,19 +217,19 @@ pub fn with_end(t: Report) -> Report {
         return t;
     }
     let mut out = [0u8; REPORT_LINE];
-    let a = append_file(&mut out, 0, t.file);
+    let a = append_file(rt, &mut out, 0, t.file);
     let b = append(&mut out, a, b": ");
     let c = append_decimal(&mut out, b, t.refused);
     let d = append(&mut out, c, b" lines refused\n");
-    u.written = output::put(STDERR_FILENO, &out[..d]);
+    u.written = output::put(rt, Output::Error, &out[..d]);
     u
 }
 
-// With something that could not be read, by the call that just failed.
-pub fn with_unread(t: Report, name: &[u8]) -> Report {
+// With something that could not be read, and why.
+pub fn with_unread(rt: &impl Outputs, t: Report, name: &[u8], error: Error) -> Report {
     let mut u = t;
     u.unread = counted(t.unread);
-    u.written = output::cannot(name);
+    u.written = output::cannot(rt, name, error);
     u
 }
 
@@ -230,27 +248,28 @@ pub fn status(t: Report) -> u32 {
 }
 
 // Tells words and a number, and answers whether they were written.
-pub fn tell(words: &[u8], n: u64) -> bool {
+pub fn tell(rt: &impl Outputs, words: &[u8], n: u64) -> bool {
     let mut out = [0u8; REPORT_LINE];
     let a = append(&mut out, 0, words);
     let b = append_decimal(&mut out, a, n);
     let c = append(&mut out, b, b"\n");
-    output::put(STDERR_FILENO, &out[..c])
+    output::put(rt, Output::Error, &out[..c])
 }
 
 // Tells what a file lacks that is about to be written, where lines were refused or files could not be read, and answers whether that was
 // written.
-pub fn tell_lacks(missing: u64, unread: u64) -> bool {
+pub fn tell_lacks(rt: &impl Outputs, missing: u64, unread: u64) -> bool {
     if unread == 0 {
         if missing == 0 {
             return true;
         }
-        return tell(b"lines missing from the file: ", missing);
+        return tell(rt, b"lines missing from the file: ", missing);
     }
     if missing == 0 {
-        return output::put(STDERR_FILENO, b"not everything could be read\n");
+        return output::put(rt, Output::Error, b"not everything could be read\n");
     }
     tell(
+        rt,
         b"not everything could be read, lines missing from the file: ",
         missing,
     )
