@@ -9,7 +9,7 @@ use Rattle.arguments.proofs.ended.Reads as ended-reads
 use Rattle.arguments.proofs.ends.Reads as ends-reads
 use Rattle.arguments.proofs.kind.Reads as kind-reads
 use Rattle.arguments.proofs.with_argument.Reads as with-argument-reads
-use Rattle.os.proofs.arg_count.Reads as arg-count-reads
+use Rattle.streams.proofs.argument_count.Reads as arg-count-reads
 
 abbrev invariant-loop : tie.invariant-loop
 invariant-loop own a₀ count i₀ a i = Unit {0}

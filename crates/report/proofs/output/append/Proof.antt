@@ -1,6 +1,6 @@
 -- The bytes are stored one by one; the end never passes the room. Assumes nothing.
 use Rattle.std.proofs.Common.{◌≡◌, ◌-◌, ◌≤◌, length, arith, length-set, rules}
-use Rattle.io.proofs.Counting.{prefix_len_of_le}
+use Rattle.streams.proofs.Counting.{prefix_len_of_le}
 use Rattle.report.proofs.output.append.Statement.{statement}
 use Rattle.report.proofs.output.append.Tie as tie
 use Rattle.report.proofs.output.append.Reads as reads
