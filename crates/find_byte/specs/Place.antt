@@ -1,5 +1,5 @@
 -- Where a byte stands.
-use Rattle.std.specs.Prelude.{◌≡◌, ℕ, ◌+◌, List, [], ◌∷◌, ◌==◌, cond, take, drop}
+use Rattle.std.specs.Prelude.{ℕ, ◌+◌, List, [], ◌∷◌, ◌==◌, cond, take, drop}
 
 -- The part of a list from one offset up to another.
 abbrev pub slice : ℕ → ℕ → List ℕ → List ℕ

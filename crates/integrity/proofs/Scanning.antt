@@ -18,7 +18,7 @@ use Rattle.store.specs.Shared.{well_formed}
 use Rattle.store.specs.Names.{storable, up_to_zero, compare_bytes, is_less}
 use Rattle.store.proofs.Tests.{and_l}
 use Rattle.store.proofs.Order.{compare-less, compare-more, compare-tail}
-use Rattle.bytes.specs.Bytes.{index_of, index_after, slice}
+use Rattle.find_byte.specs.Place.{index_of, slice}
 use Rattle.integrity.specs.Names.{name_from, name_ok, names_ok}
 use Rattle.integrity.specs.Index.{name_less}
 
@@ -33,7 +33,7 @@ upto-more zero l e = absurd (e refl)
 upto-more (suc x) l e = refl
 
 index-zero : (l : List ℕ) → index_of 0 l ≡ length (up_to_zero l)
-unfolding index_of index_after
+unfolding index_of
 index-zero [] = refl
 index-zero (zero ∷ l) = refl
 index-zero (suc x ∷ l) = rw (ne_eqb (suc x) 0 (λ e. omega arith)) (ap suc (index-zero l))

@@ -4,7 +4,7 @@ use Rattle.cases_script.proofs.script.position.Statement.{statement}
 use Rattle.cases_script.proofs.script.position.Tie as tie
 use Rattle.cases_script.proofs.script.position.Reads as reads
 use Rattle.cases_script.proofs.script.position.Lts as lts
-use Rattle.check.proofs.same.Reads as same_reads
+use Rattle.cases_script.proofs.script.same.Reads as same_reads
 use Rattle.cases_script.proofs.script.until.Reads as until-reads
 use Rattle.std.proofs.num.wrapping_add_u32.Reads as wrapping-add-u32-reads
 

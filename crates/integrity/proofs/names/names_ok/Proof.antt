@@ -10,7 +10,7 @@ use Rattle.integrity.proofs.names.names_ok.Statement.{statement}
 use Rattle.integrity.proofs.names.names_ok.Tie as tie
 use Rattle.integrity.proofs.names.names_ok.Reads as reads
 use Rattle.integrity.proofs.names.names_ok.Lts as lts
-use Rattle.bytes.proofs.scan.find.Reads as find-reads
+use Rattle.find_byte.proofs.find.Reads as find-reads
 use Rattle.integrity.proofs.names.name_ok.Reads as name-ok-reads
 
 abbrev invariant-loop : tie.invariant-loop
