@@ -13,7 +13,7 @@ loop-done-init c = let a = c.args in
 
 pub name_ok-requires : goal.name_ok-requires
 name_ok-requires c = let found = name-found _ c.loop-done.from _ c.find-end.ensures.place in
-    record { resource_held = search rules; end_value = (found, c.find-end.ensures.bounds.1) }
+    record { resource_held = search rules; end_value = (found, c.find-end.ensures.high) }
 
 pub returns-then-not-name_ok : goal.returns-then-not-name_ok
 returns-then-not-name_ok c = let a = c.args in
