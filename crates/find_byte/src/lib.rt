@@ -8,7 +8,8 @@ ghost use Rattle.find_byte.specs.Place.{slice, index_of};
 pub fn find(bytes: &[u8], from: usize, to: usize, byte: u8) -> usize
     requires { (from ≤ to) × (to ≤ length bytes.now) }
     ensures place { result ≡ from + index_of byte (slice from to bytes.now) }
-    ensures bounds { (from ≤ result) × (result ≤ to) }
+    ensures high { result ≤ to }
+    ensures low { from ≤ result }
 {
     let mut i = from;
     // The byte does not stand from `from` up to i.

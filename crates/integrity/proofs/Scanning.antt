@@ -18,7 +18,7 @@ use Rattle.store.specs.Shared.{well_formed}
 use Rattle.store.specs.Names.{storable, up_to_zero, compare_bytes, is_less}
 use Rattle.store.proofs.Tests.{and_l}
 use Rattle.store.proofs.Order.{compare-less, compare-more, compare-tail}
-use Rattle.bytes.specs.Bytes.{index_of, index_after, slice}
+use Rattle.find_byte.specs.Place.{index_of, slice}
 use Rattle.integrity.specs.Names.{name_from, name_ok, names_ok}
 use Rattle.integrity.specs.Index.{name_less}
 
@@ -33,10 +33,9 @@ upto-more zero l e = absurd (e refl)
 upto-more (suc x) l e = refl
 
 index-zero : (l : List ℕ) → index_of 0 l ≡ length (up_to_zero l)
-unfolding index_of index_after
 index-zero [] = refl
 index-zero (zero ∷ l) = refl
-index-zero (suc x ∷ l) = rw (ne_eqb (suc x) 0 (λ e. omega arith)) (ap suc (index-zero l))
+index-zero (suc x ∷ l) = rw (ne_eqb (suc x) 0 (λ e. omega arith)) (omega (arith, index-zero l))
 
 all-dropped : (l : List ℕ) (i : ℕ) → length l ≤ i → drop i l ≡ []
 all-dropped [] zero h = refl
@@ -86,7 +85,7 @@ module _ (used : List ℕ) where
 
   -- where the next zero byte stands, or the end
   pub name-found : (o e : ℕ) → e ≡ o + index_of 0 (slice o (length used) used) → e ≡ o + length (name_from used o)
-  unfolding name_from slice
+  unfolding name_from
   name-found o e h = h ∙ rw (take_all (length used) used (omega arith), index-zero (drop o used))
 
 -- ---- one name, and all of them

@@ -5,7 +5,7 @@ use Rattle.term.specs.Scanner.{step_of as byte_step, whole_of, is_bad, halt_of}
 use Rattle.term.specs.Canonical.{string_ending, writes_string, canonical}
 use Rattle.ntriples.specs.Grammar.{span, white}
 use Rattle.ntriples.specs.Productions.{run_end}
-use Rattle.graph.specs.Meaning.{PatternTerm, term, var, TriplePattern, BasicGraphPattern}
+use Rattle.graph.specs.Meaning.{PatternTerm, term, var, TriplePattern}
 use Rattle.shell_line.specs.Ends.{run_from, followed, name_to, name_end, word_end}
 use Rattle.shell_line.specs.Questions.{Part, Name, Variable, Read, question}
 use Rattle.shell_line.specs.Questions.{dot_due, number_of, numbered, with_part, name_read, any_read, variable_of, variable_read, dot_read}

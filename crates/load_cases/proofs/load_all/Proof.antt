@@ -8,7 +8,7 @@ use Rattle.load_cases.proofs.load_all.Tie as tie
 use Rattle.load_cases.proofs.load_all.Reads as reads
 use Rattle.load_cases.proofs.load_all.Lts as lts
 use Rattle.load_cases.proofs.load_case.Reads as load-case-reads
-use Rattle.os.proofs.arg_count.Reads as arg-count-reads
+use Rattle.streams.proofs.argument_count.Reads as arg-count-reads
 
 abbrev invariant-loop : tie.invariant-loop
 invariant-loop resources₀ statements₀ index₀ text₀ line₀ count i₀ resources statements index text line i =

@@ -7,7 +7,7 @@ use Rattle.ntriples_cases.proofs.main.Statement.{statement}
 use Rattle.ntriples_cases.proofs.main.Tie as tie
 use Rattle.ntriples_cases.proofs.main.Reads as reads
 use Rattle.ntriples_cases.proofs.main.Lts as lts
-use Rattle.io.proofs.read_full.Reads as read-full-reads
+use Rattle.streams.proofs.read_full.Reads as read-full-reads
 use Rattle.ntriples_cases.proofs.case.Reads as case-reads
 
 abbrev invariant-loop : tie.invariant-loop

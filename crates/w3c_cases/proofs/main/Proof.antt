@@ -6,7 +6,7 @@ use Rattle.w3c_cases.proofs.main.Tie as tie
 use Rattle.w3c_cases.proofs.main.Reads as reads
 use Rattle.w3c_cases.proofs.main.Lts as lts
 use Rattle.w3c_cases.proofs.report_file.Reads as report-file-reads
-use Rattle.os.proofs.arg_count.Reads as arg-count-reads
+use Rattle.streams.proofs.argument_count.Reads as arg-count-reads
 
 abbrev invariant-loop : tie.invariant-loop
 invariant-loop count i₀ i = Unit {0}

@@ -8,7 +8,7 @@ use Rattle.loader.proofs.file.load_files.Tie as tie
 use Rattle.loader.proofs.file.load_files.Reads as reads
 use Rattle.loader.proofs.file.load_files.Lts as lts
 use Rattle.loader.proofs.file.load_named.Reads as load-named-reads
-use Rattle.os.proofs.arg_count.Reads as arg-count-reads
+use Rattle.streams.proofs.argument_count.Reads as arg-count-reads
 
 abbrev invariant-loop : tie.invariant-loop
 invariant-loop resources₀ statements₀ index₀ text₀ line₀ m₀ count files₀ i₀ resources statements index text line m files i =

@@ -1,6 +1,6 @@
 -- The number never passes the length. Assumes nothing.
 use Rattle.std.proofs.Common.{◌≤◌, length, arith, rules}
-use Rattle.io.proofs.Counting.{prefix_len_of_le}
+use Rattle.streams.proofs.Counting.{prefix_len_of_le}
 use Rattle.shell_print.proofs.refusal.before_spaces.Statement.{statement}
 use Rattle.shell_print.proofs.refusal.before_spaces.Tie as tie
 

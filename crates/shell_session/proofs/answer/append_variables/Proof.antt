@@ -1,6 +1,6 @@
 -- `shell_session::answer::append_variables` meets its contract. Assumes nothing.
 use Rattle.std.proofs.Common.{◌≡◌, ◌-◌, ◌≤◌, length, rules}
-use Rattle.io.specs.Counts.{IsPrefixLen}
+use Rattle.streams.specs.Counts.{IsPrefixLen}
 use Rattle.shell_session.proofs.answer.append_variables.Statement.{statement}
 use Rattle.shell_session.proofs.answer.append_variables.Tie as tie
 
