@@ -18,7 +18,6 @@ use Rattle.capi_calls.specs.Words.{counter_words, number_reply_words, find_reply
 use Rattle.capi_calls.specs.Words.{prefix_answer, found_as, number_as, with_find, with_number}
 use Rattle.capi_calls.specs.Calls.{find_as, prefix_as}
 use Rattle.capi_calls.specs.Claims.{AnsweredFind, AnsweredPrefix}
-use Rattle.capi_calls.proofs.PrefixRuns as runs
 
 -- with room for the reply
 roomy : (cw : List ℕ) (n : ℕ) (w : List ℕ) → counter_words ≤ length cw → n ≤ length w → long_enough cw n w ≡ true

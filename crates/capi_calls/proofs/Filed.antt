@@ -23,7 +23,6 @@ use Rattle.capi_calls.specs.Words.{exported_as}
 use Rattle.capi_calls.specs.Calls.{export_call}
 use Rattle.capi_calls.specs.Claims.{bare_file, Unanswered, UnansweredExport, Exports, AnsweredExport}
 use Rattle.capi_calls.proofs.Unanswered.{not_short, or_short}
-use Rattle.capi_calls.proofs.ExportRuns as runs
 
 -- ---- what the operation leaves: all as it was beside a refusal, or the file
 

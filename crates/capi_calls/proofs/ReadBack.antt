@@ -10,8 +10,6 @@ use Rattle.store.specs.declared.Position.TheVariants.{Subject, Predicate, Object
 use Rattle.store.specs.declared.Chain.TheVariants.{All, By}
 use Rattle.store.specs.Tables.{word}
 use Rattle.capi_calls.specs.Words.{chain_word}
-use Rattle.capi_calls.proofs.Runs as runs
-use Rattle.capi_calls.proofs.QueryRuns as query-runs
 use Rattle.capi_calls.specs.Claims.{WidthsAre, CountersReadBack, CountersKeepTheRest, ChainsReadBack, CursorsReadBack}
 use Rattle.capi_calls.specs.Claims.{CursorsKeepTheRest}
 

@@ -48,7 +48,6 @@ use borrow.Author.Tests.{leb-true, leb-false, ltb-true, ltb-false, ne_eqb}
 use Rattle.store.proofs.Cases.{assert-refused, retract-refused}
 use Rattle.store.proofs.Limits.{reclaim-refuses}
 use Rattle.store.proofs.Numbers.{refuses, not_beyond}
-use Rattle.capi_calls.proofs.Runs as runs
 use Rattle.capi_calls.specs.Words.{too_short, counter_words, cursor_words, number_reply_words, find_reply_words, name_reply_words}
 use Rattle.capi_calls.specs.Words.{statement_reply_words, assert_reply_words, scan_reply_words, counters_of, if_short}
 use Rattle.capi_calls.specs.Words.{if_any_short}

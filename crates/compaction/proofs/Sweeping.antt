@@ -2,12 +2,12 @@
 -- answer where all is done. Assumes nothing.
 use mathlib.Core.Path.{◌≡◌, sym, ap, ◌∙◌}
 use mathlib.Core.Logic.{◌≢◌, ◌↔◌}
-use mathlib.Core.Bool.{Bool, true, false, not, true≢false}
+use mathlib.Core.Bool.{Bool, true, false, true≢false}
 use mathlib.Core.List.{List}
 use Prim.Native.Nat.{ℕ, suc, ◌+◌, ◌-◌, ◌≤◌, ◌<◌}
 use native.Mathlib.Omega.{arith}
 use native.Mathlib.Numerals.{add-one}
-use borrow.Author.Tests.{eq-eqb, ne_eqb, not-true, not-false}
+use borrow.Author.Tests.{eq-eqb, ne_eqb}
 use Rattle.store.specs.declared.Counters.{Counters}
 use Rattle.store.specs.declared.Reclaimed.TheVariants.{Done}
 use Rattle.store.specs.Tables.{Tables, tables, fits, flag_at, triple_at}
@@ -97,11 +97,11 @@ module _ (r t : ℕ) (res stm : List ℕ) (L : Linked r t res stm) where
 -- ---- reclaim
 
 -- what the check says, by the way taken
-pub check-yes : {b : Bool} {P : Type 0} → (b ≡ true) ↔ P → not b ≡ false → P
-check-yes {b} e h = e.0 (not-false b h)
+pub check-yes : {b : Bool} {P : Type 0} → (b ≡ true) ↔ P → b ≡ true → P
+check-yes e h = e.0 h
 
-pub check-no : {b : Bool} {P : Type 0} → (b ≡ true) ↔ P → not b ≡ true → P → ⊥
-check-no {b} e h p = true≢false (sym (e.1 p) ∙ not-true b h)
+pub check-no : {b : Bool} {P : Type 0} → (b ≡ true) ↔ P → b ≡ false → P → ⊥
+check-no {b} e h p = true≢false (sym (e.1 p) ∙ h)
 
 module _ (c : Counters) (m : Tables) (a : fits c m ≡ true) (b : c.generation < max_reclaims) (S : Sound c m) where
   done_at : (z : Swept) → z ≡ compacted c.resources c.statements m.resources m.statements

@@ -7,7 +7,7 @@
 #![tactic(auto)]
 
 ghost use Rattle.std.specs.Prelude.{◌≡◌, ◌≤◌};
-ghost use Rattle.store.specs.Tables.{lent};
+ghost use Rattle.store.specs.Tables.{tables};
 ghost use Rattle.store.specs.Shared.{max_statements};
 ghost use Rattle.store.specs.Soundness.{Linked};
 ghost use Rattle.store.specs.Reclaim.{swept, ReclaimAnswer};
@@ -39,8 +39,8 @@ pub fn reclaim(
     index: &[u32],
     text: &[u8],
 ) -> Reclaimed
-    ensures { ReclaimAnswer c (lent resources.entry statements.entry index.entry text.entry)
-        (lent resources.exit statements.exit index.entry text.entry) result }
+    ensures { ReclaimAnswer c (tables resources.old statements.old index.now text.now)
+        (tables resources.new statements.new index.now text.now) result }
 {
     if !table::fits(c, resources, statements, index, text) {
         return Reclaimed::Refused(Refusal::Capacity);

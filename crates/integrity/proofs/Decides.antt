@@ -2,7 +2,7 @@
 -- definition holds, on every input; so fresh counters pass, and every store that a list of calls leaves. Assumes
 -- nothing.
 use mathlib.Core.Path.{◌≡◌, refl, sym, ap}
-use mathlib.Core.Bool.{true, false, ◌&&◌, false≢true}
+use mathlib.Core.Bool.{true, ◌&&◌, false≢true}
 use mathlib.Core.List.{List}
 use mathlib.Core.Option.{Option, none, some}
 use Prim.Native.Nat.{ℕ, suc, ◌+◌, ◌-◌, ◌*◌, ◌≤◌, ◌<◌}
@@ -12,7 +12,7 @@ use lib.Dec.{eqb, leb}
 use borrow.Author.Tests.{eqb-true, eq-eqb, leb-true, le-leb}
 use Rattle.store.specs.declared.Counters.{Counters}
 use Rattle.store.specs.declared.Position.{Position}
-use Rattle.store.specs.Shared.{at, all3, known, kinds_permitted, fresh_counters, name_of}
+use Rattle.store.specs.Shared.{all3, known, kinds_permitted, fresh_counters, name_of}
 use Rattle.store.specs.Lists.{all_below}
 use Rattle.store.specs.Tables.{Tables, fits, resource_words, statement_words, next_at, flag_at, triple_at, first_at, count_at}
 use Rattle.store.specs.Tables.{kind_at, live_at}

@@ -3,7 +3,7 @@
 -- Assumes nothing.
 use mathlib.Core.Path.{◌≡◌, refl, sym, ap, ap₂, ◌∙◌}
 use mathlib.Core.Logic.{◌≢◌}
-use mathlib.Core.Bool.{Bool, true, false, cond, not, ◌&&◌}
+use mathlib.Core.Bool.{Bool, true, false, cond, ◌&&◌}
 use Prim.Native.Nat.{ℕ, zero, suc, ◌+◌, ◌≤◌, ◌<◌}
 use native.Mathlib.Omega.{arith}
 use native.Mathlib.Numerals.{add-one}
@@ -42,10 +42,10 @@ all-fails f n i h e = decide (all_below f n) (λ a. absurd (clash (sym (all-at f
 
 -- ---- tests in a row, each only where those before it hold; x is the code's value of the first
 
-pub stops : {x a : Bool} (rest : Bool) → x ≡ a → not x ≡ true → false ≡ a && rest
+pub stops : {x a : Bool} (rest : Bool) → x ≡ a → x ≡ false → false ≡ a && rest
 stops rest e h = rw (failed e h)
 
-pub goes_on : {x a z rest : Bool} → x ≡ a → not x ≡ false → z ≡ rest → z ≡ a && rest
+pub goes_on : {x a z rest : Bool} → x ≡ a → x ≡ true → z ≡ rest → z ≡ a && rest
 goes_on e h r = rw (passed e h) r
 
 -- ---- a loop that tests 0 .. n - 1 and ends at the first that fails
@@ -59,10 +59,10 @@ loop-begins f n = (omega arith, all_none f)
 
 -- b is the code's value of test i, which it may have asked of a number k that comes to the same
 module _ (f : ℕ → Bool) (n i : ℕ) where
-  pub loop-fails : {b : Bool} {k : ℕ} → i < n → b ≡ f k → k ≡ i → not b ≡ true → false ≡ all_below f n
+  pub loop-fails : {b : Bool} {k : ℕ} → i < n → b ≡ f k → k ≡ i → b ≡ false → false ≡ all_below f n
   loop-fails h e q z = sym (all-fails f n i h (rw q at (failed e z)))
 
-  pub loop-turns : {b : Bool} {k : ℕ} → PassSoFar f n i → i < n → b ≡ f k → k ≡ i → not b ≡ false → PassSoFar f n (i + 1)
+  pub loop-turns : {b : Bool} {k : ℕ} → PassSoFar f n i → i < n → b ≡ f k → k ≡ i → b ≡ true → PassSoFar f n (i + 1)
   loop-turns p h e q z = (omega arith, all_more f i p.1 (rw q at (passed e z)))
 
   pub loop-ends : PassSoFar f n i → n ≤ i → true ≡ all_below f n

@@ -33,10 +33,9 @@ upto-more zero l e = absurd (e refl)
 upto-more (suc x) l e = refl
 
 index-zero : (l : List ℕ) → index_of 0 l ≡ length (up_to_zero l)
-unfolding index_of
 index-zero [] = refl
 index-zero (zero ∷ l) = refl
-index-zero (suc x ∷ l) = rw (ne_eqb (suc x) 0 (λ e. omega arith)) (ap suc (index-zero l))
+index-zero (suc x ∷ l) = rw (ne_eqb (suc x) 0 (λ e. omega arith)) (omega (arith, index-zero l))
 
 all-dropped : (l : List ℕ) (i : ℕ) → length l ≤ i → drop i l ≡ []
 all-dropped [] zero h = refl
@@ -86,7 +85,7 @@ module _ (used : List ℕ) where
 
   -- where the next zero byte stands, or the end
   pub name-found : (o e : ℕ) → e ≡ o + index_of 0 (slice o (length used) used) → e ≡ o + length (name_from used o)
-  unfolding name_from slice
+  unfolding name_from
   name-found o e h = h ∙ rw (take_all (length used) used (omega arith), index-zero (drop o used))
 
 -- ---- one name, and all of them

@@ -1,0 +1,95 @@
+use Rattle.query.proofs.Resuming.{begin-none, First, begin-slot, begin-damaged, begin-whole, begin-onward}
+use Rattle.query.proofs.Resuming.{begin-stands}
+use Rattle.query_stack.proofs.Stacks.{answer-is}
+use Rattle.query_walk.proofs.Stands.{ready-query, asked-held}
+use Rattle.graph.proofs.Laws.{written-length}
+use Rattle.graph.proofs.Levels.{low-none}
+use Rattle.graph.specs.Query.{packed}
+use Rattle.graph.specs.Place.{cursor_at}
+use Rattle.graph.specs.Words.{patterns_of, variables}
+use Rattle.graph.specs.declared.QueryCursor.{QueryCursor}
+use mathlib.Core.List.{[]}
+use lib.ListN.{length}
+use native.Mathlib.Omega.{arith}
+use Prim.Native.Nat.{ℕ, ◌<◌}
+use mathlib.Core.Path.{◌≡◌, sym, ap, ◌∙◌}
+use Rattle.query.proofs.resume.begin.Goals as goal
+use Rattle.query.proofs.resume.begin.Goals.{After-enter-m, Else-patterns-eq0}
+
+some_pattern : (c : Else-patterns-eq0) → length (patterns_of c.args.words.now) ≡ 0 → ⊥
+some_pattern c y = c.if-patterns-eq0.false (c.patterns.ensures ∙ y)
+
+abbrev first : After-enter-m → First
+first c =
+    let a = c.args in
+    let bare = c.no_levels-bare in
+    record {
+      r = a.c.resources;
+      t = a.c.statements;
+      res = a.resources.now;
+      stm = a.statements.now;
+      ws = a.words.now;
+      budget = a.budget;
+      ready = c.requires;
+      some_pattern = λ y. c.if-patterns-eq0.false (c.patterns.ensures ∙ y);
+      ls = bare.result.levels;
+      size = ap (λ (x : QueryCursor). length x.levels) bare.ensures ∙ written-length [];
+      b = c.none_bound-2.result;
+      open-all = c.none_bound-2.ensures;
+      m = c.enter-m.result;
+      made = c.enter-m.ensures;
+    }
+
+-- the reclaims that the answer carries
+abbrev number : After-enter-m → ℕ
+number c = c.args.c.generation
+
+-- ---- the needs
+
+pub patterns-requires : goal.patterns-requires
+patterns-requires c =
+    let a = c.args in
+    (ready-query a.c.resources a.c.statements a.resources.now a.statements.now a.words.now c.requires
+    ).few
+
+pub returns-then-patterns-eq0 : goal.returns-then-patterns-eq0
+unfolding packed cursor_at
+returns-then-patterns-eq0 c = let a = c.args in
+    let none-bound = c.none_bound in
+    answer-is _ _ none-bound.result _ c.no_levels.result _ none-bound.ensures c.no_levels.ensures
+    ∙ ap (packed a.c.generation) (sym (begin-none a.c.resources a.c.statements a.resources.now
+    a.statements.now a.words.now a.budget
+    (sym c.patterns.ensures ∙ c.if-patterns-eq0.true)))
+
+pub enter-m-requires : goal.enter-m-requires
+enter-m-requires c = let d = (goal.at.enter-m-requires c).Else-patterns-eq0 in
+    let a = d.args in
+    let k = d.requires in
+    let z = some_pattern d in
+    let h : 0 < length (patterns_of a.words.now) = omega arith in (
+      ready-query a.c.resources a.c.statements a.resources.now a.statements.now a.words.now k,
+      h,
+      asked-held a.c.resources a.c.statements a.resources.now a.statements.now a.words.now k
+          c.none_bound-2.result.values 0
+          (rw c.none_bound-2.ensures (low-none a.c.resources variables)) h,
+    )
+
+pub bounds-levels-m : goal.bounds-levels-m
+bounds-levels-m c = let n = begin-slot (first (goal.at.bounds-levels-m c).After-enter-m) in omega arith
+
+pub walk-requires : goal.walk-requires
+walk-requires c = let d = (goal.at.walk-requires c).After-enter-m in ((first d).ready, begin-stands (first d) c.in-Onward.is)
+
+pub returns-in-Damaged : goal.returns-in-Damaged
+unfolding packed
+returns-in-Damaged c = let d = (goal.at.returns-in-Damaged c).After-enter-m in
+    c.refused.ensures ∙ ap (packed (number d)) (sym (begin-damaged (first d) c.in-Damaged.is))
+
+pub returns-in-Onward : goal.returns-in-Onward
+returns-in-Onward c = let d = (goal.at.returns-in-Onward c).After-enter-m in
+    c.walk.ensures ∙ ap (packed (number d)) (sym (begin-onward (first d) c.in-Onward.is))
+
+pub returns-in-Whole : goal.returns-in-Whole
+unfolding packed
+returns-in-Whole c = let d = (goal.at.returns-in-Whole c).After-enter-m in
+    c.refused-in-Whole.ensures ∙ ap (packed (number d)) (sym (begin-whole (first d) c.in-Whole.is))
