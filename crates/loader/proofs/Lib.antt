@@ -4,4 +4,3 @@ pub mod Loading
 pub mod ExportedFile
 pub mod Theorems
 pub mod Source
-pub mod Again
