@@ -1,9 +1,10 @@
 -- The order of a query's patterns (paper 02, note 11): every arrangement of the same patterns has the same solutions;
 -- a statement more takes none away; the second opening, which puts the most selective pattern first. Definitions on
 -- tables and words that hold anything, then claims as types. Assumes nothing.
+use Rattle.std.specs.Prelude.{◌≡◌, ◌≢◌, ◌⊎◌, ◌↔◌, ◌&&◌, ◌||◌, ◌∷◌, ◌++◌, ◌+◌, ◌*◌, ◌≤◌, ◌<◌}
 use mathlib.Core.List.{Permᴰ}
-use Rattle.store.specs.Prelude.{◌≡◌, ◌≢◌, ◌⊎◌, ◌↔◌, Bool, true, false, cond, ◌&&◌, ◌||◌, List, [], ◌∷◌, ◌++◌, map, List-as-Memᴰ, ℕ, suc, ◌+◌}
-use Rattle.store.specs.Prelude.{◌*◌, ◌≤◌, ◌<◌, min, length, take, drop, leb}
+use Rattle.store.specs.Prelude.{Bool, true, false, cond, List, [], map, List-as-Memᴰ, ℕ, suc}
+use Rattle.store.specs.Prelude.{min, length, take, drop, leb}
 use Rattle.graph.specs.Prelude.{Position, Subject, Predicate, Object, Counters, Triple, Capacity, BadQuery, Damaged, QueryPattern}
 use Rattle.graph.specs.Prelude.{QueryCursor, Opened, NotOpened, QueryOpened}
 use Rattle.store.specs.Shared.{unless, all3}

@@ -3,8 +3,9 @@
 -- mappings of SPARQL 1.1; a call from any accepted cursor answers from the solutions that hold; budgets add up; a
 -- pattern scan read through gives exactly the live triples that match; what each write does to the graph.
 -- Assumes nothing.
-use Rattle.store.specs.Prelude.{◌≡◌, ◌⊎◌, ◌↔◌, ◌≢◌, Bool, true, false, cond, ◌&&◌, ◌||◌, List, [], ◌∷◌, ◌++◌, map, List-as-Memᴰ, ℕ, ◌+◌, ◌*◌}
-use Rattle.store.specs.Prelude.{◌≤◌, ◌<◌, length, eqb}
+use Rattle.std.specs.Prelude.{◌≡◌, ◌⊎◌, ◌↔◌, ◌≢◌, ◌&&◌, ◌||◌, ◌∷◌, ◌++◌, ◌+◌, ◌*◌, ◌≤◌, ◌<◌}
+use Rattle.store.specs.Prelude.{Bool, true, false, cond, List, [], map, List-as-Memᴰ, ℕ}
+use Rattle.store.specs.Prelude.{length, eqb}
 use Rattle.graph.specs.Prelude.{Position, Counters, Triple, ScanCursor, QueryCursor}
 use Rattle.term.specs.Grammar.{name_limit}
 use Rattle.term.specs.Scanner.{kind_of}

@@ -1,6 +1,7 @@
 -- What the tables, a query's words and a solution stand for (paper 01, demand 2): the graph of the live statements, a
 -- basic graph pattern over names, a solution mapping to names. Assumes nothing.
-use Rattle.store.specs.Prelude.{◌≡◌, cond, List, map, Option, none, some, ℕ, zero, suc, ◌-◌, ◌<◌}
+use Rattle.std.specs.Prelude.{◌≡◌, ◌-◌, ◌<◌}
+use Rattle.store.specs.Prelude.{cond, List, map, Option, none, some, ℕ, zero, suc}
 use Rattle.graph.specs.Prelude.{Counters, Triple, QueryPattern}
 use Rattle.store.specs.Tables.{Tables, triple_at, flag_at}
 use Rattle.store.specs.Names.{name_at}

@@ -1,6 +1,7 @@
 -- What is claimed of live counts and queries (paper 02, note 5), as types: a live count says without a walk what a walk
 -- would find, and a query does not look at live counts. Assumes nothing.
-use Rattle.store.specs.Prelude.{◌≡◌, true, List, ℕ, ◌≤◌, ◌<◌, length}
+use Rattle.std.specs.Prelude.{◌≡◌, ◌≤◌, ◌<◌}
+use Rattle.store.specs.Prelude.{true, List, ℕ, length}
 use Rattle.graph.specs.Prelude.{Position, Subject, Predicate, Object, Counters, Triple, QueryCursor}
 use Rattle.store.specs.Shared.{triple}
 use Rattle.store.specs.Tables.{Tables, live_at}

@@ -2,7 +2,8 @@
 -- the string ending and then told apart by their bytes, so that two of them are two terms of RDF 1.1
 -- (`NumbersAreTerms`, crate `lines`), a language tag as it is written. A blank node in a pattern stands for itself
 -- (paper 01). Nothing here speaks of tables, chains, cursors or visits. Assumes nothing.
-use Rattle.store.specs.Prelude.{◌≡◌, ◌⊎◌, ◌↔◌, false, List, List-as-Memᴰ, Option, some, ℕ}
+use Rattle.std.specs.Prelude.{◌≡◌, ◌⊎◌, ◌↔◌}
+use Rattle.store.specs.Prelude.{false, List, List-as-Memᴰ, Option, some, ℕ}
 use Rattle.graph.specs.Prelude.{Position, Subject, Predicate, Object}
 use Rattle.term.specs.Grammar.{Iri, Blank, Literal}
 use Rattle.term.specs.Canonical.{writes_string}

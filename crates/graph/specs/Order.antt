@@ -1,6 +1,7 @@
 -- The order of solutions (paper 01, "A solution is ordered by its statements", "at or after the place"): one statement
 -- number a pattern, the first difference decides, higher numbers first. Assumes nothing.
-use Rattle.store.specs.Prelude.{◌≡◌, ◌⊎◌, Bool, true, ◌&&◌, ◌||◌, List, [], ◌∷◌, List-as-Memᴰ, ℕ, ◌<◌, eqb, ltb}
+use Rattle.std.specs.Prelude.{◌≡◌, ◌⊎◌, ◌&&◌, ◌||◌, ◌∷◌, ◌<◌}
+use Rattle.store.specs.Prelude.{Bool, true, List, [], List-as-Memᴰ, ℕ, eqb, ltb}
 use Rattle.graph.specs.Prelude.{Triple, QueryPattern, Level}
 use Rattle.store.specs.Shared.{same, below, head0}
 use Rattle.store.specs.Lists.{keep}

@@ -1,5 +1,6 @@
 -- The place of a query (paper 01, "Next of a question"): its levels, and how a cursor's array holds them. Assumes nothing.
-use Rattle.store.specs.Prelude.{List, [], ◌∷◌, ℕ, zero, suc, length, get_or, set, replicate}
+use Rattle.std.specs.Prelude.{◌∷◌}
+use Rattle.store.specs.Prelude.{List, [], ℕ, zero, suc, length, get_or, set, replicate}
 use Rattle.graph.specs.Prelude.{Chain, All, Level, Progress, Start, Within, End, QueryCursor}
 use Rattle.graph.specs.Words.{max_patterns}
 

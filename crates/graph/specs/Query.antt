@@ -1,6 +1,7 @@
 -- Open and next of a query, the paper's question (paper 01, "Open a question", "Next of a question"; 02, note 6), on
 -- tables, words and cursors that hold anything. Assumes nothing.
-use Rattle.store.specs.Prelude.{Bool, true, false, cond, not, ◌&&◌, ◌||◌, List, [], ◌∷◌, Option, none, some, ℕ, zero, suc, ◌+◌, ◌-◌, length}
+use Rattle.std.specs.Prelude.{◌&&◌, ◌||◌, ◌∷◌, ◌+◌, ◌-◌}
+use Rattle.store.specs.Prelude.{Bool, true, false, cond, not, List, [], Option, none, some, ℕ, zero, suc, length}
 use Rattle.store.specs.Prelude.{get_or, set, eqb, leb, ltb}
 use Rattle.graph.specs.Prelude.{Counters, Triple, Refusal, Capacity, BadCursor, NoBudget, BadQuery, Damaged, StaleCursor}
 use Rattle.graph.specs.Prelude.{QueryPattern, Level, QueryCursor, QueryOpening, Opened, NotOpened, QueryOpened, QueryStep, Found}

@@ -1,7 +1,8 @@
 -- The refusals of a query's two operations by the paper's numbers and in its order (paper 01, "Operations and
 -- refusals"): open 1; 8, next 1; 8; 13; 6; 7; 9. Each is given exactly where those before it are not and its own test
 -- fails; 13 is `StaleClaim`, 6 is `BadPlaceClaim`. On any tables. Assumes nothing.
-use Rattle.store.specs.Prelude.{◌≡◌, ◌⊎◌, ◌↔◌, true, false, List, ℕ, ◌<◌}
+use Rattle.std.specs.Prelude.{◌≡◌, ◌⊎◌, ◌↔◌, ◌<◌}
+use Rattle.store.specs.Prelude.{true, false, List, ℕ}
 use Rattle.graph.specs.Prelude.{Counters, QueryCursor}
 use Rattle.store.specs.Tables.{Tables, fits}
 use Rattle.graph.specs.Words.{words_ok}

@@ -1,7 +1,8 @@
 -- Refusal 6 of a query in the paper's words (paper 01, "6 is exact"): the places that a next call accepts, a field for
 -- each clause. It goes by an assignment of resources to variables, not by what the definition binds level by level.
 -- Assumes nothing.
-use Rattle.store.specs.Prelude.{◌≡◌, ◌↔◌, Bool, true, false, cond, ◌||◌, List, [], ◌∷◌, ℕ, ◌+◌, ◌-◌, ◌≤◌, ◌<◌, length, eqb}
+use Rattle.std.specs.Prelude.{◌≡◌, ◌↔◌, ◌||◌, ◌∷◌, ◌+◌, ◌-◌, ◌≤◌, ◌<◌}
+use Rattle.store.specs.Prelude.{Bool, true, false, cond, List, [], ℕ, length, eqb}
 use Rattle.graph.specs.Prelude.{Counters, Position, Triple, QueryPattern, Level, QueryCursor}
 use Rattle.store.specs.Shared.{at, triple}
 use Rattle.store.specs.Tables.{Tables, fits}

@@ -1,5 +1,6 @@
 -- How many records a query or a scan read through visits, by the statements alone: no link, cursor or budget. Assumes nothing.
-use Rattle.store.specs.Prelude.{cond, List, [], ◌∷◌, Option, none, some, ℕ, zero, suc, ◌+◌, length}
+use Rattle.std.specs.Prelude.{◌∷◌, ◌+◌}
+use Rattle.store.specs.Prelude.{cond, List, [], Option, none, some, ℕ, zero, suc, length}
 use Rattle.graph.specs.Prelude.{Counters, Chain, Triple, QueryPattern}
 use Rattle.store.specs.Tables.{Tables, triple_at}
 use Rattle.store.specs.Model.{on_chain}

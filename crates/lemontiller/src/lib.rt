@@ -9,7 +9,7 @@
 #![tactic(auto)]
 
 ghost use Rattle.std.specs.Prelude.{◌≡◌};
-ghost use Rattle.store.specs.Tables.{lent};
+ghost use Rattle.store.specs.Tables.{lent, tables};
 ghost use Rattle.store.specs.Shared.{triple};
 ghost use Rattle.capi_calls.specs.Words.{done, beside, wrote, changed};
 ghost use Rattle.capi_calls.specs.Calls.{kind_call, CheckCall, FindCall, name_call, statement_call, line_call, retract_call};
@@ -198,8 +198,8 @@ pub extern "C" fn lt_retract(
     object: u32,
     reply: &mut [u32],
 ) -> u32
-    ensures { wrote result (lent resources.exit statements.exit index.entry text.entry) reply.new
-        ≡ retract_call counters.now (lent resources.entry statements.entry index.entry text.entry)
+    ensures { wrote result (tables resources.new statements.new index.now text.now) reply.new
+        ≡ retract_call counters.now (tables resources.old statements.old index.now text.now)
         (triple subject predicate object) reply.old }
 {
     if counters.len() < COUNTER_WORDS {
@@ -303,9 +303,9 @@ pub extern "C" fn lt_assert(
     object: u32,
     reply: &mut [u32],
 ) -> u32
-    ensures { changed result counters.new (lent resources.exit statements.exit index.entry text.entry)
+    ensures { changed result counters.new (tables resources.new statements.new index.now text.now)
         reply.new
-        ≡ assert_call counters.old (lent resources.entry statements.entry index.entry text.entry)
+        ≡ assert_call counters.old (tables resources.old statements.old index.now text.now)
         (triple subject predicate object) reply.old }
 {
     if counters.len() < COUNTER_WORDS {
@@ -339,8 +339,8 @@ pub extern "C" fn lt_enter(
     name: &[u8],
     reply: &mut [u32],
 ) -> u32
-    ensures { EnterCall counters.old (lent resources.entry statements.entry index.entry text.entry)
-        (lent resources.exit statements.entry index.exit text.exit) name.now reply.old
+    ensures { EnterCall counters.old (tables resources.old statements.now index.old text.old)
+        (tables resources.new statements.now index.new text.new) name.now reply.old
         (beside result counters.new reply.new) }
 {
     if counters.len() < COUNTER_WORDS {

@@ -2,7 +2,7 @@
 //
 // Statements may have other numbers afterwards, and every cursor from before is refused 13. The contract is a record in
 // `specs/Calls.antt` of `capi_calls`, exact on every input: soundness is no Boolean, so 9 is a field of its own.
-ghost use Rattle.store.specs.Tables.{lent};
+ghost use Rattle.store.specs.Tables.{tables};
 ghost use Rattle.capi_calls.specs.Words.{done};
 ghost use Rattle.capi_calls.specs.Calls.{ReclaimCall};
 
@@ -20,8 +20,8 @@ pub extern "C" fn lt_reclaim(
     index: &[u32],
     text: &[u8],
 ) -> u32
-    ensures { ReclaimCall counters.old (lent resources.entry statements.entry index.entry text.entry)
-        (lent resources.exit statements.exit index.entry text.entry) (done result counters.new) }
+    ensures { ReclaimCall counters.old (tables resources.old statements.old index.now text.now)
+        (tables resources.new statements.new index.now text.now) (done result counters.new) }
 {
     if counters.len() < COUNTER_WORDS {
         return TOO_SHORT;

@@ -1,6 +1,7 @@
 -- RDF 1.1 N-Triples (W3C Recommendation of 25 February 2014), section 4, "A Canonical form of N-Triples", over the grammar of
 -- `Standard` of crate `ntriples`. Nothing in it is paper 01's. Assumes nothing.
-use Rattle.term.specs.Prelude.{◌≡◌, ℕ, List, [], ◌∷◌}
+use Rattle.std.specs.Prelude.{◌≡◌, ◌∷◌}
+use Rattle.term.specs.Prelude.{ℕ, List, []}
 use Rattle.term.specs.Bytes.{among}
 use Rattle.ntriples.specs.Standard.{one, the, ◌▸◌, ◌∣◌, maybe, many, iri_char, string_char, BLANK-NODE-LABEL, LANGTAG, WS, COMMENT, TripleOf}
 

@@ -1,6 +1,7 @@
 -- What a line of N-Triples does to the graph (demand 2, its last sentence), from its text to the triple in the graph;
 -- and what the numbers of a sound store are in RDF 1.1: a term each. Assumes nothing.
-use Rattle.term.specs.Prelude.{ℕ, ◌≤◌, ◌<◌, ◌≡◌, List, ◌⊎◌, ◌↔◌, length, drop}
+use Rattle.std.specs.Prelude.{◌≤◌, ◌<◌, ◌≡◌, ◌⊎◌, ◌↔◌}
+use Rattle.term.specs.Prelude.{ℕ, List, length, drop}
 use Rattle.term.specs.Grammar.{name_limit}
 use Rattle.store.specs.declared.Position.{Position}
 use Rattle.store.specs.declared.Counters.{Counters}

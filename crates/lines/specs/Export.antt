@@ -1,6 +1,7 @@
 -- The file of the live statements (02, note 1): the line of a statement, the lines in rising byte order, and what writing them
 -- answers and writes, on any tables. Assumes nothing.
-use Rattle.store.specs.Prelude.{Bool, true, false, cond, not, ◌&&◌, List, [], ◌∷◌, ◌++◌, map, ℕ, suc, ◌-◌, length, drop, replicate, eqb}
+use Rattle.std.specs.Prelude.{◌&&◌, ◌∷◌, ◌++◌, ◌-◌}
+use Rattle.store.specs.Prelude.{Bool, true, false, cond, not, List, [], map, ℕ, suc, length, drop, replicate, eqb}
 use Rattle.store.specs.Prelude.{leb}
 use Rattle.store.specs.declared.Counters.{Counters}
 use Rattle.store.specs.declared.Position.{Position}

@@ -1,6 +1,7 @@
 -- What is claimed of the file of the live statements (02, note 1), as types; `proofs/` has a value of each. Assumes nothing.
-use Rattle.store.specs.Prelude.{◌≡◌, ◌≢◌, ◌↔◌, ◌⊎◌, true, false, List, [], ◌∷◌, ◌++◌, List-as-Memᴰ, ℕ, zero, suc, ◌-◌, ◌≤◌, ◌<◌}
-use Rattle.store.specs.Prelude.{◌+◌, length, take, drop, replicate, ltb}
+use Rattle.std.specs.Prelude.{◌≡◌, ◌≢◌, ◌↔◌, ◌⊎◌, ◌∷◌, ◌++◌, ◌-◌, ◌≤◌, ◌<◌, ◌+◌}
+use Rattle.store.specs.Prelude.{true, false, List, [], List-as-Memᴰ, ℕ, zero, suc}
+use Rattle.store.specs.Prelude.{length, take, drop, replicate, ltb}
 use mathlib.Core.List.{flatten, Permᴰ}
 use Rattle.term.specs.Grammar.{name_limit}
 use Rattle.store.specs.declared.Counters.{Counters}

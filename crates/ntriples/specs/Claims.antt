@@ -1,6 +1,7 @@
 -- What is proved of reading a line (paper 01, "Names", last paragraph, and "Read a line"; paper 02, note 7), for every limit m of a
 -- term's bytes from 1 up; the paper's is 255. Each claim is a type, and `proofs/` has a value of each. Assumes nothing.
-use Rattle.term.specs.Prelude.{ℕ, ◌+◌, ◌≤◌, ◌<◌, ◌≡◌, List, true, cond, ◌⊎◌, ◌↔◌, eqb, length, drop}
+use Rattle.std.specs.Prelude.{◌+◌, ◌≤◌, ◌<◌, ◌≡◌, ◌⊎◌, ◌↔◌}
+use Rattle.term.specs.Prelude.{ℕ, List, true, cond, eqb, length, drop}
 use Rattle.term.specs.Bytes.{between, All}
 use Rattle.term.specs.Grammar.{Name}
 use Rattle.term.specs.Scanner.{kind_of}

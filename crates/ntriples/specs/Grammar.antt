@@ -1,7 +1,8 @@
 -- The grammar of a line (paper 01, "Names", last paragraph): the productions of RDF 1.1 N-Triples, by their names there
 -- (triple, subject, predicate, object), with white space and comments as the paper has them, over the terms that it
 -- permits; lines of a text; and the paper's number and values for each answer ("Read a line"). Assumes nothing.
-use Rattle.term.specs.Prelude.{ℕ, ◌+◌, ◌-◌, ◌≤◌, min, ◌≡◌, List, [], ◌∷◌, ◌++◌, Bool, true, false, cond, ◌⊎◌, eqb, length, take, drop}
+use Rattle.std.specs.Prelude.{◌+◌, ◌-◌, ◌≤◌, ◌≡◌, ◌∷◌, ◌++◌, ◌⊎◌}
+use Rattle.term.specs.Prelude.{ℕ, min, List, [], Bool, true, false, cond, eqb, length, take, drop}
 use Rattle.term.specs.Bytes.{between, among, All}
 use Rattle.term.specs.Grammar.{Iri, Blank, Literal}
 use Rattle.ntriples.specs.declared.Span.{Span}

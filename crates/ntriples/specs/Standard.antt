@@ -1,6 +1,7 @@
 -- RDF 1.1 N-Triples (W3C Recommendation of 25 February 2014): its grammar over lists of code points, a definition for each production,
 -- under its name (with `-` for `_`) and below its number and text there, and the terms. Nothing in it is paper 01's. Assumes nothing.
-use Rattle.term.specs.Prelude.{ℕ, ◌+◌, ◌-◌, ◌*◌, ◌≡◌, List, [], ◌∷◌, ◌++◌, Bool, true, false, cond, ◌||◌, leb, eqb, drop}
+use Rattle.std.specs.Prelude.{◌+◌, ◌-◌, ◌*◌, ◌≡◌, ◌∷◌, ◌++◌, ◌||◌}
+use Rattle.term.specs.Prelude.{ℕ, List, [], Bool, true, false, cond, leb, eqb, drop}
 use Rattle.term.specs.Bytes.{between, among}
 use Rattle.term.specs.Canonical.{xsd_string}
 

@@ -2,7 +2,8 @@
 -- that meet them. So a name more or less in the paper's grammar would be refused, and in the standard's a term more or less that meets
 -- them. Of terms that do not (as with other escapes, with control characters, with `:` in a label) nothing is said here: there the
 -- standard's grammar is to be read. Proved in `proofs/StandardNames.antt`. Assumes nothing.
-use Rattle.term.specs.Prelude.{ℕ, ◌≡◌, List, [], ◌∷◌, Bool, true, false, cond, ◌↔◌, leb, eqb, drop}
+use Rattle.std.specs.Prelude.{◌≡◌, ◌∷◌, ◌↔◌}
+use Rattle.term.specs.Prelude.{ℕ, List, [], Bool, true, false, cond, leb, eqb, drop}
 use Rattle.term.specs.Bytes.{between, among, All}
 use Rattle.term.specs.Grammar.{Iri, Blank, Literal}
 use Rattle.ntriples.specs.Standard as standard

@@ -1,5 +1,6 @@
 -- The term of a name of the paper by one pass over its bytes. `Claims.antt` says that it is the standard's. Assumes nothing.
-use Rattle.term.specs.Prelude.{ℕ, List, [], ◌∷◌, Bool, true, false, cond, eqb, drop}
+use Rattle.std.specs.Prelude.{◌∷◌}
+use Rattle.term.specs.Prelude.{ℕ, List, [], Bool, true, false, cond, eqb, drop}
 use Rattle.term.specs.Canonical.{xsd_string}
 use Rattle.ntriples.specs.Standard.{RdfTerm, iri, blank, literal, tagged, unescaped}
 

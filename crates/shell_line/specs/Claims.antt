@@ -1,6 +1,7 @@
 -- What is proved of how questions are read. The proofs are in `proofs/Theorems.antt`. Assumes nothing.
+use Rattle.std.specs.Prelude.{◌≤◌, ◌<◌, ◌≡◌, ◌∷◌}
 use Rattle.std.proofs.Math.Seq.{slice}
-use Rattle.term.specs.Prelude.{ℕ, ◌≤◌, ◌<◌, ◌≡◌, List, [], ◌∷◌, length, get_or}
+use Rattle.term.specs.Prelude.{ℕ, List, [], length, get_or}
 use Rattle.graph.specs.Words.{variables as max_variables}
 use Rattle.shell_line.specs.Questions.{Part, Name, Any, Variable, Standing, Reading, Read, Unreadable, NoQuestion}
 use Rattle.shell_line.specs.Questions.{number_of, read_on, begun, parts_of}

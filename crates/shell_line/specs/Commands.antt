@@ -1,7 +1,7 @@
 -- Which command a line is, and where its rest begins (`docs/SHELL.md`, "Lines" and the words of "Commands"). Assumes nothing.
 use Rattle.std.proofs.Math.Seq.{slice}
-use Rattle.std.specs.Prelude.{not}
-use Rattle.term.specs.Prelude.{ℕ, List, [], ◌∷◌, cond, ltb, eqb, length, get_or}
+use Rattle.std.specs.Prelude.{not, ◌∷◌}
+use Rattle.term.specs.Prelude.{ℕ, List, [], cond, ltb, eqb, length, get_or}
 use Rattle.term.specs.Bytes.{among, eq_bytes}
 use Rattle.ntriples.specs.Grammar.{white}
 use Rattle.shell_line.specs.Ends.{run_from, white_end}

@@ -1,5 +1,6 @@
 -- Where a part of a line ends (`docs/SHELL.md`, "Lines", "Names", "Questions"), by positions in the line. Assumes nothing.
-use Rattle.term.specs.Prelude.{ℕ, ◌+◌, List, Bool, cond, ltb, eqb, length, drop, get_or}
+use Rattle.std.specs.Prelude.{◌+◌}
+use Rattle.term.specs.Prelude.{ℕ, List, Bool, cond, ltb, eqb, length, drop, get_or}
 use Rattle.term.specs.Bytes.{first_byte}
 use Rattle.term.specs.Grammar.{name_limit}
 use Rattle.term.specs.Scanner.{halt_of, whole_of}

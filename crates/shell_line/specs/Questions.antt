@@ -1,9 +1,9 @@
 -- How the parts of a question and of a list are read (`docs/SHELL.md`, "Questions", and `list` of "Commands"): from left to right, up to
 -- the first fault. `parts_of` is the reading; `TellsReading` says how the code's record tells it. Assumes nothing.
-use Rattle.std.specs.Prelude.{◌/◌, ◌%◌, map, replicate}
+use Rattle.std.specs.Prelude.{◌/◌, ◌%◌, map, replicate, ◌+◌, ◌*◌, ◌≤◌, ◌<◌, ◌≡◌, ◌∷◌, ◌++◌}
 use Rattle.std.proofs.Math.Seq.{slice}
-use Rattle.term.specs.Prelude.{ℕ, zero, suc, ◌+◌, ◌*◌, ◌≤◌, ◌<◌, ◌≡◌, List, []}
-use Rattle.term.specs.Prelude.{◌∷◌, ◌++◌, Bool, true, false, cond, ltb, eqb, length, take, get_or}
+use Rattle.term.specs.Prelude.{ℕ, zero, suc, List, []}
+use Rattle.term.specs.Prelude.{Bool, true, false, cond, ltb, eqb, length, take, get_or}
 use Rattle.term.specs.Bytes.{eq_bytes}
 use Rattle.ntriples.specs.Grammar.{span}
 use Rattle.ntriples.specs.declared.Span.{Span}

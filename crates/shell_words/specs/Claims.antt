@@ -1,7 +1,8 @@
 -- What is claimed of the words of a question or of a list, as types: on a sound store they mean what was typed, as SPARQL reads it.
 -- The claims speak of what was read and of its words; `WordsOfWhatIsRead` leads from the contracts of `read_parts` and `words_of` there.
 -- Assumes nothing.
-use Rattle.store.specs.Prelude.{◌≡◌, ◌≢◌, ◌↔◌, true, List, map, List-as-Memᴰ, ℕ, ◌≤◌, length, take, get_or}
+use Rattle.std.specs.Prelude.{◌≡◌, ◌≢◌, ◌↔◌, ◌≤◌}
+use Rattle.store.specs.Prelude.{true, List, map, List-as-Memᴰ, ℕ, length, take, get_or}
 use Rattle.store.specs.declared.Counters.{Counters}
 use Rattle.store.specs.declared.Triple.{Triple}
 use Rattle.store.specs.Shared.{triple, within}

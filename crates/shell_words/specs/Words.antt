@@ -1,8 +1,8 @@
 -- What a question means as it is typed (`docs/SHELL.md`, "Questions"), and the words that its parts have on a store. Assumes nothing.
-use Rattle.std.specs.Prelude.{slice_set}
+use Rattle.std.specs.Prelude.{slice_set, ◌≡◌, ◌≢◌, ◌∷◌, ◌+◌, ◌≤◌, ◌<◌}
 use Rattle.std.proofs.Math.Seq.{slice}
 use Rattle.term.specs.Canonical.{canonical}
-use Rattle.store.specs.Prelude.{◌≡◌, ◌≢◌, Bool, true, false, cond, not, List, [], ◌∷◌, map, ℕ, ◌+◌, ◌≤◌, ◌<◌, length, take, get_or, eqb}
+use Rattle.store.specs.Prelude.{Bool, true, false, cond, not, List, [], map, ℕ, length, take, get_or, eqb}
 use Rattle.store.specs.Prelude.{replicate}
 use Rattle.store.specs.declared.Counters.{Counters}
 use Rattle.store.specs.declared.Position.{Position}

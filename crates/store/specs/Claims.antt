@@ -1,7 +1,8 @@
 -- What is claimed of every list of calls (demand 3), as types: the answers are those of the plain lists, the store
 -- stays sound, and a listing in the user's words. `proofs/Theorems.antt` has a declaration of each claim of this
 -- folder. Assumes nothing.
-use Rattle.store.specs.Prelude.{◌≡◌, ◌↔◌, Bool, true, false, cond, List, [], ◌∷◌, ◌++◌, map, List-as-Memᴰ, ℕ, zero, suc, ◌+◌, ◌≤◌, ◌<◌}
+use Rattle.std.specs.Prelude.{◌≡◌, ◌↔◌, ◌∷◌, ◌++◌, ◌+◌, ◌≤◌, ◌<◌}
+use Rattle.store.specs.Prelude.{Bool, true, false, cond, List, [], map, List-as-Memᴰ, ℕ, zero, suc}
 use Rattle.store.specs.Prelude.{length, take, drop, eqb, Counters, Position, By, Triple}
 use Rattle.store.specs.Shared.{at, prev, fresh_counters, Entry, matches}
 use Rattle.store.specs.Tables.{Tables}

@@ -2,7 +2,8 @@
 -- reply. The contracts are those of `dictionary::intern`, `statement::assert`, `retract`, `assert_updating`,
 -- `retract_updating`, `scan::scan_open`, `scan_next` and `compaction::reclaim`; the updating forms have the same
 -- equation inside a record. Assumes nothing.
-use Rattle.store.specs.Prelude.{◌≡◌, List, [], ◌∷◌, get_or, Interned, Asserted, Retracted, Reclaimed, ScanOpened, Scanned}
+use Rattle.std.specs.Prelude.{◌≡◌, ◌∷◌}
+use Rattle.store.specs.Prelude.{List, [], get_or, Interned, Asserted, Retracted, Reclaimed, ScanOpened, Scanned}
 use Rattle.store.specs.Tables.{Tables, after}
 use Rattle.store.specs.Values.{Values, no_cursor, interned_values, asserted_values, retracted_values, opened_values, scanned_values}
 use Rattle.store.specs.Values.{reclaimed_values}

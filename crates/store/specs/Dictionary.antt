@@ -1,6 +1,7 @@
 -- Find and enter a name (paper 01; 02, notes 4, 5 and 7): what they answer and write on a sound dictionary, and the bound
 -- that holds on any tables after refusals 1 and 2. Assumes nothing.
-use Rattle.store.specs.Prelude.{◌≡◌, ◌⊎◌, Bool, true, false, cond, ◌&&◌, List, [], ◌∷◌, ◌++◌, ℕ, zero, suc, ◌+◌, ◌*◌, ◌-◌, ◌≤◌, ◌<◌}
+use Rattle.std.specs.Prelude.{◌≡◌, ◌⊎◌, ◌&&◌, ◌∷◌, ◌++◌, ◌+◌, ◌*◌, ◌-◌, ◌≤◌, ◌<◌}
+use Rattle.store.specs.Prelude.{Bool, true, false, cond, List, [], ℕ, zero, suc}
 use Rattle.store.specs.Prelude.{length, sets, leb, ltb, Counters, Refusal, Capacity, Malformed, Full, Damaged, IndexPlace, At, Before}
 use Rattle.store.specs.Prelude.{OutOfRange, Lookup, Number, Absent, NotFound, Interned, Id, NotInterned}
 use Rattle.term.specs.Bytes.{eq_bytes}

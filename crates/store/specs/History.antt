@@ -1,7 +1,8 @@
 -- A list of calls on the tables (paper 01, "The plain lists"; 02, note 6): from fresh counters over tables that hold
 -- anything, each call on the counters last answered and the tables the last call left, each next from its opening's
 -- last cursor. Assumes nothing.
-use Rattle.store.specs.Prelude.{List, [], ◌∷◌, ◌++◌, ℕ, get_or, set, Counters, ScanCursor, Interned, Id, NotInterned, Reclaimed, Done}
+use Rattle.std.specs.Prelude.{◌∷◌, ◌++◌}
+use Rattle.store.specs.Prelude.{List, [], ℕ, get_or, set, Counters, ScanCursor, Interned, Id, NotInterned, Reclaimed, Done}
 use Rattle.store.specs.Prelude.{NotReclaimed, ScanOpened, Cursor, NotOpened, Scanned, Found, Ended, Spent, NotScanned}
 use Rattle.store.specs.Tables.{Tables, resource_capacity, statement_capacity, text_capacity}
 use Rattle.store.specs.Shared.{fresh_counters}

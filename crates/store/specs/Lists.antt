@@ -1,5 +1,6 @@
 -- Tests of a range, of a list and of an option, for the definitions of other crates. Assumes nothing.
-use Rattle.store.specs.Prelude.{Bool, true, false, cond, ◌&&◌, List, [], ◌∷◌, Option, none, some, ℕ, zero, suc}
+use Rattle.std.specs.Prelude.{◌&&◌, ◌∷◌}
+use Rattle.store.specs.Prelude.{Bool, true, false, cond, List, [], Option, none, some, ℕ, zero, suc}
 
 -- a test of 0 .. n - 1
 unfoldable pub all_below : (ℕ → Bool) → ℕ → Bool

@@ -1,5 +1,6 @@
 -- What is claimed of live counts (paper 02, note 5), as types. Assumes nothing.
-use Rattle.store.specs.Prelude.{◌≡◌, cond, not, ◌&&◌, List, [], ◌∷◌, ℕ, ◌+◌, ◌-◌, ◌*◌, ◌≤◌, ◌<◌, length, eqb, Counters, Triple}
+use Rattle.std.specs.Prelude.{◌≡◌, ◌&&◌, ◌∷◌, ◌+◌, ◌-◌, ◌*◌, ◌≤◌, ◌<◌}
+use Rattle.store.specs.Prelude.{cond, not, List, [], ℕ, length, eqb, Counters, Triple}
 use Rattle.store.specs.Prelude.{ScanCursor}
 use Rattle.store.specs.Tables.{Tables, word, resource_words}
 use Rattle.store.specs.Model.{Call, fresh_model, model_after}

@@ -1,7 +1,8 @@
 -- The plain lists (paper 01, "The plain lists"; 02, notes 6 and 7): what a reader has to believe of demand 3. Two lists
 -- under the same capacities, of names and of triples with a mark, what is left of each opening, and the number of
 -- reclaims. Nothing here speaks of tables, links or counts. Assumes nothing.
-use Rattle.store.specs.Prelude.{Bool, true, false, cond, ◌&&◌, List, [], ◌∷◌, ◌++◌, ℕ, zero, suc, length, get_or, set, eqb, leb, ltb}
+use Rattle.std.specs.Prelude.{◌&&◌, ◌∷◌, ◌++◌}
+use Rattle.store.specs.Prelude.{Bool, true, false, cond, List, [], ℕ, zero, suc, length, get_or, set, eqb, leb, ltb}
 use Rattle.store.specs.Prelude.{Chain, All, By, Counters, Triple, ScanCursor}
 use Rattle.term.specs.Scanner.{first_kind_of}
 use Rattle.term.specs.Canonical.{canonical}

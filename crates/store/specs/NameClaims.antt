@@ -1,5 +1,6 @@
 -- What is claimed of numbers and names (paper 01, demand 2; 02, notes 4 and 7), as types. Assumes nothing.
-use Rattle.store.specs.Prelude.{◌≡◌, ◌≢◌, ◌↔◌, true, false, List, ◌++◌, List-as-Memᴰ, ℕ, ◌≤◌, ◌<◌, length, take, drop, Counters}
+use Rattle.std.specs.Prelude.{◌≡◌, ◌≢◌, ◌↔◌, ◌++◌, ◌≤◌, ◌<◌}
+use Rattle.store.specs.Prelude.{true, false, List, List-as-Memᴰ, ℕ, length, take, drop, Counters}
 use Rattle.store.specs.Prelude.{ResourceId, Span, Number, Prefixed}
 use Rattle.term.specs.Canonical.{writes_string, canonical}
 use Rattle.store.specs.Tables.{Tables, word}

@@ -1,6 +1,7 @@
 -- Names in the tables (paper 01, "Sound means"; 02, note 7): their byte order, the names of a sound dictionary, and the
 -- names read from the text. Assumes nothing.
-use Rattle.store.specs.Prelude.{◌≡◌, Bool, true, false, cond, not, ◌&&◌, List, [], ◌∷◌, ◌++◌, ℕ, zero, suc, ◌-◌, ◌≤◌, ◌<◌, length}
+use Rattle.std.specs.Prelude.{◌≡◌, ◌&&◌, ◌∷◌, ◌++◌, ◌-◌, ◌≤◌, ◌<◌}
+use Rattle.store.specs.Prelude.{Bool, true, false, cond, not, List, [], ℕ, zero, suc, length}
 use Rattle.store.specs.Prelude.{get_or, take, drop, ltb, Counters}
 use Rattle.term.specs.Scanner.{first_kind_of}
 use Rattle.term.specs.Canonical.{writes_string}

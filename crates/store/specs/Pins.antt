@@ -1,7 +1,8 @@
 -- What stands on both sides of the claims (`Shared`) and the byte order of names are pinned here by what they mean, as
 -- types. Assumes nothing.
-use Rattle.store.specs.Prelude.{◌≡◌, ◌≢◌, ◌↔◌, Bool, true, false, List, [], ◌∷◌, List-as-Memᴰ, ℕ, suc, ◌≤◌, ◌<◌, length, get_or, Position}
-use Rattle.store.specs.Prelude.{◌⊎◌, ◌++◌, Chain, All, By, Triple}
+use Rattle.std.specs.Prelude.{◌≡◌, ◌≢◌, ◌↔◌, ◌∷◌, ◌≤◌, ◌<◌, ◌⊎◌, ◌++◌}
+use Rattle.store.specs.Prelude.{Bool, true, false, List, [], List-as-Memᴰ, ℕ, suc, length, get_or, Position}
+use Rattle.store.specs.Prelude.{Chain, All, By, Triple}
 use Rattle.term.specs.Bytes.{eq_bytes}
 use Rattle.term.specs.Grammar.{name_limit}
 use Rattle.store.specs.Shared.{at, known, within, same, kinds_permitted, below, head0, Entry, matches, pick, lookup_name, max_resources}

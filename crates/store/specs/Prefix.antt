@@ -1,6 +1,7 @@
 -- Names by their beginning (02, note 4): which names begin with given bytes, what a listing of them answers and writes on
 -- a sound dictionary, and the bound that holds on any tables after refusals 1 and 2. Assumes nothing.
-use Rattle.store.specs.Prelude.{◌≡◌, ◌⊎◌, Bool, true, false, ◌&&◌, List, [], ◌∷◌, ◌++◌, ℕ, ◌≤◌, ◌<◌, length, take, drop, eqb, leb}
+use Rattle.std.specs.Prelude.{◌≡◌, ◌⊎◌, ◌&&◌, ◌∷◌, ◌++◌, ◌≤◌, ◌<◌}
+use Rattle.store.specs.Prelude.{Bool, true, false, List, [], ℕ, length, take, drop, eqb, leb}
 use Rattle.store.specs.Prelude.{Counters, Capacity, Malformed, Damaged, Prefixed, Total, NotListed}
 use Rattle.term.specs.Grammar.{name_limit}
 use Rattle.store.specs.Shared.{unless}

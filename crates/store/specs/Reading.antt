@@ -1,5 +1,6 @@
 -- Read a statement, and name of a number (paper 01), on any tables. Assumes nothing.
-use Rattle.store.specs.Prelude.{Bool, true, false, ◌&&◌, List, Option, none, some, ℕ, zero, suc, ◌+◌, ◌-◌, eqb, leb, ltb, Counters}
+use Rattle.std.specs.Prelude.{◌&&◌, ◌+◌, ◌-◌}
+use Rattle.store.specs.Prelude.{Bool, true, false, List, Option, none, some, ℕ, zero, suc, eqb, leb, ltb, Counters}
 use Rattle.store.specs.Prelude.{ResourceId, StatementId, Capacity, UnknownNumber, Damaged, StatementRead, Is, NotRead, NameRead, Span}
 use Rattle.store.specs.Prelude.{NotNamed}
 use Rattle.store.specs.Shared.{unless, known}

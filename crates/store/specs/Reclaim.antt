@@ -1,7 +1,8 @@
 -- Reclaim (paper 02, note 6): the live statements move down in their order and are numbered from 1, all chains and
 -- counts are built anew, the words of the records given up are 0, names stay. Right on a sound store; on any tables
 -- `ReclaimAnswer` says what holds. Assumes nothing.
-use Rattle.store.specs.Prelude.{◌≡◌, true, false, cond, List, [], ◌∷◌, ℕ, zero, suc, ◌+◌, ◌*◌, ◌-◌, ◌<◌, replicate, sets, eqb, ltb}
+use Rattle.std.specs.Prelude.{◌≡◌, ◌∷◌, ◌+◌, ◌*◌, ◌-◌, ◌<◌}
+use Rattle.store.specs.Prelude.{true, false, cond, List, [], ℕ, zero, suc, replicate, sets, eqb, ltb}
 use Rattle.store.specs.Prelude.{Counters, Triple, Capacity, Damaged, ReclaimLimit, Reclaimed, Done, NotReclaimed}
 use Rattle.store.specs.Tables.{Tables, tables, after, fits, statement_words, resource_words, flag_at, triple_at}
 use Rattle.store.specs.Shared.{unless, max_reclaims}

@@ -1,5 +1,6 @@
 -- What is claimed of reclaim (paper 02, note 6), as types. Assumes nothing.
-use Rattle.store.specs.Prelude.{◌≡◌, ◌↔◌, true, cond, List, [], ◌∷◌, ◌++◌, ℕ, suc, ◌*◌, ◌≤◌, ◌<◌, length, Counters, Position, Triple}
+use Rattle.std.specs.Prelude.{◌≡◌, ◌↔◌, ◌∷◌, ◌++◌, ◌*◌, ◌≤◌, ◌<◌}
+use Rattle.store.specs.Prelude.{true, cond, List, [], ℕ, suc, length, Counters, Position, Triple}
 use Rattle.store.specs.Shared.{max_reclaims, Entry}
 use Rattle.store.specs.Tables.{Tables, word, statement_words, resource_words, count_at, offset_at, kind_at, live_at}
 use Rattle.store.specs.Model.{Form, Call, assert, reclaim, entry, unretracted}

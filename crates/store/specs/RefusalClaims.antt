@@ -1,8 +1,9 @@
 -- What is claimed of refusals on any tables (demand 1), as types: 1 before all else, nothing written and zeros beside a
 -- refusal, 6 and 13 of a listing, 9 for live counts, 1, 4 and 9 of a statement read, 1 and 4 of a name read, 1 and 2
 -- of find and of a listing by prefix and the bound after them, 1, 14 and 9 of a reclaim. Assumes nothing.
-use Rattle.store.specs.Prelude.{◌≡◌, ◌≢◌, ◌↔◌, true, false, some, ℕ, suc, ◌≤◌, ◌<◌, Counters, Position, Chain, All, By, Triple, ◌⊎◌}
-use Rattle.store.specs.Prelude.{List, ◌-◌, length, ResourceId, StatementId, ScanCursor, Reclaimed, Lookup, Prefixed}
+use Rattle.std.specs.Prelude.{◌≡◌, ◌≢◌, ◌↔◌, ◌≤◌, ◌<◌, ◌⊎◌, ◌-◌}
+use Rattle.store.specs.Prelude.{true, false, some, ℕ, suc, Counters, Position, Chain, All, By, Triple}
+use Rattle.store.specs.Prelude.{List, length, ResourceId, StatementId, ScanCursor, Reclaimed, Lookup, Prefixed}
 use Rattle.store.specs.Shared.{at, known, kinds_permitted, well_formed}
 use Rattle.store.specs.Tables.{Tables, fits, triple_at, offset_at, flag_at, count_at, kind_at, live_at, resource_capacity, statement_capacity}
 use Rattle.store.specs.Tables.{text_capacity, term_at, word}

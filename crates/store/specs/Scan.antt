@@ -1,6 +1,7 @@
 -- Open and next of a pattern scan, the paper's listing (paper 01, "Open a listing", "Next of a listing"; 02, note 6),
 -- on tables that hold anything and any cursor. Assumes nothing.
-use Rattle.store.specs.Prelude.{Bool, true, cond, ◌&&◌, List, Option, none, some, ℕ, zero, suc, eqb, leb, ltb, Counters, Chain, All}
+use Rattle.std.specs.Prelude.{◌&&◌}
+use Rattle.store.specs.Prelude.{Bool, true, cond, List, Option, none, some, ℕ, zero, suc, eqb, leb, ltb, Counters, Chain, All}
 use Rattle.store.specs.Prelude.{By, Triple, ScanCursor, Capacity, UnknownNumber, BadCursor, NoBudget, Damaged, StaleCursor}
 use Rattle.store.specs.Prelude.{ScanOpened, Cursor, NotOpened, Scanned, Found, Ended, Spent, NotScanned}
 use Rattle.store.specs.Shared.{unless, at, all3, within, matches}

@@ -1,7 +1,8 @@
 -- What the plain lists and the tables' definitions share: limits, refusals in their order, triples of numbers at a
 -- position in general, listed triples, the position picked, names, and the falling positions of a list's entries that
 -- pass a test. What its tests and searches mean is pinned in `Pins`. Assumes nothing.
-use Rattle.store.specs.Prelude.{Bool, cond, not, ◌&&◌, ◌||◌, List, [], ◌∷◌, ℕ, zero, suc, ◌+◌, ◌-◌, length, get_or, eqb}
+use Rattle.std.specs.Prelude.{◌&&◌, ◌||◌, ◌∷◌, ◌+◌, ◌-◌}
+use Rattle.store.specs.Prelude.{Bool, cond, not, List, [], ℕ, zero, suc, length, get_or, eqb}
 use Rattle.store.specs.Prelude.{leb, ltb, Counters, Position, Subject, Predicate, Object, Chain, All, By, Triple}
 use Rattle.term.specs.Bytes.{eq_bytes}
 use Rattle.term.specs.Grammar.{name_limit}

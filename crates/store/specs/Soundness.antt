@@ -1,6 +1,7 @@
 -- Sound (paper 01, "Sound means"; 02, notes 5, 6 and 7): one definition for find, names by prefix, intern, reclaim,
 -- the check and both demands. Words past the counters do not matter. Assumes nothing.
-use Rattle.store.specs.Prelude.{◌≡◌, ◌≢◌, Bool, true, ◌&&◌, List, ℕ, ◌*◌, ◌≤◌, ◌<◌, length, eqb, Counters, Position}
+use Rattle.std.specs.Prelude.{◌≡◌, ◌≢◌, ◌&&◌, ◌*◌, ◌≤◌, ◌<◌}
+use Rattle.store.specs.Prelude.{Bool, true, List, ℕ, length, eqb, Counters, Position}
 use Rattle.store.specs.Shared.{kinds_permitted, below, head0}
 use Rattle.store.specs.Tables.{Tables, fits, resource_words, statement_words, term_at, next_at, flag_at, triple_at, first_at, count_at}
 use Rattle.store.specs.Tables.{kind_at, live_at}

@@ -1,6 +1,7 @@
 -- Assert and retract (paper 01; 02, note 5), by value and on lent counters: the reply and all four tables, on tables
 -- that hold anything. Assumes nothing.
-use Rattle.store.specs.Prelude.{Bool, cond, ◌&&◌, List, [], ◌∷◌, Option, none, some, ℕ, zero, suc, ◌+◌, ◌*◌, ◌-◌, set, sets, eqb, leb}
+use Rattle.std.specs.Prelude.{◌&&◌, ◌∷◌, ◌+◌, ◌*◌, ◌-◌}
+use Rattle.store.specs.Prelude.{Bool, cond, List, [], Option, none, some, ℕ, zero, suc, set, sets, eqb, leb}
 use Rattle.store.specs.Prelude.{ltb, Counters, Position, Subject, Predicate, Object, Triple, Capacity, Full, UnknownNumber}
 use Rattle.store.specs.Prelude.{KindNotPermitted, Damaged, Asserted, New, Already, Revived, NotAsserted, Retracted, WasLive, NotLive}
 use Rattle.store.specs.Prelude.{NotRetracted}

@@ -1,8 +1,9 @@
 -- The tables and counters (paper 01, "Tables and counters"; 02, notes 5 and 6): widths and offsets of the records,
 -- their words at a position in general, capacities, refusal 1. Total on any words: a word past a table's end is 0.
 -- Assumes nothing.
+use Rattle.std.specs.Prelude.{◌&&◌, ◌+◌, ◌*◌, ◌-◌, ◌/◌}
 use Rattle.std.specs.Borrow.{Bor}
-use Rattle.store.specs.Prelude.{Bool, ◌&&◌, List, ℕ, ◌+◌, ◌*◌, ◌-◌, ◌/◌, min, length, get_or, leb, Counters, Position, Subject}
+use Rattle.store.specs.Prelude.{Bool, List, ℕ, min, length, get_or, leb, Counters, Position, Subject}
 use Rattle.store.specs.Prelude.{Predicate, Object, Triple}
 use Rattle.store.specs.Shared.{triple, max_resources, max_statements, max_text, max_reclaims}
 

@@ -1,7 +1,8 @@
 -- Chains in the tables (paper 01, "9 in a chain step"): which chain is picked, what a visit tests, and the walk within
 -- a budget. One definition for the scan, assert and retract, over a position in general, on tables that hold anything.
 -- Assumes nothing.
-use Rattle.store.specs.Prelude.{Bool, true, false, ◌&&◌, ◌||◌, List, Option, none, some, ℕ, zero, suc, eqb, leb, Chain, All, By}
+use Rattle.std.specs.Prelude.{◌&&◌, ◌||◌}
+use Rattle.store.specs.Prelude.{Bool, true, false, List, Option, none, some, ℕ, zero, suc, eqb, leb, Chain, All, By}
 use Rattle.store.specs.Prelude.{Triple}
 use Rattle.store.specs.Shared.{at, all3, known, Entry, pick}
 use Rattle.store.specs.Tables.{term_at, next_at, flag_at, triple_at, first_at, count_at}

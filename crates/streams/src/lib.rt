@@ -11,6 +11,8 @@ ghost use Rattle.streams.specs.Counts.{IsPrefixLen};
 
 pub mod number;
 pub mod output;
+#[cfg(test)]
+mod tests;
 pub mod words;
 
 pub use number::decimal;

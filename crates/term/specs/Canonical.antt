@@ -1,6 +1,7 @@
 -- One spelling for a string (paper 02, note 7): RDF 1.1 takes a literal that writes the datatype xsd:string out and the one that writes
 -- none as one term. The spelling that writes none is the one compared and stored. `Theorems.antt` says what the step is. Assumes nothing.
-use Rattle.term.specs.Prelude.{ℕ, ◌-◌, List, [], ◌∷◌, ◌++◌, Bool, cond, ◌&&◌, leb, length, take, drop}
+use Rattle.std.specs.Prelude.{◌-◌, ◌∷◌, ◌++◌, ◌&&◌}
+use Rattle.term.specs.Prelude.{ℕ, List, [], Bool, cond, leb, length, take, drop}
 use Rattle.term.specs.Bytes.{eq_bytes}
 
 -- http://www.w3.org/2001/XMLSchema#string: the datatype of a literal that writes none

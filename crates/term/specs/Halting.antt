@@ -1,7 +1,8 @@
 -- Where a scan must halt, and what it then has read, in the grammar's words; and what is proved of the scanner, for the
 -- proofs of lines and of the store. The proofs are in `proofs/Names.antt`, `WellFormed.antt` and `Halts.antt`. Assumes
 -- nothing.
-use Rattle.term.specs.Prelude.{ℕ, zero, suc, ◌+◌, ◌≤◌, ◌≡◌, List, [], ◌∷◌, ◌++◌, Bool, true, false, ◌⊎◌, ◌↔◌, length, take}
+use Rattle.std.specs.Prelude.{◌+◌, ◌≤◌, ◌≡◌, ◌∷◌, ◌++◌, ◌⊎◌, ◌↔◌}
+use Rattle.term.specs.Prelude.{ℕ, zero, suc, List, [], Bool, true, false, length, take}
 use Rattle.term.specs.Grammar.{Name}
 use Rattle.term.specs.Scanner.{run_of, whole_of, first_kind_of, kind_of, halt_of, longest_of}
 use Rattle.term.specs.declared.production.Halt.{Halt}

@@ -1,7 +1,8 @@
 -- Names as the paper spells them out, each a list of bytes put together from its parts: the grammar of `Grammar.antt`
 -- reads from the left, these say what the whole is, and the two agree. The proofs are in `proofs/Spellings.antt` and
 -- `Literals.antt`. Assumes nothing.
-use Rattle.term.specs.Prelude.{ℕ, ◌≡◌, List, [], ◌∷◌, ◌++◌, Bool, true, false, cond, ◌↔◌, eqb}
+use Rattle.std.specs.Prelude.{◌≡◌, ◌∷◌, ◌++◌, ◌↔◌}
+use Rattle.term.specs.Prelude.{ℕ, List, [], Bool, true, false, cond, eqb}
 use Rattle.term.specs.Bytes.{iri_byte, text_byte, pair_byte, first_byte, label_byte, letter, alnum, All}
 use Rattle.term.specs.Grammar.{Iri, Blank, Suffix, Literal}
 

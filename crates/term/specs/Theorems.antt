@@ -1,6 +1,7 @@
 -- What is proved of names (paper 01, "Names"; paper 02, note 7). The proofs are in `proofs/Names.antt`, `WellFormed.antt` and
 -- `Shortened.antt`. `Spelling.antt` has the grammar's second reading, `Halting.antt` what is proved of the scanner. Assumes nothing.
-use Rattle.term.specs.Prelude.{ℕ, ◌≤◌, ◌≡◌, List, ◌++◌, false, ◌↔◌, length}
+use Rattle.std.specs.Prelude.{◌≤◌, ◌≡◌, ◌++◌, ◌↔◌}
+use Rattle.term.specs.Prelude.{ℕ, List, false, length}
 use Rattle.term.specs.Grammar.{Name, WellFormed, name_limit}
 use Rattle.term.specs.Scanner.{first_kind_of, kind_of, number_of, refusal_of}
 use Rattle.term.specs.Canonical.{string_ending, writes_string, canonical}
