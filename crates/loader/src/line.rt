@@ -1,7 +1,7 @@
 // A line loaded: what was read of it is entered and asserted, or refused.
 ghost use Rattle.std.specs.Prelude.{◌≡◌};
 ghost use Rattle.term.specs.Grammar.{name_limit};
-ghost use Rattle.store.specs.Tables.{lent};
+ghost use Rattle.store.specs.Tables.{tables};
 ghost use Rattle.ntriples.specs.Reader.{read_of};
 ghost use Rattle.loader.specs.Lines.{content_of, line_at, Loads};
 ghost use Rattle.loader.specs.Steps.{LineInside, Ends, ReadAt, refused_line, asserted_line};
@@ -73,8 +73,8 @@ fn load_triple(
     object: Span,
 ) -> LineLoaded
     requires { LineInside source.now (Line.Triple subject predicate object) }
-    ensures { Loads c (lent resources.entry statements.entry index.entry text.entry)
-        (lent resources.exit statements.exit index.exit text.exit)
+    ensures { Loads c (tables resources.old statements.old index.old text.old)
+        (tables resources.new statements.new index.new text.new)
         source.now (Line.Triple subject predicate object) result }
 {
     let parts = [subject, predicate, object];
@@ -115,8 +115,8 @@ fn load_read(
     line: Line,
 ) -> LineLoaded
     requires { LineInside source.now line }
-    ensures { Loads c (lent resources.entry statements.entry index.entry text.entry)
-        (lent resources.exit statements.exit index.exit text.exit)
+    ensures { Loads c (tables resources.old statements.old index.old text.old)
+        (tables resources.new statements.new index.new text.new)
         source.now line result }
 {
     match line {
@@ -166,8 +166,8 @@ pub fn load_line(
     next: usize,
 ) -> LineLoaded
     requires { ReadAt source.now from line next }
-    ensures { Loads c (lent resources.entry statements.entry index.entry text.entry)
-        (lent resources.exit statements.exit index.exit text.exit)
+    ensures { Loads c (tables resources.old statements.old index.old text.old)
+        (tables resources.new statements.new index.new text.new)
         source.now (line_at source.now from) result }
 {
     if content(source, from, next) > LINE_LIMIT {
@@ -185,8 +185,8 @@ pub fn load_first(
     text: &mut [u8],
     source: &[u8],
 ) -> LineLoaded
-    ensures { Loads c (lent resources.entry statements.entry index.entry text.entry)
-        (lent resources.exit statements.exit index.exit text.exit)
+    ensures { Loads c (tables resources.old statements.old index.old text.old)
+        (tables resources.new statements.new index.new text.new)
         source.now (read_of name_limit source.now 0).line result }
 {
     let read = ntriples::read_line(source, 0);

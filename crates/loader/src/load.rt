@@ -1,5 +1,5 @@
 // Every line of a source, one after another.
-ghost use Rattle.store.specs.Tables.{lent};
+ghost use Rattle.store.specs.Tables.{tables};
 ghost use Rattle.loader.specs.Lines.{LoadsLines};
 ghost use Rattle.loader.specs.Steps.{Takes, ReadAt};
 
@@ -76,8 +76,8 @@ fn take_line(
 ) -> Load
     requires { ReadAt source.now from line next }
     ensures { Takes l.counters
-        (lent resources.entry statements.entry index.entry text.entry)
-        (lent resources.exit statements.exit index.exit text.exit)
+        (tables resources.old statements.old index.old text.old)
+        (tables resources.new statements.new index.new text.new)
         source.now from result.counters }
 {
     let c = l.counters;
@@ -99,7 +99,7 @@ fn take_line(
     }
 }
 
-// Loads every line of the source, by one reader. Proved by a walk of its code, since it holds the reader.
+// Loads every line of the source, by one reader.
 pub fn load_lines(
     rt: &(impl Outputs + Env),
     l: Load,
@@ -110,8 +110,8 @@ pub fn load_lines(
     source: &[u8],
 ) -> Load
     ensures { LoadsLines l.counters
-        (lent resources.entry statements.entry index.entry text.entry)
-        (lent resources.exit statements.exit index.exit text.exit)
+        (tables resources.old statements.old index.old text.old)
+        (tables resources.new statements.new index.new text.new)
         source.now result.counters }
 {
     let mut m = l;

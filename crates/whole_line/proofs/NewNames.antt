@@ -2,7 +2,7 @@
 -- that are new. Assumes nothing.
 use mathlib.Core.Path.{◌≡◌, refl, sym, ap, ◌∙◌}
 use mathlib.Core.Logic.{◌≢◌}
-use mathlib.Core.Bool.{Bool, true, false, not, cond, false≢true}
+use mathlib.Core.Bool.{Bool, true, false, cond, false≢true}
 use mathlib.Core.List.{List, [], ◌∷◌, ◌++◌}
 use Prim.Native.Nat.{ℕ, zero, suc, ◌+◌, ◌≤◌, ◌<◌}
 use native.Mathlib.Omega.{arith}
@@ -10,7 +10,7 @@ use native.Mathlib.Numerals.{add-one}
 use lib.ListN.{length, get_or, get_or-append}
 use lib.Seq.{ext_get_or, get_or-append_seam}
 use lib.Dec.{eqb}
-use borrow.Author.Tests.{ne_eqb, eq-eqb, not-true, not-false}
+use borrow.Author.Tests.{ne_eqb, eq-eqb}
 use Rattle.term.specs.Bytes.{eq_bytes}
 use Rattle.term.proofs.Booleans.{eq_bytes-is, eq_bytes-refl, eq_bytes-not}
 use Rattle.store.specs.declared.Counters.{Counters}
@@ -191,14 +191,14 @@ names_more {c} {m} {s} {p} {o} {a} {b} {d} {one} {two} {three} A B D e f g = rec
 }
 
 -- what the code answers at a negated test
-pub not_more_lem : (b : Bool) (c : Counters) (w : List ℕ) → not b ≡ true → c ≡ cond b (one_name_more c w) c
-not_more_lem b c w h = rw (not-true b h)
+pub not_more_lem : (b : Bool) (c : Counters) (w : List ℕ) → b ≡ false → c ≡ cond b (one_name_more c w) c
+not_more_lem b c w h = rw h
 
-pub is-more : (b : Bool) (c : Counters) (w : List ℕ) → not b ≡ false
+pub is-more : (b : Bool) (c : Counters) (w : List ℕ) → b ≡ true
     → ◌≡◌ {A = Counters}
     (record { resources = c.resources + 1; statements = c.statements; text = c.text + length w + 1; generation = c.generation })
     (cond b (one_name_more c w) c)
-is-more b c w h = rw (not-false b h, add-one c.resources)
+is-more b c w h = rw (h, add-one c.resources)
 
 -- ---- room
 

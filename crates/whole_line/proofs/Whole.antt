@@ -2,13 +2,13 @@
 -- as it was, for no name was new; without room the load is refused 3. Assumes nothing.
 use mathlib.Core.Path.{◌≡◌, refl, sym, ap, ◌∙◌}
 use mathlib.Core.Logic.{◌≢◌, ◌⊎◌, inl, inr}
-use mathlib.Core.Bool.{Bool, true, false, not, cond, false≢true}
+use mathlib.Core.Bool.{Bool, true, false, cond, false≢true}
 use mathlib.Core.List.{List, []}
 use Prim.Native.Nat.{ℕ, zero, suc, ◌≤◌}
 use native.Mathlib.Omega.{arith}
 use lib.ListN.{length}
 use lib.Dec.{eqb, ltb}
-use borrow.Author.Tests.{eqb-true, eqb-false, ne_eqb, ltb-true, ltb-false, not-true, not-false}
+use borrow.Author.Tests.{eqb-true, eqb-false, ne_eqb, ltb-true, ltb-false}
 use Rattle.term.specs.Grammar.{name_limit}
 use Rattle.store.specs.declared.Counters.{Counters}
 use Rattle.store.specs.declared.ScanCursor.{ScanCursor}
@@ -274,16 +274,16 @@ module _ {c : Counters} {m : Tables} {text : List ℕ} {line : Line} {b : Bool} 
   told : (S : Sound c m) (qs : List ScanCursor) → b ≡ room_for_line (lists_of (store c m qs)).names c m text first
   told S qs = A'.exact (lists_of (store c m qs)).names (sound-agrees c m S).named S.capacity
 
-  pub loads-whole : {m' : Tables} {r : LineLoaded} → not b ≡ false → Loads c m m' text first r → LoadsWhole c m m' text first r
+  pub loads-whole : {m' : Tables} {r : LineLoaded} → b ≡ true → Loads c m m' text first r → LoadsWhole c m m' text first r
   loads-whole t L = record {
-    sound = λ S qs. L.sound S qs ∙ sound-kept c m text qs S first refl (sym (told S qs) ∙ not-false b t);
+    sound = λ S qs. L.sound S qs ∙ sound-kept c m text qs S first refl (sym (told S qs) ∙ t);
     capacity = λ f qs. L.capacity f qs ∙ over-kept c m text qs f first;
     unread = λ h qs. L.unread h qs ∙ none_kept c m text qs first h;
   }
 
-  pub refuses-whole : {n : ℕ} → not b ≡ true → n ≡ 3 → LoadsWhole c m m text first (record { counters = c; outcome = Refused n })
+  pub refuses-whole : {n : ℕ} → b ≡ false → n ≡ 3 → LoadsWhole c m m text first (record { counters = c; outcome = Refused n })
   refuses-whole t q = rw q (record {
-    sound = λ S qs. sound-three c m text qs S first refl (sym (told S qs) ∙ not-true b t);
-    capacity = λ f. absurd (false≢true (sym (not-true b t) ∙ A'.capacity f));
-    unread = λ h. absurd (false≢true (sym (not-true b t) ∙ A'.unread h));
+    sound = λ S qs. sound-three c m text qs S first refl (sym (told S qs) ∙ t);
+    capacity = λ f. absurd (false≢true (sym t ∙ A'.capacity f));
+    unread = λ h. absurd (false≢true (sym t ∙ A'.unread h));
   })

@@ -4,7 +4,7 @@
 #![tactic(auto)]
 
 ghost use Rattle.term.specs.Grammar.{name_limit};
-ghost use Rattle.store.specs.Tables.{lent};
+ghost use Rattle.store.specs.Tables.{tables};
 ghost use Rattle.ntriples.specs.Reader.{read_of};
 ghost use Rattle.whole_line.specs.Whole.{LoadsWhole};
 
@@ -22,8 +22,8 @@ pub fn load_whole(
     text: &mut [u8],
     source: &[u8],
 ) -> LineLoaded
-    ensures { LoadsWhole c (lent resources.entry statements.entry index.entry text.entry)
-        (lent resources.exit statements.exit index.exit text.exit)
+    ensures { LoadsWhole c (tables resources.old statements.old index.old text.old)
+        (tables resources.new statements.new index.new text.new)
         source.now (read_of name_limit source.now 0).line result }
 {
     let read = ntriples::read_line(source, 0);

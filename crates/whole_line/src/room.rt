@@ -3,7 +3,7 @@
 ghost use Rattle.std.specs.Prelude.{◌≡◌, true, cond, [], ◌∷◌, ◌+◌, ◌≤◌, length};
 ghost use Rattle.term.specs.Grammar.{name_limit};
 ghost use Rattle.store.specs.Shared.{max_resources, max_text};
-ghost use Rattle.store.specs.Tables.{lent};
+ghost use Rattle.store.specs.Tables.{tables};
 ghost use Rattle.store.specs.Names.{storable};
 ghost use Rattle.store.specs.Dictionary.{one_name_more};
 ghost use Rattle.ntriples.specs.Reader.{read_of};
@@ -23,7 +23,7 @@ fn is_new(
     name: &[u8],
 ) -> bool
     requires { storable name.now ≡ true }
-    ensures { NewAnswer c (lent resources.entry statements.entry index.entry text.entry) []
+    ensures { NewAnswer c (tables resources.now statements.now index.now text.now) []
         name.now result }
 {
     match dictionary::find(c, resources, statements, index, text, name) {
@@ -44,7 +44,7 @@ fn is_new_after(
     name: &[u8],
 ) -> bool
     requires { storable name.now ≡ true }
-    ensures { NewAnswer c (lent resources.entry statements.entry index.entry text.entry)
+    ensures { NewAnswer c (tables resources.now statements.now index.now text.now)
         (first.now ∷ []) name.now result }
 {
     if same(first, name) {
@@ -65,7 +65,7 @@ fn is_new_after_two(
     name: &[u8],
 ) -> bool
     requires { storable name.now ≡ true }
-    ensures { NewAnswer c (lent resources.entry statements.entry index.entry text.entry)
+    ensures { NewAnswer c (tables resources.now statements.now index.now text.now)
         (second.now ∷ first.now ∷ []) name.now result }
 {
     if same(second, name) {
@@ -100,7 +100,7 @@ fn with_names(
     object: &[u8],
 ) -> Counters
     requires { Storable subject.now predicate.now object.now × (c.resources ≤ max_resources) × (c.text ≤ max_text) }
-    ensures { NamesAnswer c (lent resources.entry statements.entry index.entry text.entry)
+    ensures { NamesAnswer c (tables resources.now statements.now index.now text.now)
         (three_names subject.now predicate.now object.now) result }
 {
     let s = is_new(c, resources, statements, index, text, subject);
@@ -125,7 +125,7 @@ fn for_names(
     object: &[u8],
 ) -> bool
     requires { Storable subject.now predicate.now object.now }
-    ensures { RoomAnswer c (lent resources.entry statements.entry index.entry text.entry)
+    ensures { RoomAnswer c (tables resources.now statements.now index.now text.now)
         (three_names subject.now predicate.now object.now) result }
 {
     if !table::fits(c, resources, statements, index, text) {
@@ -153,7 +153,7 @@ pub fn for_line(
     line: Line,
 ) -> bool
     requires { line ≡ (read_of name_limit source.now 0).line }
-    ensures { LineAnswer c (lent resources.entry statements.entry index.entry text.entry)
+    ensures { LineAnswer c (tables resources.now statements.now index.now text.now)
         source.now line result }
 {
     match line {

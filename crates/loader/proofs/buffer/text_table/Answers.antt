@@ -2,14 +2,7 @@
 use Prim.Native.Nat.{ℕ}
 use mathlib.Core.Path.{sym}
 use lib.ListN.{length-replicate}
-use Rattle.loader.proofs.buffer.text_table.Statement.{statement}
-use Rattle.loader.proofs.buffer.text_table.Tie as tie
+use Rattle.loader.proofs.buffer.text_table.Goals as goal
 
-returns : tie.Need-returns
+pub returns : goal.returns
 returns c = sym (length-replicate {A = ℕ} 524288 0)
-
-pub text-table-spec : {M : Type 1} → statement M
-text-table-spec =
-    tie.close
-    (tie.spec
-    returns)

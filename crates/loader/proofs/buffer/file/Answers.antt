@@ -2,14 +2,7 @@
 use Prim.Native.Nat.{ℕ}
 use mathlib.Core.Path.{sym}
 use lib.ListN.{length-replicate}
-use Rattle.loader.proofs.buffer.file.Statement.{statement}
-use Rattle.loader.proofs.buffer.file.Tie as tie
+use Rattle.loader.proofs.buffer.file.Goals as goal
 
-returns : tie.Need-returns
+pub returns : goal.returns
 returns c = sym (length-replicate {A = ℕ} 4194304 0)
-
-pub file-spec : {M : Type 1} → statement M
-file-spec =
-    tie.close
-    (tie.spec
-    returns)
