@@ -308,7 +308,7 @@ class Case:
     env: dict = dataclasses.field(default_factory=dict)
     nobody: bool = False  # run without root's right to read everything
     told: object = None  # what the reference says, if it was asked already
-    name: str = ""  # of what is no command line of a program
+    name: str = ""  # of what is no command line of a program, or cannot be told as it is
 
     # What the reference says where nothing fails.
     def reference(self):
@@ -460,7 +460,24 @@ def files():
         yield from each(b"--", name)
     yield from each(b"./-dash.nt")
     yield from each(good, other, good, other)
+    yield from names_no_text(good, other)
     yield from mode_without_reading(good)
+
+
+# Files whose names are not UTF-8, there or not: they are not opened, but as standard input they can be read. Two that are, for comparison.
+def names_no_text(good, other):
+    for name in b"\xfc.nt", b"a\xc3", b"\xc0\xaf.nt", b"\xed\xa0\x80.nt", b"\xf4\x90\x80\x80.nt", b"\xc3\xbc.nt", b"\xf0\x9f\x8d\x8b.nt":
+        put(os.fsdecode(name), b"<a> <b> <c> .\n<a> <b> <c>\n")
+        yield from each(good, name, other)
+        yield Case("export", [b"--partial", good, name, other])
+    for name in b"none\xfc.nt", b"x" * 300 + b"\xff", b"\xfc" * 4096, b"good.nt/\xfc":
+        yield from each(good, name, other)
+    words = b"\xfc.nt: Invalid or incomplete multibyte or wide character\n"
+    yield Case("load", [b"\xfc.nt"], b"", b"resources 0 statements 0\n", words, 2)
+    yield Case("export", [b"\xfc.nt", good], b"", b"", words + b"no file written, not everything could be read\n", 2)
+    told, on = programs.run(programs.load, [b"-"], programs.given(contents(os.fsdecode(b"\xfc.nt")))), {0: os.fsdecode(b"\xfc.nt")}
+    for args in [], [b"-"]:
+        yield Case("load", args, told=told, on=on, name="load: a standard input whose name is not UTF-8")
 
 
 # A file that may not be read.

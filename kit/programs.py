@@ -250,10 +250,13 @@ def drained(descriptor):
     return b"".join(pieces), None
 
 
-# The same of a file.
+# The same of a file. A file whose name is not UTF-8 is not opened.
 def contents(name):
     try:
+        name.decode()
         descriptor = os.open(name, os.O_RDONLY)
+    except UnicodeDecodeError:
+        return b"", os.strerror(errno.EILSEQ).encode()
     except OSError as e:
         return b"", os.strerror(e.errno).encode()
     try:
