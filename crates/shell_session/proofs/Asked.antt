@@ -1,6 +1,6 @@
 -- What is told of a question or a list whose names are known is told of what was typed; where one is unknown, nothing solves it and nothing
 -- matches. Assumes nothing.
-use Rattle.std.proofs.Common.{◌≡◌, ℕ, ◌+◌, ◌<◌, Bool, true, cond, eqb, ◌≢◌, List, [], map, take, sym, refl, ap, ◌∙◌, subst, arith, ne_eqb}
+use Rattle.std.proofs.Common.{◌≡◌, ℕ, Bool, true, ◌≢◌, List, [], map, sym, refl, ◌∙◌, ne_eqb}
 use mathlib.Core.List.Memᴰ
 use lib.ListN.{length-map}
 use Rattle.store.specs.declared.Counters.{Counters}
@@ -9,7 +9,7 @@ use Rattle.store.specs.Soundness.{Sound}
 use Rattle.graph.specs.Graph.{mapping_of}
 use Rattle.graph.specs.Work.{work_of}
 use Rattle.graph.specs.Claims.{named_at}
-use Rattle.shell_line.specs.Questions.{Standing, Read, parts_of, Holds, question, list}
+use Rattle.shell_line.specs.Questions.{Standing, Read, parts_of, question, list}
 use Rattle.shell_words.specs.declared.Words.{Words}
 use Rattle.shell_words.specs.Words.{WordsAre}
 use Rattle.shell_words.specs.Claims.{asked, listed}
