@@ -237,7 +237,7 @@ fn export(
     reply::exported(rt, a, out, work);
 }
 
-// A name's reply, printed. Proved by a walk of its code, since it holds the reply.
+// A name's reply, printed.
 fn named(
     rt: &impl Outputs,
     c: Counters,

@@ -7,7 +7,7 @@ use mathlib.Core.List.Memᴰ
 use mathlib.Core.List.{List, [], ◌∷◌, ◌++◌, Memᴰ}
 use mathlib.Core.List.Permᴰ
 use mathlib.Core.List.{Permᴰ}
-use Prim.Native.Nat.{ℕ, suc, ◌+◌, ◌*◌, ◌≤◌, ◌<◌, min}
+use Prim.Native.Nat.{ℕ, suc, ◌*◌, ◌≤◌, ◌<◌, min}
 use native.Mathlib.Omega.{arith}
 use lib.ListN.{length, drop}
 use lib.Seq.{take_at, drop_at, drop-drop}
@@ -35,7 +35,6 @@ use Rattle.graph.specs.Arranging.{arranged_with, arrange_of, arrange_refusal, Sa
 use Rattle.graph.specs.Arranging.{IsArranged, ArrangedClaim, CountAbove, ArrangeRefuses, arranged_reading}
 use Rattle.graph.specs.Arranging.{ArrangedReads, ArrangedReadingClaim}
 use Rattle.graph.proofs.Solve.{Every, every-member, every_of}
-use Rattle.graph.proofs.ArrangingRuns as runs
 use Rattle.graph.proofs.InOrder.{in_order, in_order_lem}
 use Rattle.graph.proofs.Laws.{patterns-length}
 use Rattle.graph.proofs.Bind.{Fits3}

@@ -23,8 +23,8 @@ use Rattle.graph.specs.Query.{match, record_at, next_pattern, binds, asked, ente
 use Rattle.graph.specs.Place.{Place, start, inside, finish, no_level, levels_of, inside_of, place_as, place_of}
 use Rattle.graph.specs.Place.{written, cursor_at}
 use Rattle.graph.specs.Words.{patterns_of, pattern, max_patterns, Bindings, unbound}
+
 -- Every law stands on this file, and so on the closed runs: a definition that changes an answer is refused there first.
-use Rattle.graph.proofs.Runs as runs
 
 pub prev-minus : (n : ℕ) → prev n ≡ n - 1
 prev-minus zero = refl

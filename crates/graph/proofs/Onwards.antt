@@ -6,7 +6,7 @@ use mathlib.Core.Path.{◌≡◌, refl, sym, ap, ◌∙◌, fun_ext}
 use mathlib.Core.Logic.{◌≢◌, inl, inr}
 use mathlib.Core.Bool.{Bool, true, false, cond, true≢false}
 use mathlib.Core.List.{List, [], ◌∷◌}
-use Prim.Native.Nat.{ℕ, zero, suc, ◌+◌, ◌-◌, ◌<◌}
+use Prim.Native.Nat.{ℕ, zero, suc, ◌+◌, ◌<◌}
 use native.Mathlib.Omega.{arith}
 use lib.ListN.{length}
 use lib.Dec.{eqb}
@@ -39,7 +39,6 @@ use Rattle.graph.proofs.Laws.{walk_turn}
 use Rattle.graph.proofs.Refusals.{says, Passed, resumes, answer-cases, answer-not, number-not}
 use Rattle.graph.proofs.Generations.{cursor-number, NotRefused, own-number, read-on, unrefused-read}
 use Rattle.graph.proofs.Generations.{stale-number}
-use Rattle.graph.proofs.Solve.{statements}
 use Rattle.graph.proofs.Reading.{Reached, Outcome, walk-outcome, intact-ok, pruned-same}
 use Rattle.graph.proofs.Place.{from_place, Gives, any_place, place-keeps}
 use Rattle.store.proofs.Onward.{calls-keep, calls-onward}

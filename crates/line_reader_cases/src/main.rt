@@ -65,7 +65,7 @@ fn report_line(rt: &impl Outputs, n: u64, line: ntriples::Line, next: usize) -> 
     }
 }
 
-// Reads every line of a text, and once more at its end, by one reader. Proved by a walk of its code, since it holds the reader.
+// Reads every line of a text, and once more at its end, by one reader.
 fn report_lines(rt: &impl Outputs, text: &[u8]) {
     let mut r = line_reader::reader(text);
     let mut n: u64 = 0;

@@ -26,7 +26,6 @@ use Rattle.lines.specs.declared.Exported.TheVariants.{Length, Refused as NotExpo
 use Rattle.lines.specs.Export.{file_of, readable, nameable, legible, all_legible, Written, written, over, space_for, export_of}
 use Rattle.lines.specs.Export.{exported_values}
 use Rattle.lines.specs.ExportClaims.{Nine, Overwritten, ExportRefuses, SoundExports}
-use Rattle.lines.proofs.ExportRuns as runs
 
 -- ---- tests that fail
 

@@ -10,8 +10,8 @@ use Rattle.ntriples.specs.Grammar.{white, Trail, Subject, Predicate, Object, Tri
 use Rattle.ntriples.specs.Standard.{TripleOf}
 use Rattle.graph.specs.Meaning.{RdfTriple, IsTriple}
 use Rattle.lines.specs.Export.{line_of}
+
 -- What is proved here stands on the closed runs: a definition that changes an answer is refused there first.
-use Rattle.lines.proofs.ExportRuns as runs
 
 -- the line without its LF
 unfoldable pub bare_line : RdfTriple → List ℕ

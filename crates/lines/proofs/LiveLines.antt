@@ -18,8 +18,8 @@ use Rattle.graph.specs.Graph.{named, LiveAt, graph_of}
 use Rattle.graph.proofs.Solutions.{map-once}
 use Rattle.graph.proofs.Theorems.{live-graph}
 use Rattle.lines.specs.Export.{line_of, line_at, live_numbers, live_lines}
+
 -- as in `LineTriple`: a definition that changes an answer is refused in the closed runs first
-use Rattle.lines.proofs.ExportRuns as runs
 
 -- what falls has no duplicates
 falling-once : (ns : List ℕ) → Falling ns → NoDuplicates ns

@@ -16,8 +16,8 @@ use Rattle.store.proofs.Order.{compare-flip, compare-equal, compare-trans, flip}
 use Rattle.graph.proofs.Permuted.{perm-member}
 use Rattle.lines.specs.Export.{not_more, put_line, sort_lines, join_lines}
 use Rattle.lines.specs.ExportClaims.{Rising, SortMeans}
+
 -- What is proved here stands on the closed runs: a definition that changes an answer is refused there first.
-use Rattle.lines.proofs.ExportRuns as runs
 
 -- ---- the order of two lines
 

@@ -1,7 +1,8 @@
 -- Questions and lists are read through to their end, and the numbers told are right: on a sound store what is told is how many solutions or
 -- statements there are, and the work of reading them. Each that is found is written once, by the form of the code: what is printed has no
 -- contract. Assumes nothing.
-use Rattle.store.specs.Prelude.{◌≡◌, true, List, ℕ, ◌+◌, ◌<◌, length}
+use Rattle.std.specs.Prelude.{◌≡◌, ◌+◌, ◌<◌}
+use Rattle.store.specs.Prelude.{true, List, ℕ, length}
 use Rattle.graph.specs.Prelude.{Counters, Triple}
 use Rattle.store.specs.Shared.{within}
 use Rattle.store.specs.Tables.{Tables}

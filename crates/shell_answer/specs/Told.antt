@@ -1,6 +1,7 @@
 -- What is told of a reading, of a query or of a scan, that was read through: how many calls were made, and what their replies come to.
 -- Assumes nothing.
-use Rattle.store.specs.Prelude.{◌≡◌, ◌≢◌, Bool, true, false, cond, List, [], ◌∷◌, ℕ, suc, ◌≤◌, length, eqb, replicate}
+use Rattle.std.specs.Prelude.{◌≡◌, ◌≢◌, ◌∷◌, ◌≤◌}
+use Rattle.store.specs.Prelude.{Bool, true, false, cond, List, [], ℕ, suc, length, eqb, replicate}
 use Rattle.graph.specs.Claims.{Reply, found_in, has_ended, visits_in}
 use Rattle.shell_answer.specs.declared.Told.{Told}
 

@@ -1,6 +1,7 @@
 -- What the shell tells of a question and of a list, as they were typed: how many solutions there are in SPARQL's sense, and how many triples
 -- match. Assumes nothing.
-use Rattle.store.specs.Prelude.{◌≡◌, ◌↔◌, true, cond, List, List-as-Memᴰ, map, ℕ, ◌+◌, ◌<◌, length, eqb}
+use Rattle.std.specs.Prelude.{◌≡◌, ◌↔◌, ◌+◌, ◌<◌}
+use Rattle.store.specs.Prelude.{true, cond, List, List-as-Memᴰ, map, ℕ, length, eqb}
 use Rattle.store.specs.declared.Counters.{Counters}
 use Rattle.store.specs.Tables.{Tables}
 use Rattle.store.specs.Soundness.{Sound}

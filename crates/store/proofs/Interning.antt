@@ -2,7 +2,7 @@
 -- refusal writes nothing (paper 01, the checklist's first point). Assumes nothing.
 use mathlib.Core.Path.{◌≡◌, refl}
 use mathlib.Core.List.{List, [], ◌∷◌, ◌++◌}
-use Prim.Native.Nat.{ℕ, suc, ◌+◌, ◌-◌}
+use Prim.Native.Nat.{ℕ, suc, ◌-◌}
 use lib.Seq.{length-sets}
 use Rattle.term.specs.Scanner.{first_kind_of}
 use Rattle.term.specs.Canonical.{canonical}

@@ -4,14 +4,14 @@ use mathlib.Core.Path.{◌≡◌, ◌∙◌}
 use mathlib.Core.Logic.{◌≢◌}
 use mathlib.Core.Bool.{Bool, true, false}
 use mathlib.Core.List.{List, [], ◌∷◌, ◌++◌}
-use Prim.Native.Nat.{ℕ, ◌+◌, ◌-◌, ◌<◌}
+use Prim.Native.Nat.{ℕ, ◌<◌}
 use native.Mathlib.Omega.{arith}
 use lib.ListN.{length, length-append, get_or-append}
 use lib.Seq.{get_or-append_seam}
 use Rattle.term.specs.Canonical.{canonical}
 use Rattle.store.specs.declared.Position.TheVariants.{Subject, Predicate}
 use Rattle.store.specs.declared.Triple.{Triple}
-use Rattle.store.specs.Shared.{at, known, same, kinds_permitted, Entry}
+use Rattle.store.specs.Shared.{known, same, kinds_permitted, Entry}
 use Rattle.store.specs.Model.{Listing, Model, Capacities, Call, entry, lookup}
 use Rattle.store.specs.Values.{Values}
 use Rattle.store.specs.Model.{mark, turn, fresh_model, call_model, model_after, with_names, with_entries, with_listings}

@@ -15,7 +15,7 @@ use Rattle.store.specs.declared.Counters.{Counters}
 use Rattle.store.specs.declared.Position.{Position}
 use Rattle.store.specs.declared.Position.TheVariants.{Subject, Predicate}
 use Rattle.store.specs.declared.Triple.{Triple}
-use Rattle.store.specs.Shared.{at, known, same, kinds_permitted, head0, max_reclaims, Entry, name_of}
+use Rattle.store.specs.Shared.{known, same, kinds_permitted, head0, max_reclaims, Entry, name_of}
 use Rattle.store.specs.Tables.{Tables, flag_at}
 use Rattle.store.specs.Values.{Values}
 use Rattle.store.specs.Model.{Model, Capacities, Form, Call, assert, reclaim, fresh_model, entry, lookup, put}

@@ -16,9 +16,8 @@ use Rattle.store.specs.Shared.{at, triple, all3, known, within, same, max_reclai
 use Rattle.store.specs.Lists.{all_below}
 use Rattle.store.specs.Tables.{Tables, off, fits, resource_capacity, statement_capacity, text_capacity}
 use Rattle.store.specs.Reading.{in_range}
+
 -- Every law stands on this file, and so on the closed runs: a definition that changes an answer is refused there first.
-use Rattle.store.proofs.Runs as runs
-use Rattle.store.proofs.PrefixRuns as prefix_runs
 
 -- a case split on two numbers
 pub three {ℓ} : {P : Type ℓ} (x y : ℕ) → (x < y → P) → (x ≡ y → P) → (y < x → P) → P

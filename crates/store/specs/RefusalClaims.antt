@@ -12,7 +12,7 @@ use Rattle.store.specs.Values.{refused_with, asserted_values, retracted_values, 
 use Rattle.store.specs.Values.{StatementValues, statement_values, NameValues, name_values, numbered, lookup_values, lookup_position}
 use Rattle.store.specs.Values.{prefixed_values}
 use Rattle.store.specs.Reading.{statement_of, name_span_of}
-use Rattle.store.specs.Model.{Call, next}
+use Rattle.store.specs.Model.{Call}
 use Rattle.store.specs.Statement.{locate, kinds_ok, assert_of, retract_of}
 use Rattle.store.specs.Scan.{next_of}
 use Rattle.store.specs.Dictionary.{FindAnswer}

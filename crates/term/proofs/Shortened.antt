@@ -20,8 +20,8 @@ use Rattle.term.proofs.Places.{same, same-is, every, every-if, leads}
 use Rattle.term.proofs.Names.{Accepts, never}
 use Rattle.term.proofs.Runs.{run-append}
 use Rattle.term.proofs.WellFormed.{accepted}
+
 -- Every law stands on the closed examples: a definition that changes one is refused there first.
-use Rattle.term.proofs.Examples as examples
 
 -- ---- the test
 

@@ -5,7 +5,6 @@ use lib.ListN.{length}
 use native.Mathlib.Omega.{arith}
 use Rattle.term.specs.Canonical.{ending_bytes}
 use Rattle.term.proofs.Shortened.{writes-long, kept, shortened}
-use borrow.Author.Rules.{rules}
 use Rattle.term.proofs.canonical.Goals as goal
 
 pub overflow_sub-end : goal.overflow_sub-end

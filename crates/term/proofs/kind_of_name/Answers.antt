@@ -2,11 +2,10 @@
 use mathlib.Core.Path.{◌≡◌, sym, ◌∙◌}
 use mathlib.Core.List.{[], ◌∷◌}
 use native.Mathlib.Omega.{arith}
-use borrow.Author.Tests.{not-true, not-false, ne_eqb}
+use borrow.Author.Tests.{ne_eqb}
 use Rattle.term.specs.Grammar.{name_limit}
 use Rattle.term.specs.Scanner.{number_of, first_kind_of, kind_of}
 use Rattle.term.proofs.Runs.{kind-long, kind-short, kind-part, kind-whole, first_byte_lem}
-use borrow.Author.Rules.{rules}
 use Rattle.term.proofs.kind_of_name.Goals as goal
 use Rattle.term.proofs.kind_of_name.Goals.{After-byte_at}
 

@@ -2,7 +2,6 @@
 use native.Mathlib.Omega.{arith}
 use lib.Seq.{take_all}
 use native.Mathlib.Numerals.{unary_clauses}
-use borrow.Author.Rules.{rules}
 use Rattle.term.proofs.scan_term.Goals as goal
 
 pub returns-then-end-bytes : goal.returns-then-end-bytes

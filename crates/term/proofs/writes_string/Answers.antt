@@ -1,11 +1,10 @@
 -- The string ending by its first byte, then from its last byte back: the bytes after are the ending's. Assumes nothing.
 use Prim.Native.Nat.{◌-◌, ◌+◌, ◌≤◌}
 use mathlib.Core.Path.{◌≡◌, refl, sym}
-use lib.ListN.{length, drop, drop_of_length-le}
+use lib.ListN.{length, drop_of_length-le}
 use native.Mathlib.Omega.{arith}
 use Rattle.term.specs.Canonical.{string_ending, ending_bytes}
 use Rattle.term.proofs.Shortened.{writes-of, writes-not, back_more, back-differs}
-use borrow.Author.Rules.{rules}
 use Rattle.term.proofs.writes_string.Goals as goal
 
 pub returns-then-name-lt-ENDING_BYTES : goal.returns-then-name-lt-ENDING_BYTES

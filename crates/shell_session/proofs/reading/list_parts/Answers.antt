@@ -4,8 +4,8 @@ use Rattle.shell_session.proofs.Asked.{none-match, reading-matches}
 use Rattle.shell_session.proofs.reading.list_parts.Goals as goal
 
 pub returns-then-w-ne0 : goal.returns-then-w-ne0
-returns-then-w-ne0 g c S from s e H = let W = c.words_of-w.ensures S list from s e H in
-    absurd (c.if-w-ne0.true W.unrefused)
+returns-then-w-ne0 g c S from s e H =
+    let W = c.words_of-w.ensures S list from s e H in absurd (c.if-w-ne0.true W.unrefused)
 
 pub returns-then-w-ne0-2 : goal.returns-then-w-ne0-2
 returns-then-w-ne0-2 g c S from s e H =

@@ -4,9 +4,8 @@ use native.Mathlib.Numerals.{unary_clauses}
 use Rattle.shell_session.proofs.reading.solve.Goals as goal
 
 pub returns-then-count-words : goal.returns-then-count-words
-returns-then-count-words g c = let a = c.args in
-    let h = c.if-count-words.true in
-    rw (take_all a.count a.words.now (omega (arith, h))) c.read_through.ensures
+returns-then-count-words g c =
+    rw (take_all c.args.count c.args.words.now (omega arith)) c.read_through.ensures
 
 pub returns : goal.returns
 returns g c = simp unary_clauses at c.read_through-2.ensures

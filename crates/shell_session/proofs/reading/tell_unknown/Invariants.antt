@@ -1,4 +1,4 @@
--- `shell_session::reading::tell_unknown` is safe and ends. Assumes nothing.
+-- `i` parts are looked at. Assumes nothing.
 use Rattle.std.proofs.Common.{◌-◌, ◌≤◌}
 use Rattle.shell_session.proofs.reading.tell_unknown.Given as goal
 

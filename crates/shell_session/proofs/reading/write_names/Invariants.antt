@@ -1,4 +1,4 @@
--- `shell_session::reading::write_names` is safe and ends. Assumes nothing.
+-- `i` names are written. Assumes nothing.
 use Rattle.std.proofs.Common.{◌-◌, ◌≤◌, length}
 use Rattle.shell_session.proofs.reading.write_names.Given as goal
 

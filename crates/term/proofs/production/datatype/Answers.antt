@@ -6,7 +6,6 @@ use native.Mathlib.Omega.{arith}
 use Rattle.term.specs.Scanner.{step_of, is_bad}
 use Rattle.term.specs.declared.production.Scan.TheVariants.{Caret, Carets}
 use Rattle.term.proofs.Turn.{unlike, inside-byte, Comes, comes-here, comes-by, comes-to, comes-stop, comes-end}
-use borrow.Author.Rules.{rules}
 use Rattle.term.proofs.production.datatype.Goals as goal
 use Rattle.term.proofs.production.datatype.Goals.{Else-byte_at-ne94}
 

@@ -1,7 +1,6 @@
 -- An IRI: its bytes by one loop, whose invariant is "the definition from here". Assumes nothing.
-use Prim.Native.Nat.{ℕ, ◌-◌, ◌≤◌, ◌<◌}
+use Prim.Native.Nat.{ℕ, ◌<◌}
 use mathlib.Core.Path.{◌≡◌, refl, sym, ap, ◌∙◌}
-use mathlib.Core.List.{List}
 use mathlib.Core.Bool.{Bool, false}
 use lib.ListN.{length, drop, get_or}
 use native.Mathlib.Omega.{arith}
@@ -12,7 +11,6 @@ use Rattle.term.specs.declared.production.Scan.{Scan}
 use Rattle.term.specs.declared.production.Scan.TheVariants.{IriOpen, Iri, Closed}
 use Rattle.term.proofs.Turn.{seen, unlike, inside, inside-byte, Comes, comes-here, comes-on, comes-stop, IriAt}
 use Rattle.term.proofs.Turn.{iri-start, iri-turn}
-use borrow.Author.Rules.{rules}
 use Rattle.term.proofs.production.iri.Goals as goal
 use Rattle.term.proofs.production.iri.Goals.{After-is_iri_byte, Else-i-at, In-loop-i}
 

@@ -1,8 +1,6 @@
 -- The place by the last two bytes of a run of a label's. Assumes nothing.
 use borrow.Author.Tests.{eq-eqb, ne_eqb}
 use Rattle.term.specs.Scanner.{label_place_of}
-use Rattle.term.proofs.production.label_place.Reads as reads
-use Rattle.term.proofs.production.label_place.Lts as lts
 use Rattle.term.proofs.production.label_place.Goals as goal
 
 pub returns-then-last-ne46 : goal.returns-then-last-ne46

@@ -8,7 +8,6 @@ use Rattle.term.specs.Scanner.{step_of, is_bad}
 use Rattle.term.specs.declared.production.Scan.{Scan}
 use Rattle.term.specs.declared.production.Scan.TheVariants.{Quote}
 use Rattle.term.proofs.Turn.{unlike, inside-byte, Comes, comes-here, comes-by, comes-stop, comes-end}
-use borrow.Author.Rules.{rules}
 use Rattle.term.proofs.production.literal_suffix.Goals as goal
 use Rattle.term.proofs.production.literal_suffix.Goals.{After-byte_at}
 

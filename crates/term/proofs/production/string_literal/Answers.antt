@@ -1,17 +1,14 @@
 -- A literal: bytes and pairs by one loop, whose invariant is "the definition from here". Assumes nothing.
-use Prim.Native.Nat.{ℕ, ◌-◌, ◌+◌, ◌<◌}
+use Prim.Native.Nat.{◌+◌, ◌<◌}
 use mathlib.Core.Path.{◌≡◌, refl, sym, ◌∙◌}
-use mathlib.Core.List.{List}
 use mathlib.Core.Bool.{Bool}
 use lib.ListN.{length, get_or}
 use native.Mathlib.Omega.{arith}
-use borrow.Author.Tests.{not-true, not-false}
 use Rattle.term.specs.Bytes.{text_byte, pair_byte, among}
 use Rattle.term.specs.Scanner.{step_of, is_bad}
 use Rattle.term.specs.declared.production.Scan.TheVariants.{Text, Escape, Quote}
 use Rattle.term.proofs.Turn.{seen, unlike, inside, inside-byte, Comes, comes-here, comes-on, comes-to}
 use Rattle.term.proofs.Turn.{comes-stop, comes-end}
-use borrow.Author.Rules.{rules}
 use Rattle.term.proofs.production.string_literal.Goals as goal
 use Rattle.term.proofs.production.string_literal.Goals.{After-is_pair_byte, After-is_text_byte, Else-b-ne92, Else-not-is_pair_byte, Then-is_text_byte}
 

@@ -1,17 +1,15 @@
 -- The later groups of a language tag: a `-` is taken with the byte after it. Assumes nothing.
-use Prim.Native.Nat.{ℕ, ◌-◌, ◌+◌, ◌<◌}
+use Prim.Native.Nat.{ℕ, ◌+◌, ◌<◌}
 use mathlib.Core.Path.{◌≡◌, refl, sym, ◌∙◌}
 use mathlib.Core.List.{List}
 use mathlib.Core.Bool.{Bool, true}
 use lib.ListN.{length, get_or}
 use native.Mathlib.Omega.{arith}
-use borrow.Author.Tests.{not-true, not-false}
 use Rattle.term.specs.Bytes.{letter, alnum}
 use Rattle.term.specs.Scanner.{step_of, is_bad}
-use Rattle.term.specs.declared.production.Scan.TheVariants.{Hyphen, Group}
+use Rattle.term.specs.declared.production.Scan.TheVariants.{Hyphen}
 use Rattle.term.proofs.Turn.{seen, unlike, inside, inside-byte, Comes, comes-here, comes-on, comes-to}
 use Rattle.term.proofs.Turn.{comes-stop}
-use borrow.Author.Rules.{rules}
 use Rattle.term.proofs.production.subtags.Goals as goal
 use Rattle.term.proofs.production.subtags.Goals.{After-is_alnum, After-is_alnum-in-loop-i, After-is_alnum-in-loop-i-2, Else-b-ne45, Else-not-is_alnum-2, Then-is_alnum}
 
