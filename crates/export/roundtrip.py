@@ -3,7 +3,7 @@
 
     python3 crates/export/roundtrip.py [PROGRAM]    # at the root; Debian packages serdi, raptor2-utils
 
-PROGRAM is target/bin/export, made by `rt check export`, or the installed lemontiller-export.
+PROGRAM is target/programs/lemontiller-export, made by `kit/build programs`, or an installed one.
 
 Every positive test of the W3C suite and every sample is exported. Each reader then reads the original and the export: the triples must be
 the same but for those of refused lines, which are taken out of the original. rapper 2.0.15 takes the dot that ends a line into a label
@@ -40,7 +40,7 @@ def triples(reader, path):
 
 def export(path):
     """The exported file, and the numbers of the refused lines."""
-    done = run([(sys.argv[1:] or ["target/bin/export"])[0], path])
+    done = run([(sys.argv[1:] or ["target/programs/lemontiller-export"])[0], path])
     if b" lines refused\n" in done.stderr or b"no file written" in done.stderr:
         sys.exit(f"{path}: not every refused line is told")
     return done.stdout, [int(n) for n in re.findall(rf"^{re.escape(path)}:(\d+):\d+: ", done.stderr.decode(), re.M)]

@@ -1,11 +1,11 @@
 #!/usr/bin/env python3
 """Holds the shell to `reference.py` on random bay files and scripts, or on full tables:
 
-    python3 crates/shell/random_scripts.py target/bin/shell SEED ROUNDS
-    python3 crates/shell/random_scripts.py target/bin/shell full
+    python3 crates/shell/random_scripts.py target/programs/lemontiller-shell SEED ROUNDS
+    python3 crates/shell/random_scripts.py target/programs/lemontiller-shell full
 
-Standard output and standard error are compared byte for byte, and the status, if the program's name begins with `lemontiller-`: the others
-end with 0 always. At the first difference the files are kept, their folder is told, and the status is 1."""
+Standard output, standard error and the status are compared. At the first difference the files are kept, their folder is told, and the status
+is 1."""
 import os
 import random
 import re
@@ -256,8 +256,7 @@ def answers(binary, folder, files, args, script):
 def same(binary, label, files, args, script, told):
     folder = tempfile.mkdtemp(prefix="shell-")
     expected = {"stdout": told.text(OUT), "stderr": told.text(ERR)}
-    if os.path.basename(binary).startswith("lemontiller-"):
-        expected["status"] = b"%d" % told.status
+    expected["status"] = b"%d" % told.status
     got = answers(binary, folder, files, args, script)
     other = [stream for stream in expected if got[stream] != expected[stream]]
     if not other:
