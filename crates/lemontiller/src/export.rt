@@ -13,8 +13,7 @@ use capi_words::replies::export_answer;
 use capi_words::words::counters_of;
 
 // Write the file: the reply has its length in bytes; the first T working words are 0 afterwards.
-#[unsafe(no_mangle)]
-pub extern "C" fn lt_export(
+pub fn lt_export(
     counters: &[u32],
     resources: &[u32],
     statements: &[u32],

@@ -5,7 +5,7 @@
 // where it answers, the paper's refusal number, or 100 where a lent counters, cursor or reply slice is too short; then
 // nothing is written. Beside a refusal the reply's words are 0. Words past those that a reply names keep their values.
 // The contracts are equations with the definitions in `specs/Calls.antt` of `capi_calls`, or records there where an
-// operation's contract is one.
+// operation's contract is one. Crate `lemontiller_c` exports each under its name.
 #![tactic(auto)]
 
 ghost use Rattle.std.specs.Prelude.{◌≡◌};
@@ -33,16 +33,14 @@ pub mod queries;
 pub mod reclaim;
 
 // The version of the library as a number, major * 1,000,000 + minor * 1,000 + patch: 0.2.0.
-#[unsafe(no_mangle)]
-pub extern "C" fn lt_version() -> u32
+pub fn lt_version() -> u32
     ensures { result ≡ 2000 }
 {
     2000
 }
 
 // The kind of a name: 1 an IRI, 2 a blank node, 3 a literal; refusal 2 where it is malformed.
-#[unsafe(no_mangle)]
-pub extern "C" fn lt_name_kind(name: &[u8], reply: &mut [u32]) -> u32
+pub fn lt_name_kind(name: &[u8], reply: &mut [u32]) -> u32
     ensures { done result reply.new ≡ kind_call name.now reply.old }
 {
     if reply.len() < NUMBER_REPLY_WORDS {
@@ -54,8 +52,7 @@ pub extern "C" fn lt_name_kind(name: &[u8], reply: &mut [u32]) -> u32
 }
 
 // Whether the store is sound: 1 or 0.
-#[unsafe(no_mangle)]
-pub extern "C" fn lt_check(
+pub fn lt_check(
     counters: &[u32],
     resources: &[u32],
     statements: &[u32],
@@ -79,8 +76,7 @@ pub extern "C" fn lt_check(
 }
 
 // Find a name: its number, or 0; and the position in the index, from 0, where it stands or would stand.
-#[unsafe(no_mangle)]
-pub extern "C" fn lt_find(
+pub fn lt_find(
     counters: &[u32],
     resources: &[u32],
     statements: &[u32],
@@ -106,8 +102,7 @@ pub extern "C" fn lt_find(
 }
 
 // Name of a number: where its bytes start in the text, and how many they are.
-#[unsafe(no_mangle)]
-pub extern "C" fn lt_name(
+pub fn lt_name(
     counters: &[u32],
     resources: &[u32],
     statements: &[u32],
@@ -134,8 +129,7 @@ pub extern "C" fn lt_name(
 }
 
 // Read a statement: subject, predicate, object, and 1 if it is retracted, else 0.
-#[unsafe(no_mangle)]
-pub extern "C" fn lt_statement(
+pub fn lt_statement(
     counters: &[u32],
     resources: &[u32],
     statements: &[u32],
@@ -164,8 +158,7 @@ pub extern "C" fn lt_statement(
 }
 
 // Reads the line at the position `at` of a text. Refusal 10: its offset in the line stands after the position.
-#[unsafe(no_mangle)]
-pub extern "C" fn lt_read_line(text: &[u8], at: usize, reply: &mut [u64]) -> u32
+pub fn lt_read_line(text: &[u8], at: usize, reply: &mut [u64]) -> u32
     ensures { done result reply.new ≡ line_call text.now at reply.old }
 {
     if reply.len() < LINE_WORDS {
@@ -186,8 +179,7 @@ pub extern "C" fn lt_read_line(text: &[u8], at: usize, reply: &mut [u64]) -> u32
 }
 
 // Retract: the number of the statement that was live until now, or 0.
-#[unsafe(no_mangle)]
-pub extern "C" fn lt_retract(
+pub fn lt_retract(
     counters: &[u32],
     resources: &mut [u32],
     statements: &mut [u32],
@@ -216,8 +208,7 @@ pub extern "C" fn lt_retract(
 }
 
 // Open a pattern scan, 0 for any: the cursor, which stays as it was beside a refusal.
-#[unsafe(no_mangle)]
-pub extern "C" fn lt_scan_open(
+pub fn lt_scan_open(
     counters: &[u32],
     resources: &[u32],
     statements: &[u32],
@@ -250,8 +241,7 @@ pub extern "C" fn lt_scan_open(
 }
 
 // Next of a pattern scan: status (1 found, 2 ended, 3 spent), statement or 0, visits; the cursor moves on.
-#[unsafe(no_mangle)]
-pub extern "C" fn lt_scan_next(
+pub fn lt_scan_next(
     counters: &[u32],
     resources: &[u32],
     statements: &[u32],
@@ -291,8 +281,7 @@ pub extern "C" fn lt_scan_next(
 }
 
 // Assert: status (1 new, 2 already, 3 revived) and the statement's number; counters and tables as answered.
-#[unsafe(no_mangle)]
-pub extern "C" fn lt_assert(
+pub fn lt_assert(
     counters: &mut [u32],
     resources: &mut [u32],
     statements: &mut [u32],
@@ -329,8 +318,7 @@ pub extern "C" fn lt_assert(
 }
 
 // Enter a name: its number, old or new; counters and tables as answered.
-#[unsafe(no_mangle)]
-pub extern "C" fn lt_enter(
+pub fn lt_enter(
     counters: &mut [u32],
     resources: &mut [u32],
     statements: &[u32],

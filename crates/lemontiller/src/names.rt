@@ -11,8 +11,7 @@ use capi_words::replies::prefix_answer;
 use capi_words::words::counters_of;
 
 // List the names with a prefix: their numbers in byte order of name, as many as fit; the reply has the total.
-#[unsafe(no_mangle)]
-pub extern "C" fn lt_names_with_prefix(
+pub fn lt_names_with_prefix(
     counters: &[u32],
     resources: &[u32],
     statements: &[u32],

@@ -51,8 +51,7 @@ fn query_from(
 }
 
 // Open a query: the cursor at the start, with the number of reclaims, which stays as it was beside a refusal (1, 8).
-#[unsafe(no_mangle)]
-pub extern "C" fn lt_query_open(
+pub fn lt_query_open(
     counters: &[u32],
     resources: &[u32],
     statements: &[u32],
@@ -84,8 +83,7 @@ pub extern "C" fn lt_query_open(
 
 // Next of a query: status, visits, the number of each variable; the cursor moves on, and stays as it was beside a
 // refusal (1, 8, 13, 6, 7, 9).
-#[unsafe(no_mangle)]
-pub extern "C" fn lt_query_next(
+pub fn lt_query_next(
     counters: &[u32],
     resources: &[u32],
     statements: &[u32],

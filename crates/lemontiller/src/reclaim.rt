@@ -12,8 +12,7 @@ use store::{Reclaimed, refusal_number};
 
 // Reclaim: counters and tables as answered, all as they were beside a refusal (1, 14, 9). There is no reply: the
 // counters tell all.
-#[unsafe(no_mangle)]
-pub extern "C" fn lt_reclaim(
+pub fn lt_reclaim(
     counters: &mut [u32],
     resources: &mut [u32],
     statements: &mut [u32],
