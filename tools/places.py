@@ -43,6 +43,8 @@ def types(text):
 
 def functions(text):
     """Each function: name, signature up to the body, body, line."""
+    # The semicolon of an array's type ends no item.
+    text = re.sub(r"\[[^\[\]{}\n;]*;", lambda m: m.group()[:-1] + "\0", text)
     for m in re.finditer(r"^ *(?:pub )?fn (\w+)", text, re.M):
         at = m.end()
         depth = 0
@@ -73,9 +75,11 @@ def functions(text):
                 rest = close
                 continue
             body = text[open_at:close]
+            rest = open_at
             break
         if body is not None:
-            yield m.group(1), text[m.start() : rest], body, line_of(text, m.start())
+            head = text[m.start() : rest].replace("\0", ";")
+            yield m.group(1), head, body.replace("\0", ";"), line_of(text, m.start())
 
 
 def tokens(text, loose):

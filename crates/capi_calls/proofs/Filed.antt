@@ -14,8 +14,7 @@ use Rattle.store.specs.declared.Refusal.TheVariants.{Capacity, Damaged, ExportSp
 use Rattle.store.specs.Tables.{Tables, word}
 use Rattle.store.proofs.Numbers.{refusal-range, refusal-positive}
 use Rattle.store.proofs.Tests.{decide}
-use Rattle.lines.specs.declared.Exported.{Exported}
-use Rattle.lines.specs.declared.Exported.TheVariants.{Length, Refused as NotExported}
+use Rattle.std.specs.Prelude.{Result, Ok, Err}
 use Rattle.lines.specs.Export.{Written, written, over, file_of, export_of}
 use Rattle.lines.proofs.ExportAnswers.{ways}
 use Rattle.capi_calls.specs.Words.{counter_words, number_reply_words, too_short, counters_of, if_short, export_answer, filed}
@@ -27,10 +26,10 @@ use Rattle.capi_calls.proofs.Unanswered.{not_short, or_short}
 -- ---- what the operation leaves: all as it was beside a refusal, or the file
 
 abbrev Refuses : List ℕ → List ℕ → Written → Type 0
-Refuses out work z = (e : Refusal) × (z ≡ written out work (NotExported e))
+Refuses out work z = (e : Refusal) × (z ≡ written out work (Err e))
 
 abbrev the_file : Counters → Tables → List ℕ → List ℕ → Written
-the_file c m out work = written (over (file_of c m) out) (over (replicate c.statements 0) work) (Length (length (file_of c m)))
+the_file c m out work = written (over (file_of c m) out) (over (replicate c.statements 0) work) (Ok (length (file_of c m)))
 
 export-cases : (c : Counters) (m : Tables) (out work : List ℕ)
     → Refuses out work (export_of c m out work) ⊎ (export_of c m out work ≡ the_file c m out work)
@@ -40,10 +39,10 @@ export-cases c m out work =
 
 -- ---- not answered
 
-filed-bare : (out work w : List ℕ) (z : Written) → Refuses out work z ⊎ ((n : ℕ) × (z.reply ≡ Length n))
+filed-bare : (out work w : List ℕ) (z : Written) → Refuses out work z ⊎ ((n : ℕ) × (z.reply ≡ Ok n))
     → Unanswered (exported_as w z) (bare_file number_reply_words out work w)
 filed-bare out work w z (inl (e, r)) h = rw (r, not_short e)
-filed-bare out work w z (inr (n, r)) h = absurd (h (ap (λ (a : Exported). (export_answer a).result) r))
+filed-bare out work w z (inr (n, r)) h = absurd (h (ap (λ (a : Result ℕ Refusal). (export_answer a).result) r))
 
 pub unanswered-export : UnansweredExport
 unfolding export_call
@@ -76,9 +75,9 @@ one_word [] n h = absurd (omega arith)
 one_word (x ∷ w) n h = refl
 
 -- no number of the paper is 100
-not-100 : (a : Exported) → (export_answer a).result ≢ 100
-not-100 (Length n) = λ e. absurd (omega (arith, e))
-not-100 (NotExported e) = λ d. let r = refusal-range e in omega (arith, r.1)
+not-100 : (a : Result ℕ Refusal) → (export_answer a).result ≢ 100
+not-100 (Ok n) = λ e. absurd (omega (arith, e))
+not-100 (Err e) = λ d. let r = refusal-range e in omega (arith, r.1)
 
 module _ (cw : List ℕ) (m : Tables) (out work w : List ℕ) where
   abbrev c : Counters

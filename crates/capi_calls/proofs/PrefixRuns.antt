@@ -4,7 +4,6 @@ use mathlib.Core.Path.{◌≡◌, refl}
 use mathlib.Core.List.{List, [], ◌∷◌}
 use Prim.Native.Nat.{ℕ}
 use lib.ListN.{replicate}
-use Rattle.store.specs.declared.Prefixed.TheVariants.{Total, Refused as NotListed}
 use Rattle.store.specs.declared.Refusal.TheVariants.{Damaged}
 use Rattle.store.specs.Tables.{Tables, tables}
 use Rattle.store.specs.Dictionary.{find_of}
@@ -12,6 +11,7 @@ use Rattle.store.specs.Prefix.{prefix_of}
 use Rattle.store.proofs.Opened.{table-definitions}
 use Rattle.capi_calls.specs.Words.{counters_of, if_short, done}
 use Rattle.capi_calls.specs.Calls.{find_as, prefix_as}
+use Rattle.std.specs.Prelude.{Err, Ok}
 
 -- r names, after three reclaims; the word past the counters' four keeps its value
 abbrev counters : ℕ → List ℕ
@@ -85,9 +85,9 @@ pub record Listing : Type 0 where
       ∷ listed (7 ∷ 8 ∷ []) 1 0
       ∷ []
   -- damaged as answered; a reply and counters too short
-  pub listings-as-answered : prefix_as (counters 3) (5 ∷ 66 ∷ []) (NotListed Damaged)
-      ∷ prefix_as (counters 3) [] (Total 2)
-      ∷ prefix_as (3 ∷ 0 ∷ 13 ∷ []) (5 ∷ 66 ∷ []) (Total 2)
+  pub listings-as-answered : prefix_as (counters 3) (5 ∷ 66 ∷ []) (Err Damaged)
+      ∷ prefix_as (counters 3) [] (Ok 2)
+      ∷ prefix_as (3 ∷ 0 ∷ 13 ∷ []) (5 ∷ 66 ∷ []) (Ok 2)
       ∷ []
       ≡ done 9 (0 ∷ 66 ∷ []) ∷ done 100 [] ∷ done 100 (5 ∷ 66 ∷ []) ∷ []
 

@@ -17,11 +17,12 @@ use Rattle.graph.specs.declared.Level.{Level}
 use Rattle.graph.specs.declared.Progress.{Progress}
 use Rattle.graph.specs.declared.Progress.TheVariants.{Start, Within, End}
 use Rattle.graph.specs.declared.QueryCursor.{QueryCursor}
-use Rattle.graph.specs.declared.QueryOpened.{QueryOpened}
+use Rattle.std.specs.Prelude.{Result}
+use Rattle.store.specs.declared.Refusal.{Refusal}
 use Rattle.graph.specs.Place.{level, no_level, Place, start, inside, finish, cursor_at, place_of}
 use Rattle.graph.specs.Words.{max_patterns, variables, Bindings, words_ok}
 use Rattle.graph.specs.Query.{Answer, refused, found, ended, spent, packed, answer_of, open_query_of, stale, next_query_of}
-use Rattle.graph.specs.Values.{query_values}
+use Rattle.graph.specs.Values.{query_opened_values, query_values}
 use Rattle.graph.proofs.Laws.{written-length}
 use Rattle.integrity.proofs.Ranges.{all_of}
 use Rattle.capi_calls.specs.Words.{chain_word}
@@ -136,7 +137,7 @@ place-full g start = written-length []
 place-full g (inside l up) = written-length (l ∷ up)
 place-full g finish = written-length []
 
-answer-full : (g : ℕ) (a : Answer) → length (packed g a).cursor.levels ≡ max_patterns
+answer-full : (g : ℕ) (a : Answer) → length (query_values (packed g a)).cursor.levels ≡ max_patterns
 unfolding packed
 answer-full g (refused e) = written-length []
 answer-full g (found b v q) = place-full g q
@@ -144,12 +145,12 @@ answer-full g (ended v) = place-full g finish
 answer-full g (spent v q) = place-full g q
 
 pub query-cursors-full : QueryCursorsFull
-unfolding open_query_of next_query_from next_query_of
+unfolding open_query_of next_query_from next_query_of packed
 query-cursors-full c m ws w b =
     let q = query_cursor_of w in
-    let none = answer-full 0 (refused (misspelt (eqb q.generation c.generation) (open_query_of c m ws).opening)) in
+    let none = answer-full 0 (refused (misspelt (eqb q.generation c.generation) (open_query_of c m ws))) in
     let told = answer-full c.generation (cond (stale c m ws q) (refused StaleCursor) (answer_of c m ws (place_of q) b)) in
-    let full : QueryOpened → Type 0 = λ o. length o.cursor.levels ≡ max_patterns in (
+    let full : Result QueryCursor Refusal → Type 0 = λ o. length (query_opened_values o).cursor.levels ≡ max_patterns in (
       cond-all full (fits c m) _ _
           (cond-all full (words_ok c.resources ws) _ _ (written-length []) (written-length [])) (written-length []),
       decide (spelt w) (λ e. rw e told) (λ e. rw e none),

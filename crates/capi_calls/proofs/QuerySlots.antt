@@ -16,7 +16,9 @@ use Rattle.store.specs.Tables.{Tables, word, fits}
 use Rattle.store.proofs.Tests.{decide, cond-all}
 use Rattle.graph.specs.declared.Level.{Level}
 use Rattle.graph.specs.declared.QueryCursor.{QueryCursor}
-use Rattle.graph.specs.declared.QueryOpened.{QueryOpened}
+use Rattle.std.specs.Prelude.{Result}
+use Rattle.store.specs.declared.Refusal.{Refusal}
+use Rattle.graph.specs.Values.{query_opened_values, query_values}
 use Rattle.graph.specs.Query.{Answer, refused, found, ended, spent, packed, answer_of, open_query_of, stale, next_query_of}
 use Rattle.graph.specs.Place.{no_level, start_cursor, Place, start, inside, finish, cursor_at, place_of}
 use Rattle.graph.specs.Words.{max_patterns, words_ok}
@@ -45,26 +47,26 @@ place-clear g start = start-clear g
 place-clear g (inside l up) = record { unused = written-past (l ∷ up); entered = λ h. absurd (h refl) }
 place-clear g finish = record { unused = written-past []; entered = λ _. refl }
 
-answer-clear : (g : ℕ) (a : Answer) → Clear (packed g a).cursor
+answer-clear : (g : ℕ) (a : Answer) → Clear (query_values (packed g a)).cursor
 unfolding packed
 answer-clear g (refused e) = start-clear 0
 answer-clear g (found b v p) = place-clear g p
 answer-clear g (ended v) = place-clear g finish
 answer-clear g (spent v p) = place-clear g p
 
-opened-clear : (c : Counters) (m : Tables) (ws : List ℕ) → Clear (open_query_of c m ws).cursor
+opened-clear : (c : Counters) (m : Tables) (ws : List ℕ) → Clear (query_opened_values (open_query_of c m ws)).cursor
 unfolding open_query_of
 opened-clear c m ws =
-    let clear : QueryOpened → Type 0 = λ o. Clear o.cursor in
+    let clear : Result QueryCursor Refusal → Type 0 = λ o. Clear (query_opened_values o).cursor in
     cond-all clear (fits c m) _ _
     (cond-all clear (words_ok c.resources ws) _ _ (start-clear c.generation) (start-clear 0)) (start-clear 0)
 
-next-clear : (c : Counters) (m : Tables) (ws q : List ℕ) (b : ℕ) → Clear (next_query_from c m ws q b).cursor
-unfolding next_query_from next_query_of
+next-clear : (c : Counters) (m : Tables) (ws q : List ℕ) (b : ℕ) → Clear (query_values (next_query_from c m ws q b)).cursor
+unfolding next_query_from next_query_of packed
 next-clear c m ws q b =
     let p = query_cursor_of q in
     let told = answer-clear c.generation (cond (stale c m ws p) (refused StaleCursor) (answer_of c m ws (place_of p) b)) in
-    let none = answer-clear 0 (refused (misspelt (eqb p.generation c.generation) (open_query_of c m ws).opening)) in
+    let none = answer-clear 0 (refused (misspelt (eqb p.generation c.generation) (open_query_of c m ws))) in
     decide (spelt q) (λ e. rw e told) (λ e. rw e none)
 
 -- ---- its words
@@ -123,7 +125,7 @@ opened-slots-blank cw m ws w =
     let short : P (done too_short w) = λ e. absurd (omega arith) in
     each P (ltb (length cw) counter_words) short (λ _.
     each P (ltb (length w) query_cursor_words) short (λ f e.
-    rw e (words-blank w a.cursor (ltb-false (length w) query_cursor_words f) (opened-clear (counters_of cw) m ws))))
+    rw e (words-blank w (query_opened_values a).cursor (ltb-false (length w) query_cursor_words f) (opened-clear (counters_of cw) m ws))))
 
 pub answered-slots-blank : AnsweredSlotsBlank
 unfolding query_next_call if_any_short
@@ -134,4 +136,4 @@ answered-slots-blank cw m ws q b w =
     each P (ltb (length cw) counter_words) short (λ _.
     each P (ltb (length q) query_cursor_words) short (λ f.
     each P (ltb (length w) query_reply_words) short (λ _ e.
-    rw e (words-blank q a.cursor (ltb-false (length q) query_cursor_words f) (next-clear (counters_of cw) m ws q b)))))
+    rw e (words-blank q (query_values a).cursor (ltb-false (length q) query_cursor_words f) (next-clear (counters_of cw) m ws q b)))))

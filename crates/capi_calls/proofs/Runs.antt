@@ -4,9 +4,7 @@
 use mathlib.Core.Path.{◌≡◌, refl}
 use mathlib.Core.List.{List, [], ◌∷◌}
 use Prim.Native.Nat.{ℕ, ◌-◌}
-use Rattle.store.specs.declared.Interned.TheVariants.{Number as Id}
 use Rattle.store.specs.declared.Lookup.TheVariants.{Number}
-use Rattle.store.specs.declared.Reclaimed.TheVariants.{Refused as NotReclaimed}
 use Rattle.store.specs.declared.Refusal.TheVariants.{Capacity, Damaged}
 use Rattle.store.specs.Shared.{triple}
 use Rattle.store.specs.Tables.{Tables, tables}
@@ -18,6 +16,7 @@ use Rattle.capi_calls.specs.Words.{next_from}
 use Rattle.capi_calls.specs.Calls.{find_as, enter_as, name_call, statement_call, retract_call, open_call, next_call}
 use Rattle.capi_calls.specs.Calls.{assert_call}
 use Rattle.capi_calls.specs.Calls.{reclaim_as}
+use Rattle.std.specs.Prelude.{Err, Ok}
 
 -- ---- the store before <a> <b> <a> . and after it; its two statement records hold anything
 
@@ -109,9 +108,9 @@ pub record Calling : Type 0 where
   pub reads-statement : statement_call (counters 1) (holding 1) 1 (5 ∷ 5 ∷ 5 ∷ 5 ∷ 66 ∷ []) ≡ done 0 (1 ∷ 2 ∷ 1 ∷ 1 ∷ 66 ∷ [])
   pub reads-name : name_call (counters 1) (holding 0) 2 (5 ∷ 5 ∷ 66 ∷ []) ≡ done 0 (4 ∷ 3 ∷ 66 ∷ [])
   -- find and enter as answered
-  pub finds : find_as (counters 1) (5 ∷ 5 ∷ 66 ∷ []) (Number (record { 0 = 2 }) 1) ≡ done 0 (2 ∷ 1 ∷ 66 ∷ [])
+  pub finds : find_as (counters 1) (5 ∷ 5 ∷ 66 ∷ []) (Ok (Number (record { 0 = 2 }) 1)) ≡ done 0 (2 ∷ 1 ∷ 66 ∷ [])
   pub enters : enter_as (counters 1) (5 ∷ 66 ∷ [])
-      (Id (record { 0 = 3 }) (record { resources = 3; statements = 1; text = 12; generation = 3 }))
+      (Ok (record { number = record { 0 = 3 }; counters = record { resources = 3; statements = 1; text = 12; generation = 3 } }))
       ≡ beside 0 (3 ∷ 1 ∷ 12 ∷ 3 ∷ 77 ∷ []) (3 ∷ 66 ∷ [])
   -- a scan: opened at the subject's chain; found, ended past a retracted statement, at its end, no budget, a chain word
   -- above 3
@@ -162,8 +161,8 @@ pub record Calling : Type 0 where
       ∷ reclaimed (holding 1) 1 (counters 3)
       ∷ []
   -- damaged as answered, counters too short
-  pub reclaims-as-answered : reclaim_as (counters 1) (NotReclaimed Damaged)
-      ∷ reclaim_as (2 ∷ 1 ∷ 8 ∷ []) (NotReclaimed Capacity)
+  pub reclaims-as-answered : reclaim_as (counters 1) (Err Damaged)
+      ∷ reclaim_as (2 ∷ 1 ∷ 8 ∷ []) (Err Capacity)
       ∷ []
       ≡ done 9 (counters 1) ∷ done 100 (2 ∷ 1 ∷ 8 ∷ []) ∷ []
 

@@ -10,8 +10,6 @@ use lib.ListN.{length}
 use lib.Dec.{eqb, leb}
 use borrow.Author.Tests.{eq-eqb, eqb-true, eqb-false, le-ltb}
 use Rattle.store.specs.declared.Counters.{Counters}
-use Rattle.store.specs.declared.Reclaimed.{Reclaimed}
-use Rattle.store.specs.declared.Reclaimed.TheVariants.{Done, Refused as NotReclaimed}
 use Rattle.store.specs.Tables.{Tables, after, word, fits}
 use Rattle.store.specs.Shared.{max_reclaims}
 use Rattle.store.specs.Values.{Values, refusal_number, scanned_values, reclaimed_values}
@@ -32,6 +30,8 @@ use Rattle.capi_calls.specs.QueryCalls.{query_next_call}
 use Rattle.capi_calls.specs.Claims.{StaleWords, StaleQueryWords, Reclaims, AnsweredReclaim}
 use Rattle.capi_calls.proofs.ReadBack.{counters-read-back}
 use Rattle.store.proofs.Numbers.{refuses}
+use Rattle.std.specs.Prelude.{Err, Ok, Result}
+use Rattle.store.specs.declared.Refusal.{Refusal}
 
 -- ---- a listing's words
 
@@ -65,7 +65,7 @@ stale-words cw m q b w h g k =
 -- ---- a query's words
 
 misspelt-stale : (c : Counters) (m : Tables) (ws w : List ℕ)
-    → refusal_number (misspelt (eqb (word w 2) c.generation) (open_query_of c m ws).opening) ≡ 13
+    → refusal_number (misspelt (eqb (word w 2) c.generation) (open_query_of c m ws)) ≡ 13
     ↔ (fits c m ≡ true) × (words_ok c.resources ws ≡ true) × (word w 2 ≢ c.generation)
 unfolding open_query_of
 misspelt-stale c m ws w =
@@ -92,19 +92,19 @@ stale-query-words cw m ws q b w h g k =
 
 -- ---- a reclaim that is answered
 
-answered : (cw : List ℕ) (m m' : Tables) (z : ℕ × List ℕ) (a : Reclaimed) → counter_words ≤ length cw
+answered : (cw : List ℕ) (m m' : Tables) (z : ℕ × List ℕ) (a : Result Counters Refusal) → counter_words ≤ length cw
     → fits (counters_of cw) m ≡ true → word cw 3 < max_reclaims → z ≡ reclaimed_as cw a
     → after m' a ≡ reclaim_of (counters_of cw) m → Reclaims cw m m' z
-answered cw m m' z (NotReclaimed e) h f g d x =
+answered cw m m' z (Err e) h f g d x =
     absurd (true≢false (sym (eq-eqb (refusal_number e) 0
-    (ap (λ (y : Tables × Reclaimed). (reclaimed_values y.1).refusal) x ∙ reclaim-done (counters_of cw) m f g)) ∙ refuses e))
-answered cw m m' z (Done n) h f g d x =
+    (ap (λ (y : Tables × Result Counters Refusal). (reclaimed_values y.1).refusal) x ∙ reclaim-done (counters_of cw) m f g)) ∙ refuses e))
+answered cw m m' z (Ok n) h f g d x =
     let r : counters_of z.1 ≡ n = ap (λ (y : ℕ × List ℕ). counters_of y.1) d ∙ counters-read-back cw n h in
     record {
       result = ap (λ (y : ℕ × List ℕ). y.0) d;
-      tables = ap (λ (k : Counters). after m' (Done k)) r ∙ x;
+      tables = ap (λ (k : Counters). after m' (Ok k)) r ∙ x;
       number = ap (λ (k : Counters). k.generation) r
-          ∙ ap (λ (y : Tables × Reclaimed). (reclaimed_values y.1).counters.generation) x ∙ reclaim-number (counters_of cw) m f g;
+          ∙ ap (λ (y : Tables × Result Counters Refusal). (reclaimed_values y.1).counters.generation) x ∙ reclaim-number (counters_of cw) m f g;
     }
 
 pub answered-reclaim : AnsweredReclaim

@@ -11,26 +11,9 @@ use Rattle.term.specs.Grammar.{name_limit}
 use Rattle.store.specs.declared.Counters.{Counters}
 use Rattle.store.specs.declared.Refusal.{Refusal}
 use Rattle.store.specs.declared.Refusal.TheVariants.{StaleCursor}
-use Rattle.store.specs.declared.Lookup.{Lookup}
-use Rattle.store.specs.declared.Lookup.TheVariants.{Number, Absent, Refused as NotFound}
-use Rattle.store.specs.declared.Prefixed.{Prefixed}
-use Rattle.store.specs.declared.Prefixed.TheVariants.{Total, Refused as NotListed}
-use Rattle.store.specs.declared.NameRead.{NameRead}
-use Rattle.store.specs.declared.NameRead.TheVariants.{Span, Refused as NotNamed}
-use Rattle.store.specs.declared.StatementRead.{StatementRead}
-use Rattle.store.specs.declared.StatementRead.TheVariants.{Is, Refused as NotRead}
-use Rattle.store.specs.declared.Interned.{Interned}
-use Rattle.store.specs.declared.Interned.TheVariants.{Number as Id, Refused as NotInterned}
-use Rattle.store.specs.declared.Asserted.{Asserted}
-use Rattle.store.specs.declared.Asserted.TheVariants.{New, Already, Revived, Refused as NotAsserted}
-use Rattle.store.specs.declared.Retracted.{Retracted}
-use Rattle.store.specs.declared.Retracted.TheVariants.{Number as WasLive, Absent as NotLive, Refused as NotRetracted}
-use Rattle.store.specs.declared.Reclaimed.{Reclaimed}
-use Rattle.store.specs.declared.Reclaimed.TheVariants.{Done, Refused as NotReclaimed}
-use Rattle.store.specs.declared.ScanOpened.{ScanOpened}
-use Rattle.store.specs.declared.ScanOpened.TheVariants.{Cursor, Refused as NotOpened}
-use Rattle.store.specs.declared.Scanned.{Scanned}
-use Rattle.store.specs.declared.Scanned.TheVariants.{Found, Ended, Spent, Refused as NotScanned}
+use Rattle.store.specs.declared.Lookup.TheVariants.{Number, Absent}
+use Rattle.store.specs.declared.Asserted.TheVariants.{New, Already, Revived}
+use Rattle.store.specs.declared.Scanned.TheVariants.{Found, Ended, Spent}
 use Rattle.store.specs.Tables.{Tables, after, fits}
 use Rattle.store.specs.Prefix.{PrefixAnswer}
 use Rattle.store.specs.Statement.{assert_of, retract_of}
@@ -38,7 +21,7 @@ use Rattle.store.specs.Scan.{open_of}
 use Rattle.store.specs.Reading.{name_span_of, statement_of}
 use Rattle.store.specs.Values.{refusal_number}
 use Rattle.store.proofs.Tests.{decide}
-use Rattle.graph.specs.declared.QueryOpened.{QueryOpened}
+use Rattle.graph.specs.declared.QueryCursor.{QueryCursor}
 use Rattle.graph.specs.declared.QueryAnswer.{QueryAnswer}
 use Rattle.graph.specs.Query.{Answer, refused, found, ended, spent, packed, answer_of, open_query_of, stale, next_query_of}
 use Rattle.graph.specs.Place.{place_of}
@@ -66,6 +49,15 @@ use Rattle.capi_calls.specs.QueryWords.{next_query_from}
 use Rattle.capi_calls.specs.QueryWords.{numbers_from}
 use Rattle.capi_calls.specs.QueryCalls.{query_opened_as, query_open_call, query_answered_as, query_next_call}
 use Rattle.term.proofs.Names.{never}
+use Rattle.std.specs.Prelude.{Err, None, Ok, Option as Optional, Result, Some}
+use Rattle.store.specs.declared.Asserted.{Asserted}
+use Rattle.store.specs.declared.Interned.{Interned}
+use Rattle.store.specs.declared.Lookup.{Lookup}
+use Rattle.store.specs.declared.NameSpan.{NameSpan}
+use Rattle.store.specs.declared.ScanCursor.{ScanCursor}
+use Rattle.store.specs.declared.Scanned.{Scanned}
+use Rattle.store.specs.declared.StatementId.{StatementId}
+use Rattle.store.specs.declared.StatementRead.{StatementRead}
 
 -- no refusal has the number of a slice too short
 pub not_short : (e : Refusal) → eqb (refusal_number e) too_short ≡ false
@@ -103,22 +95,22 @@ long-enough-is cw n w s a e = inside (ltb (length cw) counter_words) (ltb (lengt
 
 -- ---- replies alone
 
-found-bare : (w : List ℕ) (a : Lookup) → Unanswered (found_as w (lookup_answer a)) (bare find_reply_words w)
-found-bare w (Number n k) h = absurd (h refl)
-found-bare w (Absent k) h = absurd (h refl)
-found-bare w (NotFound e) h = rw (not_short e)
+found-bare : (w : List ℕ) (a : Result Lookup Refusal) → Unanswered (found_as w (lookup_answer a)) (bare find_reply_words w)
+found-bare w (Ok (Number n k)) h = absurd (h refl)
+found-bare w (Ok (Absent k)) h = absurd (h refl)
+found-bare w (Err e) h = rw (not_short e)
 
-listed-bare : (w : List ℕ) (a : Prefixed) → Unanswered (number_as w (prefix_answer a)) (bare number_reply_words w)
-listed-bare w (Total n) h = absurd (h refl)
-listed-bare w (NotListed e) h = rw (not_short e)
+listed-bare : (w : List ℕ) (a : Result ℕ Refusal) → Unanswered (number_as w (prefix_answer a)) (bare number_reply_words w)
+listed-bare w (Ok n) h = absurd (h refl)
+listed-bare w (Err e) h = rw (not_short e)
 
-named-bare : (w : List ℕ) (a : NameRead) → Unanswered (name_as w (name_answer a)) (bare name_reply_words w)
-named-bare w (Span a n) h = absurd (h refl)
-named-bare w (NotNamed e) h = rw (not_short e)
+named-bare : (w : List ℕ) (a : Result NameSpan Refusal) → Unanswered (name_as w (name_answer a)) (bare name_reply_words w)
+named-bare w (Ok s) h = absurd (h refl)
+named-bare w (Err e) h = rw (not_short e)
 
-read-bare : (w : List ℕ) (a : StatementRead) → Unanswered (statement_as w (statement_answer a)) (bare statement_reply_words w)
-read-bare w (Is x f) h = absurd (h refl)
-read-bare w (NotRead e) h = rw (not_short e)
+read-bare : (w : List ℕ) (a : Result StatementRead Refusal) → Unanswered (statement_as w (statement_answer a)) (bare statement_reply_words w)
+read-bare w (Ok s) h = absurd (h refl)
+read-bare w (Err e) h = rw (not_short e)
 
 pub unanswered-find : UnansweredFind
 unfolding find_as
@@ -126,16 +118,16 @@ unanswered-find cw m name w z f =
     rw f.told (or_short (bare find_reply_words w) cw w find_reply_words refl (found-bare w f.found))
 
 -- a listing that is refused writes no number
-module _ {c : Counters} {m : Tables} {prefix out out' : List ℕ} {a : Prefixed} (f : PrefixAnswer c m prefix out out' a) where
+module _ {c : Counters} {m : Tables} {prefix out out' : List ℕ} {a : Result ℕ Refusal} (f : PrefixAnswer c m prefix out out' a) where
   listed_kept : (r : ℕ) → r ≡ (prefix_answer a).result → r ≢ 0 → out' ≡ out
   listed_kept r e h =
       decide (fits c m)
       (λ fit. decide (leb (length prefix) name_limit)
-      (λ few. ⊎_elim (λ d. ap (λ (z : List ℕ × Prefixed). z.0) d)
-      (λ l. absurd (h (e ∙ ap (λ (z : List ℕ × Prefixed). (prefix_answer z.1).result) l.1)))
+      (λ few. ⊎_elim (λ d. ap (λ (z : List ℕ × Result ℕ Refusal). z.0) d)
+      (λ l. absurd (h (e ∙ ap (λ (z : List ℕ × Result ℕ Refusal). (prefix_answer z.1).result) l.1)))
       (f.bounded fit (leb-true (length prefix) name_limit few)))
-      (λ many. ap (λ (z : List ℕ × Prefixed). z.0) (f.malformed fit (leb-false (length prefix) name_limit many))))
-      (λ over. ap (λ (z : List ℕ × Prefixed). z.0) (f.capacity over))
+      (λ many. ap (λ (z : List ℕ × Result ℕ Refusal). z.0) (f.malformed fit (leb-false (length prefix) name_limit many))))
+      (λ over. ap (λ (z : List ℕ × Result ℕ Refusal). z.0) (f.capacity over))
 
 pub unanswered-prefix : UnansweredPrefix
 unfolding prefix_as
@@ -165,11 +157,11 @@ unanswered-statement cw m n w =
 
 -- ---- tables and counters
 
-retracted-bare : (w : List ℕ) (m m' : Tables) (a : Retracted) → ((e : Refusal) → a ≡ NotRetracted e → m' ≡ m)
+retracted-bare : (w : List ℕ) (m m' : Tables) (a : Result (Optional StatementId) Refusal) → ((e : Refusal) → a ≡ Err e → m' ≡ m)
     → Unanswered (retract_as w (after m' a)) (bare_tables number_reply_words m w)
-retracted-bare w m m' (WasLive n) quiet h = absurd (h refl)
-retracted-bare w m m' NotLive quiet h = absurd (h refl)
-retracted-bare w m m' (NotRetracted e) quiet h = rw (not_short e, quiet e refl)
+retracted-bare w m m' (Ok (Some n)) quiet h = absurd (h refl)
+retracted-bare w m m' (Ok None) quiet h = absurd (h refl)
+retracted-bare w m m' (Err e) quiet h = rw (not_short e, quiet e refl)
 
 pub unanswered-retract : UnansweredRetract
 unfolding retract_call
@@ -178,12 +170,12 @@ unanswered-retract cw m x w =
     or_short (bare_tables number_reply_words m w) cw w number_reply_words refl
     (retracted-bare w m z.0 z.1 (retract-refused (counters_of cw) m x))
 
-asserted-bare : (cw w : List ℕ) (m m' : Tables) (a : Asserted) → ((e : Refusal) → a ≡ NotAsserted e → m' ≡ m)
+asserted-bare : (cw w : List ℕ) (m m' : Tables) (a : Result Asserted Refusal) → ((e : Refusal) → a ≡ Err e → m' ≡ m)
     → Unanswered (assert_as cw w (after m' a)) (bare_store assert_reply_words cw m w)
-asserted-bare cw w m m' (New n d) quiet h = absurd (h refl)
-asserted-bare cw w m m' (Already n d) quiet h = absurd (h refl)
-asserted-bare cw w m m' (Revived n d) quiet h = absurd (h refl)
-asserted-bare cw w m m' (NotAsserted e) quiet h = rw (not_short e, refuses e, quiet e refl)
+asserted-bare cw w m m' (Ok (New n d)) quiet h = absurd (h refl)
+asserted-bare cw w m m' (Ok (Already n d)) quiet h = absurd (h refl)
+asserted-bare cw w m m' (Ok (Revived n d)) quiet h = absurd (h refl)
+asserted-bare cw w m m' (Err e) quiet h = rw (not_short e, refuses e, quiet e refl)
 
 pub unanswered-assert : UnansweredAssert
 unfolding assert_call
@@ -192,14 +184,14 @@ unanswered-assert cw m x w =
     or_short (bare_store assert_reply_words cw m w) cw w assert_reply_words refl
     (asserted-bare cw w m z.0 z.1 (assert-refused (counters_of cw) m x))
 
-entered-bare : (cw w : List ℕ) (a : Interned) → Unanswered (entered_as cw w a) (bare_beside number_reply_words cw w)
-entered-bare cw w (Id n d) h = absurd (h refl)
-entered-bare cw w (NotInterned e) h = rw (not_short e, refuses e)
+entered-bare : (cw w : List ℕ) (a : Result Interned Refusal) → Unanswered (entered_as cw w a) (bare_beside number_reply_words cw w)
+entered-bare cw w (Ok i) h = absurd (h refl)
+entered-bare cw w (Err e) h = rw (not_short e, refuses e)
 
-entered-kept : (cw w : List ℕ) (m m' : Tables) (a : Interned) → ((e : Refusal) → a ≡ NotInterned e → m' ≡ m)
+entered-kept : (cw w : List ℕ) (m m' : Tables) (a : Result Interned Refusal) → ((e : Refusal) → a ≡ Err e → m' ≡ m)
     → (entered_as cw w a).0 ≢ 0 → m' ≡ m
-entered-kept cw w m m' (Id n d) quiet h = absurd (h refl)
-entered-kept cw w m m' (NotInterned e) quiet h = quiet e refl
+entered-kept cw w m m' (Ok i) quiet h = absurd (h refl)
+entered-kept cw w m m' (Err e) quiet h = quiet e refl
 
 pub unanswered-enter : UnansweredEnter
 unfolding enter_as
@@ -215,9 +207,9 @@ unanswered-enter cw m m' name w z f h =
           f.kept,
     )
 
-reclaimed-bare : (cw : List ℕ) (a : Reclaimed) → Unanswered (reclaimed_as cw a) (kept cw)
-reclaimed-bare cw (Done d) h = absurd (h refl)
-reclaimed-bare cw (NotReclaimed e) h = rw (refuses e)
+reclaimed-bare : (cw : List ℕ) (a : Result Counters Refusal) → Unanswered (reclaimed_as cw a) (kept cw)
+reclaimed-bare cw (Ok d) h = absurd (h refl)
+reclaimed-bare cw (Err e) h = rw (refuses e)
 
 pub unanswered-reclaim : UnansweredReclaim
 unfolding reclaim_as
@@ -236,19 +228,19 @@ unanswered-reclaim cw m m' z f h =
 
 -- ---- cursors
 
-opened-bare : (q : List ℕ) (a : ScanOpened) → Unanswered (opened_as q a) (kept q)
-opened-bare q (Cursor k) h = absurd (h refl)
-opened-bare q (NotOpened e) h = rw (refuses e)
+opened-bare : (q : List ℕ) (a : Result ScanCursor Refusal) → Unanswered (opened_as q a) (kept q)
+opened-bare q (Ok k) h = absurd (h refl)
+opened-bare q (Err e) h = rw (refuses e)
 
 pub unanswered-open : UnansweredOpen
 unfolding open_call
 unanswered-open cw m x q = or_short (kept q) cw q cursor_words refl (opened-bare q (open_of (counters_of cw) m x))
 
-scanned-bare : (q w : List ℕ) (a : Scanned) → Unanswered (scanned_as q w a) (bare_beside scan_reply_words q w)
-scanned-bare q w (Found n v k) h = absurd (h refl)
-scanned-bare q w (Ended v k) h = absurd (h refl)
-scanned-bare q w (Spent v k) h = absurd (h refl)
-scanned-bare q w (NotScanned e) h = rw (not_short e, refuses e)
+scanned-bare : (q w : List ℕ) (a : Result Scanned Refusal) → Unanswered (scanned_as q w a) (bare_beside scan_reply_words q w)
+scanned-bare q w (Ok (Found n v k)) h = absurd (h refl)
+scanned-bare q w (Ok (Ended v k)) h = absurd (h refl)
+scanned-bare q w (Ok (Spent v k)) h = absurd (h refl)
+scanned-bare q w (Err e) h = rw (not_short e, refuses e)
 
 pub unanswered-next : UnansweredNext
 unfolding next_call
@@ -258,7 +250,7 @@ unanswered-next cw m q b w =
 
 -- ---- queries
 
-query-opened-bare : (q : List ℕ) (a : QueryOpened) → Unanswered (query_opened_as q a) (kept q)
+query-opened-bare : (q : List ℕ) (a : Result QueryCursor Refusal) → Unanswered (query_opened_as q a) (kept q)
 query-opened-bare q a h = rw (ne_eqb (query_opened_values a).refusal 0 h)
 
 pub unanswered-query-open : UnansweredQueryOpen
@@ -277,14 +269,14 @@ query-bare q w g (spent v p) h = absurd (h refl)
 
 query-answered-bare : (cw : List ℕ) (m : Tables) (ws q : List ℕ) (b : ℕ) (w : List ℕ)
     → Unanswered (query_answered_as q w (next_query_from (counters_of cw) m ws q b)) (bare_beside query_reply_words q w)
-unfolding next_query_from next_query_of
+unfolding next_query_from next_query_of packed
 query-answered-bare cw m ws q b w =
     let c = counters_of cw in
     let p = query_cursor_of q in
-    both (λ (a : QueryAnswer). Unanswered (query_answered_as q w a) (bare_beside query_reply_words q w))
+    both (λ (a : Result QueryAnswer Refusal). Unanswered (query_answered_as q w a) (bare_beside query_reply_words q w))
     (spelt q)
     (query-bare q w c.generation (cond (stale c m ws p) (refused StaleCursor) (answer_of c m ws (place_of p) b)))
-    (query-bare q w 0 (refused (misspelt (eqb p.generation c.generation) (open_query_of c m ws).opening)))
+    (query-bare q w 0 (refused (misspelt (eqb p.generation c.generation) (open_query_of c m ws))))
 
 pub unanswered-query-next : UnansweredQueryNext
 unfolding query_next_call

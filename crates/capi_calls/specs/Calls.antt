@@ -1,12 +1,8 @@
 -- What each function for C gives back and writes, from the definitions of the operation it stands for: the result and
 -- the lent slices after the call. Too short a slice gives 100 and all slices as they were. Assumes nothing.
-use Rattle.std.specs.Prelude.{◌≡◌, Bool, true, false, cond, ◌↔◌, List, ℕ, ◌≤◌, ◌<◌, length, ltb}
+use Rattle.std.specs.Prelude.{◌≡◌, Bool, true, false, cond, ◌↔◌, List, ℕ, ◌≤◌, ◌<◌, length, ltb, Result}
 use Rattle.term.specs.Grammar.{name_limit}
 use Rattle.term.specs.Scanner.{kind_of}
-use Rattle.store.specs.declared.Lookup.{Lookup}
-use Rattle.store.specs.declared.Prefixed.{Prefixed}
-use Rattle.store.specs.declared.Interned.{Interned}
-use Rattle.store.specs.declared.Reclaimed.{Reclaimed}
 use Rattle.store.specs.declared.Triple.{Triple}
 use Rattle.store.specs.Tables.{Tables}
 use Rattle.store.specs.Statement.{assert_of, retract_of}
@@ -23,6 +19,10 @@ use Rattle.capi_calls.specs.Words.{name_reply_words, statement_reply_words, asse
 use Rattle.capi_calls.specs.Words.{wrote, changed, kind_answer, check_answer, lookup_answer, name_answer, statement_answer, read_answer}
 use Rattle.capi_calls.specs.Words.{next_from, number_as, name_as, statement_as, line_as, opened_as, scanned_as, retract_as, assert_as}
 use Rattle.capi_calls.specs.Words.{entered_as, reclaimed_as, find_reply_words, found_as, prefix_answer, filed, exported_as}
+use Rattle.store.specs.declared.Counters.{Counters}
+use Rattle.store.specs.declared.Interned.{Interned}
+use Rattle.store.specs.declared.Lookup.{Lookup}
+use Rattle.store.specs.declared.Refusal.{Refusal}
 
 -- `lt_name_kind`: the name, the reply
 unfoldable pub kind_call : List ℕ → List ℕ → ℕ × List ℕ
@@ -39,20 +39,20 @@ pub record CheckCall (cw : List ℕ) (m : Tables) (w : List ℕ) (z : ℕ × Lis
   pub exact : long_enough cw number_reply_words w ≡ true → (sound ≡ true) ↔ Sound (counters_of cw) m
 
 -- `lt_find`: the reply tells what find answers
-unfoldable pub find_as : List ℕ → List ℕ → Lookup → ℕ × List ℕ
+unfoldable pub find_as : List ℕ → List ℕ → Result Lookup Refusal → ℕ × List ℕ
 find_as cw w a = if_short cw find_reply_words w (done too_short w) (found_as w (lookup_answer a))
 
 pub record FindCall (cw : List ℕ) (m : Tables) (name w : List ℕ) (z : ℕ × List ℕ) : Type 0 where
-  pub found : Lookup
+  pub found : Result Lookup Refusal
   pub told : z ≡ find_as cw w found
   pub exact : long_enough cw find_reply_words w ≡ true → FindAnswer (counters_of cw) m name found
 
 -- `lt_names_with_prefix`: out' are the lent numbers after it; the reply tells the total
-unfoldable pub prefix_as : List ℕ → List ℕ → Prefixed → ℕ × List ℕ
+unfoldable pub prefix_as : List ℕ → List ℕ → Result ℕ Refusal → ℕ × List ℕ
 prefix_as cw w a = if_short cw number_reply_words w (done too_short w) (number_as w (prefix_answer a))
 
 pub record PrefixCall (cw : List ℕ) (m : Tables) (prefix out out' w : List ℕ) (z : ℕ × List ℕ) : Type 0 where
-  pub listed : Prefixed
+  pub listed : Result ℕ Refusal
   pub told : z ≡ prefix_as cw w listed
   pub exact : long_enough cw number_reply_words w ≡ true → PrefixAnswer (counters_of cw) m prefix out out' listed
   pub kept : long_enough cw number_reply_words w ≡ false → out' ≡ out
@@ -94,21 +94,21 @@ assert_call cw m x w =
     if_short cw assert_reply_words w (changed too_short cw m w) (assert_as cw w (assert_of (counters_of cw) m x))
 
 -- `lt_enter`: m' are the tables after it; counters and reply tell what intern answers
-unfoldable pub enter_as : List ℕ → List ℕ → Interned → ℕ × (List ℕ × List ℕ)
+unfoldable pub enter_as : List ℕ → List ℕ → Result Interned Refusal → ℕ × (List ℕ × List ℕ)
 enter_as cw w a = if_short cw number_reply_words w (beside too_short cw w) (entered_as cw w a)
 
 pub record EnterCall (cw : List ℕ) (m m' : Tables) (name w : List ℕ) (z : ℕ × (List ℕ × List ℕ)) : Type 0 where
-  pub entered : Interned
+  pub entered : Result Interned Refusal
   pub told : z ≡ enter_as cw w entered
   pub exact : long_enough cw number_reply_words w ≡ true → InternAnswer (counters_of cw) m m' name entered
   pub kept : long_enough cw number_reply_words w ≡ false → m' ≡ m
 
 -- `lt_reclaim`: m' are the tables after it; the counters tell what reclaim answers
-unfoldable pub reclaim_as : List ℕ → Reclaimed → ℕ × List ℕ
+unfoldable pub reclaim_as : List ℕ → Result Counters Refusal → ℕ × List ℕ
 reclaim_as cw a = cond (ltb (length cw) counter_words) (done too_short cw) (reclaimed_as cw a)
 
 pub record ReclaimCall (cw : List ℕ) (m m' : Tables) (z : ℕ × List ℕ) : Type 0 where
-  pub reclaimed : Reclaimed
+  pub reclaimed : Result Counters Refusal
   pub told : z ≡ reclaim_as cw reclaimed
   pub exact : counter_words ≤ length cw → ReclaimAnswer (counters_of cw) m m' reclaimed
   pub kept : length cw < counter_words → m' ≡ m

@@ -5,12 +5,11 @@
 -- leaves. The definitions of `Words`, `Calls` and `QueryCalls` stand on both sides of the contracts, so these say of them
 -- what they come to. Declared in `proofs/ReadBack.antt`, `proofs/Unanswered.antt`, `proofs/Stale.antt`,
 -- `proofs/Answered.antt` and `proofs/Filed.antt`. Assumes nothing.
-use Rattle.std.specs.Prelude.{◌≡◌, ◌≢◌, ◌↔◌, ◌⊎◌, true, cond, List, [], ◌∷◌, ℕ, zero, suc, ◌≤◌, ◌<◌, length, set, replicate, eqb}
+use Rattle.std.specs.Prelude.{◌≡◌, ◌≢◌, ◌↔◌, ◌⊎◌, true, cond, List, [], ◌∷◌, ℕ, zero, suc, ◌≤◌, ◌<◌, length, set, replicate, eqb, Ok}
 use Rattle.store.specs.declared.Counters.{Counters}
 use Rattle.store.specs.declared.Chain.{Chain}
 use Rattle.store.specs.declared.ScanCursor.{ScanCursor}
 use Rattle.store.specs.declared.Triple.{Triple}
-use Rattle.store.specs.declared.Reclaimed.TheVariants.{Done}
 use Rattle.store.specs.Tables.{Tables, word, fits, after}
 use Rattle.store.specs.Soundness.{Sound}
 use Rattle.store.specs.Reclaim.{reclaim_of}
@@ -162,7 +161,7 @@ StaleQueryWords = (cw : List ℕ) (m : Tables) (ws q : List ℕ) (b : ℕ) (w : 
 -- `lt_reclaim` on a sound store below the maximum: the counters' words tell the answer, the fourth one more.
 pub record Reclaims (cw : List ℕ) (m m' : Tables) (z : ℕ × List ℕ) : Type 0 where
   pub result : z.0 ≡ 0
-  pub tables : after m' (Done (counters_of z.1)) ≡ reclaim_of (counters_of cw) m
+  pub tables : after m' (Ok (counters_of z.1)) ≡ reclaim_of (counters_of cw) m
   pub number : word z.1 3 ≡ suc (word cw 3)
 
 abbrev pub AnsweredReclaim : Type 0

@@ -5,7 +5,8 @@ use Rattle.std.specs.Prelude.{◌≡◌, ◌≢◌, true, List, ℕ, ◌+◌, �
 use Rattle.store.specs.declared.Counters.{Counters}
 use Rattle.store.specs.Tables.{Tables, word}
 use Rattle.graph.specs.declared.QueryCursor.{QueryCursor}
-use Rattle.graph.specs.declared.QueryOpened.{QueryOpened}
+use Rattle.std.specs.Prelude.{Result}
+use Rattle.store.specs.declared.Refusal.{Refusal}
 use Rattle.graph.specs.declared.QueryAnswer.{QueryAnswer}
 use Rattle.graph.specs.Query.{open_query_of}
 use Rattle.graph.specs.Words.{max_patterns}
@@ -14,7 +15,7 @@ use Rattle.capi_calls.specs.Words.{counters_of, too_short, done, beside, if_shor
 use Rattle.capi_calls.specs.QueryWords.{query_cursor_words, query_reply_words, query_cursor_of, spelt, next_query_from, with_query_cursor}
 use Rattle.capi_calls.specs.QueryWords.{with_query_answer}
 
-abbrev pub query_opened_as : List ℕ → QueryOpened → ℕ × List ℕ
+abbrev pub query_opened_as : List ℕ → Result QueryCursor Refusal → ℕ × List ℕ
 query_opened_as w a =
     let z = query_opened_values a in
     done z.refusal (if_answered z.refusal (with_query_cursor w z.cursor) w)
@@ -23,7 +24,7 @@ query_opened_as w a =
 unfoldable pub query_open_call : List ℕ → Tables → List ℕ → List ℕ → ℕ × List ℕ
 query_open_call cw m ws w = if_short cw query_cursor_words w (done too_short w) (query_opened_as w (open_query_of (counters_of cw) m ws))
 
-abbrev pub query_answered_as : List ℕ → List ℕ → QueryAnswer → ℕ × (List ℕ × List ℕ)
+abbrev pub query_answered_as : List ℕ → List ℕ → Result QueryAnswer Refusal → ℕ × (List ℕ × List ℕ)
 query_answered_as q w a =
     let z = query_values a in
     beside z.refusal (if_answered z.refusal (with_query_cursor q z.cursor) q) (with_query_answer w a)
@@ -49,11 +50,11 @@ QueryCursorsKept = (w : List ℕ) (q : QueryCursor) → query_cursor_words ≤ l
 -- every cursor that is answered has a level for each slot, so the above holds of it
 abbrev pub QueryCursorsFull : Type 0
 QueryCursorsFull = (c : Counters) (m : Tables) (ws w : List ℕ) (b : ℕ)
-    → (length (open_query_of c m ws).cursor.levels ≡ max_patterns)
-    × (length (next_query_from c m ws w b).cursor.levels ≡ max_patterns)
+    → (length (query_opened_values (open_query_of c m ws)).cursor.levels ≡ max_patterns)
+    × (length (query_values (next_query_from c m ws w b)).cursor.levels ≡ max_patterns)
 
 abbrev pub QueryRepliesKept : Type 0
-QueryRepliesKept = (w : List ℕ) (a : QueryAnswer) → query_reply_words ≤ length w
+QueryRepliesKept = (w : List ℕ) (a : Result QueryAnswer Refusal) → query_reply_words ≤ length w
     → drop query_reply_words (with_query_answer w a) ≡ drop query_reply_words w
 
 -- ---- what an answered call writes past the levels

@@ -11,10 +11,9 @@ use Rattle.graph.specs.declared.Level.{Level}
 use Rattle.graph.specs.declared.Progress.{Progress}
 use Rattle.graph.specs.declared.Progress.TheVariants.{Start, Within, End}
 use Rattle.graph.specs.declared.QueryCursor.{QueryCursor}
-use Rattle.graph.specs.declared.QueryOpening.{QueryOpening}
-use Rattle.graph.specs.declared.QueryOpening.TheVariants.{Opened, Refused as NotOpened}
+use Rattle.std.specs.Prelude.{Result, Ok, Err}
 use Rattle.graph.specs.declared.QueryAnswer.{QueryAnswer}
-use Rattle.graph.specs.Query.{refused, packed, open_query_of, next_query_of}
+use Rattle.graph.specs.Query.{open_query_of, next_query_of}
 use Rattle.graph.specs.Place.{level, no_level}
 use Rattle.graph.specs.Words.{max_patterns, variables, Bindings, bound_to}
 use Rattle.graph.specs.Values.{query_values}
@@ -68,15 +67,15 @@ unfoldable pub spelt : List ℕ → Bool
 spelt w = cond (leb (word w 0) 2) (cond (eqb (word w 0) 1) (all_below (chain_spelt w) (slots_of (word w 1))) true) false
 
 -- words that tell no cursor, which have the store's number of reclaims or not: 1; 8; 13; 6
-abbrev pub misspelt : Bool → QueryOpening → Refusal
-misspelt now Opened = cond now BadCursor StaleCursor
-misspelt now (NotOpened e) = e
+abbrev pub misspelt : Bool → Result QueryCursor Refusal → Refusal
+misspelt now (Ok q) = cond now BadCursor StaleCursor
+misspelt now (Err e) = e
 
 -- next from a cursor's words: 1; 8; 13; 6, also where they tell none; 7; 9
-unfoldable pub next_query_from : Counters → Tables → List ℕ → List ℕ → ℕ → QueryAnswer
+unfoldable pub next_query_from : Counters → Tables → List ℕ → List ℕ → ℕ → Result QueryAnswer Refusal
 next_query_from c m ws w b =
     cond (spelt w) (next_query_of c m ws (query_cursor_of w) b)
-    (packed 0 (refused (misspelt (eqb (word w 2) c.generation) (open_query_of c m ws).opening)))
+    (Err (misspelt (eqb (word w 2) c.generation) (open_query_of c m ws)))
 
 -- ---- the words of a cursor and of a reply, written from the first on; words past them keep their values
 
@@ -95,6 +94,6 @@ numbers_from b v zero = []
 numbers_from b v (suc n) = bound_to b v ∷ numbers_from b (suc v) n
 
 -- 1 found, 2 ended, 3 spent; zeros beside a refusal
-abbrev pub with_query_answer : List ℕ → QueryAnswer → List ℕ
+abbrev pub with_query_answer : List ℕ → Result QueryAnswer Refusal → List ℕ
 with_query_answer w a =
     sets w 0 ((query_values a).status ∷ (query_values a).visits ∷ numbers_from (query_values a).solution.values 0 variables)

@@ -1,23 +1,12 @@
 -- The words that C lends and what they mean: how many each reply has, the result of a call, counters as words, a
 -- reply's words written from its first on. Assumes nothing.
-use Rattle.std.specs.Prelude.{Bool, true, false, cond, List, ℕ, ◌-◌, length, set, eqb, leb, ltb}
+use Rattle.std.specs.Prelude.{Bool, true, false, cond, List, ℕ, ◌-◌, length, set, eqb, leb, ltb, Err, Option as Optional, Result}
 use Rattle.ntriples.specs.declared.Span.{Span}
 use Rattle.ntriples.specs.declared.Line.{Line}
 use Rattle.ntriples.specs.declared.Line.TheVariants.{End, Nothing, Triple, Refused}
 use Rattle.store.specs.declared.Counters.{Counters}
-use Rattle.store.specs.declared.Lookup.{Lookup}
-use Rattle.store.specs.declared.Prefixed.{Prefixed}
-use Rattle.store.specs.declared.NameRead.{NameRead}
-use Rattle.store.specs.declared.StatementRead.{StatementRead}
-use Rattle.store.specs.declared.Retracted.{Retracted}
-use Rattle.store.specs.declared.ScanOpened.{ScanOpened}
-use Rattle.store.specs.declared.Scanned.{Scanned}
-use Rattle.store.specs.declared.Scanned.TheVariants.{Refused as NotScanned}
 use Rattle.store.specs.declared.Refusal.{Refusal}
 use Rattle.store.specs.declared.Refusal.TheVariants.{Capacity, BadCursor, StaleCursor}
-use Rattle.store.specs.declared.Asserted.{Asserted}
-use Rattle.store.specs.declared.Interned.{Interned}
-use Rattle.store.specs.declared.Reclaimed.{Reclaimed}
 use Rattle.store.specs.Shared.{triple}
 use Rattle.store.specs.Scan.{next_of}
 use Rattle.store.specs.declared.Position.TheVariants.{Subject, Predicate, Object}
@@ -27,7 +16,6 @@ use Rattle.store.specs.declared.ScanCursor.{ScanCursor}
 use Rattle.store.specs.Tables.{Tables, word, fits}
 use Rattle.store.specs.Values.{lookup_values, name_values, statement_values, asserted_values, retracted_values, opened_values, scanned_values}
 use Rattle.store.specs.Values.{interned_values, reclaimed_values, lookup_position, prefixed_values}
-use Rattle.lines.specs.declared.Exported.{Exported}
 use Rattle.lines.specs.Export.{Written, exported_values}
 use Rattle.capi_calls.specs.declared.NumberReply.{NumberReply}
 use Rattle.capi_calls.specs.declared.FindReply.{FindReply}
@@ -37,6 +25,13 @@ use Rattle.capi_calls.specs.declared.AssertReply.{AssertReply}
 use Rattle.capi_calls.specs.declared.ScanReply.{ScanReply}
 use Rattle.capi_calls.specs.declared.Part.{Part}
 use Rattle.capi_calls.specs.declared.LineReply.{LineReply}
+use Rattle.store.specs.declared.Asserted.{Asserted}
+use Rattle.store.specs.declared.Interned.{Interned}
+use Rattle.store.specs.declared.Lookup.{Lookup}
+use Rattle.store.specs.declared.NameSpan.{NameSpan}
+use Rattle.store.specs.declared.Scanned.{Scanned}
+use Rattle.store.specs.declared.StatementId.{StatementId}
+use Rattle.store.specs.declared.StatementRead.{StatementRead}
 
 -- ---- limits, each named once
 
@@ -97,25 +92,25 @@ check_answer false = numbered 0 0
 abbrev pub looked_up : ℕ → ℕ → ℕ → FindReply
 looked_up r n k = record { result = r; number = n; position = k }
 
-abbrev pub lookup_answer : Lookup → FindReply
+abbrev pub lookup_answer : Result Lookup Refusal → FindReply
 lookup_answer a = looked_up (lookup_values a).refusal (lookup_values a).number (lookup_position a)
 
-abbrev pub prefix_answer : Prefixed → NumberReply
+abbrev pub prefix_answer : Result ℕ Refusal → NumberReply
 prefix_answer a = numbered (prefixed_values a).refusal (prefixed_values a).number
 
-abbrev pub export_answer : Exported → NumberReply
+abbrev pub export_answer : Result ℕ Refusal → NumberReply
 export_answer a = numbered (exported_values a).refusal (exported_values a).number
 
-abbrev pub retract_answer : Retracted → NumberReply
+abbrev pub retract_answer : Result (Optional StatementId) Refusal → NumberReply
 retract_answer a = numbered (retracted_values a).refusal (retracted_values a).number
 
-abbrev pub enter_answer : Interned → NumberReply
+abbrev pub enter_answer : Result Interned Refusal → NumberReply
 enter_answer a = numbered (interned_values a).refusal (interned_values a).number
 
-abbrev pub name_answer : NameRead → NameReply
+abbrev pub name_answer : Result NameSpan Refusal → NameReply
 name_answer a = let z = name_values a in record { result = z.refusal; start = z.start; size = z.size }
 
-abbrev pub statement_answer : StatementRead → StatementReply
+abbrev pub statement_answer : Result StatementRead Refusal → StatementReply
 statement_answer a =
     let z = statement_values a in
     record {
@@ -129,13 +124,13 @@ statement_answer a =
 abbrev pub asserted_with : ℕ → ℕ → ℕ → AssertReply
 asserted_with r s n = record { result = r; status = s; number = n }
 
-abbrev pub assert_answer : Asserted → AssertReply
+abbrev pub assert_answer : Result Asserted Refusal → AssertReply
 assert_answer a = let z = asserted_values a in asserted_with z.refusal z.status z.number
 
 abbrev pub scanned_with : ℕ → ℕ → ℕ → ℕ → ScanReply
 scanned_with r s n v = record { result = r; status = s; number = n; visits = v }
 
-abbrev pub scanned_answer : Scanned → ScanReply
+abbrev pub scanned_answer : Result Scanned Refusal → ScanReply
 scanned_answer a = let z = scanned_values a in scanned_with z.refusal z.status z.number z.visits
 
 -- ---- a line: what, the position after it, then its three parts, or a refusal's offset
@@ -188,8 +183,8 @@ unfoldable pub misread : Counters → Tables → List ℕ → Refusal
 misread c m w = cond (fits c m) (cond (eqb (word w 5) c.generation) BadCursor StaleCursor) Capacity
 
 -- next from a cursor's words: 1; 13; 6, also for a chain word above 3; 7; 9
-unfoldable pub next_from : Counters → Tables → List ℕ → ℕ → Scanned
-next_from c m w b = cond (leb (word w 3) 3) (next_of c m (cursor_from w) b) (NotScanned (misread c m w))
+unfoldable pub next_from : Counters → Tables → List ℕ → ℕ → Result Scanned Refusal
+next_from c m w b = cond (leb (word w 3) 3) (next_of c m (cursor_from w) b) (Err (misread c m w))
 
 -- ---- what a call gives back, and the lent slices after it; words past those named keep their values
 
@@ -256,32 +251,32 @@ statement_as w a = done a.result (with_statement w a)
 abbrev pub line_as : List ℕ → LineReply → ℕ × List ℕ
 line_as w a = done a.result (with_line w a)
 
-abbrev pub opened_as : List ℕ → ScanOpened → ℕ × List ℕ
+abbrev pub opened_as : List ℕ → Result ScanCursor Refusal → ℕ × List ℕ
 opened_as w a =
     let z = opened_values a in
     done z.refusal (if_answered z.refusal (with_cursor w z.cursor) w)
 
-abbrev pub scanned_as : List ℕ → List ℕ → Scanned → ℕ × (List ℕ × List ℕ)
+abbrev pub scanned_as : List ℕ → List ℕ → Result Scanned Refusal → ℕ × (List ℕ × List ℕ)
 scanned_as q w a =
     let z = scanned_values a in
     beside z.refusal (if_answered z.refusal (with_cursor q z.cursor) q) (with_scan w (scanned_answer a))
 
-abbrev pub retract_as : List ℕ → Tables × Retracted → ℕ × (Tables × List ℕ)
+abbrev pub retract_as : List ℕ → Tables × Result (Optional StatementId) Refusal → ℕ × (Tables × List ℕ)
 retract_as w z = wrote (retract_answer z.1).result z.0 (with_number w (retract_answer z.1))
 
-abbrev pub assert_as : List ℕ → List ℕ → Tables × Asserted → ℕ × (List ℕ × (Tables × List ℕ))
+abbrev pub assert_as : List ℕ → List ℕ → Tables × Result Asserted Refusal → ℕ × (List ℕ × (Tables × List ℕ))
 assert_as cw w a =
     let z = asserted_values a.1 in
     changed z.refusal (if_answered z.refusal (with_counters cw z.counters) cw) a.0 (with_assert w (assert_answer a.1))
 
 -- the tables stand apart: on unsound tables intern is bounded, not equal to a definition
-abbrev pub entered_as : List ℕ → List ℕ → Interned → ℕ × (List ℕ × List ℕ)
+abbrev pub entered_as : List ℕ → List ℕ → Result Interned Refusal → ℕ × (List ℕ × List ℕ)
 entered_as cw w a =
     let z = interned_values a in
     beside z.refusal (if_answered z.refusal (with_counters cw z.counters) cw) (with_number w (enter_answer a))
 
 -- the tables stand apart here too; there is no reply, the counters tell all
-abbrev pub reclaimed_as : List ℕ → Reclaimed → ℕ × List ℕ
+abbrev pub reclaimed_as : List ℕ → Result Counters Refusal → ℕ × List ℕ
 reclaimed_as cw a =
     let z = reclaimed_values a in
     done z.refusal (if_answered z.refusal (with_counters cw z.counters) cw)

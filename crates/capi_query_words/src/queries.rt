@@ -5,34 +5,31 @@
 // entered level above 3, tells no cursor and is refused 6, or 13 where the third word is not the store's; slots past
 // the levels entered are ignored, and so are all slots at the start and at the end. A reply's words are its status (1
 // found, 2 ended, 3 spent), the visits, and the number of each of the `VARIABLES` variables, 0 for one not used.
-ghost use Rattle.std.specs.Prelude.{◌≡◌, ◌≤◌, length};
+//
+// Functions and no `From`: the types are other crates', so that no impl may stand here.
+ghost use Rattle.std.specs.Prelude.{◌≡◌, ◌≤◌, ◌∷◌, length};
 ghost use Rattle.std.proofs.lemmas.List.Edits.{sets};
 ghost use Rattle.graph.specs.Words.{max_patterns, variables};
-ghost use Rattle.graph.specs.Values.{opening_refusal, step_refusal, step_status};
+ghost use Rattle.graph.specs.Values.{step_status};
 ghost use Rattle.store.specs.Lists.{all_below};
 ghost use Rattle.capi_calls.specs.QueryWords.{query_cursor_words, query_reply_words, progress_of, progress_word, levels_from};
 ghost use Rattle.capi_calls.specs.QueryWords.{query_cursor_of, chain_spelt, slots_of, spelt, level_words, with_query_cursor};
 ghost use Rattle.capi_calls.specs.QueryWords.{numbers_from, with_query_answer};
 
 use capi_words::words::{chain_of, chain_word};
-use graph::{
-    Level, MAX_PATTERNS, Progress, QueryAnswer, QueryCursor, QueryOpening, QueryStep, Solution,
-    VARIABLES,
-};
-use query_stack::stack::level;
-use store::{Chain, StatementId, refusal_number};
+use graph::{Level, MAX_PATTERNS, Progress, QueryAnswer, QueryCursor, QueryStep, Solution};
+use pattern::binding::none_bound;
+use store::{Chain, Refusal, StatementId};
 
 // How far a reading is, from a cursor's first word of at most 2.
 fn progress_of(k: u32) -> Progress
     ensures { result ≡ progress_of k }
 {
-    if k == 1 {
-        return Progress::Within;
+    match k {
+        1 => Progress::Within,
+        2 => Progress::End,
+        _ => Progress::Start,
     }
-    if k == 2 {
-        return Progress::End;
-    }
-    Progress::Start
 }
 
 fn progress_word(progress: Progress) -> u32
@@ -51,16 +48,19 @@ fn levels_of(words: &[u32]) -> [Level; MAX_PATTERNS]
     requires { query_cursor_words ≤ length words.now }
     ensures { result ≡ levels_from words.now 3 max_patterns }
 {
-    let none = level(Chain::All, StatementId(0));
+    let none = Level {
+        chain: Chain::All,
+        statement: StatementId(0),
+    };
     let mut out = [none; MAX_PATTERNS];
-    let mut i: usize = 0;
     // The first i levels are read, the others are none.
-    while i < MAX_PATTERNS {
+    for i in 0..MAX_PATTERNS {
         let chain = chain_of(words[3 + 2 * i]);
         let word = words[4 + 2 * i];
-        let l = level(chain, StatementId(word));
-        out[i] = l;
-        i += 1;
+        out[i] = Level {
+            chain,
+            statement: StatementId(word),
+        };
     }
     out
 }
@@ -70,13 +70,11 @@ pub fn query_cursor_of(words: &[u32]) -> QueryCursor
     requires { query_cursor_words ≤ length words.now }
     ensures { result ≡ query_cursor_of words.now }
 {
-    let progress = progress_of(words[0]);
-    let levels = levels_of(words);
     QueryCursor {
-        progress: progress,
+        progress: progress_of(words[0]),
         depth: words[1],
         generation: words[2],
-        levels: levels,
+        levels: levels_of(words),
     }
 }
 
@@ -85,10 +83,7 @@ fn slots(d: u32) -> usize
     ensures { (result ≡ slots_of d) × (result ≤ max_patterns) }
 {
     let n = d as usize;
-    if n <= MAX_PATTERNS {
-        return n;
-    }
-    MAX_PATTERNS
+    n.min(MAX_PATTERNS)
 }
 
 // Whether the chains in the first d slots are at most 3.
@@ -96,13 +91,11 @@ fn chains_spelt(words: &[u32], d: usize) -> bool
     requires { (d ≤ max_patterns) × (query_cursor_words ≤ length words.now) }
     ensures { result ≡ all_below (chain_spelt words.now) d }
 {
-    let mut i: usize = 0;
     // The chains in the first i slots are at most 3.
-    while i < d {
+    for i in 0..d {
         if words[3 + 2 * i] > 3 {
             return false;
         }
-        i += 1;
     }
     true
 }
@@ -118,8 +111,7 @@ pub fn spelt(words: &[u32]) -> bool
     if words[0] != 1 {
         return true;
     }
-    let d = slots(words[1]);
-    chains_spelt(words, d)
+    chains_spelt(words, slots(words[1]))
 }
 
 // Writes chain and record of each level into a cursor's slots.
@@ -127,15 +119,10 @@ fn put_levels(words: &mut [u32], levels: [Level; MAX_PATTERNS])
     requires { query_cursor_words ≤ length words.old }
     ensures { words.new ≡ sets words.old 3 (level_words levels 0 max_patterns) }
 {
-    let mut i: usize = 0;
     // The first i slots are written: writing the levels from i on leaves what writing all of them would.
-    while i < MAX_PATTERNS {
-        let l = levels[i];
-        let chain = l.chain;
-        let k = chain_word(chain);
-        words[3 + 2 * i] = k;
+    for (i, l) in levels.iter().enumerate() {
+        words[3 + 2 * i] = chain_word(l.chain);
         words[4 + 2 * i] = l.statement.0;
-        i += 1;
     }
 }
 
@@ -144,13 +131,10 @@ pub fn put_query_cursor(words: &mut [u32], q: QueryCursor)
     requires { query_cursor_words ≤ length words.old }
     ensures { words.new ≡ with_query_cursor words.old q }
 {
-    let progress = q.progress;
-    let levels = q.levels;
-    let k = progress_word(progress);
-    words[0] = k;
+    words[0] = progress_word(q.progress);
     words[1] = q.depth;
     words[2] = q.generation;
-    put_levels(words, levels);
+    put_levels(words, q.levels);
 }
 
 // Writes the number of each variable into a reply.
@@ -158,16 +142,13 @@ fn put_solution(reply: &mut [u32], s: Solution)
     requires { query_reply_words ≤ length reply.old }
     ensures { reply.new ≡ sets reply.old 2 (numbers_from s.values 0 variables) }
 {
-    let mut v: usize = 0;
     // The numbers of the first v variables are written: writing those from v on leaves what writing all of them would.
-    while v < VARIABLES {
-        let y = s.values[v];
+    for (v, y) in s.values.iter().enumerate() {
         reply[2 + v] = y.0;
-        v += 1;
     }
 }
 
-// 1 found, 2 ended, 3 spent; 0 beside a refusal.
+// 1 found, 2 ended, 3 spent.
 fn step_status(step: QueryStep) -> u32
     ensures { result ≡ step_status step }
 {
@@ -175,41 +156,31 @@ fn step_status(step: QueryStep) -> u32
         QueryStep::Found => 1,
         QueryStep::Ended => 2,
         QueryStep::Spent => 3,
-        QueryStep::Refused(_) => 0,
     }
 }
 
-// The refusal's number, or 0.
-pub fn step_refusal(step: QueryStep) -> u32
-    ensures { result ≡ step_refusal step }
-{
-    match step {
-        QueryStep::Found => 0,
-        QueryStep::Ended => 0,
-        QueryStep::Spent => 0,
-        QueryStep::Refused(e) => refusal_number(e),
-    }
-}
-
-// Writes a reply's words.
-pub fn put_query_answer(reply: &mut [u32], a: QueryAnswer)
+// Writes a reply's words, from its first on.
+fn put_words(reply: &mut [u32], status: u32, visits: u32, s: Solution)
     requires { query_reply_words ≤ length reply.old }
-    ensures { reply.new ≡ with_query_answer reply.old a }
+    ensures { reply.new ≡ sets reply.old 0 (status ∷ visits ∷ numbers_from s.values 0 variables) }
 {
-    let step = a.step;
-    let s = a.solution;
-    let status = step_status(step);
     reply[0] = status;
-    reply[1] = a.visits;
+    reply[1] = visits;
     put_solution(reply, s);
 }
 
-// The refusal's number, or 0.
-pub fn opening_refusal(opening: QueryOpening) -> u32
-    ensures { result ≡ opening_refusal opening }
+// Writes a reply's words, zeros beside a refusal.
+pub fn put_query_answer(reply: &mut [u32], a: Result<QueryAnswer, Refusal>)
+    requires { query_reply_words ≤ length reply.old }
+    ensures { reply.new ≡ with_query_answer reply.old a }
 {
-    match opening {
-        QueryOpening::Opened => 0,
-        QueryOpening::Refused(e) => refusal_number(e),
+    match a {
+        Ok(answer) => put_words(
+            reply,
+            step_status(answer.step),
+            answer.visits,
+            answer.solution,
+        ),
+        Err(_) => put_words(reply, 0, 0, none_bound()),
     }
 }

@@ -1,6 +1,7 @@
 // Each operation's reply as numbers: the refusal's number or 0, and the words that the reply names, 0 beside a refusal.
-ghost use Rattle.std.specs.Prelude.{◌≡◌};
-ghost use Rattle.store.specs.Values.{scanned_values, asserted_values, interned_values, no_cursor};
+// Functions, and no `From`: the replies are another crate's and the results the library's, so that no impl may stand here.
+ghost use Rattle.std.specs.Prelude.{◌≡◌, Ok};
+ghost use Rattle.store.specs.Values.{scanned_values, asserted_values};
 ghost use Rattle.capi_calls.specs.Words.{numbered, kind_answer, check_answer, looked_up, lookup_answer, prefix_answer};
 ghost use Rattle.capi_calls.specs.Words.{export_answer, retract_answer, enter_answer};
 ghost use Rattle.capi_calls.specs.Words.{name_answer, statement_answer, assert_answer, scanned_answer, asserted_with};
@@ -10,11 +11,10 @@ ghost use Rattle.capi_calls.specs.Words.{size_of, part, no_parts, read_answer};
 use capi_calls::{
     AssertReply, FindReply, LineReply, NameReply, NumberReply, Part, ScanReply, StatementReply,
 };
-use lines::Exported;
 use ntriples::{Line, Span};
 use store::{
-    Asserted, Chain, Counters, Interned, Lookup, NameRead, Prefixed, ResourceId, Retracted,
-    ScanCursor, Scanned, StatementId, StatementRead, Triple, refusal_number,
+    Asserted, Counters, Interned, Lookup, NameSpan, Refusal, ScanCursor, Scanned, StatementId,
+    StatementRead, refusal_number,
 };
 
 // A result and a number.
@@ -30,19 +30,16 @@ fn number(res: u32, n: u32) -> NumberReply
 pub fn kind_answer(kind: u32) -> NumberReply
     ensures { result ≡ kind_answer kind }
 {
-    if kind == 0 {
-        return number(2, 0);
+    match kind {
+        0 => number(2, 0),
+        _ => number(0, kind),
     }
-    number(0, kind)
 }
 
 pub fn check_answer(sound: bool) -> NumberReply
     ensures { result ≡ check_answer sound }
 {
-    if sound {
-        return number(0, 1);
-    }
-    number(0, 0)
+    number(0, u32::from(sound))
 }
 
 // A result, a number and a position in the index.
@@ -56,73 +53,56 @@ fn looked_up(res: u32, n: u32, position: u32) -> FindReply
     }
 }
 
-pub fn lookup_answer(a: Lookup) -> FindReply
+pub fn lookup_answer(a: Result<Lookup, Refusal>) -> FindReply
     ensures { result ≡ lookup_answer a }
 {
     match a {
-        Lookup::Number(n, at) => looked_up(0, n.0, at),
-        Lookup::Absent(at) => looked_up(0, 0, at),
-        Lookup::Refused(e) => looked_up(refusal_number(e), 0, 0),
+        Ok(Lookup::Number(n, at)) => looked_up(0, n.0, at),
+        Ok(Lookup::Absent(at)) => looked_up(0, 0, at),
+        Err(e) => looked_up(refusal_number(e), 0, 0),
     }
 }
 
-pub fn prefix_answer(a: Prefixed) -> NumberReply
-    ensures { result ≡ prefix_answer a }
+// A total of names, or a file's length.
+pub fn total_answer(a: Result<u32, Refusal>) -> NumberReply
+    ensures total { result ≡ prefix_answer a }
+    ensures length { result ≡ export_answer a }
 {
     match a {
-        Prefixed::Total(n) => number(0, n),
-        Prefixed::Refused(e) => number(refusal_number(e), 0),
+        Ok(n) => number(0, n),
+        Err(e) => number(refusal_number(e), 0),
     }
 }
 
-pub fn export_answer(a: Exported) -> NumberReply
-    ensures { result ≡ export_answer a }
-{
-    match a {
-        Exported::Length(n) => number(0, n),
-        Exported::Refused(e) => number(refusal_number(e), 0),
-    }
-}
-
-pub fn retract_answer(a: Retracted) -> NumberReply
+pub fn retract_answer(a: Result<Option<StatementId>, Refusal>) -> NumberReply
     ensures { result ≡ retract_answer a }
 {
     match a {
-        Retracted::Number(n) => number(0, n.0),
-        Retracted::Absent => number(0, 0),
-        Retracted::Refused(e) => number(refusal_number(e), 0),
+        Ok(Some(n)) => number(0, n.0),
+        Ok(None) => number(0, 0),
+        Err(e) => number(refusal_number(e), 0),
     }
 }
 
-pub fn enter_answer(a: Interned) -> NumberReply
+pub fn enter_answer(a: Result<Interned, Refusal>) -> NumberReply
     ensures { result ≡ enter_answer a }
 {
     match a {
-        Interned::Number(n, _) => number(0, n.0),
-        Interned::Refused(e) => number(refusal_number(e), 0),
+        Ok(entered) => number(0, entered.number.0),
+        Err(e) => number(refusal_number(e), 0),
     }
 }
 
-// The counters from now on.
-pub fn interned_counters(a: Interned) -> Counters
-    ensures { result ≡ (interned_values a).counters }
-{
-    match a {
-        Interned::Number(_, c) => c,
-        Interned::Refused(_) => Counters::fresh(),
-    }
-}
-
-pub fn name_answer(a: NameRead) -> NameReply
+pub fn name_answer(a: Result<NameSpan, Refusal>) -> NameReply
     ensures { result ≡ name_answer a }
 {
     match a {
-        NameRead::Span(start, size) => NameReply {
+        Ok(name) => NameReply {
             result: 0,
-            start: start,
-            size: size,
+            start: name.start,
+            size: name.size,
         },
-        NameRead::Refused(e) => NameReply {
+        Err(e) => NameReply {
             result: refusal_number(e),
             start: 0,
             size: 0,
@@ -130,18 +110,18 @@ pub fn name_answer(a: NameRead) -> NameReply
     }
 }
 
-pub fn statement_answer(a: StatementRead) -> StatementReply
+pub fn statement_answer(a: Result<StatementRead, Refusal>) -> StatementReply
     ensures { result ≡ statement_answer a }
 {
     match a {
-        StatementRead::Is(x, flag) => StatementReply {
+        Ok(statement) => StatementReply {
             result: 0,
-            subject: x.subject.0,
-            predicate: x.predicate.0,
-            object: x.object.0,
-            flag: flag,
+            subject: statement.triple.subject.0,
+            predicate: statement.triple.predicate.0,
+            object: statement.triple.object.0,
+            flag: statement.flag,
         },
-        StatementRead::Refused(e) => StatementReply {
+        Err(e) => StatementReply {
             result: refusal_number(e),
             subject: 0,
             predicate: 0,
@@ -162,26 +142,23 @@ fn asserted(res: u32, status: u32, number: u32) -> AssertReply
     }
 }
 
-pub fn assert_answer(a: Asserted) -> AssertReply
+pub fn assert_answer(a: Result<Asserted, Refusal>) -> AssertReply
     ensures { result ≡ assert_answer a }
 {
     match a {
-        Asserted::New(n, _) => asserted(0, 1, n.0),
-        Asserted::Already(n, _) => asserted(0, 2, n.0),
-        Asserted::Revived(n, _) => asserted(0, 3, n.0),
-        Asserted::Refused(e) => asserted(refusal_number(e), 0, 0),
+        Ok(Asserted::New(n, _)) => asserted(0, 1, n.0),
+        Ok(Asserted::Already(n, _)) => asserted(0, 2, n.0),
+        Ok(Asserted::Revived(n, _)) => asserted(0, 3, n.0),
+        Err(e) => asserted(refusal_number(e), 0, 0),
     }
 }
 
 // The counters from now on.
 pub fn asserted_counters(a: Asserted) -> Counters
-    ensures { result ≡ (asserted_values a).counters }
+    ensures { result ≡ (asserted_values (Ok a)).counters }
 {
     match a {
-        Asserted::New(_, c) => c,
-        Asserted::Already(_, c) => c,
-        Asserted::Revived(_, c) => c,
-        Asserted::Refused(_) => Counters::fresh(),
+        Asserted::New(_, c) | Asserted::Already(_, c) | Asserted::Revived(_, c) => c,
     }
 }
 
@@ -197,43 +174,23 @@ fn scanned(res: u32, status: u32, number: u32, visits: u32) -> ScanReply
     }
 }
 
-pub fn scanned_answer(a: Scanned) -> ScanReply
+pub fn scanned_answer(a: Result<Scanned, Refusal>) -> ScanReply
     ensures { result ≡ scanned_answer a }
 {
     match a {
-        Scanned::Found(n, visits, _) => scanned(0, 1, n.0, visits),
-        Scanned::Ended(visits, _) => scanned(0, 2, 0, visits),
-        Scanned::Spent(visits, _) => scanned(0, 3, 0, visits),
-        Scanned::Refused(e) => scanned(refusal_number(e), 0, 0, 0),
-    }
-}
-
-// The cursor of zeros.
-fn no_cursor() -> ScanCursor
-    ensures { result ≡ no_cursor }
-{
-    let none = Triple {
-        subject: ResourceId(0),
-        predicate: ResourceId(0),
-        object: ResourceId(0),
-    };
-    ScanCursor {
-        pattern: none,
-        chain: Chain::All,
-        next: StatementId(0),
-        generation: 0,
+        Ok(Scanned::Found(n, visits, _)) => scanned(0, 1, n.0, visits),
+        Ok(Scanned::Ended(visits, _)) => scanned(0, 2, 0, visits),
+        Ok(Scanned::Spent(visits, _)) => scanned(0, 3, 0, visits),
+        Err(e) => scanned(refusal_number(e), 0, 0, 0),
     }
 }
 
 // The cursor from now on.
 pub fn scanned_cursor(a: Scanned) -> ScanCursor
-    ensures { result ≡ (scanned_values a).cursor }
+    ensures { result ≡ (scanned_values (Ok a)).cursor }
 {
     match a {
-        Scanned::Found(_, _, q) => q,
-        Scanned::Ended(_, q) => q,
-        Scanned::Spent(_, q) => q,
-        Scanned::Refused(_) => no_cursor(),
+        Scanned::Found(_, _, q) | Scanned::Ended(_, q) | Scanned::Spent(_, q) => q,
     }
 }
 
@@ -241,10 +198,7 @@ pub fn scanned_cursor(a: Scanned) -> ScanCursor
 fn size(p: Span) -> u64
     ensures { result ≡ size_of p }
 {
-    if p.end < p.start {
-        return 0;
-    }
-    (p.end - p.start) as u64
+    p.end.saturating_sub(p.start) as u64
 }
 
 // A part of a line, by its span.

@@ -51,12 +51,11 @@
 // | show index, show text              | the words or bytes that are lent                                         |
 #![tactic(auto)]
 
-ghost use Rattle.std.specs.Prelude.{◌≡◌, ◌*◌, length};
-ghost use Rattle.store.specs.Tables.{statement_words};
-
+use cases_script::script::Verb;
 use cases_script::state::State;
-use cases_script::{print, script, setup, state};
+use cases_script::{print, setup, state};
 use streams::Outputs;
+use table::lent::TablesMut;
 use table::word::{RESOURCE_WORDS, STATEMENT_WORDS};
 
 mod calls;
@@ -66,6 +65,8 @@ const RESOURCES: usize = 16;
 
 const STATEMENTS: usize = 65536;
 
+const STATEMENT_TABLE: usize = STATEMENTS * STATEMENT_WORDS;
+
 const INDEX: usize = 64;
 
 const TEXT: usize = 1024;
@@ -73,24 +74,11 @@ const TEXT: usize = 1024;
 // As many bytes as the script may have.
 const SCRIPT: usize = 262144;
 
-// Two buffers so long that their lengths are told by a contract.
-fn script_buffer() -> [u8; SCRIPT]
-    ensures { 262144 ≡ length result }
-{
-    [0; SCRIPT]
-}
-
-fn statement_table() -> [u32; STATEMENTS * STATEMENT_WORDS]
-    ensures { 65536 * statement_words ≡ length result }
-{
-    [0; STATEMENTS * STATEMENT_WORDS]
-}
-
 fn main(rt: HostRuntime) {
-    let mut script = script_buffer();
+    let mut script = streams::filled::<u8, { SCRIPT }>(0);
     let n = streams::read_full(&mut rt.stdin(), &mut script);
     let mut resources = [0u32; RESOURCES * RESOURCE_WORDS];
-    let mut statements = statement_table();
+    let mut statements = streams::filled::<u32, { STATEMENT_TABLE }>(0);
     let mut index = [0u32; INDEX];
     let mut text = [0u8; TEXT];
     run(
@@ -114,70 +102,83 @@ fn run(
     text: &mut [u8],
 ) {
     let mut state = state::start();
-    let mut at = 0;
-    // The lines before `at` are run, which left `state`.
-    while at < script.len() {
-        let start = at;
-        let end = script::until(script, start, b'\n');
-        at = end + 1;
-        state = step(
-            rt,
-            state,
-            &script[start..end],
-            resources,
-            statements,
-            index,
-            text,
-        );
+    for line in script.split(|b| *b == b'\n') {
+        step(rt, &mut state, line, resources, statements, index, text);
     }
 }
 
 // One line, on the lent parts of the tables.
 fn step(
     rt: &impl Outputs,
-    s: State,
+    state: &mut State,
     line: &[u8],
     resources: &mut [u32],
     statements: &mut [u32],
     index: &mut [u32],
     text: &mut [u8],
-) -> State {
-    let verb = script::verb(line);
-    let r = state::lent_resources(s, resources.len());
-    let t = state::lent_statements(s, statements.len());
-    let i = state::lent(s, state::LENT_INDEX, index.len());
-    let b = state::lent(s, state::LENT_TEXT, text.len());
-    act(
-        rt,
-        print::begin(rt, s, verb, line),
-        verb,
-        line,
-        &mut resources[0..r],
-        &mut statements[0..t],
-        &mut index[0..i],
-        &mut text[0..b],
-    )
+) {
+    let verb = Verb::of(line);
+    let lent = state.lent;
+    let r = lent.resources_within(resources.len());
+    let t = lent.statements_within(statements.len());
+    let i = lent.index_within(index.len());
+    let b = lent.text_within(text.len());
+    print::begin(rt, state, verb, line);
+    let mut tables = TablesMut {
+        resources: &mut resources[..r],
+        statements: &mut statements[..t],
+        index: &mut index[..i],
+        text: &mut text[..b],
+    };
+    act(rt, state, verb, line, &mut tables);
 }
 
 // A set-up of the state, a set-up of the tables, or a case.
-fn act(
-    rt: &impl Outputs,
-    s: State,
-    verb: u32,
-    line: &[u8],
-    resources: &mut [u32],
-    statements: &mut [u32],
-    index: &mut [u32],
-    text: &mut [u8],
-) -> State {
-    match script::sort(verb) {
-        0 => setup::settings(s, verb, line),
-        1 => {
-            setup::tables(verb, line, resources, statements, index, text);
-            s
-        }
-        2 => calls::enter(rt, s, line, resources, statements, index, text),
-        3 => calls::statements(rt, s, verb, line, resources, statements, index, text),
-        _ => calls::readings(rt, s, verb, line, resources, statements, index, text),
+fn act(rt: &impl Outputs, state: &mut State, verb: Verb, line: &[u8], tables: &mut TablesMut) {
+    match verb {
+        Verb::Nothing
+        | Verb::Lend
+        | Verb::Counters
+        | Verb::Listing
+        | Verb::Question
+        | Verb::Place => setup::settings(state, verb, line),
+        Verb::Fill | Verb::Resource | Verb::Statement | Verb::Index | Verb::Text | Verb::Change =>
+            setup::tables(verb, line, tables),
+        Verb::Enter => calls::enter(
+            rt,
+            state,
+            line,
+            tables.resources,
+            tables.statements,
+            tables.index,
+            tables.text,
+        ),
+        Verb::Assert => calls::assert(
+            rt,
+            state,
+            line,
+            tables.resources,
+            tables.statements,
+            tables.index,
+            tables.text,
+        ),
+        Verb::Retract => calls::retract(
+            rt,
+            state,
+            line,
+            tables.resources,
+            tables.statements,
+            tables.index,
+            tables.text,
+        ),
+        Verb::Reclaim => calls::reclaim(
+            rt,
+            state,
+            tables.resources,
+            tables.statements,
+            tables.index,
+            tables.text,
+        ),
+        _ => calls::reading(rt, state, verb, line, tables.read()),
     }
 }

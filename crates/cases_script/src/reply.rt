@@ -1,234 +1,206 @@
-// What each call answers: it is written, and the state from then on comes back.
-use crate::state::State;
-use crate::{print, state};
-use graph::{QueryAnswer, QueryCursor, QueryOpened, QueryOpening, QueryStep};
-use lines::Exported;
+// What each call answers: it is written, and the state keeps what the answer says.
+use crate::print;
+use crate::state::{State, no_place};
+use graph::{QueryAnswer, QueryCursor, QueryStep, Solution, VARIABLES};
 use store::{
-    Asserted, Counters, Interned, Lookup, NameRead, Prefixed, Reclaimed, Retracted, ScanCursor,
-    ScanOpened, Scanned, StatementId, StatementRead,
+    Asserted, Counters, Interned, Lookup, NameSpan, Refusal, ResourceId, ScanCursor, Scanned,
+    StatementId, StatementRead,
 };
 use streams::Outputs;
 
-pub fn interned(rt: &impl Outputs, s: State, a: Interned) -> State {
+pub fn interned(rt: &impl Outputs, state: &mut State, a: Result<Interned, Refusal>) {
     match a {
-        Interned::Number(n, d) => {
-            print::number(rt, n.0);
-            counted(rt, s, d)
+        Ok(entered) => {
+            print::number(rt, entered.number.0);
+            counted(rt, state, entered.counters);
         }
-        Interned::Refused(e) => {
-            print::refused(rt, e);
-            s
-        }
+        Err(e) => print::refused(rt, e),
     }
 }
 
 // The counters from now on.
-fn counted(rt: &impl Outputs, s: State, d: Counters) -> State {
+fn counted(rt: &impl Outputs, state: &mut State, d: Counters) {
     print::number(rt, d.resources);
     print::number(rt, d.statements);
     print::number(rt, d.text);
     print::number(rt, d.generation);
-    state::with_counters(s, d)
+    state.counters = d;
 }
 
-pub fn looked_up(rt: &impl Outputs, a: Lookup) {
+pub fn looked_up(rt: &impl Outputs, a: Result<Lookup, Refusal>) {
     match a {
-        Lookup::Number(n, at) => {
+        Ok(Lookup::Number(n, at)) => {
             print::number(rt, n.0);
             print::number(rt, at);
         }
-        Lookup::Absent(at) => print::labelled(rt, print::ABSENT, at),
-        Lookup::Refused(e) => {
-            print::refused(rt, e);
-        }
+        Ok(Lookup::Absent(at)) => print::labelled(rt, b"absent", at),
+        Err(e) => print::refused(rt, e),
     }
 }
 
 // The total, then every word lent for the numbers, beside a refusal too.
-pub fn prefixed(rt: &impl Outputs, a: Prefixed, words: &[u32]) {
-    match a {
-        Prefixed::Total(n) => print::number(rt, n),
-        Prefixed::Refused(e) => {
-            print::refused(rt, e);
-        }
-    }
-    print::numbers(rt, words, 0, words.len());
+pub fn prefixed(rt: &impl Outputs, a: Result<u32, Refusal>, words: &[u32]) {
+    counted_out(rt, a);
+    print::numbers(rt, words);
 }
 
 // The file's length, then every byte and every word lent, beside a refusal too.
-pub fn exported(rt: &impl Outputs, a: Exported, out: &[u8], work: &[u32]) {
-    match a {
-        Exported::Length(n) => print::number(rt, n),
-        Exported::Refused(e) => {
-            print::refused(rt, e);
-        }
-    }
+pub fn exported(rt: &impl Outputs, a: Result<u32, Refusal>, out: &[u8], work: &[u32]) {
+    counted_out(rt, a);
     print::codes(rt, out);
-    print::numbers(rt, work, 0, work.len());
+    print::numbers(rt, work);
+}
+
+// A total or a length.
+fn counted_out(rt: &impl Outputs, a: Result<u32, Refusal>) {
+    match a {
+        Ok(n) => print::number(rt, n),
+        Err(e) => print::refused(rt, e),
+    }
 }
 
 // Where a name's bytes start and how many they are; nothing beside a refusal.
-pub fn spanned(rt: &impl Outputs, a: NameRead) {
+pub fn spanned(rt: &impl Outputs, a: Result<NameSpan, Refusal>) {
+    if let Ok(name) = a {
+        print::number(rt, name.start);
+        print::number(rt, name.size);
+    }
+}
+
+// A name's bytes; none, and the refusal, where it is refused.
+pub fn named(rt: &impl Outputs, a: Result<&[u8], Refusal>) {
     match a {
-        NameRead::Span(start, size) => {
-            print::number(rt, start);
-            print::number(rt, size);
+        Ok(part) => print::part(rt, part),
+        Err(e) => {
+            print::part(rt, &[]);
+            print::refused(rt, e);
         }
-        NameRead::Refused(_) => {}
     }
 }
 
-// A name's bytes, and the refusal's number where it is not 0.
-pub fn named(rt: &impl Outputs, refusal: u32, part: &[u8]) {
-    print::part(rt, part);
-    if refusal != 0 {
-        print::labelled(rt, print::REFUSED, refusal);
-    }
-}
-
-pub fn read(rt: &impl Outputs, a: StatementRead) {
+pub fn read(rt: &impl Outputs, a: Result<StatementRead, Refusal>) {
     match a {
-        StatementRead::Is(x, flag) => {
+        Ok(statement) => {
+            let x = statement.triple;
             print::number(rt, x.subject.0);
             print::number(rt, x.predicate.0);
             print::number(rt, x.object.0);
-            print::number(rt, flag);
+            print::number(rt, statement.flag);
         }
-        StatementRead::Refused(e) => {
-            print::refused(rt, e);
-        }
+        Err(e) => print::refused(rt, e),
     }
 }
 
-pub fn asserted(rt: &impl Outputs, s: State, a: Asserted) -> State {
+pub fn asserted(rt: &impl Outputs, state: &mut State, a: Result<Asserted, Refusal>) {
     match a {
-        Asserted::New(n, d) => entered(rt, s, print::NEW, n, d),
-        Asserted::Already(n, d) => entered(rt, s, print::ALREADY, n, d),
-        Asserted::Revived(n, d) => entered(rt, s, print::REVIVED, n, d),
-        Asserted::Refused(e) => {
-            print::refused(rt, e);
-            s
-        }
+        Ok(Asserted::New(n, d)) => entered(rt, state, b"new", n, d),
+        Ok(Asserted::Already(n, d)) => entered(rt, state, b"already", n, d),
+        Ok(Asserted::Revived(n, d)) => entered(rt, state, b"revived", n, d),
+        Err(e) => print::refused(rt, e),
     }
 }
 
-fn entered(rt: &impl Outputs, s: State, status: u32, n: StatementId, d: Counters) -> State {
-    print::token(rt, status);
-    print::number(rt, n.0);
-    counted(rt, s, d)
+fn entered(rt: &impl Outputs, state: &mut State, status: &[u8], n: StatementId, d: Counters) {
+    print::labelled(rt, status, n.0);
+    counted(rt, state, d);
 }
 
-pub fn retracted(rt: &impl Outputs, a: Retracted) {
+pub fn retracted(rt: &impl Outputs, a: Result<Option<StatementId>, Refusal>) {
     match a {
-        Retracted::Number(n) => print::number(rt, n.0),
-        Retracted::Absent => print::number(rt, 0),
-        Retracted::Refused(e) => {
-            print::refused(rt, e);
-        }
+        Ok(Some(n)) => print::number(rt, n.0),
+        Ok(None) => print::number(rt, 0),
+        Err(e) => print::refused(rt, e),
     }
 }
 
-pub fn reclaimed(rt: &impl Outputs, s: State, a: Reclaimed) -> State {
+pub fn reclaimed(rt: &impl Outputs, state: &mut State, a: Result<Counters, Refusal>) {
     match a {
-        Reclaimed::Done(d) => counted(rt, s, d),
-        Reclaimed::Refused(e) => {
-            print::refused(rt, e);
-            s
-        }
+        Ok(d) => counted(rt, state, d),
+        Err(e) => print::refused(rt, e),
     }
 }
 
-pub fn opened(rt: &impl Outputs, s: State, a: ScanOpened) -> State {
+pub fn opened(rt: &impl Outputs, state: &mut State, a: Result<ScanCursor, Refusal>) {
     match a {
-        ScanOpened::Cursor(p) => listed(rt, s, p),
-        ScanOpened::Refused(e) => {
-            print::refused(rt, e);
-            s
-        }
+        Ok(p) => listed(rt, state, p),
+        Err(e) => print::refused(rt, e),
     }
 }
 
-pub fn scanned(rt: &impl Outputs, s: State, a: Scanned) -> State {
+pub fn scanned(rt: &impl Outputs, state: &mut State, a: Result<Scanned, Refusal>) {
     match a {
-        Scanned::Found(n, v, p) => moved(rt, s, print::FOUND, n, v, p),
-        Scanned::Ended(v, p) => moved(rt, s, print::ENDED, StatementId(0), v, p),
-        Scanned::Spent(v, p) => moved(rt, s, print::SPENT, StatementId(0), v, p),
-        Scanned::Refused(e) => {
-            print::refused(rt, e);
-            s
-        }
+        Ok(Scanned::Found(n, v, p)) => moved(rt, state, b"found", n, v, p),
+        Ok(Scanned::Ended(v, p)) => moved(rt, state, b"ended", StatementId(0), v, p),
+        Ok(Scanned::Spent(v, p)) => moved(rt, state, b"spent", StatementId(0), v, p),
+        Err(e) => print::refused(rt, e),
     }
 }
 
 fn moved(
     rt: &impl Outputs,
-    s: State,
-    status: u32,
+    state: &mut State,
+    status: &[u8],
     n: StatementId,
     visits: u32,
     p: ScanCursor,
-) -> State {
-    print::token(rt, status);
-    print::number(rt, n.0);
-    print::labelled(rt, print::VISITS, visits);
-    listed(rt, s, p)
+) {
+    print::labelled(rt, status, n.0);
+    print::labelled(rt, b"visits", visits);
+    listed(rt, state, p);
 }
 
-fn listed(rt: &impl Outputs, s: State, p: ScanCursor) -> State {
-    let t = state::with_listing(s, p);
-    print::listing(rt, t);
-    t
+fn listed(rt: &impl Outputs, state: &mut State, p: ScanCursor) {
+    print::listing(rt, p);
+    state.listing = p;
 }
 
-// Of an opening: whether it is no refusal.
-fn told(rt: &impl Outputs, opening: QueryOpening) -> bool {
-    match opening {
-        QueryOpening::Opened => print::status(rt, print::OPENED),
-        QueryOpening::Refused(e) => print::refused(rt, e),
+// Beside a refusal a place of zeros is written, and the state's stays.
+pub fn asked(rt: &impl Outputs, state: &mut State, a: Result<QueryCursor, Refusal>) {
+    match a {
+        Ok(p) => {
+            print::token(rt, b"opened");
+            print::place(rt, p);
+            state.place = p;
+        }
+        Err(e) => {
+            print::refused(rt, e);
+            print::place(rt, no_place());
+        }
     }
 }
 
-// Of a next call: whether it is no refusal.
-fn stepped(rt: &impl Outputs, step: QueryStep) -> bool {
+// Likewise no visits and a solution of zeros.
+pub fn answered(rt: &impl Outputs, state: &mut State, a: Result<QueryAnswer, Refusal>) {
+    match a {
+        Ok(answer) => {
+            print::token(rt, step(answer.step));
+            stepped(rt, answer.visits, answer.solution, answer.cursor);
+            state.place = answer.cursor;
+        }
+        Err(e) => {
+            print::refused(rt, e);
+            let none = Solution {
+                values: [ResourceId(0); VARIABLES],
+            };
+            stepped(rt, 0, none, no_place());
+        }
+    }
+}
+
+fn step(step: QueryStep) -> &'static [u8] {
     match step {
-        QueryStep::Found => print::status(rt, print::FOUND),
-        QueryStep::Ended => print::status(rt, print::ENDED),
-        QueryStep::Spent => print::status(rt, print::SPENT),
-        QueryStep::Refused(e) => print::refused(rt, e),
+        QueryStep::Found => b"found",
+        QueryStep::Ended => b"ended",
+        QueryStep::Spent => b"spent",
     }
 }
 
-pub fn asked(rt: &impl Outputs, s: State, a: QueryOpened) -> State {
-    let opening = a.opening;
-    let goes_on = told(rt, opening);
-    let p = a.cursor;
-    placed(rt, s, p, goes_on)
-}
-
-pub fn answered(rt: &impl Outputs, s: State, a: QueryAnswer) -> State {
-    let step = a.step;
-    let goes_on = stepped(rt, step);
-    print::labelled(rt, print::VISITS, a.visits);
-    let solution = a.solution;
+fn stepped(rt: &impl Outputs, visits: u32, solution: Solution, p: QueryCursor) {
+    print::labelled(rt, b"visits", visits);
     print::solution(rt, solution);
-    let p = a.cursor;
-    placed(rt, s, p, goes_on)
-}
-
-// The reply's place is written; beside a refusal the place stays what it was.
-fn placed(rt: &impl Outputs, s: State, p: QueryCursor, goes_on: bool) -> State {
-    let t = state::with_place(s, p);
-    print::place(rt, t);
-    if goes_on {
-        return t;
-    }
-    s
+    print::place(rt, p);
 }
 
 pub fn checked(rt: &impl Outputs, sound: bool) {
-    if sound {
-        print::token(rt, print::SOUND);
-        return;
-    }
-    print::token(rt, print::UNSOUND);
+    print::token(rt, if sound { b"sound" } else { b"unsound" });
 }

@@ -1,152 +1,167 @@
 // Lines that set something up.
-use crate::state::State;
+ghost use Rattle.table.specs.Lent.{SameSlices};
+
+use crate::script::Verb;
+use crate::state::{Lent, QUESTION_WORDS, Question, State};
 use crate::{script, state, words};
+use graph::{Progress, QueryCursor};
+use store::{Counters, ScanCursor, StatementId};
+use table::lent::TablesMut;
 use table::word::{COUNT, FLAG, KIND, LIVE, NEXT, OFFSET, RESOURCE_WORDS, STATEMENT_WORDS};
 
-// ---- the state
+// ---- the state: the words of a line after its first, 0 for one that is not there
 
-pub fn settings(s: State, verb: u32, line: &[u8]) -> State {
+pub fn settings(state: &mut State, verb: Verb, line: &[u8]) {
     match verb {
-        script::LEND => values(s, state::LENT, state::LENT_WORDS, line),
-        script::COUNTERS => values(s, state::COUNTERS, state::COUNTER_WORDS, line),
-        script::LISTING => values(s, state::LISTING, state::LISTING_WORDS, line),
-        script::QUESTION => question(s, line),
-        script::PLACE => values(s, state::PLACE, state::PLACE_WORDS, line),
-        _ => s,
+        Verb::Lend => state.lent = lent(line),
+        Verb::Counters => state.counters = counters(line),
+        Verb::Listing => state.listing = listing(line),
+        Verb::Question => state.question = question(line),
+        Verb::Place => state.place = place(line),
+        _ => {}
     }
 }
 
-// The words of a line after its first, n of them, as words of the state from `first` on; 0 for one that is not there.
-fn values(s: State, first: usize, n: u32, line: &[u8]) -> State {
-    let mut t = s;
-    let mut at = first;
-    let mut k: u32 = 0;
-    // The first k words are set; the next one goes to `at`.
-    while k < n {
-        k += 1;
-        t = state::set(t, at, script::number(line, k));
-        at = std::num::wrapping_add_usize(at, 1);
+// The fifth word is `short`.
+fn lent(line: &[u8]) -> Lent {
+    Lent {
+        resources: script::number(line, 1),
+        statements: script::number(line, 2),
+        index: script::number(line, 3),
+        text: script::number(line, 4),
+        short_resources: script::number(line, 6),
+        short_statements: script::number(line, 7),
     }
-    t
 }
 
-fn question(s: State, line: &[u8]) -> State {
-    let t = values(s, state::ASKED, state::QUESTION_WORDS, line);
-    state::set(t, state::QUESTION, script::count(line))
+fn counters(line: &[u8]) -> Counters {
+    Counters {
+        resources: script::number(line, 1),
+        statements: script::number(line, 2),
+        text: script::number(line, 3),
+        generation: script::number(line, 4),
+    }
+}
+
+fn listing(line: &[u8]) -> ScanCursor {
+    ScanCursor {
+        pattern: state::triple(
+            script::number(line, 1),
+            script::number(line, 2),
+            script::number(line, 3),
+        ),
+        chain: script::chain(line, 4),
+        next: StatementId(script::number(line, 5)),
+        generation: script::number(line, 6),
+    }
+}
+
+fn question(line: &[u8]) -> Question {
+    let mut words = [0; QUESTION_WORDS];
+    for (k, word) in words.iter_mut().enumerate() {
+        *word = script::number(line, k + 1);
+    }
+    Question {
+        words,
+        count: script::count(line),
+    }
+}
+
+// How far, how many levels, reclaims, and of each level its chain and its record.
+fn place(line: &[u8]) -> QueryCursor {
+    let mut levels = state::no_place().levels;
+    for (k, level) in levels.iter_mut().enumerate() {
+        level.chain = script::chain(line, 4 + 2 * k);
+        level.statement = StatementId(script::number(line, 5 + 2 * k));
+    }
+    QueryCursor {
+        progress: match script::number(line, 1) {
+            4 => Progress::Within,
+            5 => Progress::End,
+            _ => Progress::Start,
+        },
+        depth: script::number(line, 2),
+        generation: script::number(line, 3),
+        levels,
+    }
 }
 
 // ---- the tables
 
-pub fn tables(
-    verb: u32,
-    line: &[u8],
-    resources: &mut [u32],
-    statements: &mut [u32],
-    index: &mut [u32],
-    text: &mut [u8],
-) {
-    let n = script::number(line, number_at(line));
+pub fn tables(verb: Verb, line: &[u8], tables: &mut TablesMut)
+    ensures { SameSlices tables.new tables.old }
+{
+    let n = script::number(line, if changes(line) { 2 } else { 1 });
     match verb {
-        script::FILL => fill(n, resources, statements, index, text),
-        script::RESOURCE => record(line, resources, words::resource(n), RESOURCE_WORDS),
-        script::STATEMENT => record(line, statements, words::statement(n), STATEMENT_WORDS),
-        script::INDEX => fields(line, 2, index, n as usize),
-        _ => bytes(text, n as usize, script::rest(line, 2)),
+        Verb::Fill => fill(n, tables),
+        Verb::Resource => record(line, tables.resources, n, RESOURCE_WORDS),
+        Verb::Statement => record(line, tables.statements, n, STATEMENT_WORDS),
+        Verb::Index => fields(line, 2, tables.index, n as usize),
+        _ => bytes(tables.text, n as usize, script::rest(line, 2)),
     }
 }
 
-fn fill(v: u32, resources: &mut [u32], statements: &mut [u32], index: &mut [u32], text: &mut [u8]) {
-    words::fill(resources, v);
-    words::fill(statements, v);
-    words::fill(index, v);
-    words::fill_bytes(text, byte_of(v));
+fn fill(v: u32, tables: &mut TablesMut)
+    ensures { SameSlices tables.new tables.old }
+{
+    tables.resources.fill(v);
+    tables.statements.fill(v);
+    tables.index.fill(v);
+    tables.text.fill(u8::try_from(v).unwrap_or(u8::MAX));
 }
 
-fn byte_of(v: u32) -> u8 {
-    if v > 255 {
-        return 255;
-    }
-    v as u8
-}
-
-// Which word of a line has its number: the second, or after `change` the third.
-fn number_at(line: &[u8]) -> u32 {
-    if script::letter(line) == b'c' {
-        return 2;
-    }
-    1
+// Whether a line begins with `change`: then its number is the third word, and else the second.
+fn changes(line: &[u8]) -> bool {
+    matches!(line.first(), Some(b'c'))
 }
 
 // A record whole, or after `change` the fields named.
-fn record(line: &[u8], table: &mut [u32], first: usize, width: usize) {
-    if number_at(line) == 2 {
+fn record(line: &[u8], table: &mut [u32], n: u32, width: usize) {
+    let first = words::start(n, width);
+    if changes(line) {
         fields(line, 3, table, first);
         return;
     }
-    words::set(table, first, width, 0);
+    words::clear(table, first, width);
     fields(line, 2, table, first);
 }
 
-// The words of a line from word `from` on: a field goes to its place in the part of the table that begins at `first`, a number is written
-// there.
-fn fields(line: &[u8], from: u32, table: &mut [u32], first: usize) {
+// The words of a line from word `from` on, to the 64th: a field goes to its place in the part of the table that begins at `first`, a number
+// is written there.
+fn fields(line: &[u8], from: usize, table: &mut [u32], first: usize) {
     let mut at = first;
-    let mut k = from;
-    // The words before word k are written; the next number goes to `at`.
-    while k < 64 {
+    for k in from..64 {
         let word = script::word(line, k);
-        if word.len() == 0 {
+        if word.is_empty() {
             return;
         }
         at = field(word, table, first, at);
-        k += 1;
     }
 }
 
 // One word of a line: where the next one goes.
 fn field(word: &[u8], table: &mut [u32], first: usize, at: usize) -> usize {
-    let n = script::position(
-        word,
-        b"subject predicate object first triple count next offset kind flag live",
-    );
-    if n < 3 {
-        return std::num::wrapping_add_usize(at, n as usize);
-    }
-    if n < 11 {
-        return std::num::wrapping_add_usize(first, group(n));
-    }
-    words::put(table, at, script::value(word));
-    std::num::wrapping_add_usize(at, 1)
-}
-
-// Where a field's words begin in its record.
-fn group(n: u32) -> usize {
-    match n {
-        5 => COUNT,
-        6 => NEXT,
-        7 => OFFSET,
-        8 => KIND,
-        9 => FLAG,
-        10 => LIVE,
-        _ => 0,
+    match word {
+        b"subject" => at,
+        b"predicate" => std::num::wrapping_add_usize(at, 1),
+        b"object" => std::num::wrapping_add_usize(at, 2),
+        b"first" | b"triple" => first,
+        b"count" => std::num::wrapping_add_usize(first, COUNT),
+        b"next" => std::num::wrapping_add_usize(first, NEXT),
+        b"offset" => std::num::wrapping_add_usize(first, OFFSET),
+        b"kind" => std::num::wrapping_add_usize(first, KIND),
+        b"flag" => std::num::wrapping_add_usize(first, FLAG),
+        b"live" => std::num::wrapping_add_usize(first, LIVE),
+        _ => {
+            words::put(table, at, script::value(word));
+            std::num::wrapping_add_usize(at, 1)
+        }
     }
 }
 
 // Bytes into the text from `first` on, a zero byte for a bar.
 pub fn bytes(text: &mut [u8], first: usize, from: &[u8]) {
-    let mut at = first;
-    let mut i = 0;
-    // The first i bytes are written; the next one goes to `at`.
-    while i < from.len() {
-        words::put_byte(text, at, unbarred(from[i]));
-        at = std::num::wrapping_add_usize(at, 1);
-        i += 1;
+    for (to, b) in text.iter_mut().skip(first).zip(from) {
+        *to = if *b == b'|' { 0 } else { *b };
     }
-}
-
-fn unbarred(b: u8) -> u8 {
-    if b == b'|' {
-        return 0;
-    }
-    b
 }

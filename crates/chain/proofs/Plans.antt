@@ -1,4 +1,4 @@
--- Laws of a walk's plan: by its marks a record of the chain is compared as by its pattern, and its chain is told to be
+-- Laws of a walk's plan: by what it binds a record of the chain is compared as by its pattern, and its chain is told to be
 -- one that a cursor may be on. Assumes nothing.
 use mathlib.Core.Path.{◌≡◌, refl, sym, ap, ap₂, ◌∙◌}
 use mathlib.Core.Bool.{Bool, true, false, not, ◌&&◌, ◌||◌}
@@ -18,10 +18,25 @@ use Rattle.store.specs.Scan.{chain_ok}
 use Rattle.store.proofs.Tests.{decide, and_l, and_r, all3-of}
 use Rattle.store.proofs.Words.{triple-at}
 use Rattle.chain.specs.declared.plan.Plan.{Plan}
-use Rattle.chain.specs.Plans.{resource_of, has, is_bound, alone, plan_of, admits_marked, agrees_marked, agrees_by}
+use Rattle.store.specs.declared.ResourceId.{ResourceId}
+use Rattle.chain.specs.Planned.{resource_of, has, bound_number, alone, admits_bound}
+use Rattle.chain.specs.Plans.{agrees_bound, agrees_by}
 use Rattle.chain.proofs.Chains.{nonzero}
 
 -- ---- a plan that was made
+
+-- the plan of a chain and a pattern
+unfoldable pub plan_of : Chain → Triple → Plan
+plan_of ch x = record {
+  pattern = x;
+  chain = ch;
+  resource = record { 0 = resource_of ch x };
+  subject = bound_number x.subject;
+  predicate = bound_number x.predicate;
+  object = bound_number x.object;
+  alone = alone x (resource_of ch x);
+  planned = (refl, refl, refl, refl, refl);
+}
 
 module _ (p : Plan) (ch : Chain) (x : Triple) (e : p ≡ plan_of ch x) where
   pub plan-chain : p.chain ≡ ch
@@ -40,23 +55,23 @@ module _ (p : Plan) (ch : Chain) (x : Triple) (e : p ≡ plan_of ch x) where
   pub planned : p ≡ plan_of p.chain p.pattern
   planned = e ∙ sym (ap₂ plan_of plan-chain plan-pattern)
 
--- ---- marks
+-- ---- bound numbers
 
--- where the mark says that the pattern's number is bound
-marked-admits : (y z : ℕ) → admits_marked (is_bound y) y z ≡ eqb y 0 || eqb z y
-marked-admits y z = twice (eqb y 0)
-  where
-    twice : (b : Bool) → not (not b) || eqb z y ≡ b || eqb z y
-    twice true = refl
-    twice false = refl
+-- what is bound admits what the pattern's number does
+bound-admits : (y z : ResourceId) → admits_bound (bound_number y) z ≡ eqb y.0 0 || eqb z.0 y.0
+bound-admits y z = decide (eqb y.0 0) (λ e. rw e) (λ e. rw e)
 
-marks-agree : (ch : Chain) (x t : Triple) → agrees_marked (plan_of ch x) t ≡ agrees x t
-unfolding agrees_marked plan_of agrees
-marks-agree ch x t =
+bound-agree : (p : Plan) (t : Triple) → agrees_bound p t ≡ agrees p.pattern t
+unfolding agrees_bound agrees
+bound-agree p t =
+    let x = p.pattern in
     rw (
-      marked-admits (at Subject x) (at Subject t),
-      marked-admits (at Predicate x) (at Predicate t),
-      marked-admits (at Object x) (at Object t),
+      p.planned.1,
+      p.planned.2,
+      p.planned.3,
+      bound-admits x.subject t.subject,
+      bound-admits x.predicate t.predicate,
+      bound-admits x.object t.object,
     )
 
 -- ---- nothing bound but the chain's position
@@ -104,29 +119,30 @@ alone-agrees stm (By p) x i h e =
     (by_one p x (triple_at stm i) (eqb-true (sum x) (at p x) e)
     (triple-at stm p i ∙ eqb-true (term_at stm p i) (at p x) h))
 
-plan-alone : (ch : Chain) (x : Triple) → (plan_of ch x).alone ≡ alone x (resource_of ch x)
-unfolding plan_of
-plan-alone ch x = refl
+by-alone : (p : Plan) (t : Triple) → alone p.pattern (resource_of p.chain p.pattern) ≡ true → agrees_by p t ≡ true
+by-alone p t e = ap (λ (b : Bool). b || agrees_bound p t) (p.planned.4 ∙ e)
 
-by-alone : (ch : Chain) (x t : Triple) → alone x (resource_of ch x) ≡ true → agrees_by (plan_of ch x) t ≡ true
-by-alone ch x t e = rw (plan-alone ch x, e)
-
--- the marks decide where another position is bound
-pub marks-decide : (p : Plan) (t : Triple) → p.alone ≡ false → agrees_marked p t ≡ agrees_by p t
-marks-decide p t e = sym (second p.alone (agrees_marked p t) e)
+-- what is bound decides where another position is bound
+bound-decide : (p : Plan) (t : Triple) → p.alone ≡ false → agrees_bound p t ≡ agrees_by p t
+bound-decide p t e = sym (second p.alone (agrees_bound p t) e)
   where
     second : (a b : Bool) → a ≡ false → a || b ≡ b
     second true b e = let z : ◌≡◌ {A = ℕ} 0 1 = cc in absurd (omega arith)
     second false b e = refl
 
 -- a record of the chain agrees by the plan as by the pattern
+pub agrees-planned : (stm : List ℕ) (p : Plan) (i : ℕ) → has stm p.chain (resource_of p.chain p.pattern) i ≡ true
+    → agrees_by p (triple_at stm i) ≡ agrees p.pattern (triple_at stm i)
+agrees-planned stm p i h =
+    let t = triple_at stm i in
+    decide (alone p.pattern (resource_of p.chain p.pattern))
+    (λ e. by-alone p t e ∙ sym (alone-agrees stm p.chain p.pattern i h e))
+    (λ e. sym (bound-decide p t (p.planned.4 ∙ e)) ∙ bound-agree p t)
+
 pub agrees-by-plan : (stm : List ℕ) (ch : Chain) (x : Triple) (i : ℕ) → has stm ch (resource_of ch x) i ≡ true
     → agrees_by (plan_of ch x) (triple_at stm i) ≡ agrees x (triple_at stm i)
-agrees-by-plan stm ch x i h =
-    let t = triple_at stm i in
-    decide (alone x (resource_of ch x))
-    (λ e. by-alone ch x t e ∙ sym (alone-agrees stm ch x i h e))
-    (λ e. sym (marks-decide (plan_of ch x) t (plan-alone ch x ∙ e)) ∙ marks-agree ch x t)
+unfolding plan_of
+agrees-by-plan stm ch x i h = agrees-planned stm (plan_of ch x) i h
 
 -- ---- the chain of a cursor
 
@@ -147,17 +163,17 @@ none-bound a b d =
         absurd (h (omega arith)))
         (λ e. e)
 
-all-fits : (x : Triple) → (plan_of All x).alone ≡ chain_ok All x
-unfolding plan_of chain_ok
+all-fits : (x : Triple) → alone x (resource_of All x) ≡ chain_ok All x
+unfolding chain_ok
 all-fits x = none-bound (at Subject x) (at Predicate x) (at Object x)
 
-by_fits : (p : Position) (x : Triple) → is_bound (plan_of (By p) x).resource.0 ≡ chain_ok (By p) x
-unfolding plan_of chain_ok
+by_fits : (p : Position) (x : Triple) → not (eqb (resource_of (By p) x) 0) ≡ chain_ok (By p) x
+unfolding chain_ok
 by_fits p x = nonzero (at p x)
 
-module _ (p : Plan) (e : p ≡ plan_of p.chain p.pattern) where
+module _ (p : Plan) where
   pub fits_all : p.chain ≡ All → p.alone ≡ chain_ok p.chain p.pattern
-  fits_all d = ap (λ (p : Plan). p.alone) e ∙ rw d (all-fits p.pattern)
+  fits_all d = p.planned.4 ∙ rw d (all-fits p.pattern)
 
-  pub fits_by : (q : Position) → p.chain ≡ By q → is_bound p.resource.0 ≡ chain_ok p.chain p.pattern
-  fits_by q d = ap (λ (p : Plan). is_bound p.resource.0) e ∙ rw d (by_fits q p.pattern)
+  pub fits_by : (q : Position) → p.chain ≡ By q → not (eqb p.resource.0 0) ≡ chain_ok p.chain p.pattern
+  fits_by q d = ap (λ (y : ℕ). not (eqb y 0)) p.planned.0 ∙ rw d (by_fits q p.pattern)

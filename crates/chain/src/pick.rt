@@ -2,7 +2,7 @@
 // step").
 //
 // Each function asks that the records it reads lie in their tables, and nothing of what they hold: a word out of range
-// is an answer.
+// is an answer. The fact is asked and no type has it: pattern and table come together here alone.
 ghost use Rattle.std.specs.Prelude.{◌≡◌, true, ◌&&◌, ◌||◌, eqb, leb};
 ghost use Rattle.store.specs.Shared.{at, better};
 ghost use Rattle.store.specs.Tables.{first_at, count_at};
@@ -54,29 +54,18 @@ pub fn pickable_at(t: u32, resources: &[u32], x: Triple, p: Position) -> bool
         || (leb (count_at resources.now p (at p x)) t && leb (first_at resources.now p (at p x)) t)) }
 {
     let y = at(p, x);
-    if y.0 == 0 {
-        return true;
-    }
-    let count = count_at(resources, y, p);
-    if count > t {
-        return false;
-    }
-    let first = first_at(resources, y, p);
-    first.0 <= t
+    y.0 == 0 || (count_at(resources, y, p) <= t && first_at(resources, y, p).0 <= t)
 }
 
 // Whether a chain can be picked; where not, an operation refuses 9.
+#[tactic(auto, unfolding(store::specs::Walk::pickable))]
 pub fn pickable(t: u32, resources: &[u32], x: Triple) -> bool
     requires { PatternHeld resources.now x }
     ensures { result ≡ pickable t resources.now x }
 {
-    if !pickable_at(t, resources, x, Position::Subject) {
-        return false;
-    }
-    if !pickable_at(t, resources, x, Position::Predicate) {
-        return false;
-    }
-    pickable_at(t, resources, x, Position::Object)
+    pickable_at(t, resources, x, Position::Subject)
+        && pickable_at(t, resources, x, Position::Predicate)
+        && pickable_at(t, resources, x, Position::Object)
 }
 
 // A chain's first record.
@@ -94,22 +83,12 @@ pub fn start_of(t: u32, resources: &[u32], chain: Chain, x: Triple) -> Statement
 }
 
 // Whether a cursor on a pattern may be on a chain: by a bound position, or all records where nothing is bound.
+#[tactic(auto, unfolding(store::specs::Scan::chain_ok))]
 pub fn chain_ok(chain: Chain, x: Triple) -> bool
     ensures { result ≡ chain_ok chain x }
 {
     match chain {
-        Chain::All => {
-            if x.subject.0 != 0 {
-                return false;
-            }
-            if x.predicate.0 != 0 {
-                return false;
-            }
-            x.object.0 == 0
-        }
-        Chain::By(p) => {
-            let y = at(p, x);
-            y.0 != 0
-        }
+        Chain::All => x.subject.0 == 0 && x.predicate.0 == 0 && x.object.0 == 0,
+        Chain::By(p) => at(p, x).0 != 0,
     }
 }

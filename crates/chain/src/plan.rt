@@ -1,25 +1,29 @@
 // What a walk asks of every record of its chain, worked out before the first (paper 02, note 3).
+//
+// A plan is always of its own chain and pattern: the type says so, and no walk asks for it.
 ghost use Rattle.std.specs.Prelude.{◌≡◌};
 ghost use Rattle.store.specs.Scan.{chain_ok};
-ghost use Rattle.chain.specs.Plans.{resource_of, is_bound, admits_marked, alone, plan_of, agrees_marked, agrees_by};
+ghost use Rattle.std.proofs.Props.{props};
+ghost use Rattle.chain.specs.Planned.{resource_of, bound_number, admits_bound, alone, WorkedOut};
 
 use store::{Chain, ResourceId, Triple};
 use table::triple::at;
 
-// The pattern and the chain; the chain's resource, 0 for all records; for each position whether the pattern binds it,
-// its bound mark; whether it binds none but the chain's.
+// The pattern and the chain; the chain's resource, 0 for all records; for each position the number that the pattern
+// binds there; whether it binds none but the chain's, which is worked out once and has no value beside it.
 #[derive(Clone, Copy)]
 pub struct Plan {
     pub pattern: Triple,
     pub chain: Chain,
     pub resource: ResourceId,
-    pub subject: bool,
-    pub predicate: bool,
-    pub object: bool,
+    pub subject: Option<ResourceId>,
+    pub predicate: Option<ResourceId>,
+    pub object: Option<ResourceId>,
     pub alone: bool,
+    pub ghost planned: { WorkedOut chain pattern resource subject predicate object alone } by { Prim.hlevel props },
 }
 
-// A chain's resource, 0 for all records.
+// A chain's resource, 0 for all records. No Option: the chain, which goes with it everywhere, says which of the two.
 pub fn resource_of(chain: Chain, x: Triple) -> ResourceId
     ensures { result.0 ≡ resource_of chain x }
 {
@@ -29,11 +33,14 @@ pub fn resource_of(chain: Chain, x: Triple) -> ResourceId
     }
 }
 
-// Whether a number of a pattern is bound.
-fn is_bound(y: ResourceId) -> bool
-    ensures { result ≡ is_bound y.0 }
+// A number of a pattern, where it is bound.
+fn bound_number(y: ResourceId) -> Option<ResourceId>
+    ensures { result ≡ bound_number y }
 {
-    y.0 != 0
+    if y.0 == 0 {
+        return None;
+    }
+    Some(y)
 }
 
 // Whether a pattern binds no position but that of y, one of its numbers or 0: exactly then they add up to y.
@@ -44,65 +51,63 @@ fn is_alone(x: Triple, y: ResourceId) -> bool
     sum == y.0 as u64
 }
 
-// The plan of a walk along a chain.
-pub fn plan_of(chain: Chain, x: Triple) -> Plan
-    ensures { result ≡ plan_of chain x }
+// Whether z is the number that the pattern binds at its position, if it binds one.
+fn admits_bound(bound: Option<ResourceId>, z: ResourceId) -> bool
+    ensures { result ≡ admits_bound bound z }
 {
-    let y = resource_of(chain, x);
-    Plan {
-        pattern: x,
-        chain: chain,
-        resource: y,
-        subject: is_bound(x.subject),
-        predicate: is_bound(x.predicate),
-        object: is_bound(x.object),
-        alone: is_alone(x, y),
+    match bound {
+        None => true,
+        Some(y) => z == y,
     }
 }
 
-// Whether a position whose mark is set has the pattern's number y.
-fn admits_marked(mark: bool, y: ResourceId, z: ResourceId) -> bool
-    ensures { result ≡ admits_marked mark y.0 z.0 }
-{
-    if !mark {
-        return true;
-    }
-    z.0 == y.0
-}
+impl Plan {
+    ghost use Rattle.chain.specs.Plans.{agrees_bound, agrees_by};
 
-// Whether t has the pattern's number at each position whose mark is set.
-fn agrees_marked(plan: Plan, t: Triple) -> bool
-    ensures { result ≡ agrees_marked plan t }
-{
-    let x = plan.pattern;
-    if !admits_marked(plan.subject, x.subject, t.subject) {
-        return false;
+    // The plan of a walk along a chain.
+    pub fn new(chain: Chain, x: Triple) -> Plan
+        ensures { (result.chain ≡ chain) × (result.pattern ≡ x) }
+    {
+        let y = resource_of(chain, x);
+        Plan {
+            pattern: x,
+            chain,
+            resource: y,
+            subject: bound_number(x.subject),
+            predicate: bound_number(x.predicate),
+            object: bound_number(x.object),
+            alone: is_alone(x, y),
+        }
     }
-    if !admits_marked(plan.predicate, x.predicate, t.predicate) {
-        return false;
-    }
-    admits_marked(plan.object, x.object, t.object)
-}
 
-// Whether t, which has the chain's resource at the chain's position, has the pattern's number at each bound position.
-pub fn agrees_by(plan: Plan, t: Triple) -> bool
-    ensures { result ≡ agrees_by plan t }
-{
-    if plan.alone {
-        return true;
+    // Whether t has the pattern's number at each position that it binds.
+    #[tactic(auto, unfolding(crate::specs::Plans::agrees_bound))]
+    fn agrees_bound(self, t: Triple) -> bool
+        ensures { result ≡ agrees_bound self t }
+    {
+        admits_bound(self.subject, t.subject)
+            && admits_bound(self.predicate, t.predicate)
+            && admits_bound(self.object, t.object)
     }
-    agrees_marked(plan, t)
-}
 
-// Whether a cursor on the plan's pattern may be on its chain, as `pick::chain_ok` tells without a plan: by a bound
-// position, or all records where nothing is bound.
-pub fn chain_fits(plan: Plan) -> bool
-    requires { plan ≡ plan_of plan.chain plan.pattern }
-    ensures { result ≡ chain_ok plan.chain plan.pattern }
-{
-    let chain = plan.chain;
-    match chain {
-        Chain::All => plan.alone,
-        Chain::By(_) => plan.resource.0 != 0,
+    // Whether t, which has the chain's resource at the chain's position, has the pattern's number at each bound
+    // position.
+    pub fn agrees_by(self, t: Triple) -> bool
+        ensures { result ≡ agrees_by self t }
+    {
+        self.alone || self.agrees_bound(t)
+    }
+
+    // Whether a cursor on the plan's pattern may be on its chain, as `pick::chain_ok` tells without a plan: by a bound
+    // position, or all records where nothing is bound. The two are no twins: this one reads what the plan has worked
+    // out.
+    pub fn chain_fits(self) -> bool
+        ensures { result ≡ chain_ok self.chain self.pattern }
+    {
+        let chain = self.chain;
+        match chain {
+            Chain::All => self.alone,
+            Chain::By(_) => self.resource.0 != 0,
+        }
     }
 }

@@ -9,7 +9,6 @@ use native.Mathlib.Omega.{arith}
 use native.Mathlib.Numerals.{add-one}
 use borrow.Author.Tests.{eq-eqb, ne_eqb}
 use Rattle.store.specs.declared.Counters.{Counters}
-use Rattle.store.specs.declared.Reclaimed.TheVariants.{Done}
 use Rattle.store.specs.Tables.{Tables, tables, fits, flag_at, triple_at}
 use Rattle.store.specs.Shared.{max_reclaims, max_statements}
 use Rattle.store.specs.Statement.{append_record, link_record}
@@ -20,6 +19,7 @@ use Rattle.store.proofs.Tests.{known-low, known-high}
 use Rattle.store.proofs.ReclaimAgrees.{sweeping}
 use Rattle.store.proofs.SweepLaws.{StepNeeds, step-needs, answer-done}
 use Rattle.compaction.specs.Steps.{Sweepable, AllSweepable, compacted}
+use Rattle.std.specs.Prelude.{Ok}
 
 -- ---- a step
 
@@ -105,7 +105,7 @@ check-no {b} e h p = true≢false (sym (e.1 p) ∙ h)
 
 module _ (c : Counters) (m : Tables) (a : fits c m ≡ true) (b : c.generation < max_reclaims) (S : Sound c m) where
   done_at : (z : Swept) → z ≡ compacted c.resources c.statements m.resources m.statements
-      → ReclaimAnswer c m (tables z.resources z.statements m.index m.text) (Done (reclaimed_counters c z))
+      → ReclaimAnswer c m (tables z.resources z.statements m.index m.text) (Ok (reclaimed_counters c z))
   unfolding swept_of
   done_at z e = rw e (answer-done c m a b S)
 
@@ -113,5 +113,5 @@ module _ (c : Counters) (m : Tables) (a : fits c m ≡ true) (b : c.generation <
   pub done : (k g : ℕ) (res stm : List ℕ) → g ≡ suc c.generation
       → swept k res stm ≡ compacted c.resources c.statements m.resources m.statements
       → ReclaimAnswer c m (tables res stm m.index m.text)
-      (Done (record { resources = c.resources; statements = k; text = c.text; generation = g }))
+      (Ok (record { resources = c.resources; statements = k; text = c.text; generation = g }))
   done k g res stm d e = rw d (done_at (swept k res stm) e)

@@ -26,11 +26,9 @@ pub fn unlink_all(resources: &mut [u32], r: u32)
     requires { resource_words * r ≤ length resources.old }
     ensures { resources.new ≡ unlinked r resources.old }
 {
-    let mut done: u32 = 0;
     // Those of the first `done` resources are 0.
-    while done < r {
-        done += 1;
-        unlink_one(resources, ResourceId(done));
+    for done in 0..r {
+        unlink_one(resources, ResourceId(done + 1));
     }
 }
 

@@ -3,7 +3,8 @@
 // The live statements move down in their order and are numbered from 1, chains and counts are built anew, the words of
 // the records given up are 0, names stay. Refusals, tested in this order, nothing written beside one: 1; 14 after
 // 65,535 reclaims; 9 where the store is not sound. After the check one pass over the resources and one over the
-// statements, in place; no working memory is asked for.
+// statements, in place; no working memory is asked for. The tables are four slices: index and text are only read, and
+// a struct of four that may be written would ask more of callers.
 #![tactic(auto)]
 
 ghost use Rattle.std.specs.Prelude.{◌≡◌, ◌≤◌};
@@ -13,7 +14,8 @@ ghost use Rattle.store.specs.Soundness.{Linked};
 ghost use Rattle.store.specs.Reclaim.{swept, ReclaimAnswer};
 ghost use Rattle.compaction.specs.Steps.{compacted};
 
-use store::{Counters, Reclaimed, Refusal};
+use store::{Counters, Refusal};
+use table::lent::Tables;
 
 mod clear;
 mod sweep;
@@ -38,22 +40,30 @@ pub fn reclaim(
     statements: &mut [u32],
     index: &[u32],
     text: &[u8],
-) -> Reclaimed
+) -> Result<Counters, Refusal>
     ensures { ReclaimAnswer c (tables resources.old statements.old index.now text.now)
         (tables resources.new statements.new index.now text.now) result }
 {
-    if !table::fits(c, resources, statements, index, text) {
-        return Reclaimed::Refused(Refusal::Capacity);
+    let tables = Tables {
+        resources,
+        statements,
+        index,
+        text,
+    };
+    if !table::fits(c, tables) {
+        return Err(Refusal::Capacity);
     }
     if c.generation >= Counters::MAX_RECLAIMS {
-        return Reclaimed::Refused(Refusal::ReclaimLimit);
+        return Err(Refusal::ReclaimLimit);
     }
-    if !integrity::check(c, resources, statements, index, text) {
-        return Reclaimed::Refused(Refusal::Damaged);
+    if !integrity::check(c, tables) {
+        return Err(Refusal::Damaged);
     }
     let live = compact(resources, statements, c.resources, c.statements);
-    let mut d = c;
-    d.statements = live;
-    d.generation = c.generation + 1;
-    Reclaimed::Done(d)
+    let generation = c.generation + 1;
+    Ok(Counters {
+        statements: live,
+        generation,
+        ..c
+    })
 }

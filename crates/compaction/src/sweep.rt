@@ -30,11 +30,9 @@ pub fn sweep(resources: &mut [u32], statements: &mut [u32], t: u32) -> u32
         ≡ sweep t (swept 0 resources.old statements.old) }
 {
     let mut live: u32 = 0;
-    let mut done: u32 = 0;
     // The first `done` records are swept, and `live` of them were live.
-    while done < t {
-        done += 1;
-        live = sweep_one(resources, statements, StatementId(done), live);
+    for done in 0..t {
+        live = sweep_one(resources, statements, StatementId(done + 1), live);
     }
     live
 }

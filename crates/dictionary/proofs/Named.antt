@@ -13,7 +13,6 @@ use lib.Dec.{eqb, ltb}
 use borrow.Author.Tests.{eq-eqb, ne_eqb, lt-ltb, le-ltb, le-leb, ltb-true, ltb-false, eqb-true, eqb-false}
 use Rattle.term.proofs.Booleans.{eq_bytes-not}
 use Rattle.store.specs.declared.Counters.{Counters}
-use Rattle.store.specs.declared.IndexPlace.TheVariants.{At, Before}
 use Rattle.store.specs.Tables.{Tables, word}
 use Rattle.store.specs.Shared.{max_resources, name_of, text_bytes}
 use Rattle.store.specs.Reading.{in_range}
@@ -27,16 +26,17 @@ use Rattle.store.proofs.Text.{text_at, bytes_take}
 use Rattle.store.proofs.Index.{rank_is}
 use Rattle.store.proofs.NamesAgree.{name-indexed}
 use Rattle.dictionary.specs.Search.{compare_of, probe_of, middle, search_of, searched}
-use Rattle.dictionary.specs.declared.search.Compared.{Compared}
-use Rattle.dictionary.specs.declared.search.Compared.TheVariants.{Less, Same, More}
+use Rattle.std.proofs.Common.{Option, Some, Ordering, Less, Equal, Greater}
 use Rattle.dictionary.proofs.Steps.{pow2}
+use Rattle.std.specs.Prelude.{Ok}
+use Rattle.store.specs.declared.Lookup.TheVariants.{Absent, Number}
 
 -- ---- the comparison is the byte order
 
-abbrev compared : ByteOrdering → Compared
-compared less = Less
-compared equal = Same
-compared more = More
+abbrev compared : ByteOrdering → Option Ordering
+compared less = Some Less
+compared equal = Some Equal
+compared more = Some Greater
 
 pub at_head : (t : List ℕ) (o x : ℕ) (r : List ℕ) → drop o t ≡ x ∷ r → word t o ≡ x
 at_head t o x r d =
@@ -116,7 +116,7 @@ module _ (ns : List (List ℕ)) (c : Counters) (m : Tables) (N : Named ns c m) (
       (text_at ns m.text c.text (y - 1) N.spelled q)
       (omega (arith, bytes_take ns (y - 1) q, N.bytes)))
 
-  hit : (k : ℕ) → k < R → compare_bytes (nm k) w ≡ equal → At (record { 0 = word m.index k }) k ≡ index_place_of c m w
+  hit : (k : ℕ) → k < R → compare_bytes (nm k) w ≡ equal → Ok (Number (record { 0 = word m.index k }) k) ≡ index_place_of c m w
   unfolding index_place_of place_at
   hit k h e =
       let d = compare-equal (nm k) w e in
@@ -134,7 +134,7 @@ module _ (ns : List (List ℕ)) (c : Counters) (m : Tables) (N : Named ns c m) (
   abbrev High : ℕ → Type 0
   High hi = (i : ℕ) → hi ≤ i → i < R → compare_bytes w (nm i) ≡ less
 
-  missed : (k : ℕ) → k ≤ R → Low k → High k → Before k ≡ index_place_of c m w
+  missed : (k : ℕ) → k ≤ R → Low k → High k → Ok (Absent k) ≡ index_place_of c m w
   unfolding index_place_of place_at
   missed k h lo hi =
       let rk : rank (name_at m) m.index R w ≡ k =

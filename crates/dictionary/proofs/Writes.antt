@@ -1,33 +1,27 @@
 -- The stores of a new name, in the definitions' terms: the name's bytes, the record, the block move of the index.
 -- Assumes nothing.
-use mathlib.Core.Path.{◌≡◌, refl, sym, ap, ◌∙◌}
-use mathlib.Core.List.{List, [], ◌∷◌, ◌++◌, append_assoc}
-use Prim.Native.Nat.{ℕ, suc, zero, ◌+◌, ◌-◌, ◌<◌, ◌≤◌}
-use native.Mathlib.Omega.{arith}
-use native.Mathlib.Numerals.{add-one}
+use Rattle.std.proofs.Common.{◌≡◌, refl, sym, ap, ◌∙◌, List, [], ◌∷◌, ◌++◌, ℕ, suc, zero, ◌+◌, ◌-◌, ◌<◌, ◌≤◌, arith, length, take, drop, set, replicate}
+use Rattle.std.proofs.lemmas.List.{append-nil, drop-drop}
+use Rattle.std.proofs.lemmas.List.Edits.{sets, sets-eq}
+use borrow.Rule.Slice.PartMut.{put_mid}
+use mathlib.Core.List.{append_assoc}
 use native.Mathlib.Nat.{add-zero, add-suc, suc-add}
-use lib.ListN.{length, take, drop, get_or, set, get_or-append, drop_of_length-le, length-take, length-drop}
-use lib.ListN.{replicate}
-use lib.Seq.{sets, set_comm, set-set, split_at, set_at, length-take-le, take-suc, drop-cons, get_or-take, take_all}
+use lib.ListN.{drop_of_length-le, length-take, length-drop}
+use lib.Seq.{paste, set_comm, set-set}
 use Rattle.store.specs.Tables.{resource_words}
 use Rattle.store.specs.Dictionary.{fresh_record, bring, insert_at}
 use Rattle.table.proofs.Stores.{sets-snoc}
 
 -- ---- a run of stores
 
--- a turn: one byte more
-pub name-turn : (t l w : List ℕ) (b i : ℕ) → t ≡ sets l b (take i w) → i < length w
-    → set t (b + i) (get_or w i 0) ≡ sets l b (take (i + 1) w)
-name-turn t l w b i e h =
-    let q = length-take-le i w (omega arith) in
-    rw (add-one i, take-suc w i 0 h, sets-snoc (take i w) l b (get_or w i 0), q, e)
-
--- the closing zero
-pub name-end : (t l w : List ℕ) (b i : ℕ) → t ≡ sets l b (take i w) → i ≤ length w → length w ≤ i
-    → set t (b + i) 0 ≡ sets l b (w ++ 0 ∷ [])
-name-end t l w b i e h g =
-    let n : i ≡ length w = omega arith in
-    rw (sets-snoc w l b 0, e, take_all i w g, n)
+-- the name copied into its part of the text, and the closing zero
+pub name-end : (l w v : List ℕ) (b : ℕ) → b + length w < length l → v ≡ w
+    → set (put_mid b (b + length w - b) l v) (b + length w) 0 ≡ sets l b (w ++ 0 ∷ [])
+name-end l w v b h e =
+    let k : b + length w - b ≡ length w = omega arith in
+    let g : b + length w ≤ length l = omega arith in
+    rw (sets-snoc w l b 0, sets-eq w l b g, e, k, drop-drop (length w) b l)
+    (ap (λ (z : List ℕ). set z (b + length w) 0) (sym (append_assoc (take b l) w (drop (b + length w) l))))
 
 -- a store before a run, and one within it
 set_before : (vs l : List ℕ) (b j x : ℕ) → j < b → set (sets l b vs) j x ≡ sets (set l j x) b vs
@@ -43,55 +37,13 @@ set-within (v ∷ vs) l b zero x h =
 set-within (v ∷ vs) l b (suc j) x h = rw (add-suc, ← suc-add) (set-within vs (set l b v) (suc b) j x (omega arith))
 
 -- offset and kind into a record of zeros
-pub record-end : (t l : List ℕ) (b i o k : ℕ) → t ≡ sets l b (replicate i 0) → i ≤ resource_words → resource_words ≤ i
+pub record-end : (t l : List ℕ) (b o k : ℕ) → t ≡ sets l b (replicate resource_words 0)
     → set (set t (b + 6) o) (b + 7) k ≡ sets l b (fresh_record o k)
-record-end t l b i o k e h g =
-    let n : i ≡ resource_words = omega arith in
+record-end t l b o k e =
     let z : List ℕ = replicate resource_words 0 in
-    rw (e, n, set-within z l b 6 o (omega arith)) (set-within (set z 6 o) l b 7 k (omega arith))
+    rw (e, set-within z l b 6 o (omega arith)) (set-within (set z 6 o) l b 7 k (omega arith))
 
 -- ---- the block move
-
--- a list whose words from i on have moved up by one, v in their place and the last dropped
-unfoldable pub moved : List ℕ → ℕ → ℕ → List ℕ
-moved l i v = take i l ++ (v ∷ take (length l - 1 - i) (drop i l))
-
-module _ (l : List ℕ) where
-  pub move_start : 0 < length l → moved l (length l - 1) (get_or l (length l - 1) 0) ≡ l
-  unfolding moved
-  move_start h =
-      let e : length l - 1 - (length l - 1) ≡ 0 = omega arith in
-      let k : length l ≤ suc (length l - 1) = omega arith in
-      rw e
-      (sym (split_at l (length l - 1) 0 (omega arith)
-      ∙ ap (λ (z : List ℕ). take (length l - 1) l ++ get_or l (length l - 1) 0 ∷ z) (drop_of_length-le l k)))
-
-  stored : (i x y : ℕ) → i < length l → set (moved l i x) i y ≡ moved l i y
-  unfolding moved
-  stored i x y h = set_at (take i l) x (take (length l - 1 - i) (drop i l)) y i (length-take-le i l (omega arith))
-
-  before : (i x j : ℕ) → i < length l → j < i → get_or (moved l i x) j 0 ≡ get_or l j 0
-  unfolding moved
-  before i x j h g =
-      let e = length-take-le i l (omega arith) in
-      get_or-append (take i l) (x ∷ take (length l - 1 - i) (drop i l)) 0 j (omega arith) ∙ get_or-take i l j 0 g
-
-  step : (j : ℕ) → suc j < length l → moved l (suc j) (get_or l j 0) ≡ moved l j (get_or l j 0)
-  unfolding moved
-  step j h =
-      let e : length l - 1 - j ≡ suc (length l - 1 - suc j) = omega arith in
-      let g : j < length l = omega arith in
-      rw (e, take-suc l j 0 g, drop-cons l j 0 g)
-      (append_assoc (take j l) (get_or l j 0 ∷ []) (get_or l j 0 ∷ take (length l - 1 - suc j) (drop (suc j) l)))
-
-  -- a turn
-  pub move-turn : (m : List ℕ) (i : ℕ) → m ≡ moved l i (get_or l i 0) → 0 < i → i < length l
-      → set m i (get_or m (i - 1) 0) ≡ moved l (i - 1) (get_or l (i - 1) 0)
-  move-turn m zero e z h = absurd (omega arith)
-  move-turn m (suc j) e z h =
-      let q : suc j - 1 ≡ j = omega arith in
-      let x = get_or l (suc j) 0 in
-      rw (q, e, before (suc j) x j h (omega arith), stored (suc j) x (get_or l j 0) h) (step j h)
 
 bring-is : (v n : ℕ) (l : List ℕ) → length l ≡ suc n → v ∷ take n l ≡ bring v n l
 unfolding bring
@@ -100,13 +52,14 @@ bring-is v zero (x ∷ []) h = refl
 bring-is v zero (x ∷ (y ∷ l)) h = absurd (omega arith)
 bring-is v (suc n) (x ∷ l) h = ap (λ (z : List ℕ). v ∷ z) (bring-is x n l (omega arith))
 
--- the last store
-pub move-end : (l m : List ℕ) (i v : ℕ) → 0 < length l → m ≡ moved l i (get_or l i 0) → i ≡ 0
-    → set m 0 v ≡ bring v (length l - 1) l
-unfolding moved
-move-end l m i v h e q =
-    let z : length l - 1 - 0 ≡ length l - 1 = omega arith in
-    rw (e, q, z) (bring-is v (length l - 1) l (omega arith))
+-- the words but the last moved up by one, and v in front
+pub move-end : (v : ℕ) (l m : List ℕ) → 0 < length l → m ≡ paste l 1 l (length l - 1 - 0) → set m 0 v ≡ bring v (length l - 1) l
+move-end v [] m h e = absurd (omega arith)
+move-end v (x ∷ l) m h e =
+    let n : length (x ∷ l) - 1 - 0 ≡ length l = omega arith in
+    let k : length (x ∷ l) - 1 ≡ length l = omega arith in
+    let g : length (x ∷ l) ≤ 1 + length l = omega arith in
+    rw (e, n, k, drop_of_length-le (x ∷ l) g, append-nil (take (length l) (x ∷ l))) (bring-is v (length l) (x ∷ l) refl)
 
 -- ---- the part of the index that moves, put back
 

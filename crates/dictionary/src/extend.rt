@@ -27,12 +27,7 @@ pub fn write_record(resources: &mut [u32], r: u32, offset: u32, kind: u32)
         ≡ sets resources.old (resource_words * r) (fresh_record offset kind) }
 {
     let start = table::word::RESOURCE_WORDS * r as usize;
-    let mut i = 0;
-    // The record's first i words are 0.
-    while i < table::word::RESOURCE_WORDS {
-        resources[start + i] = 0;
-        i += 1;
-    }
+    table::word::zero(resources, start, table::word::RESOURCE_WORDS);
     resources[start + table::word::OFFSET] = offset;
     resources[start + table::word::KIND] = kind;
 }
@@ -43,27 +38,18 @@ pub fn write_name(text: &mut [u8], b: u32, name: &[u8])
     ensures { text.new ≡ sets text.old b (name.now ++ 0 ∷ []) }
 {
     let start = b as usize;
-    let mut i = 0;
-    // The first i bytes of the name are written.
-    while i < name.len() {
-        text[start + i] = name[i];
-        i += 1;
-    }
-    text[start + i] = 0;
+    let end = start + name.len();
+    text[start..end].copy_from_slice(name);
+    text[end] = 0;
 }
 
-// A word put in front, the others moved up by one, the last dropped. The loop runs over a whole slice, from its end: in
-// this form the compiler makes it one block move (memmove), where a loop over a part of a larger slice stays a loop.
+// A word put in front, the others moved up by one, the last dropped.
 pub fn push_front(words: &mut [u32], v: u32)
     requires { 0 < length words.old }
     ensures { words.new ≡ bring v (length words.old - 1) words.old }
 {
-    let mut i = words.len() - 1;
-    // The words from i on, but the last, are copied one further up.
-    while 0 < i {
-        words[i] = words[i - 1];
-        i -= 1;
-    }
+    let last = words.len() - 1;
+    words.copy_within(0..last, 1);
     words[0] = v;
 }
 

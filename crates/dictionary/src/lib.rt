@@ -8,44 +8,34 @@
 // spelled; 9 a word met on the way that no sound store has; 3 no room for one name more.
 #![tactic(auto)]
 
-ghost use Rattle.store.specs.Tables.{lent, tables};
+ghost use Rattle.store.specs.Tables.{tables};
 ghost use Rattle.store.specs.Dictionary.{FindAnswer, InternAnswer};
+ghost use Rattle.table.specs.Lent.{held};
 
-use store::{Counters, IndexPlace, Interned, Lookup, Refusal, ResourceId};
+use store::{Counters, Interned, Lookup, Refusal, ResourceId};
 use table::fits;
-use term::name_kind;
+use table::lent::Tables;
+use term::{kind_of_name, name_kind};
 
 mod extend;
 pub mod search;
 
 // Find a name: its number, or absent; and where in the index it stands or would stand, from 0.
-pub fn find(
-    c: Counters,
-    resources: &[u32],
-    statements: &[u32],
-    index: &[u32],
-    text: &[u8],
-    name: &[u8],
-) -> Lookup
-    ensures { FindAnswer c (lent resources.entry statements.entry index.entry text.entry)
-        name.now result }
+pub fn find(c: Counters, tables: Tables, name: &[u8]) -> Result<Lookup, Refusal>
+    ensures { FindAnswer c (held tables.entry) name.now result }
 {
-    if !fits(c, resources, statements, index, text) {
-        return Lookup::Refused(Refusal::Capacity);
+    if !fits(c, tables) {
+        return Err(Refusal::Capacity);
     }
-    if name_kind(name) == 0 {
-        return Lookup::Refused(Refusal::Malformed);
+    if kind_of_name(name).is_none() {
+        return Err(Refusal::Malformed);
     }
     let short = term::canonical(name);
-    match search::search(c, resources, index, text, short) {
-        IndexPlace::At(n, at) => Lookup::Number(n, at),
-        IndexPlace::Before(at) => Lookup::Absent(at),
-        IndexPlace::OutOfRange => Lookup::Refused(Refusal::Damaged),
-    }
+    search::search(c, tables, short)
 }
 
 // Enter a name: its number, old or new, and the counters from now on. A new name takes the place in the index that find
-// answers. A refusal writes nothing.
+// answers. A refusal writes nothing. The statements are only read, so that the tables are four slices.
 pub fn intern(
     c: Counters,
     resources: &mut [u32],
@@ -53,28 +43,40 @@ pub fn intern(
     index: &mut [u32],
     text: &mut [u8],
     name: &[u8],
-) -> Interned
+) -> Result<Interned, Refusal>
     ensures { InternAnswer c (tables resources.old statements.now index.old text.old)
         (tables resources.new statements.now index.new text.new) name.now result }
 {
-    if !fits(c, resources, statements, index, text) {
-        return Interned::Refused(Refusal::Capacity);
+    let tables = Tables {
+        resources,
+        statements,
+        index,
+        text,
+    };
+    if !fits(c, tables) {
+        return Err(Refusal::Capacity);
     }
+    // The kind as its record holds it: a number, 0 where the name is malformed.
     let kind = name_kind(name);
     if kind == 0 {
-        return Interned::Refused(Refusal::Malformed);
+        return Err(Refusal::Malformed);
     }
     let short = term::canonical(name);
-    match search::search(c, resources, index, text, short) {
-        IndexPlace::At(n, _) => Interned::Number(n, c),
-        IndexPlace::OutOfRange => Interned::Refused(Refusal::Damaged),
-        IndexPlace::Before(at) => {
+    match search::search(c, tables, short)? {
+        Lookup::Number(number, _) => {
+            let counters = c;
+            Ok(Interned { number, counters })
+        }
+        Lookup::Absent(at) => {
             let grown = extend::one_name_more(c, short);
-            if !fits(grown, resources, statements, index, text) {
-                return Interned::Refused(Refusal::Full);
+            if !fits(grown, tables) {
+                return Err(Refusal::Full);
             }
             extend::append(c, resources, index, text, short, at, kind);
-            Interned::Number(ResourceId(grown.resources), grown)
+            Ok(Interned {
+                number: ResourceId(grown.resources),
+                counters: grown,
+            })
         }
     }
 }

@@ -1,16 +1,15 @@
 -- The ten marked examples (paper 01, "Bench examples") as one table: what is asked of the store, in turn, after the sample load, and what
 -- is answered. The rows are data; `Marked` says that the definitions answer each row so. Assumes nothing.
-use Rattle.std.specs.Prelude.{◌≡◌, Bool, true, false, List, [], ◌∷◌, ◌++◌, ℕ, zero, suc, ◌+◌, ◌*◌, length, replicate, eqb}
+use Rattle.std.specs.Prelude.{◌≡◌, true, false, List, [], ◌∷◌, ◌++◌, ℕ, zero, suc, ◌+◌, ◌*◌, length, replicate, eqb}
 use Rattle.store.specs.declared.Triple.{Triple}
 use Rattle.store.specs.declared.Position.TheVariants.{Subject, Predicate, Object}
 use Rattle.store.specs.Shared.{triple, prev}
 use Rattle.store.specs.Tables.{Tables, tables, next_at, resource_words}
 use Rattle.store.specs.Model.{Call, intern, assert, retract, open', next, by_value}
 use Rattle.store.specs.History.{Store, fresh_store, call_store, store_after}
-use Rattle.graph.specs.declared.QueryStep.{QueryStep}
-use Rattle.graph.specs.declared.QueryStep.TheVariants.{Found, Ended, Spent, Refused}
 use Rattle.graph.specs.declared.QueryCursor.{QueryCursor}
 use Rattle.graph.specs.Query.{next_query_of}
+use Rattle.graph.specs.Values.{query_values}
 use Rattle.graph.specs.Place.{start_cursor}
 use Rattle.graph.specs.Words.{bound_to}
 
@@ -75,17 +74,12 @@ read_on (suc calls) s j v ns =
       | true ↦ read_on calls r.0 j (v + r.1.visits) (ns ++ r.1.number ∷ [])
     ]
 
-abbrev pub is_found : QueryStep → Bool
-is_found Found = true
-is_found Ended = false
-is_found Spent = false
-is_found (Refused e) = false
-
+-- next after next with a large budget, as often as it is found: visits so far, then what was bound to variable x
 unfoldable pub solve_on : ℕ → Store → List ℕ → ℕ → QueryCursor → ℕ → List ℕ → List ℕ
 solve_on zero s ws x q v ns = v ∷ ns
 solve_on (suc calls) s ws x q v ns =
-    let a = next_query_of s.counters s.tables ws q 1000 in
-    elim (is_found a.step) [
+    let a = query_values (next_query_of s.counters s.tables ws q 1000) in
+    elim (eqb a.status 1) [
       | false ↦ (v + a.visits) ∷ ns
       | true ↦ solve_on calls s ws x a.cursor (v + a.visits) (ns ++ bound_to a.solution.values x ∷ [])
     ]

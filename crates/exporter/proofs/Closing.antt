@@ -9,12 +9,15 @@ use native.Mathlib.Omega.{arith}
 use lib.ListN.{length, drop, length-drop}
 use lib.Seq.{length-take-le}
 use Rattle.store.specs.declared.Refusal.{Refusal}
-use Rattle.store.specs.declared.NameRead.TheVariants.{Span, Refused}
+use Rattle.store.specs.declared.Refusal.TheVariants.{Damaged}
 use Rattle.store.specs.Lists.{is_some}
 use Rattle.store.specs.Reading.{name_window, zero_from, span_to}
 use Rattle.lines.proofs.NamesTold.{seeks}
 use Rattle.line_order.specs.Rests.{name_from}
 use Rattle.exporter.specs.Legible.{name_legible}
+use Rattle.std.specs.Prelude.{Ok, Err}
+use Rattle.store.specs.Values.{name_values}
+use Rattle.store.specs.declared.NameSpan.{NameSpan}
 
 -- ---- the zero byte found
 
@@ -56,21 +59,22 @@ module _ (t : List ℕ) (e : ℕ) (room : e ≤ length t) where
   -- ---- by the part told
 
   -- from is the offset that the code has read
-  pub told-name : (from o a n : ℕ) → from ≡ o → Span a n ≡ span_to from (zero_from t e name_window from)
-      → LegibleName t e o × (n ≡ length (name_from t o))
-  told-name from o a n d = rw (← d) (go (zero_from t e name_window from) refl)
+  pub told-name : (from o : ℕ) (part : NameSpan) → from ≡ o → Ok part ≡ span_to from (zero_from t e name_window from)
+      → LegibleName t e o × (part.size ≡ length (name_from t o))
+  told-name from o part d = rw (← d) (go (zero_from t e name_window from) refl)
     where
-      go : (s : Option ℕ) → zero_from t e name_window from ≡ s → Span a n ≡ span_to from s
-          → LegibleName t e from × (n ≡ length (name_from t from))
+      go : (s : Option ℕ) → zero_from t e name_window from ≡ s → Ok part ≡ span_to from s
+          → LegibleName t e from × (part.size ≡ length (name_from t from))
       go none q p = absurd (let x : ◌≡◌ {A = ℕ} 0 1 = cc in omega arith)
       go (some z) q p =
-          let f = finds name_window from z q in let d : n ≡ z - from = cc in (from_found from z q, omega arith)
+          let f = finds name_window from z q in
+          let d = ap (λ r. (name_values r).size) p in (from_found from z q, omega arith)
 
 pub told_none : (t : List ℕ) (e from o : ℕ) (r : Refusal) → from ≡ o
-    → Refused r ≡ span_to from (zero_from t e name_window from) → name_legible t e o ≡ false
+    → Err r ≡ span_to from (zero_from t e name_window from) → (name_legible t e o ≡ false) × (r ≡ Damaged)
 unfolding name_legible
 told_none t e from o r d = rw (← d) (go (zero_from t e name_window from))
   where
-    go : (s : Option ℕ) → Refused r ≡ span_to from s → is_some s ≡ false
-    go none p = refl
+    go : (s : Option ℕ) → Err r ≡ span_to from s → (is_some s ≡ false) × (r ≡ Damaged)
+    go none p = (refl, cc)
     go (some z) p = absurd (let x : ◌≡◌ {A = ℕ} 0 1 = cc in omega arith)

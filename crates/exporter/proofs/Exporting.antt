@@ -6,7 +6,6 @@ use mathlib.Core.List.{List}
 use mathlib.Core.Option.{Option, none, some}
 use Prim.Native.Nat.{ℕ, zero, suc, ◌-◌, ◌≤◌, ◌<◌}
 use native.Mathlib.Omega.{arith}
-use native.Mathlib.Numerals.{add-one}
 use lib.ListN.{length}
 use lib.Dec.{eqb, leb}
 use borrow.Author.Tests.{le-leb, lt-leb}
@@ -15,7 +14,6 @@ use Rattle.store.specs.declared.Position.{Position}
 use Rattle.store.specs.declared.Position.TheVariants.{Subject, Predicate, Object}
 use Rattle.store.specs.declared.Refusal.TheVariants.{Capacity, Damaged, ExportSpace}
 use Rattle.store.specs.declared.Triple.{Triple}
-use Rattle.store.specs.declared.StatementRead.TheVariants.{Is, Refused as NotRead}
 use Rattle.store.specs.Shared.{at, known, all3, below, unless}
 use Rattle.store.specs.Lists.{all_below, is_some}
 use Rattle.store.specs.Tables.{Tables, tables, fits, triple_at, flag_at, offset_at}
@@ -25,21 +23,22 @@ use Rattle.store.specs.Values.{statement_values, name_values}
 use Rattle.store.proofs.Tests.{decide, and_r, range-of, known-low, known-high}
 use Rattle.table.proofs.Capacity.{fits-room}
 use Rattle.table.proofs.Held.{triple-held}
-use Rattle.integrity.proofs.Ranges.{all-at, all-fails}
+use Rattle.integrity.proofs.Ranges.{all-at}
 use Rattle.graph.specs.Graph.{named}
-use Rattle.lines.specs.declared.Exported.TheVariants.{Refused}
 use Rattle.lines.specs.Export.{line_at, file_of, readable, nameable, legible, all_legible, space_for, export_of, Written, written}
 use Rattle.line_sort.specs.Sorted.{All, Sortable}
-use Rattle.exporter.specs.declared.measure.Measured.{Measured}
+use Rattle.std.proofs.Common.{Ok, Err}
+use Rattle.store.specs.declared.Refusal.{Refusal}
 use Rattle.exporter.specs.Legible.{Readable, name_legible, names_legible, line_legible, statement_legible}
-use Rattle.exporter.specs.Legible.{legible_up_to, live_bytes, Measures}
+use Rattle.exporter.specs.Legible.{legible_up_to, live_bytes}
 use Rattle.exporter.specs.Printed.{file_in, Ready, print_of}
-use Rattle.exporter.proofs.Measuring.{legible-known, legible-names}
+use Rattle.exporter.proofs.Measuring.{legible-known, legible-names, count-told, count_none, measured}
+use Rattle.store.specs.Replies.{read_as}
 
 -- ---- what can be read, by the operations that read it
 
 read_told : (b : Bool) (x : Triple) (f : ℕ)
-    → not (eqb (statement_values (unless b (NotRead Damaged) (Is x f))).refusal 9) ≡ b
+    → not (eqb (statement_values (unless b (Err Damaged) (read_as x f))).refusal 9) ≡ b
 read_told true x f = refl
 read_told false x f = refl
 
@@ -146,7 +145,7 @@ module _ (c : Counters) (res stm idx text out work : List ℕ) where
   abbrev m : Tables
   m = tables res stm idx text
 
-  pub export-capacity : fits c m ≡ false → written out work (Refused Capacity) ≡ export_of c m out work
+  pub export-capacity : fits c m ≡ false → written out work (Err Capacity) ≡ export_of c m out work
   unfolding export_of
   export-capacity e = rw e
 
@@ -154,28 +153,24 @@ module _ (c : Counters) (res stm idx text out work : List ℕ) where
   unfolding file_of line_at named name_at
   file-is = refl
 
-  module _ (fit : fits c m ≡ true) (r : Measured) (M : Measures c res stm text r) where
-    pub export-damaged : r.read < c.statements → written out work (Refused Damaged) ≡ export_of c m out work
-    unfolding export_of legible_up_to
-    export-damaged h =
-        let no : statement_legible c res stm text (suc r.read) ≡ false = rw add-one at (M.stops h) in
-        let d = all-fails (λ i. statement_legible c res stm text (suc i)) c.statements r.read h no in
-        rw (fit, all-legible-is c m fit, d)
+  module _ (fit : fits c m ≡ true) where
+    pub export-damaged : (r : Refusal) → Err r ≡ measured c res stm text → written out work (Err r) ≡ export_of c m out work
+    unfolding export_of
+    export-damaged r e =
+        let d = count_none (legible_up_to c res stm text c.statements) _ r e in
+        rw (fit, all-legible-is c m fit, d.0, d.1)
 
-    module _ (h : c.statements ≤ r.read) where
-      all_read : r.read ≡ c.statements
-      all_read = omega (arith, M.within)
-
+    module _ (bytes : ℕ) (e : Ok bytes ≡ measured c res stm text) where
       whole-legible : legible_up_to c res stm text c.statements ≡ true
-      whole-legible = rw all_read at M.legible
+      whole-legible = (count-told _ _ bytes e).0
 
       pub file-ready : Ready res stm text c.statements
       file-ready = all-ready c res stm text (fits-readable c m fit) whole-legible
 
-      pub bytes-told : r.bytes ≡ live_bytes res stm text c.statements
-      bytes-told = rw all_read at M.counted
+      pub bytes-told : bytes ≡ live_bytes res stm text c.statements
+      bytes-told = (count-told (legible_up_to c res stm text c.statements) _ bytes e).1
 
-      pub export-space : length work < c.statements → written out work (Refused ExportSpace) ≡ export_of c m out work
+      pub export-space : length work < c.statements → written out work (Err ExportSpace) ≡ export_of c m out work
       unfolding export_of space_for
       export-space q =
           rw (fit, all-legible-is c m fit, whole-legible, lt-leb c.statements (length work) q, and-false)
@@ -183,5 +178,5 @@ module _ (c : Counters) (res stm idx text out work : List ℕ) where
       pub export-printed : (w : Written) → c.statements ≤ length work
           → w ≡ print_of (file_in res stm text c.statements) c.statements out work → w ≡ export_of c m out work
       unfolding export_of space_for print_of
-      export-printed w q e =
-          rw (fit, all-legible-is c m fit, whole-legible, file-is, le-leb c.statements (length work) q, and-true) e
+      export-printed w q p =
+          rw (fit, all-legible-is c m fit, whole-legible, file-is, le-leb c.statements (length work) q, and-true) p

@@ -20,30 +20,31 @@ use Rattle.store.specs.Names.{name_at}
 use Rattle.store.specs.Reading.{name_window}
 use Rattle.store.specs.Soundness.{is_live}
 use Rattle.store.proofs.Tests.{decide, and_l, and_r, all3-at}
-use Rattle.integrity.proofs.Ranges.{all_more}
+use Rattle.integrity.proofs.Ranges.{all_more, all-fails}
 use Rattle.graph.specs.Graph.{named}
 use Rattle.lines.specs.Export.{line_of, line_at, join_lines}
 use Rattle.line_order.specs.Rests.{line_in, name_from}
 use Rattle.exporter.specs.Legible.{Readable, bytes_if, name_legible, names_legible, line_legible}
-use Rattle.exporter.specs.Legible.{statement_legible, legible_up_to, live_bytes, Measures}
-use Rattle.exporter.specs.declared.measure.Counted.{Counted}
-use Rattle.exporter.specs.declared.measure.Counted.TheVariants.{Bytes, Unreadable}
+use Rattle.exporter.specs.Legible.{statement_legible, legible_up_to, live_bytes}
+use Rattle.std.proofs.Common.{Result, Ok, Err}
+use Rattle.store.specs.declared.Refusal.{Refusal}
+use Rattle.store.specs.declared.Refusal.TheVariants.{Damaged}
 use Rattle.exporter.proofs.Closing.{LegibleName, legible-name}
 
--- ---- a number told, or none
+-- ---- a number told, or refused
 
-pub count-told : (b : Bool) (n k : ℕ) → Bytes k ≡ bytes_if b n → (b ≡ true) × (k ≡ n)
+pub count-told : (b : Bool) (n k : ℕ) → Ok k ≡ bytes_if b n → (b ≡ true) × (k ≡ n)
 count-told true n k e = (refl, cc)
 count-told false n k e = absurd (let x : ◌≡◌ {A = ℕ} 0 1 = cc in omega arith)
 
-pub count_none : (b : Bool) (n : ℕ) → Unreadable ≡ bytes_if b n → b ≡ false
-count_none true n e = absurd (let x : ◌≡◌ {A = ℕ} 0 1 = cc in omega arith)
-count_none false n e = refl
+pub count_none : (b : Bool) (n : ℕ) (r : Refusal) → Err r ≡ bytes_if b n → (b ≡ false) × (r ≡ Damaged)
+count_none true n r e = absurd (let x : ◌≡◌ {A = ℕ} 0 1 = cc in omega arith)
+count_none false n r e = (refl, cc)
 
 -- ---- a name, counted on
 
 module _ (text : List ℕ) (e : ℕ) (room : e ≤ length text) where
-  pub counted-on : (o size k : ℕ) → Bytes k ≡ bytes_if (name_legible text e o) (size + length (name_from text o) + 1)
+  pub counted-on : (o size k : ℕ) → Ok k ≡ bytes_if (name_legible text e o) (size + length (name_from text o) + 1)
       → k ≤ size + name_window
   counted-on o size k q =
       let t = count-told _ _ _ q in let l = legible-name text e room o t.0 in omega (arith, t.1, l.short)
@@ -57,7 +58,7 @@ module _ (c : Counters) (res stm text : List ℕ) (n : ℕ) (x : Triple) (is : x
   abbrev size_at : ℕ → ℕ
   size_at y = length (name_from text (offset_at res y))
 
-  abbrev asked : Counted
+  abbrev asked : Result ℕ Refusal
   asked = bytes_if (line_legible c res stm text n) (length (line_in res stm text n))
 
   line-length : length (line_in res stm text n)
@@ -71,28 +72,29 @@ module _ (c : Counters) (res stm text : List ℕ) (n : ℕ) (x : Triple) (is : x
   unfolding line_legible names_legible
   line-tests = rw (← is)
 
-  pub line-unknown : known c.resources x ≡ false → Unreadable ≡ asked
+  pub line-unknown : known c.resources x ≡ false → Err Damaged ≡ asked
   line-unknown k = rw (line-tests, k)
 
   -- the name of y counted on from a size
-  abbrev counted : ℕ → ℕ → Counted
+  abbrev counted : ℕ → ℕ → Result ℕ Refusal
   counted y size = bytes_if (legible_at y) (size + size_at y + 1)
 
-  told : (y size k : ℕ) → Bytes k ≡ counted y size → (legible_at y ≡ true) × (k ≡ size + size_at y + 1)
+  told : (y size k : ℕ) → Ok k ≡ counted y size → (legible_at y ≡ true) × (k ≡ size + size_at y + 1)
   told y size k = count-told (legible_at y) (size + size_at y + 1) k
 
-  none : (y size : ℕ) → Unreadable ≡ counted y size → legible_at y ≡ false
+  none : (y size : ℕ) (r : Refusal) → Err r ≡ counted y size → (legible_at y ≡ false) × (r ≡ Damaged)
   none y size = count_none (legible_at y) (size + size_at y + 1)
 
   module _ (k : known c.resources x ≡ true) where
-    pub subject-none : Unreadable ≡ counted x.subject.0 2 → Unreadable ≡ asked
-    subject-none e = rw (line-tests, k, none x.subject.0 2 e)
+    pub subject-none : (r : Refusal) → Err r ≡ counted x.subject.0 2 → Err r ≡ asked
+    subject-none r e = let d = none x.subject.0 2 r e in rw (line-tests, k, d.0, d.1)
 
-    module _ (a : ℕ) (s : Bytes a ≡ counted x.subject.0 2) where
-      pub predicate-none : Unreadable ≡ counted x.predicate.0 a → Unreadable ≡ asked
-      predicate-none e = rw (line-tests, k, (told x.subject.0 2 a s).0, none x.predicate.0 a e)
+    module _ (a : ℕ) (s : Ok a ≡ counted x.subject.0 2) where
+      pub predicate-none : (r : Refusal) → Err r ≡ counted x.predicate.0 a → Err r ≡ asked
+      predicate-none r e =
+          let d = none x.predicate.0 a r e in rw (line-tests, k, (told x.subject.0 2 a s).0, d.0, d.1)
 
-      pub object-last : (b : ℕ) (r : Counted) → Bytes b ≡ counted x.predicate.0 a → r ≡ counted x.object.0 b
+      pub object-last : (b : ℕ) (r : Result ℕ Refusal) → Ok b ≡ counted x.predicate.0 a → r ≡ counted x.object.0 b
           → r ≡ asked
       object-last b r p e =
           let u = told x.subject.0 2 a s in
@@ -117,26 +119,27 @@ module _ (c : Counters) (res stm text : List ℕ) (room : c.text ≤ length text
 -- ---- a statement; f is the flag that the code has read
 
 module _ (c : Counters) (res stm text : List ℕ) (n : ℕ) where
-  abbrev added : Counted
+  abbrev added : Result ℕ Refusal
   added = bytes_if (statement_legible c res stm text n) (cond (is_live stm (n - 1)) (length (line_in res stm text n)) 0)
 
-  abbrev line : Counted
+  abbrev line : Result ℕ Refusal
   line = bytes_if (line_legible c res stm text n) (length (line_in res stm text n))
 
   module _ (f : ℕ) (is : f ≡ flag_at stm (n - 1)) where
-    pub flag-over : 1 < f → Unreadable ≡ added
+    pub flag-over : 1 < f → Err Damaged ≡ added
     unfolding statement_legible
     flag-over h = rw (← is, lt-leb f 1 h)
 
-    pub line-none : f ≤ 1 → Unreadable ≡ line → Unreadable ≡ added
+    pub line-none : f ≤ 1 → (r : Refusal) → Err r ≡ line → Err r ≡ added
     unfolding statement_legible
-    line-none h e = rw (← is, le-leb f 1 h, count_none (line_legible c res stm text n) _ e)
+    line-none h r e =
+        let d = count_none (line_legible c res stm text n) _ r e in rw (← is, le-leb f 1 h, d.0, d.1)
 
-    pub adds-nothing : (k : ℕ) → f ≡ 1 → Bytes k ≡ line → Bytes 0 ≡ added
+    pub adds-nothing : (k : ℕ) → f ≡ 1 → Ok k ≡ line → Ok 0 ≡ added
     unfolding statement_legible
     adds-nothing k h e = rw (← is, h, (count-told (line_legible c res stm text n) _ k e).0)
 
-    pub adds-line : (k : ℕ) → f ≤ 1 → (f ≡ 1 → ⊥) → Bytes k ≡ line → Bytes k ≡ added
+    pub adds-line : (k : ℕ) → f ≤ 1 → (f ≡ 1 → ⊥) → Ok k ≡ line → Ok k ≡ added
     unfolding statement_legible
     adds-line k h g e =
         let t = count-told (line_legible c res stm text n) (length (line_in res stm text n)) k e in
@@ -188,7 +191,7 @@ module _ (c : Counters) (res stm text : List ℕ) where
 
   -- one statement more
   pub measure-turns : Readable c res stm text → (n total k : ℕ) → SoFar c res stm text n total
-      → Bytes k ≡ added c res stm text (n + 1) → SoFar c res stm text (n + 1) (total + k)
+      → Ok k ≡ added c res stm text (n + 1) → SoFar c res stm text (n + 1) (total + k)
   unfolding legible_up_to
   measure-turns room n total k s e =
       let t = count-told (statement_legible c res stm text (n + 1)) _ k e in
@@ -198,18 +201,17 @@ module _ (c : Counters) (res stm text : List ℕ) where
         few = omega (arith, s.few, adds-few room (n + 1) k t);
       }
 
+  abbrev pub measured : Result ℕ Refusal
+  measured = bytes_if (legible_up_to c res stm text c.statements) (live_bytes res stm text c.statements)
+
   -- a statement that cannot be read
-  pub measure-stops : (n total : ℕ) → n < c.statements → SoFar c res stm text n total
-      → Unreadable ≡ added c res stm text (n + 1) → Measures c res stm text (record { read = n; bytes = total })
-  measure-stops n total h s e = record {
-    within = omega arith;
-    legible = s.legible;
-    stops = λ q. count_none (statement_legible c res stm text (n + 1)) _ e;
-    counted = s.bytes;
-  }
+  pub measure-stops : (n : ℕ) (r : Refusal) → n < c.statements → Err r ≡ added c res stm text (n + 1) → Err r ≡ measured
+  unfolding legible_up_to
+  measure-stops n r h e =
+      let d = rw (add-one n) at (count_none (statement_legible c res stm text (n + 1)) _ r e) in
+      rw (all-fails passes c.statements n h d.0, d.1)
 
   -- all are read
-  pub measure-ends : (n total : ℕ) → n ≡ c.statements → SoFar c res stm text n total
-      → Measures c res stm text (record { read = n; bytes = total })
+  pub measure-ends : (n total : ℕ) → n ≡ c.statements → SoFar c res stm text n total → Ok total ≡ measured
   measure-ends n total e s =
-      record { within = omega arith; legible = s.legible; stops = λ q. absurd (omega arith); counted = s.bytes }
+      let l = rw e at s.legible in let b = rw e at s.bytes in rw (l, b)

@@ -1,25 +1,27 @@
 -- What the listing and the writing leave: a law for each turn and each way out of the code. Assumes nothing.
-use mathlib.Core.Path.{◌≡◌, refl, ap, ◌∙◌}
-use mathlib.Core.Logic.{◌≢◌}
+use mathlib.Core.Path.{◌≡◌, refl, sym, ap, ◌∙◌}
 use mathlib.Core.List.{List, [], ◌∷◌, ◌++◌, append_assoc}
 use Prim.Native.Nat.{ℕ, zero, suc, ◌+◌, ◌-◌, ◌≤◌, ◌<◌}
 use native.Mathlib.Nat.{add-zero, add-suc, suc-add}
 use native.Mathlib.Omega.{arith}
 use native.Mathlib.Numerals.{add-one}
-use lib.ListN.{length, drop, get_or, set, length-append, drop_of_length-le}
+use lib.ListN.{length, take, drop, get_or, set, length-append, drop_of_length-le}
 use lib.Seq.{sets, length-sets, drop-cons}
-use borrow.Author.Tests.{eq-eqb, ne_eqb}
+use Rattle.std.proofs.lemmas.List.{drop-drop}
+use Rattle.std.proofs.lemmas.List.Edits.{sets-eq}
+use borrow.Rule.Slice.PartMut.{put_mid}
+use Rattle.find_byte.specs.Place.{index_of, slice}
+use Rattle.integrity.specs.Names.{name_from as held_name}
+use Rattle.integrity.proofs.Scanning.{name-found, name-slice}
 use Rattle.store.specs.declared.Triple.{Triple}
 use Rattle.store.specs.Shared.{below}
-use Rattle.store.specs.Tables.{triple_at, flag_at, offset_at, word}
+use Rattle.store.specs.Tables.{triple_at, offset_at}
 use Rattle.store.specs.Names.{name_at}
 use Rattle.store.specs.Soundness.{is_live}
 use Rattle.store.proofs.Tests.{decide}
 use Rattle.graph.specs.Graph.{named}
 use Rattle.lines.specs.Export.{line_of, line_at, join_lines}
-use Rattle.lines.proofs.NamesTold.{name-end, name-on}
-use Rattle.line_order.specs.Rests.{line_in, name_from, Closed, TripleNamed, Printable}
-use Rattle.line_order.proofs.NameBytes.{closed_on}
+use Rattle.line_order.specs.Rests.{line_in, name_from, TripleNamed, Printable}
 use Rattle.exporter.specs.Printed.{Wrote, if_live, lines_in}
 
 -- ---- a list written part by part
@@ -61,15 +63,6 @@ module _ {start whole out rest : List ℕ} {at to : ℕ} (W : Writing start at w
   pub write-room : at + length whole ≤ length start → to + length rest ≤ length out
   write-room h = omega (arith, W.same_size, W.far)
 
--- ---- one statement listed; f is the flag that the code has read
-
-module _ (stm work : List ℕ) (n live f : ℕ) (is : f ≡ flag_at stm (n - 1)) where
-  pub passed_over : f ≢ 0 → Wrote work live (if_live stm n) work live
-  passed_over h = rw (← is, ne_eqb f 0 h) (record { stored = refl; ends = omega arith })
-
-  pub listed : f ≡ 0 → Wrote work live (if_live stm n) (set work live n) (live + 1)
-  listed h = rw (← is, eq-eqb f 0 h) (wrote_one work live n)
-
 -- ---- the live statements, falling
 
 -- those above n are listed, in the first `live` words
@@ -103,36 +96,35 @@ module _ {stm start work : List ℕ} {t live n : ℕ} (F : Filling stm t start w
 
 -- ---- a name and a blank
 
--- the bytes of the name at o up to `from` are copied, and end at `to`
-pub record Copying (text : List ℕ) (o at : ℕ) (start out : List ℕ) (from to : ℕ) : Type 0 where
-  pub closed : Closed text from
-  pub room : at + length (name_from text o ++ 32 ∷ []) ≤ length start
-  pub writing : Writing start at (name_from text o ++ 32 ∷ []) out to (name_from text from ++ 32 ∷ [])
+module _ (text : List ℕ) (o e : ℕ) (place : e ≡ o + index_of 0 (slice o (length text) text)) where
+  -- the zero byte found ends the name
+  pub name-ends : e ≡ o + length (name_from text o)
+  unfolding held_name
+  name-ends = name-found text o e place
 
--- o is the offset that the code has read
-pub copy-begins : (text start : List ℕ) (o at y : ℕ) → o ≡ y → Closed text y
-    → at + length (name_from text y ++ 32 ∷ []) ≤ length start → Copying text o at start start o at
-copy-begins text start o at y e h g = rw e (record { closed = h; room = g; writing = write-begins start _ at })
+  name-copied : take (e - o) (drop o text) ≡ name_from text o
+  unfolding held_name
+  name-copied = name-slice text o e name-ends
 
-module _ {text start out : List ℕ} {o at from to : ℕ} (C : Copying text o at start out from to) where
-  pub copy-turns : word text from ≢ 0 → Copying text o at start (set out to (word text from)) (from + 1) (to + 1)
-  copy-turns h = record {
-    closed = closed_on text from C.closed h;
-    room = C.room;
-    writing =
-        write-on C.writing _ _ _ _ (ap (λ (l : List ℕ). l ++ 32 ∷ []) (name-on text from h))
-        (wrote_one out to (word text from));
-  }
+  -- o is the offset that the code has read
+  module _ (y at : ℕ) (out : List ℕ) (is : o ≡ y) (room : at + length (name_from text y ++ 32 ∷ []) ≤ length out) where
+    pub name-room : at + (e - o) < length out
+    name-room =
+        let r = rw (← is) at room in
+        omega (arith, r, name-ends, length-append (name_from text o) (32 ∷ []))
 
-  pub copy-ends : (y : ℕ) → o ≡ y → word text from ≡ 0
-      → Wrote start at (name_from text y ++ 32 ∷ []) (set out to 32) (to + 1)
-  copy-ends y e h =
-      let n = ap (λ (l : List ℕ). l ++ 32 ∷ []) (name-end text from h) in
-      let w = write-on C.writing (32 ∷ []) [] _ _ n (wrote_one out to 32) in
-      rw (← e) (write-ends w refl)
-
-  pub copy-room : to < length out
-  copy-room = omega (arith, write-room C.writing C.room, length-append (name_from text from) (32 ∷ []))
+    pub name_put : (v : List ℕ) → v ≡ take (e - o) (drop o text)
+        → Wrote out at (name_from text y ++ 32 ∷ []) (set (put_mid at (at + (e - o) - at) out v) (at + (e - o)) 32) (at + (e - o) + 1)
+    name_put v d =
+        let w = name_from text o in
+        let k : e - o ≡ length w = omega (arith, name-ends) in
+        let q : at + length w - at ≡ length w = omega arith in
+        let g : at + length w ≤ length out = omega (arith, name-room, k) in
+        rw (← is) (record {
+          stored = rw (sets-append w (32 ∷ []) out at, sets-eq w out at g, d ∙ name-copied, k, q, drop-drop (length w) at out)
+              (ap (λ (z : List ℕ). set z (at + length w) 32) (sym (append_assoc (take at out) w (drop (at + length w) out))));
+          ends = omega (arith, k, length-append w (32 ∷ []));
+        })
 
 -- ---- a line; x is the triple that the code has read
 

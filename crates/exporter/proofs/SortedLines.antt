@@ -15,7 +15,7 @@ use Rattle.store.specs.Shared.{below}
 use Rattle.store.specs.Names.{more, compare_bytes}
 use Rattle.store.specs.Soundness.{is_live}
 use Rattle.store.proofs.Falling.{length-le}
-use Rattle.lines.specs.declared.Exported.TheVariants.{Length, Refused}
+use Rattle.std.specs.Prelude.{Ok, Err}
 use Rattle.lines.specs.Export.{sort_lines, join_lines, over, written}
 use Rattle.lines.specs.ExportClaims.{Rising}
 use Rattle.lines.proofs.Sorting.{not_more_lem, sorted-is, join-length, sort-length}
@@ -147,12 +147,12 @@ module _ (res stm text : List ℕ) (t : ℕ) where
     size = file-bytes ∙ sym is
 
     pub too_short : length out < bytes
-        → written out work (Refused ExportSpace) ≡ print_of (file_in res stm text t) t out work
+        → written out work (Err ExportSpace) ≡ print_of (file_in res stm text t) t out work
     unfolding print_of
     too_short h = rw (lt-leb (length (file_in res stm text t)) (length out) (omega (arith, size)))
 
     pub file-put : (out' work' : List ℕ) → bytes ≤ length out → FileWritten (file_in res stm text t) t out work out' work'
-        → written out' work' (Length bytes) ≡ print_of (file_in res stm text t) t out work
+        → written out' work' (Ok bytes) ≡ print_of (file_in res stm text t) t out work
     unfolding print_of
     file-put out' work' h P =
         rw (le-leb (length (file_in res stm text t)) (length out) (omega (arith, size)), P.put, P.zeroed, size)

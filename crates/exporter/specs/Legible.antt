@@ -1,7 +1,10 @@
 -- What the pass before the writing tells, on any tables: whether the statements and the names of their resources can be read, and how
 -- many bytes the live ones' lines have. Assumes nothing.
-use Rattle.std.specs.Prelude.{Bool, true, false, cond, ◌&&◌, ◌≡◌, List, map, ℕ, suc, ◌+◌, ◌-◌, ◌*◌, ◌≤◌, ◌<◌, length, leb}
+use Rattle.std.specs.Prelude.{Bool, cond, ◌&&◌, Ok, Err, List, map, ℕ, suc, ◌-◌, ◌*◌, ◌≤◌, length, leb}
+use Rattle.std.specs.declared.result.Result.{Result}
 use Rattle.store.specs.declared.Counters.{Counters}
+use Rattle.store.specs.declared.Refusal.{Refusal}
+use Rattle.store.specs.declared.Refusal.TheVariants.{Damaged}
 use Rattle.store.specs.declared.Triple.{Triple}
 use Rattle.store.specs.Shared.{at, all3, known, below, max_statements}
 use Rattle.store.specs.Lists.{all_below, is_some}
@@ -10,9 +13,6 @@ use Rattle.store.specs.Reading.{name_window, zero_from}
 use Rattle.store.specs.Soundness.{is_live}
 use Rattle.lines.specs.Export.{join_lines}
 use Rattle.line_order.specs.Rests.{line_in}
-use Rattle.exporter.specs.declared.measure.Measured.{Measured}
-use Rattle.exporter.specs.declared.measure.Counted.{Counted}
-use Rattle.exporter.specs.declared.measure.Counted.TheVariants.{Bytes, Unreadable}
 
 -- what reading the tables asks: the counters are within capacity
 pub record Readable (c : Counters) (res stm text : List ℕ) : Type 0 where
@@ -21,9 +21,9 @@ pub record Readable (c : Counters) (res stm text : List ℕ) : Type 0 where
   pub in-text : c.text ≤ length text
   pub few : c.statements ≤ max_statements
 
--- a number of bytes, where what is counted can be read
-abbrev pub bytes_if : Bool → ℕ → Counted
-bytes_if b n = cond b (Bytes n) Unreadable
+-- a number of bytes, where what is counted can be read; 9 where it cannot
+abbrev pub bytes_if : Bool → ℕ → Result ℕ Refusal
+bytes_if b n = cond b (Ok n) (Err Damaged)
 
 -- a zero byte closes the name at an offset, within 256 bytes and before e
 unfoldable pub name_legible : List ℕ → ℕ → ℕ → Bool
@@ -49,10 +49,3 @@ legible_up_to c res stm text k = all_below (λ i. statement_legible c res stm te
 -- the bytes of the live lines among them
 unfoldable pub live_bytes : List ℕ → List ℕ → List ℕ → ℕ → ℕ
 live_bytes res stm text k = length (join_lines (map (line_in res stm text) (below (is_live stm) k)))
-
--- what the pass tells: the first m .read statements can be read, the next one cannot, and the live ones' lines have m.bytes bytes
-pub record Measures (c : Counters) (res stm text : List ℕ) (m : Measured) : Type 0 where
-  pub within : m.read ≤ c.statements
-  pub legible : legible_up_to c res stm text m.read ≡ true
-  pub stops : m.read < c.statements → statement_legible c res stm text (m.read + 1) ≡ false
-  pub counted : m.bytes ≡ live_bytes res stm text m.read

@@ -1,11 +1,10 @@
 -- What is listed and written: the live statements' numbers, the lines of numbered statements, the file. Assumes nothing.
-use Rattle.std.specs.Prelude.{cond, List, [], ◌∷◌, map, ◌≡◌, ℕ, ◌+◌, ◌-◌, ◌*◌, ◌≤◌, length, replicate, leb}
+use Rattle.std.specs.Prelude.{Ok, Err, cond, List, [], ◌∷◌, map, ◌≡◌, ℕ, ◌+◌, ◌-◌, ◌*◌, ◌≤◌, length, replicate, leb}
 use Rattle.std.proofs.lemmas.List.Edits.{sets}
 use Rattle.store.specs.declared.Refusal.TheVariants.{ExportSpace}
 use Rattle.store.specs.Shared.{unless, below}
 use Rattle.store.specs.Tables.{statement_words}
 use Rattle.store.specs.Soundness.{is_live}
-use Rattle.lines.specs.declared.Exported.TheVariants.{Length, Refused}
 use Rattle.lines.specs.Export.{sort_lines, join_lines, over, Written, written}
 use Rattle.line_order.specs.Rests.{line_in}
 use Rattle.line_sort.specs.Sorted.{All, Sortable}
@@ -40,5 +39,5 @@ pub record FileWritten (file : List ℕ) (t : ℕ) (out work out' work' : List �
 -- refused 11 if the output is too short
 unfoldable pub print_of : List ℕ → ℕ → List ℕ → List ℕ → Written
 print_of file t out work =
-    unless (leb (length file) (length out)) (written out work (Refused ExportSpace))
-    (written (over file out) (over (replicate t 0) work) (Length (length file)))
+    unless (leb (length file) (length out)) (written out work (Err ExportSpace))
+    (written (over file out) (over (replicate t 0) work) (Ok (length file)))

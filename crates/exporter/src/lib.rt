@@ -6,14 +6,16 @@
 //
 // Refusals, in the order tested: 1 a counter over its capacity; 9 a statement or a name that cannot be read; 11 output or working words
 // too short.
+//
+// Below the operation the tables are three slices, as the order of lines has them: it reads no index.
 #![tactic(auto)]
 
 ghost use Rattle.std.specs.Prelude.{◌≡◌};
-ghost use Rattle.store.specs.Tables.{lent};
 ghost use Rattle.lines.specs.Export.{export_of, written};
+ghost use Rattle.table.specs.Lent.{held};
 
-use lines::Exported;
 use store::{Counters, Refusal};
+use table::lent::Tables;
 
 mod measure;
 mod print;
@@ -21,35 +23,28 @@ mod print;
 // Write the file. The reply is its length; a refusal writes nothing. What is lent beyond the file and the first T words keeps its values.
 pub fn export_file(
     c: Counters,
-    resources: &[u32],
-    statements: &[u32],
-    index: &[u32],
-    text: &[u8],
+    tables: Tables,
     out: &mut [u8],
     work: &mut [u32],
-) -> Exported
+) -> Result<u32, Refusal>
     ensures { written out.new work.new result
-        ≡ export_of c (lent resources.entry statements.entry index.entry text.entry) out.old work.old }
+        ≡ export_of c (held tables.entry) out.old work.old }
 {
-    if !table::fits(c, resources, statements, index, text) {
-        return Exported::Refused(Refusal::Capacity);
+    if !table::fits(c, tables) {
+        return Err(Refusal::Capacity);
     }
-    let m = measure::measure(c, resources, statements, text);
-    let t = c.statements as usize;
-    let read = m.read as usize;
     let words = work.len();
-    if read < t {
-        return Exported::Refused(Refusal::Damaged);
-    }
+    let t = c.statements as usize;
+    let bytes = measure::measure(c, tables.resources, tables.statements, tables.text)?;
     if words < t {
-        return Exported::Refused(Refusal::ExportSpace);
+        return Err(Refusal::ExportSpace);
     }
     print::print_file(
-        resources,
-        statements,
-        text,
+        tables.resources,
+        tables.statements,
+        tables.text,
         c.statements,
-        m.bytes,
+        bytes,
         out,
         work,
     )

@@ -12,7 +12,6 @@ ghost use Rattle.line_sort.specs.Sorted.{All, Sortable};
 ghost use Rattle.exporter.specs.Legible.{live_bytes};
 ghost use Rattle.exporter.specs.Printed.{Wrote, if_live, lines_in, file_in, Ready, FileWritten, print_of};
 
-use lines::Exported;
 use store::{Refusal, ResourceId, StatementId};
 
 // Statement n listed after `live` others, if it is live; how many are listed then.
@@ -34,12 +33,8 @@ fn fill(statements: &[u32], t: u32, work: &mut [u32]) -> usize
     ensures { Wrote work.old 0 (below (is_live statements.now) t) work.new result }
 {
     let mut live = 0;
-    let mut n = t;
-    // The live statements above n are listed, in the first `live` words.
-    while n > 0 {
-        let here = StatementId(n);
-        n -= 1;
-        live = list_one(statements, here, work, live);
+    for i in (0..t).rev() {
+        live = list_one(statements, StatementId(i + 1), work, live);
     }
     live
 }
@@ -52,14 +47,10 @@ fn put_name(resources: &[u32], text: &[u8], y: ResourceId, out: &mut [u8], at: u
     ensures { Wrote out.old at (name_from text.now (offset_at resources.now y.0) ++ 32 ∷ [])
         out.new result }
 {
-    let mut from = table::word::offset_at(resources, y) as usize;
-    let mut to = at;
-    // The bytes before `from` are copied; none is 0.
-    while text[from] != 0 {
-        out[to] = text[from];
-        from += 1;
-        to += 1;
-    }
+    let from = table::word::offset_at(resources, y) as usize;
+    let end = find_byte::find(text, from, text.len(), 0);
+    let to = at + (end - from);
+    out[at..to].copy_from_slice(&text[from..end]);
     out[to] = 32;
     to + 1
 }
@@ -95,12 +86,9 @@ fn put_lines(resources: &[u32], statements: &[u32], text: &[u8], numbers: &[u32]
         (join_lines (lines_in resources.now statements.now text.now numbers.now)) }
 {
     let mut at = 0;
-    let mut i = 0;
-    // The lines of the first i are written, and end at `at`.
-    while i < numbers.len() {
-        let n = StatementId(numbers[i]);
-        i += 1;
-        at = put_line(resources, statements, text, n, out, at);
+    // The lines of the numbers before n are written, and end at `at`.
+    for n in numbers {
+        at = put_line(resources, statements, text, StatementId(*n), out, at);
     }
 }
 
@@ -150,7 +138,7 @@ pub fn print_file(
     bytes: u32,
     out: &mut [u8],
     work: &mut [u32],
-) -> Exported
+) -> Result<u32, Refusal>
     requires ready { Ready resources.now statements.now text.now t }
     requires bytes_value { (bytes ≡ live_bytes resources.now statements.now text.now t) × (t ≤ length work.old) }
     ensures { written out.new work.new result
@@ -158,8 +146,8 @@ pub fn print_file(
         out.old work.old }
 {
     if bytes as usize > out.len() {
-        return Exported::Refused(Refusal::ExportSpace);
+        return Err(Refusal::ExportSpace);
     }
     print_sorted(resources, statements, text, t, out, work);
-    Exported::Length(bytes)
+    Ok(bytes)
 }

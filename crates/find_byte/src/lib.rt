@@ -11,13 +11,6 @@ pub fn find(bytes: &[u8], from: usize, to: usize, byte: u8) -> usize
     ensures high { result ≤ to }
     ensures low { from ≤ result }
 {
-    let mut i = from;
-    // The byte does not stand from `from` up to i.
-    while i < to {
-        if bytes[i] == byte {
-            return i;
-        }
-        i += 1;
-    }
-    i
+    let part = &bytes[from..to];
+    from + part.iter().position(|b| *b == byte).unwrap_or(part.len())
 }

@@ -7,9 +7,9 @@ use lib.ListN.{replicate}
 use Rattle.store.specs.declared.Counters.{Counters}
 use Rattle.store.specs.declared.Refusal.TheVariants.{Capacity, BadQuery, Damaged}
 use Rattle.store.specs.Tables.{Tables, tables, fits, count_at}
-use Rattle.graph.specs.declared.QueryOpening.TheVariants.{Opened, Refused as NotOpened}
+use Rattle.std.specs.Prelude.{Ok, Err}
 use Rattle.graph.specs.Words.{first_variable, patterns_of, word_ok, all_ok, words_ok}
-use Rattle.graph.specs.Query.{opened_with}
+use Rattle.graph.specs.Place.{start_cursor}
 use Rattle.graph.specs.Arranging.{countable, all_countable, count_or, key_of, none_below, least_at, to_front, arranged}
 use Rattle.graph.specs.Arranging.{ArrangedOpening, arranged_with, arrange_of}
 
@@ -32,7 +32,7 @@ pub record Case : Type 0 where
   pub due : ArrangedOpening
 
 abbrev opened : ℕ → List ℕ → List ℕ → Case
-opened k ws ws' = record { given = arrange_of (three 5) (here k) ws; due = arranged_with ws' (opened_with Opened 5) }
+opened k ws ws' = record { given = arrange_of (three 5) (here k) ws; due = arranged_with ws' (Ok (start_cursor 5)) }
 
 cases : List Case
 cases =
@@ -53,17 +53,17 @@ cases =
     -- a count of T + 1, in the last pattern alone: 9; not where the word stands at another place
     ∷ record {
       given = arrange_of (three 5) (here 4) (3 ∷ 2 ∷ v 0 ∷ v 0 ∷ 2 ∷ 4 ∷ []);
-      due = arranged_with (3 ∷ 2 ∷ v 0 ∷ v 0 ∷ 2 ∷ 4 ∷ []) (opened_with (NotOpened Damaged) 0);
+      due = arranged_with (3 ∷ 2 ∷ v 0 ∷ v 0 ∷ 2 ∷ 4 ∷ []) (Err Damaged);
     }
     ∷ opened 4 (3 ∷ 2 ∷ v 0 ∷ 4 ∷ 2 ∷ v 0 ∷ []) (4 ∷ 2 ∷ v 0 ∷ 3 ∷ 2 ∷ v 0 ∷ [])
     -- 8 before 9; 1 before 8
     ∷ record {
       given = arrange_of (three 5) (here 4) (v 0 ∷ 2 ∷ 4 ∷ v 0 ∷ 2 ∷ 5 ∷ []);
-      due = arranged_with (v 0 ∷ 2 ∷ 4 ∷ v 0 ∷ 2 ∷ 5 ∷ []) (opened_with (NotOpened BadQuery) 0);
+      due = arranged_with (v 0 ∷ 2 ∷ 4 ∷ v 0 ∷ 2 ∷ 5 ∷ []) (Err BadQuery);
     }
     ∷ record {
       given = arrange_of (three 65536) (here 4) (5 ∷ []);
-      due = arranged_with (5 ∷ []) (opened_with (NotOpened Capacity) 0);
+      due = arranged_with (5 ∷ []) (Err Capacity);
     }
     ∷ []
 

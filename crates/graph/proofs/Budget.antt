@@ -11,12 +11,13 @@ use Rattle.graph.specs.Query.{remains}
 use Rattle.graph.specs.Place.{Place, place_of}
 use Rattle.graph.specs.Words.{patterns_of}
 use Rattle.graph.specs.Query.{Answer, walk, resume, packed, stale, next_query_of}
+use Rattle.graph.specs.Values.{query_values}
 use Rattle.graph.specs.Claims.{BudgetClaim}
 use Rattle.graph.proofs.Laws.{walk-over, walk_turn, resume-cases}
 use Rattle.graph.proofs.Refusals.{answer-cases}
 
 abbrev Within : ℕ → ℕ → Answer → Type 0
-Within g b a = (packed g a).visits ≤ b
+Within g b a = (query_values (packed g a)).visits ≤ b
 
 module _ (g r t : ℕ) (res stm : List ℕ) (ps : List QueryPattern) where
   walk-within : (left : ℕ) (l : Level) (up : List Level) (v : ℕ) → Within g (v + left) (walk r t res stm ps left l up v)

@@ -18,8 +18,10 @@ use Rattle.store.specs.Walk.{entry_at}
 use Rattle.store.specs.Soundness.{Sound}
 use Rattle.store.proofs.Tests.{and_l, and_r, fits-parts}
 use Rattle.graph.specs.declared.QueryPattern.{QueryPattern}
-use Rattle.graph.specs.declared.QueryOpening.TheVariants.{Opened}
+use Rattle.std.specs.Prelude.{Ok}
 use Rattle.graph.specs.declared.QueryCursor.{QueryCursor}
+use Rattle.std.specs.Prelude.{Result}
+use Rattle.store.specs.declared.Refusal.{Refusal}
 use Rattle.graph.specs.declared.QueryAnswer.{QueryAnswer}
 use Rattle.graph.specs.Words.{max_patterns, variables, first_variable, is_variable, word_ok, all_ok, words_ok}
 use Rattle.graph.specs.Place.{Place, start, inside, finish, start_cursor, cursor_at}
@@ -164,7 +166,7 @@ module _ (c : Counters) (m : Tables) (S : Sound c m) (ws : List ℕ) (words : wo
   abbrev cursor_here : Place → QueryCursor
   cursor_here q = cursor_at c.generation q
 
-  abbrev pack : Answer → QueryAnswer
+  abbrev pack : Answer → Result QueryAnswer Refusal
   pack a = packed c.generation a
 
   pub next-is : (q : Place) (b : ℕ) → Shallow q → next_query_of c m ws (cursor_here q) b ≡ pack (answer_of c m ws q b)
@@ -214,7 +216,7 @@ module _ (c : Counters) (m : Tables) (S : Sound c m) (ws : List ℕ) (words : wo
 
   -- ---- from the start
 
-  opens : open_query_of c m ws ≡ record { opening = Opened; cursor = start_cursor c.generation }
+  opens : open_query_of c m ws ≡ Ok (start_cursor c.generation)
   unfolding open_query_of
   opens = rw (S.capacity, words)
 

@@ -23,15 +23,18 @@ use Rattle.store.specs.Soundness.{Sound}
 use Rattle.store.proofs.Tests.{decide, and_l, and_r, and-of, all3-at, all3-of}
 use Rattle.store.proofs.Falling.{length-le}
 use Rattle.graph.specs.declared.QueryPattern.{QueryPattern}
-use Rattle.graph.specs.declared.QueryOpening.TheVariants.{Opened, Refused as NotOpened}
-use Rattle.graph.specs.declared.QueryOpened.{QueryOpened}
+use Rattle.std.specs.Prelude.{Result, Ok, Err}
+use Rattle.store.specs.declared.Refusal.{Refusal}
+use Rattle.graph.specs.declared.QueryCursor.{QueryCursor}
 use Rattle.graph.specs.Words.{variables, is_variable, word_at, patterns_of, words_ok}
-use Rattle.graph.specs.Query.{opened_with, open_query_of}
+use Rattle.graph.specs.Query.{open_query_of}
+use Rattle.graph.specs.Place.{start_cursor}
+use Rattle.graph.specs.Values.{query_opened_values}
 use Rattle.graph.specs.Meaning.{TriplePattern}
 use Rattle.graph.specs.Graph.{graph_of, query_of}
 use Rattle.graph.specs.Claims.{read_on, next_reply, reading}
 use Rattle.graph.specs.Arranging.{countable, all_countable, count_or, key_of, none_below, least_at, to_front, arranged}
-use Rattle.graph.specs.Arranging.{arranged_with, arrange_of, arrange_refusal, SamePatterns, LeastCount, KeyClaim, Fronted}
+use Rattle.graph.specs.Arranging.{ArrangedOpening, arranged_with, arrange_of, arrange_refusal, SamePatterns, LeastCount, KeyClaim, Fronted}
 use Rattle.graph.specs.Arranging.{IsArranged, ArrangedClaim, CountAbove, ArrangeRefuses, arranged_reading}
 use Rattle.graph.specs.Arranging.{ArrangedReads, ArrangedReadingClaim}
 use Rattle.graph.proofs.Solve.{Every, every-member, every_of}
@@ -333,36 +336,45 @@ module _ (c : Counters) (m : Tables) (ws : List ℕ) where
   abbrev counted : Bool
   counted = all_countable c.statements m.resources (patterns_of ws)
 
-  pub arrange-capacity : fits c m ≡ false → arrange_of c m ws ≡ arranged_with ws (opened_with (NotOpened Capacity) 0)
+  pub arrange-capacity : fits c m ≡ false → arrange_of c m ws ≡ arranged_with ws (Err Capacity)
   unfolding arrange_of
   arrange-capacity e = rw e
 
   pub arrange-words : fits c m ≡ true → words_ok c.resources ws ≡ false
-      → arrange_of c m ws ≡ arranged_with ws (opened_with (NotOpened BadQuery) 0)
+      → arrange_of c m ws ≡ arranged_with ws (Err BadQuery)
   unfolding arrange_of
   arrange-words e f = rw (e, f)
 
   pub arrange-damaged : fits c m ≡ true → words_ok c.resources ws ≡ true → counted ≡ false
-      → arrange_of c m ws ≡ arranged_with ws (opened_with (NotOpened Damaged) 0)
+      → arrange_of c m ws ≡ arranged_with ws (Err Damaged)
   unfolding arrange_of
   arrange-damaged e f g = rw (e, f, g)
 
   pub arrange-opened : fits c m ≡ true → words_ok c.resources ws ≡ true → counted ≡ true
       → arrange_of c m ws
-      ≡ arranged_with (arranged c.statements m.resources ws) (opened_with Opened c.generation)
+      ≡ arranged_with (arranged c.statements m.resources ws) (Ok (start_cursor c.generation))
   unfolding arrange_of
   arrange-opened e f g = rw (e, f, g)
 
-  -- the refusal's number by the three tests
+  -- the refusal's number by the reply
+  number-of : (r : ArrangedOpening) → arrange_of c m ws ≡ r
+      → arrange_refusal c m ws ≡ (query_opened_values r.opened).refusal
+  number-of r e = ap (λ (z : ArrangedOpening). (query_opened_values z.opened).refusal) e
+
+  pub arrange-unrefused : fits c m ≡ true → words_ok c.resources ws ≡ true → counted ≡ true
+      → arrange_refusal c m ws ≡ 0
+  arrange-unrefused e f g = number-of _ (arrange-opened e f g)
+
+  -- and by the three tests
   refusal_is : arrange_refusal c m ws ≡ in_order 8 (fits c m) (words_ok c.resources ws) counted
   refusal_is =
       decide (fits c m)
       (λ e. decide (words_ok c.resources ws)
       (λ f. decide counted
-      (λ g. rw (arrange-opened e f g, e, f, g))
-      (λ g. rw (arrange-damaged e f g, e, f, g)))
-      (λ f. rw (arrange-words e f, e, f)))
-      (λ e. rw (arrange-capacity e, e))
+      (λ g. number-of _ (arrange-opened e f g) ∙ rw (e, f, g))
+      (λ g. number-of _ (arrange-damaged e f g) ∙ rw (e, f, g)))
+      (λ f. number-of _ (arrange-words e f) ∙ rw (e, f)))
+      (λ e. number-of _ (arrange-capacity e) ∙ rw e)
 
   -- ---- not refused
 
@@ -398,7 +410,7 @@ module _ (c : Counters) (m : Tables) (ws : List ℕ) where
     words-kept : words_ok c.resources ws' ≡ true
     words-kept = (rearranged c.resources ws ws' f permuted same_length).0
 
-    opens_as : opened_with Opened c.generation ≡ open_query_of c m ws'
+    opens_as : Ok (start_cursor c.generation) ≡ open_query_of c m ws'
     unfolding open_query_of
     opens_as = rw (e, words-kept)
 
@@ -509,7 +521,7 @@ module _ (c : Counters) (m : Tables) (S : Sound c m) (ws : List ℕ) (f : words_
   arranged-here = arranged_is c m ws S.capacity f sound-countable
 
   reading-is : (bs : List ℕ) → arranged_reading c m ws bs ≡ reading c m answer bs
-  reading-is bs = ap (λ (o : QueryOpened). read_on (next_reply c m answer) o.cursor bs) arranged-here.opens
+  reading-is bs = ap (λ (o : Result QueryCursor Refusal). read_on (next_reply c m answer) (query_opened_values o).cursor bs) arranged-here.opens
 
   same-patterns : SamePatterns ws answer
   same-patterns = (rearranged c.resources ws answer f arranged-here.permuted arranged-here.length-kept).1
@@ -520,7 +532,7 @@ module _ (c : Counters) (m : Tables) (S : Sound c m) (ws : List ℕ) (f : words_
       let R = query-reads c m S answer w in
       let T = same-patterns-same c m S ws answer f w same-patterns in
       record {
-        unrefused = rw (arrange-opened c m ws S.capacity f sound-countable);
+        unrefused = arrange-unrefused c m ws S.capacity f sound-countable;
         all = R.1.0;
         exactly = R.1.1;
         read = λ bs h. rw (reading-is bs) (R.1.2 bs h);

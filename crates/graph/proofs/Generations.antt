@@ -12,6 +12,8 @@ use Rattle.store.specs.declared.Refusal.TheVariants.{StaleCursor}
 use Rattle.store.specs.Tables.{Tables, fits}
 use Rattle.store.proofs.Tests.{decide, and_l, and_r}
 use Rattle.graph.specs.declared.QueryCursor.{QueryCursor}
+use Rattle.std.specs.Prelude.{Result}
+use Rattle.store.specs.declared.Refusal.{Refusal}
 use Rattle.graph.specs.declared.QueryAnswer.{QueryAnswer}
 use Rattle.graph.specs.Query.{Answer, refused, found, ended, spent, answer_of, packed, stale, next_query_of}
 use Rattle.graph.specs.Place.{Place, start, inside, finish, place_of, cursor_at}
@@ -81,7 +83,7 @@ stale-when c m ws q b h =
     decide (stale c m ws q) (λ e. e)
     (λ e. absurd (number-not 13 c.generation (answer_of c m ws (place_of q) b) (omega arith)
     (answer-not 13 (omega arith) (omega arith) (omega arith) (omega arith) c m ws (place_of q) b (inr (omega arith)))
-    (sym (ap (λ (a : QueryAnswer). (query_values a).refusal) (read-on c m ws q b e)) ∙ h)))
+    (sym (ap (λ (a : Result QueryAnswer Refusal). (query_values a).refusal) (read-on c m ws q b e)) ∙ h)))
 
 pub stale-means : (c : Counters) (m : Tables) (ws : List ℕ) (q : QueryCursor) → stale c m ws q ≡ true
     → (fits c m ≡ true) × (words_ok c.resources ws ≡ true) × (q.generation ≢ c.generation)

@@ -23,6 +23,8 @@ use Rattle.store.proofs.Tests.{decide, and_l, and_r, and-of, cond-all}
 use Rattle.graph.specs.declared.QueryPattern.{QueryPattern}
 use Rattle.graph.specs.declared.Level.{Level}
 use Rattle.graph.specs.declared.QueryCursor.{QueryCursor}
+use Rattle.std.specs.Prelude.{Result}
+use Rattle.store.specs.declared.Refusal.{Refusal}
 use Rattle.graph.specs.declared.QueryAnswer.{QueryAnswer}
 use Rattle.graph.specs.Query.{Turn, bad, go, whole, Answer, refused, found, ended, spent, remains, intact, pruned}
 use Rattle.graph.specs.Place.{Place, start, inside, finish, place_as, place_of, cursor_at}
@@ -94,7 +96,7 @@ module _ (c : Counters) (m : Tables) (S : Sound c m) (ws : List ℕ) (words : wo
   abbrev cursor_here : Place → QueryCursor
   cursor_here q = cursor_at c.generation q
 
-  abbrev pack : Answer → QueryAnswer
+  abbrev pack : Answer → Result QueryAnswer Refusal
   pack a = packed c.generation a
 
   -- the cursor answered stands for the place
@@ -207,7 +209,7 @@ module _ (c : Counters) (m : Tables) (S : Sound c m) (ws : List ℕ) (q : QueryC
   first = answer_of c m ws (place_of q) b
 
   abbrev now : QueryCursor
-  now = (next_query_of c m ws q b).cursor
+  now = (query_values (next_query_of c m ws q b)).cursor
 
   tests : Passed c m ws (place_of q) b
   tests = passed c m ws (place_of q) b (unrefused-read c m ws q b u).1
@@ -217,7 +219,7 @@ module _ (c : Counters) (m : Tables) (S : Sound c m) (ws : List ℕ) (q : QueryC
 
   now-ok : accepted c m ws now ≡ true
   now-ok =
-      ap (λ (a : QueryAnswer). accepted c m ws a.cursor) first-is
+      ap (λ (a : Result QueryAnswer Refusal). accepted c m ws (query_values a).cursor) first-is
       ∙ (answers_of c m S ws tests.words q b first tests.place
       (answer-gives c m S ws tests.words (place_of q) b tests.place tests.budget)).kept
 
@@ -267,7 +269,7 @@ module _ (c : Counters) (m : Tables) (S : Sound c m) (ws : List ℕ) (qs : List 
       (λ d. omega (arith, o.0, e, d, h))
 
 opened-words : (c : Counters) (m : Tables) (ws : List ℕ) → (query_opened_values (open_query_of c m ws)).refusal ≡ 0
-    → (words_ok c.resources ws ≡ true) × ((open_query_of c m ws).cursor.generation ≡ c.generation)
+    → (words_ok c.resources ws ≡ true) × ((query_opened_values (open_query_of c m ws)).cursor.generation ≡ c.generation)
 unfolding open_query_of
 opened-words c m ws =
     decide (fits c m)
@@ -278,8 +280,8 @@ opened-words c m ws =
 
 pub reclaimed-refused : ReclaimedClaim
 reclaimed-refused c m S ws qs calls h b' = (
-  λ d. let o = opened-words c m ws d in gone c m S ws qs calls h b' (open_query_of c m ws).cursor o.0 o.1,
-  λ q b u. gone c m S ws qs calls h b' (next_query_of c m ws q b).cursor (tests c m S ws q b u).words
+  λ d. let o = opened-words c m ws d in gone c m S ws qs calls h b' (query_opened_values (open_query_of c m ws)).cursor o.0 o.1,
+  λ q b u. gone c m S ws qs calls h b' (query_values (next_query_of c m ws q b)).cursor (tests c m S ws q b u).words
       (now-number c m S ws q b u),
 )
 
@@ -452,7 +454,7 @@ module _ (c : Counters) (m : Tables) (S : Sound c m) (ws : List ℕ) (words : wo
       ∙ ap pack_now (walk-plus c.resources c.statements m.resources m.statements (patterns_of ws) b l up v 0)
       ∙ packed-plus c.generation v (step-on b l up 0) (step-fine l up b R)
       ∙ ap (λ (a : Answer). more_visits v (pack_now a)) (sym (goes_on l up b R) ∙ sym (resumes c m ws (inside l up) b P))
-      ∙ ap (λ (a : QueryAnswer). more_visits v (query_values a))
+      ∙ ap (λ (a : Result QueryAnswer Refusal). more_visits v (query_values a))
       (sym (next-is c m S ws words (inside l up) b (accepted-shallow c m ws words (inside l up) o)))
 
   both : (q : Place) (b b' v : ℕ) (q' : Place) → Passed c m ws q b → 0 < b' → answer_of c m ws q b ≡ spent v q'
@@ -475,9 +477,9 @@ budgets-add c m S ws q b b' h e =
     let f = (unrefused-read c m ws q b (unfold next_query_of in (rw k₀.2))).0 in
     let n = read-on c m ws q b f in
     let k = spent-answer c.generation (answer_of c m ws (place_of q) b)
-    (ap (λ (z : QueryAnswer). (query_values z).status) (sym n) ∙ e) in
+    (ap (λ (z : Result QueryAnswer Refusal). (query_values z).status) (sym n) ∙ e) in
     let P = passed c m ws (place_of q) b (rw k.2 tt) in
     ap query_values (read-on c m ws q (b + b') f)
     ∙ both c m S ws P.words (place_of q) b b' k.0 k.1 P h k.2
-    ∙ ap (λ (z : QueryAnswer). more_visits z.visits (query_values (next_query_of c m ws z.cursor b')))
+    ∙ ap (λ (z : Result QueryAnswer Refusal). more_visits (query_values z).visits (query_values (next_query_of c m ws (query_values z).cursor b')))
     (sym (n ∙ ap (λ (z : Answer). packed c.generation z) k.2))

@@ -1,6 +1,6 @@
 -- The refusals of a query's two operations, each exactly (`RefusalsClaim`): the tests in their order give the number,
 -- and the numbers differ. Assumes nothing.
-use mathlib.Core.Path.{◌≡◌, refl, sym, ◌∙◌}
+use mathlib.Core.Path.{◌≡◌, refl, sym, ap, ◌∙◌}
 use mathlib.Core.Logic.{◌≢◌, ◌⊎◌, inl, inr}
 use mathlib.Core.Bool.{true, false, true≢false}
 use mathlib.Core.List.{List}
@@ -8,13 +8,17 @@ use Prim.Native.Nat.{ℕ, ◌<◌}
 use native.Mathlib.Omega.{arith}
 use lib.Dec.{eqb}
 use borrow.Author.Tests.{eqb-true, eqb-false, eq-eqb}
+use Rattle.std.specs.Prelude.{Result, Err}
 use Rattle.store.specs.declared.Counters.{Counters}
+use Rattle.store.specs.declared.Refusal.{Refusal}
+use Rattle.store.specs.declared.Refusal.TheVariants.{Capacity, BadQuery, NoBudget}
 use Rattle.store.specs.Tables.{Tables, fits}
 use Rattle.store.proofs.Tests.{decide}
+use Rattle.graph.specs.declared.QueryAnswer.{QueryAnswer}
 use Rattle.graph.specs.declared.QueryCursor.{QueryCursor}
 use Rattle.graph.specs.Words.{words_ok, patterns_of}
 use Rattle.graph.specs.Place.{place_of}
-use Rattle.graph.specs.Query.{Answer, place_ok, answer_of, packed, stale, open_query_of, next_query_of}
+use Rattle.graph.specs.Query.{Answer, refused, place_ok, answer_of, packed, stale, open_query_of, next_query_of}
 use Rattle.graph.specs.Values.{query_values, query_opened_values}
 use Rattle.graph.specs.QueryRefusals.{OpenRefused, Admitted, NextRefused, RefusalsClaim}
 use Rattle.graph.proofs.Refusals.{says, Passed, resumes, resume-not, number-not}
@@ -36,27 +40,45 @@ module _ (c : Counters) (m : Tables) (ws : List ℕ) (q : QueryCursor) (b : ℕ)
 
   -- ---- the number, by the tests
 
-  one_of : fits c m ≡ false → number ≡ 1
+  abbrev answer : Result QueryAnswer Refusal
+  answer = next_query_of c m ws q b
+
+  says-number : (r : Result QueryAnswer Refusal) → answer ≡ r → number ≡ (query_values r).refusal
+  says-number r e = ap (λ (z : Result QueryAnswer Refusal). (query_values z).refusal) e
+
+  first-test : fits c m ≡ false → answer ≡ Err Capacity
   unfolding next_query_of stale answer_of packed
-  one_of f = rw f
+  first-test f = rw f
+
+  second-test : fits c m ≡ true → words_ok c.resources ws ≡ false → answer ≡ Err BadQuery
+  unfolding next_query_of stale answer_of packed
+  second-test f w = rw (f, w)
+
+  one_of : fits c m ≡ false → number ≡ 1
+  one_of f = says-number _ (first-test f)
 
   eight-of : fits c m ≡ true → words_ok c.resources ws ≡ false → number ≡ 8
-  unfolding next_query_of stale answer_of packed
-  eight-of f w = rw (f, w)
+  eight-of f w = says-number _ (second-test f w)
 
   place_ok_lem : Admitted c m ws q
       → place_ok m.statements (patterns_of ws) c.resources c.statements (place_of q) ≡ true
   place_ok_lem A = (place-stands c m ws A.capacity A.words (place_of q)).1 A.place
 
+  last-test : Admitted c m ws q → b ≡ 0 → answer_of c m ws (place_of q) b ≡ refused NoBudget
+  unfolding answer_of
+  last-test A z = rw (A.capacity, A.words, place_ok_lem A, eq-eqb b 0 z)
+
   seven-of : Admitted c m ws q → b ≡ 0 → number ≡ 7
-  seven-of A z = rw (read-on c m ws q b (own-number c m ws q A.generation))
-      (unfold answer_of packed in (rw (A.capacity, A.words, place_ok_lem A, eq-eqb b 0 z)))
+  unfolding packed
+  seven-of A z =
+      says-number _ (read-on c m ws q b (own-number c m ws q A.generation) ∙ ap (packed c.generation) (last-test A z))
 
   walked-of : Admitted c m ws q → 0 < b → (number ≡ 0) ⊎ (number ≡ 9)
   walked-of A h =
       let P : Passed c m ws (place_of q) b =
       record { capacity = A.capacity; words = A.words; place = place_ok_lem A; budget = h } in
-      rw (read-on c m ws q b (own-number c m ws q A.generation), resumes c m ws (place_of q) b P)
+      rw (says-number _ (read-on c m ws q b (own-number c m ws q A.generation)
+      ∙ ap (packed c.generation) (resumes c m ws (place_of q) b P)))
       (nine-only c.generation _ (λ k n.
       resume-not k n c.resources c.statements m.resources m.statements (patterns_of ws) (place_of q) b))
 

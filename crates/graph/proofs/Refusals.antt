@@ -20,8 +20,8 @@ use Rattle.graph.specs.Place.{Place}
 use Rattle.graph.specs.Words.{words_ok, patterns_of}
 use Rattle.graph.specs.Query.{found, ended, spent, remains, place_ok, walk, resume}
 use Rattle.graph.specs.Query.{answer_of, packed, open_query_of, next_query_of}
-use Rattle.graph.specs.Values.{query_values}
-use Rattle.graph.specs.Claims.{refused_query, RefusalsBare}
+use Rattle.graph.specs.Values.{query_values, refused_query}
+use Rattle.graph.specs.Claims.{RefusalsBare}
 use Rattle.graph.proofs.Laws.{walk_turn, resume-cases}
 
 -- the answer is the refusal of this number

@@ -19,7 +19,6 @@ use Rattle.store.specs.declared.Chain.TheVariants.{All, By}
 use Rattle.store.specs.declared.Counters.{Counters}
 use Rattle.store.specs.declared.Triple.{Triple}
 use Rattle.store.specs.declared.ScanCursor.{ScanCursor}
-use Rattle.store.specs.declared.ScanOpened.TheVariants.{Cursor}
 use Rattle.store.specs.Shared.{at, within, agrees, below, head0, prev, matches}
 use Rattle.store.specs.Tables.{Tables, triple_at, flag_at}
 use Rattle.store.specs.Values.{scanned_values}
@@ -49,6 +48,7 @@ use Rattle.graph.proofs.Names.{named-at, names_apart, live-graph}
 use Rattle.graph.proofs.Solutions.{map-once}
 use Rattle.graph.proofs.ReadThrough as read
 use Rattle.graph.proofs.ReadThrough.{read_all, Told, told-ends, Leaves, told}
+use Rattle.std.specs.Prelude.{Ok}
 
 -- ---- positions
 
@@ -189,11 +189,11 @@ module _ (c : Counters) (m : Tables) (S : Sound c m) (x : Triple) (known : withi
     abbrev visits_at : ℕ → ℕ
     visits_at k = length (below F k)
 
-    abbrev Ok : ℕ → Type 0
-    Ok k = k ≤ c.statements
+    abbrev InTable : ℕ → Type 0
+    InTable k = k ≤ c.statements
 
     abbrev LeavesAt : ℕ → Reply ℕ ScanCursor → Type 0
-    LeavesAt k r = Leaves (scan_next c m) here (below hit) visits_at visits_at Ok k r
+    LeavesAt k r = Leaves (scan_next c m) here (below hit) visits_at visits_at InTable k r
 
     leaves : (k b : ℕ) (z : Taken) → k ≤ c.statements → 0 < b → Takes F hit hit-on b k z
         → LeavesAt k (scan_reply (scanned_values (scanned_as (here k) (some (as_step z)))))
@@ -227,7 +227,7 @@ module _ (c : Counters) (m : Tables) (S : Sound c m) (x : Triple) (known : withi
 
     told-from : (bs : List ℕ) (k : ℕ) → k ≤ c.statements → AllPositive bs
         → Told (below hit k) (visits_at k) (visits_at k) bs (read_on (scan_next c m) (here k) bs)
-    told-from bs k h g = told (scan_next c m) here (below hit) visits_at visits_at Ok next-leaves bs k h g
+    told-from bs k h g = told (scan_next c m) here (below hit) visits_at visits_at InTable next-leaves bs k h g
 
   -- ---- from the opening on
 
@@ -238,7 +238,7 @@ module _ (c : Counters) (m : Tables) (S : Sound c m) (x : Triple) (known : withi
   unfolding pick_chain
   picked-ok = pick-ok x _
 
-  opens : open_of c m x ≡ Cursor (here picked picked-ok c.statements)
+  opens : open_of c m x ≡ Ok (here picked picked-ok c.statements)
   unfolding open_of
   opens =
       rw (

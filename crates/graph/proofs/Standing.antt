@@ -25,6 +25,8 @@ use Rattle.store.proofs.Limits.{chain-means, record-means}
 use Rattle.graph.specs.declared.QueryPattern.{QueryPattern}
 use Rattle.graph.specs.declared.Level.{Level}
 use Rattle.graph.specs.declared.QueryCursor.{QueryCursor}
+use Rattle.std.specs.Prelude.{Result}
+use Rattle.store.specs.declared.Refusal.{Refusal}
 use Rattle.graph.specs.declared.QueryAnswer.{QueryAnswer}
 use Rattle.graph.specs.Words.{variables, first_variable, is_variable, patterns_of, words_ok, Bindings, bound_to}
 use Rattle.graph.specs.Words.{value_of, under}
@@ -308,7 +310,7 @@ unfolding answer_of packed
 six-of c m ws q b f w o = rw (f, w, o)
 
 module _ (c : Counters) (m : Tables) (ws : List ℕ) (q : QueryCursor) (b : ℕ) where
-  abbrev Six : QueryAnswer → Type 0
+  abbrev Six : Result QueryAnswer Refusal → Type 0
   Six a = (query_values a).refusal ≡ 6
 
   not-stale : Six (next_query_of c m ws q b) → stale c m ws q ≡ false

@@ -6,7 +6,8 @@ use mathlib.Core.List.{Permᴰ}
 use Rattle.store.specs.Prelude.{Bool, true, false, cond, List, [], map, List-as-Memᴰ, ℕ, suc}
 use Rattle.store.specs.Prelude.{min, length, take, drop, leb}
 use Rattle.graph.specs.Prelude.{Position, Subject, Predicate, Object, Counters, Triple, Capacity, BadQuery, Damaged, QueryPattern}
-use Rattle.graph.specs.Prelude.{QueryCursor, Opened, NotOpened, QueryOpened}
+use Rattle.store.specs.Prelude.{Result, Ok, Err}
+use Rattle.graph.specs.Prelude.{QueryCursor, Refusal}
 use Rattle.store.specs.Shared.{unless, all3}
 use Rattle.store.specs.Tables.{Tables, fits, count_at}
 use Rattle.store.specs.Model.{Form, assert}
@@ -14,7 +15,7 @@ use Rattle.store.specs.Soundness.{Sound}
 use Rattle.store.specs.History.{Store, call_store}
 use Rattle.graph.specs.Words.{is_variable, word_at, patterns_of, words_ok, Bindings}
 use Rattle.graph.specs.Place.{start_cursor}
-use Rattle.graph.specs.Query.{opened_with, open_query_of}
+use Rattle.graph.specs.Query.{open_query_of}
 use Rattle.graph.specs.Values.{query_opened_values}
 use Rattle.graph.specs.Order.{NoDuplicates}
 use Rattle.graph.specs.Meaning.{RdfTriple, Graph, BasicGraphPattern, Mapping, Solves}
@@ -64,20 +65,20 @@ arranged t res ws = to_front (least_at t res (patterns_of ws)) ws
 
 -- what the second opening answers: as open, and the words
 pub record ArrangedOpening : Type 0 where
-  pub opened : QueryOpened
+  pub opened : Result QueryCursor Refusal
   pub words : List ℕ
 
-abbrev pub arranged_with : List ℕ → QueryOpened → ArrangedOpening
+abbrev pub arranged_with : List ℕ → Result QueryCursor Refusal → ArrangedOpening
 arranged_with ws o = record { opened = o; words = ws }
 
 -- Open with the most selective pattern first: 1; 8; 9 if a count at any place with a resource number is above T; else the
 -- start with the number of reclaims, as open, and the words so arranged. Beside a refusal the words stay as given.
 unfoldable pub arrange_of : Counters → Tables → List ℕ → ArrangedOpening
 arrange_of c m ws =
-    unless (fits c m) (arranged_with ws (opened_with (NotOpened Capacity) 0))
-    (unless (words_ok c.resources ws) (arranged_with ws (opened_with (NotOpened BadQuery) 0))
-    (unless (all_countable c.statements m.resources (patterns_of ws)) (arranged_with ws (opened_with (NotOpened Damaged) 0))
-    (arranged_with (arranged c.statements m.resources ws) (opened_with Opened c.generation))))
+    unless (fits c m) (arranged_with ws (Err Capacity))
+    (unless (words_ok c.resources ws) (arranged_with ws (Err BadQuery))
+    (unless (all_countable c.statements m.resources (patterns_of ws)) (arranged_with ws (Err Damaged))
+    (arranged_with (arranged c.statements m.resources ws) (Ok (start_cursor c.generation)))))
 
 abbrev pub arrange_refusal : Counters → Tables → List ℕ → ℕ
 arrange_refusal c m ws = (query_opened_values (arrange_of c m ws).opened).refusal
@@ -212,7 +213,7 @@ pub record ArrangeRefused (c : Counters) (m : Tables) (ws : List ℕ) (n : ℕ) 
   pub accepted : n ≡ 0
       ↔ (fits c m ≡ true) × (words_ok c.resources ws ≡ true) × (CountAbove c.statements m.resources ws → ⊥)
   pub bare : n ≢ 0
-      → ((arrange_of c m ws).words ≡ ws) × ((arrange_of c m ws).opened.cursor ≡ start_cursor 0)
+      → ((arrange_of c m ws).words ≡ ws) × ((query_opened_values (arrange_of c m ws).opened).cursor ≡ start_cursor 0)
 
 -- On any tables. Refused: the counts of the pattern put first alone tested; a first above T tested; 9 before 8.
 abbrev pub ArrangeRefuses : Type 0
@@ -221,7 +222,7 @@ ArrangeRefuses = (c : Counters) (m : Tables) (ws : List ℕ) → ArrangeRefused 
 -- calls from the cursor of the second opening, with the words that it answered
 abbrev pub arranged_reading : Counters → Tables → List ℕ → List ℕ → List (Reply Bindings QueryCursor)
 arranged_reading c m ws bs =
-    read_on (next_reply c m (arrange_of c m ws).words) (arrange_of c m ws).opened.cursor bs
+    read_on (next_reply c m (arrange_of c m ws).words) (query_opened_values (arrange_of c m ws).opened).cursor bs
 
 -- On a sound store it is not refused; what is read from it are the solutions of the query as given, each once, in the order
 -- of the arranged patterns, and the reading ends. Refused: a cursor already inside the first pattern as given; words of

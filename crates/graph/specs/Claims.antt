@@ -19,11 +19,11 @@ use Rattle.store.specs.Scan.{open_of, next_of}
 use Rattle.store.specs.Soundness.{Sound}
 use Rattle.store.specs.History.{Store, store, capacities_of, call_store, store_replies, store_after}
 use Rattle.store.specs.Claims.{lists_of, reclaims_in}
-use Rattle.graph.specs.Words.{words_ok, patterns_of, Bindings, unbound}
-use Rattle.graph.specs.Place.{finish, place_of, start_cursor}
+use Rattle.graph.specs.Words.{words_ok, patterns_of, Bindings}
+use Rattle.graph.specs.Place.{finish, place_of}
 use Rattle.graph.specs.Work.{work_of, scan_work_of}
 use Rattle.graph.specs.Query.{place_ok, open_query_of, next_query_of}
-use Rattle.graph.specs.Values.{QueryValues, query_values, query_opened_values}
+use Rattle.graph.specs.Values.{QueryValues, query_values, query_opened_values, refused_query}
 use Rattle.graph.specs.Order.{Descending, NoDuplicates, statements_of, onwards_of}
 use Rattle.graph.specs.Meaning.{Term, RdfTriple, part_at, Graph, IsGraph, Mapping, Solves}
 use Rattle.graph.specs.Graph.{named, LiveAt, graph_of, query_of, mapping_of}
@@ -181,10 +181,6 @@ abbrev pub StaleClaim : Type 0
 StaleClaim = (c : Counters) (m : Tables) (ws : List ℕ) (q : QueryCursor) (b : ℕ)
     → (query_values (next_query_of c m ws q b)).refusal ≡ 13
     ↔ (fits c m ≡ true) × (words_ok c.resources ws ≡ true) × (q.generation ≢ c.generation)
-
--- the refusal's number, and zeros: no visits, no solution, the cursor zero, its number too
-abbrev pub refused_query : ℕ → QueryValues
-refused_query n = record { refusal = n; status = 0; visits = 0; solution = record { values = unbound }; cursor = start_cursor 0 }
 
 -- Beside a refusal stand zeros, on any tables.
 abbrev pub RefusalsBare : Type 0

@@ -4,12 +4,9 @@ pub use Rattle.graph.specs.declared.Progress.{Progress}
 pub use Rattle.graph.specs.declared.Progress.TheVariants.{Start, Within, End}
 pub use Rattle.graph.specs.declared.QueryAnswer.{QueryAnswer}
 pub use Rattle.graph.specs.declared.QueryCursor.{QueryCursor}
-pub use Rattle.graph.specs.declared.QueryOpened.{QueryOpened}
-pub use Rattle.graph.specs.declared.QueryOpening.{QueryOpening}
-pub use Rattle.graph.specs.declared.QueryOpening.TheVariants.{Opened, Refused as NotOpened}
 pub use Rattle.graph.specs.declared.QueryPattern.{QueryPattern}
 pub use Rattle.graph.specs.declared.QueryStep.{QueryStep}
-pub use Rattle.graph.specs.declared.QueryStep.TheVariants.{Found, Ended, Spent, Refused as NotAnswered}
+pub use Rattle.graph.specs.declared.QueryStep.TheVariants.{Found, Ended, Spent}
 pub use Rattle.graph.specs.declared.Solution.{Solution}
 pub use Rattle.store.specs.declared.Chain.{Chain}
 pub use Rattle.store.specs.declared.Chain.TheVariants.{All, By}

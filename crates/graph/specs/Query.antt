@@ -4,8 +4,8 @@ use Rattle.std.specs.Prelude.{◌&&◌, ◌||◌, ◌∷◌, ◌+◌, ◌-◌}
 use Rattle.store.specs.Prelude.{Bool, true, false, cond, not, List, [], Option, none, some, ℕ, zero, suc, length}
 use Rattle.store.specs.Prelude.{get_or, set, eqb, leb, ltb}
 use Rattle.graph.specs.Prelude.{Counters, Triple, Refusal, Capacity, BadCursor, NoBudget, BadQuery, Damaged, StaleCursor}
-use Rattle.graph.specs.Prelude.{QueryPattern, Level, QueryCursor, QueryOpening, Opened, NotOpened, QueryOpened, QueryStep, Found}
-use Rattle.graph.specs.Prelude.{Ended, Spent, NotAnswered, QueryAnswer}
+use Rattle.graph.specs.Prelude.{QueryPattern, Level, QueryCursor, QueryStep, Found, Ended, Spent, QueryAnswer}
+use Rattle.store.specs.Prelude.{Result, Ok, Err}
 use Rattle.store.specs.Shared.{unless, known, prev}
 use Rattle.store.specs.Lists.{is_some}
 use Rattle.store.specs.Tables.{Tables, fits, triple_at, flag_at}
@@ -184,31 +184,27 @@ answer_of c m ws q budget =
 
 -- ---- the two operations
 
-abbrev pub opened_with : QueryOpening → ℕ → QueryOpened
-opened_with o g = record { opening = o; cursor = start_cursor g }
-
--- Open: 1; 8; else the start, before the first solution, with the number of reclaims; zeros beside a refusal
-unfoldable pub open_query_of : Counters → Tables → List ℕ → QueryOpened
+-- Open: 1; 8; else the start, before the first solution, with the number of reclaims
+unfoldable pub open_query_of : Counters → Tables → List ℕ → Result QueryCursor Refusal
 open_query_of c m ws =
-    unless (fits c m) (opened_with (NotOpened Capacity) 0)
-    (unless (words_ok c.resources ws) (opened_with (NotOpened BadQuery) 0)
-    (opened_with Opened c.generation))
+    unless (fits c m) (Err Capacity)
+    (unless (words_ok c.resources ws) (Err BadQuery) (Ok (start_cursor c.generation)))
 
 abbrev pub answered : QueryStep → ℕ → Bindings → QueryCursor → QueryAnswer
 answered s v b q = record { step = s; visits = v; solution = record { values = b }; cursor = q }
 
 -- with the number g of reclaims; what a case does not give is zero; ended gives the end
-unfoldable pub packed : ℕ → Answer → QueryAnswer
-packed g (refused e) = answered (NotAnswered e) 0 unbound (start_cursor 0)
-packed g (found b v q) = answered Found v b (cursor_at g q)
-packed g (ended v) = answered Ended v unbound (cursor_at g finish)
-packed g (spent v q) = answered Spent v unbound (cursor_at g q)
+unfoldable pub packed : ℕ → Answer → Result QueryAnswer Refusal
+packed g (refused e) = Err e
+packed g (found b v q) = Ok (answered Found v b (cursor_at g q))
+packed g (ended v) = Ok (answered Ended v unbound (cursor_at g finish))
+packed g (spent v q) = Ok (answered Spent v unbound (cursor_at g q))
 
 -- refusal 13 exactly where this is true: 1 and 8 are not refused, and the cursor has another number of reclaims
 unfoldable pub stale : Counters → Tables → List ℕ → QueryCursor → Bool
 stale c m ws q = fits c m && (words_ok c.resources ws && not (eqb q.generation c.generation))
 
 -- Next: 1; 8; 13 if the cursor, at the start and at the end too, has another number of reclaims; 6; 7; 9; else found, ended or spent
-unfoldable pub next_query_of : Counters → Tables → List ℕ → QueryCursor → ℕ → QueryAnswer
+unfoldable pub next_query_of : Counters → Tables → List ℕ → QueryCursor → ℕ → Result QueryAnswer Refusal
 next_query_of c m ws q budget =
     packed c.generation (cond (stale c m ws q) (refused StaleCursor) (answer_of c m ws (place_of q) budget))

@@ -1,10 +1,10 @@
 -- The paper's number and values for each case of a query's two replies (paper 01, "Operations and refusals"): what a
--- promise compares. Assumes nothing.
-use Rattle.store.specs.Prelude.{ℕ}
-use Rattle.graph.specs.Prelude.{Solution, QueryCursor, QueryOpening, Opened, NotOpened, QueryOpened, QueryStep, Found, Ended, Spent}
-use Rattle.graph.specs.Prelude.{NotAnswered, QueryAnswer}
+-- promise compares. Beside a refusal's number all are zero. Assumes nothing.
+use Rattle.store.specs.Prelude.{ℕ, Result, Ok, Err}
+use Rattle.graph.specs.Prelude.{Refusal, Solution, QueryCursor, QueryStep, Found, Ended, Spent, QueryAnswer}
 use Rattle.store.specs.Values.{refusal_number}
 use Rattle.graph.specs.Words.{unbound}
+use Rattle.graph.specs.Place.{start_cursor}
 
 -- the refusal's number, or 0; 1 found, 2 ended, 3 spent, or 0; the visits; a resource for each variable; the cursor
 pub record QueryValues : Type 0 where
@@ -14,40 +14,21 @@ pub record QueryValues : Type 0 where
   pub solution : Solution
   pub cursor : QueryCursor
 
-abbrev pub opening_refusal : QueryOpening → ℕ
-opening_refusal Opened = 0
-opening_refusal (NotOpened e) = refusal_number e
+-- the refusal's number, and zeros: no visits, no solution, the cursor zero, its number too
+abbrev pub refused_query : ℕ → QueryValues
+refused_query n = record { refusal = n; status = 0; visits = 0; solution = record { values = unbound }; cursor = start_cursor 0 }
 
-abbrev pub query_opened_values : QueryOpened → QueryValues
-query_opened_values a =
-    record {
-      refusal = opening_refusal a.opening;
-      status = 0;
-      visits = 0;
-      solution =
-          record { values = unbound };
-      cursor = a.cursor;
-    }
-
-abbrev pub step_refusal : QueryStep → ℕ
-step_refusal Found = 0
-step_refusal Ended = 0
-step_refusal Spent = 0
-step_refusal (NotAnswered e) = refusal_number e
+abbrev pub query_opened_values : Result QueryCursor Refusal → QueryValues
+query_opened_values (Ok q) =
+    record { refusal = 0; status = 0; visits = 0; solution = record { values = unbound }; cursor = q }
+query_opened_values (Err e) = refused_query (refusal_number e)
 
 abbrev pub step_status : QueryStep → ℕ
 step_status Found = 1
 step_status Ended = 2
 step_status Spent = 3
-step_status (NotAnswered e) = 0
 
-abbrev pub query_values : QueryAnswer → QueryValues
-query_values a =
-    record {
-      refusal = step_refusal a.step;
-      status = step_status a.step;
-      visits = a.visits;
-      solution =
-          a.solution;
-      cursor = a.cursor;
-    }
+abbrev pub query_values : Result QueryAnswer Refusal → QueryValues
+query_values (Ok a) =
+    record { refusal = 0; status = step_status a.step; visits = a.visits; solution = a.solution; cursor = a.cursor }
+query_values (Err e) = refused_query (refusal_number e)

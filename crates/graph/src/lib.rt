@@ -1,11 +1,11 @@
-// The types of a query, the paper's question of several patterns: its limits, a solution, the cursor, the replies.
+// The types of a query, the paper's question of several patterns: its limits, a solution, the cursor, what next answers.
 //
 // A query is a list of words, three a pattern: a resource's number, or `FIRST_VARIABLE` + v for the variable v. What
 // open and next answer is said by the definitions in `specs/Query.antt`, on tables, words and cursors that hold
 // anything; `specs/Values.antt` gives the paper's number and values for each case.
 #![tactic(auto)]
 
-use store::{Chain, Refusal, ResourceId, StatementId};
+use store::{Chain, ResourceId, StatementId};
 
 // How many patterns a query has at most.
 pub const MAX_PATTERNS: usize = 6;
@@ -13,7 +13,7 @@ pub const MAX_PATTERNS: usize = 6;
 // How many variables there are.
 pub const VARIABLES: usize = 16;
 
-// The word of variable 0.
+// The word of variable 0. Words and no enum: a query is lent by C as words, and any word may stand in it.
 pub const FIRST_VARIABLE: u32 = 2147483648;
 
 // A pattern's three words.
@@ -40,7 +40,7 @@ pub struct Level {
 
 // Where a reading stands. A cursor at the start or at the end carries no levels. Within with no levels is the same as
 // the start.
-#[derive(Clone, Copy)]
+#[derive(Clone, Copy, PartialEq, Eq)]
 pub enum Progress {
     Start,
     Within,
@@ -58,31 +58,17 @@ pub struct QueryCursor {
     pub levels: [Level; MAX_PATTERNS],
 }
 
-// How an opening comes out.
-#[derive(Clone, Copy)]
-pub enum QueryOpening {
-    Opened,
-    Refused(Refusal),
-}
-
-// Open a query: the cursor at the start.
-#[derive(Clone, Copy)]
-pub struct QueryOpened {
-    pub opening: QueryOpening,
-    pub cursor: QueryCursor,
-}
-
-// How a next call comes out.
-#[derive(Clone, Copy)]
+// How a next call comes out that is not refused.
+#[derive(Clone, Copy, PartialEq, Eq)]
 pub enum QueryStep {
     Found,
     Ended,
     Spent,
-    Refused(Refusal),
 }
 
 // Next of a query: the visits made, the solution found, the cursor from now on; whatever a case does not give is
-// zero. Beside a refusal the cursor is zero: the caller goes on from the cursor it had.
+// zero. After a refusal the caller goes on from the cursor it had. No enum with values in its cases: C is given every word
+// in every case.
 #[derive(Clone, Copy)]
 pub struct QueryAnswer {
     pub step: QueryStep,

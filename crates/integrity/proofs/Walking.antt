@@ -197,9 +197,6 @@ module _ (stm : List ℕ) (p : Position) (x : Triple) (a : Bool) (n : ℕ) (h : 
   abbrev m : ℕ
   m = next_at stm p (n - 1)
 
-  pub below-climbs : n ≤ m → a ≡ false
-  below-climbs l = B.2 ∙ rw (lt-leb m (n - 1) (omega arith))
-
   -- the link falls
   falls : m < n → a ≡ is_some (chain_length (next_at stm p) (differs stm x) B.0 m)
   falls l = B.2 ∙ rw (le-leb m (n - 1) (omega arith))

@@ -1,10 +1,10 @@
 // The pass over the index: entries in 1..R, and names of neighbours that rise. Names are compared where they stand in
 // the text.
 ghost use Rattle.std.specs.Prelude.{◌≡◌, ◌+◌, ◌-◌, ◌≤◌, ◌<◌, length};
-ghost use Rattle.integrity.specs.Held.{ResourcesHeld};
 ghost use Rattle.store.specs.Lists.{all_below};
 ghost use Rattle.integrity.specs.Index.{entry_ok, EntriesKnown, name_less, neighbours_rise, index_ok};
 
+use crate::held::Resources;
 use store::ResourceId;
 use term::class::byte_at;
 
@@ -15,6 +15,7 @@ fn name_less(used: &[u8], a: usize, b: usize) -> bool
 {
     let mut i = a;
     let mut j = b;
+    // A loop: two names side by side, from two offsets, and the end of neither is known.
     // The names agree from a up to i and from b up to j.
     loop {
         let x = byte_at(used, i);
@@ -34,16 +35,15 @@ fn name_less(used: &[u8], a: usize, b: usize) -> bool
 }
 
 // Whether entries i and i + 1 of the index rise.
-fn neighbours_rise(resources: &[u32], index: &[u32], used: &[u8], r: u32, i: usize) -> bool
-    requires entries_known { EntriesKnown index.now r }
-    requires resources_held { ResourcesHeld resources.now r }
-    requires i_bound { i + 1 < r }
-    ensures { result ≡ neighbours_rise resources.now index.now used.now i }
+fn neighbours_rise(resources: Resources, index: &[u32], used: &[u8], i: usize) -> bool
+    requires entries_known { EntriesKnown index.now resources.count }
+    requires i_bound { i + 1 < resources.count }
+    ensures { result ≡ neighbours_rise resources.entry.words.now index.now used.now i }
 {
     let x = ResourceId(index[i]);
     let y = ResourceId(index[i + 1]);
-    let a = crate::width::wide(table::word::offset_at(resources, x));
-    let b = crate::width::wide(table::word::offset_at(resources, y));
+    let a = table::word::offset_at(resources.words, x) as usize;
+    let b = table::word::offset_at(resources.words, y) as usize;
     name_less(used, a, b)
 }
 
@@ -52,44 +52,36 @@ fn entries_ok(index: &[u32], r: u32) -> bool
     requires { r ≤ length index.now }
     ensures { result ≡ all_below (entry_ok r index.now) r }
 {
-    let n = crate::width::wide(r);
-    let mut i: usize = 0;
-    // The first i entries are in 1..r.
-    while i < n {
+    let n = r as usize;
+    for i in 0..n {
         if !table::in_range(r, index[i]) {
             return false;
         }
-        i += 1;
     }
     true
 }
 
-// Whether the names of the first r entries rise.
-fn entries_rise(resources: &[u32], index: &[u32], used: &[u8], r: u32) -> bool
-    requires entries_known { EntriesKnown index.now r }
-    requires resources_held { ResourcesHeld resources.now r }
-    ensures { result ≡ all_below (neighbours_rise resources.now index.now used.now) (r - 1) }
+// Whether the names of the entries in use rise.
+fn entries_rise(resources: Resources, index: &[u32], used: &[u8]) -> bool
+    requires entries_known { EntriesKnown index.now resources.count }
+    ensures { result ≡ all_below (neighbours_rise resources.entry.words.now index.now used.now) (resources.entry.count - 1) }
 {
-    let n = crate::width::wide(r);
-    let mut i: usize = 0;
-    // Each of the first i entries rises to the entry after it.
-    while i + 1 < n {
-        if !neighbours_rise(resources, index, used, r, i) {
+    let n = resources.count as usize;
+    for i in 0..n.saturating_sub(1) {
+        if !neighbours_rise(resources, index, used, i) {
             return false;
         }
-        i += 1;
     }
     true
 }
 
-// Whether the first r entries of the index are the numbers 1..r in rising order of name.
-pub fn index_ok(resources: &[u32], index: &[u32], used: &[u8], r: u32) -> bool
-    requires resources_held { ResourcesHeld resources.now r }
-    requires r_in_bounds { r ≤ length index.now }
-    ensures { result ≡ index_ok r resources.now index.now used.now }
+// Whether the entries in use are the numbers of the resources in rising order of name.
+pub fn index_ok(resources: Resources, index: &[u32], used: &[u8]) -> bool
+    requires count_in_bounds { resources.count ≤ length index.now }
+    ensures { result ≡ index_ok resources.entry.count resources.entry.words.now index.now used.now }
 {
-    if !entries_ok(index, r) {
+    if !entries_ok(index, resources.count) {
         return false;
     }
-    entries_rise(resources, index, used, r)
+    entries_rise(resources, index, used)
 }

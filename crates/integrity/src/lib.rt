@@ -15,57 +15,65 @@
 #![tactic(auto)]
 
 ghost use Rattle.std.specs.Prelude.{◌≡◌, true, ◌↔◌};
-ghost use Rattle.store.specs.Tables.{lent};
 ghost use Rattle.store.specs.Soundness.{Sound};
-ghost use Rattle.integrity.specs.Held.{ResourcesHeld, StatementsHeld};
+ghost use Rattle.table.specs.Lent.{held};
 ghost use Rattle.integrity.specs.Records.{records_ok};
 ghost use Rattle.integrity.specs.Check.{check_of};
 
+use crate::held::{Resources, Statements};
 use store::Counters;
+use table::lent::Tables;
 
 mod chains;
+mod held;
 mod index;
 mod names;
 mod records;
 mod unique;
-mod width;
 
 // Whether the statement records, their chains, counts and live counts are right.
-fn records_ok(resources: &[u32], statements: &[u32], r: u32, t: u32) -> bool
-    requires resources_held { ResourcesHeld resources.now r }
-    requires statements_held { StatementsHeld statements.now t }
-    ensures { result ≡ records_ok r t resources.now statements.now }
+fn records_ok(resources: Resources, statements: Statements) -> bool
+    ensures { result ≡ records_ok resources.entry.count statements.entry.count
+        resources.entry.words.now statements.entry.words.now }
 {
-    if !records::each_ok(resources, statements, r, t) {
+    if !records::each_ok(resources, statements) {
         return false;
     }
-    if !chains::all_chains_sound(resources, statements, r, t) {
+    if !chains::all_chains_sound(resources, statements) {
         return false;
     }
-    unique::all_stand_once(resources, statements, r, t)
+    unique::all_stand_once(resources, statements)
 }
 
 // All tests, in order.
-fn verdict(c: Counters, resources: &[u32], statements: &[u32], index: &[u32], text: &[u8]) -> bool
-    ensures { result ≡ check_of c (lent resources.entry statements.entry index.entry text.entry) }
+fn verdict(c: Counters, tables: Tables) -> bool
+    ensures { result ≡ check_of c (held tables.entry) }
 {
-    if !table::fits(c, resources, statements, index, text) {
+    if !table::fits(c, tables) {
         return false;
     }
-    let end = width::wide(c.text);
-    let used = &text[..end];
-    if !names::names_ok(resources, used, c.resources) {
+    let end = c.text as usize;
+    let used = &tables.text[..end];
+    let resources = Resources {
+        words: tables.resources,
+        count: c.resources,
+    };
+    if !names::names_ok(resources, used) {
         return false;
     }
-    if !index::index_ok(resources, index, used, c.resources) {
+    if !index::index_ok(resources, tables.index, used) {
         return false;
     }
-    records_ok(resources, statements, c.resources, c.statements)
+    let statements = Statements {
+        words: tables.statements,
+        count: c.statements,
+    };
+    records_ok(resources, statements)
 }
 
 // The check: true exactly if the store is sound. It refuses nothing.
-pub fn check(c: Counters, resources: &[u32], statements: &[u32], index: &[u32], text: &[u8]) -> bool
-    ensures { (result ≡ true) ↔ Sound c (lent resources.entry statements.entry index.entry text.entry) }
+pub fn check(c: Counters, tables: Tables) -> bool
+    ensures { (result ≡ true) ↔ Sound c (held tables.entry) }
 {
-    verdict(c, resources, statements, index, text)
+    verdict(c, tables)
 }

@@ -2,9 +2,9 @@
 // resource's record.
 ghost use Rattle.std.specs.Prelude.{◌≡◌, ◌+◌, ◌≤◌, length};
 ghost use Rattle.table.specs.Held.{ResourceHeld};
-ghost use Rattle.integrity.specs.Held.{ResourcesHeld};
 ghost use Rattle.integrity.specs.Names.{name_from, name_ok, names_ok};
 
+use crate::held::Resources;
 use store::ResourceId;
 
 // Whether the name from `from` to `end` is closed, well formed and without the string ending, and resource y has its
@@ -17,9 +17,10 @@ fn name_ok(resources: &[u32], used: &[u8], y: ResourceId, from: usize, end: usiz
     if end == used.len() {
         return false;
     }
-    if crate::width::wide(table::word::offset_at(resources, y)) != from {
+    if table::word::offset_at(resources, y) as usize != from {
         return false;
     }
+    // The kind as its record holds it: a number, 0 where the name is malformed.
     let kind = term::name_kind(&used[from..end]);
     if kind == 0 {
         return false;
@@ -30,21 +31,18 @@ fn name_ok(resources: &[u32], used: &[u8], y: ResourceId, from: usize, end: usiz
     table::word::kind_at(resources, y) == kind
 }
 
-// Whether the used text is exactly the names of the r resources, with right offsets and kinds.
-pub fn names_ok(resources: &[u32], used: &[u8], r: u32) -> bool
-    requires { ResourcesHeld resources.now r }
-    ensures { result ≡ names_ok resources.now used.now r 1 0 }
+// Whether the used text is exactly the names of the resources, with right offsets and kinds.
+pub fn names_ok(resources: Resources, used: &[u8]) -> bool
+    ensures { result ≡ names_ok resources.entry.words.now used.now resources.entry.count 1 0 }
 {
-    let mut done: u32 = 0;
     let mut from: usize = 0;
     // The text up to `from` is the names of the first `done` resources, with right offsets and kinds.
-    while done < r {
+    for done in 0..resources.count {
         let end = find_byte::find(used, from, used.len(), 0);
-        if !name_ok(resources, used, ResourceId(done + 1), from, end) {
+        if !name_ok(resources.words, used, ResourceId(done + 1), from, end) {
             return false;
         }
         from = end + 1;
-        done += 1;
     }
     from == used.len()
 }

@@ -1,9 +1,11 @@
 -- What a call comes to by the lengths of the slices that it is lent: too short, or with room. Assumes nothing.
 use mathlib.Core.Path.{◌≡◌, sym, ◌∙◌}
-use mathlib.Core.Bool.{true, false}
+use mathlib.Core.Bool.{Bool, true, false}
 use mathlib.Core.List.{List}
 use Prim.Native.Nat.{ℕ, ◌<◌, ◌≤◌}
 use lib.ListN.{length}
+use lib.Dec.{ltb}
+use Rattle.store.proofs.Tests.{decide}
 use borrow.Author.Tests.{lt-ltb, le-ltb}
 use Rattle.capi_calls.specs.Words.{counter_words, if_short, if_any_short, long_enough}
 use Rattle.term.proofs.Names.{never}
@@ -23,20 +25,32 @@ module _ {A : Type 0} (cw : List ℕ) (n : ℕ) (w : List ℕ) (s a : A) where
   unfolding if_short
   room h k = simp (le-ltb (length cw) counter_words h, le-ltb (length w) n k)
 
--- so of the contracts that say something only where there is room, or only where there is none
+-- a contract that says something only where there is room
+pub no-room : {A : Type 0} {b : Bool} → b ≡ false → b ≡ true → A
+no-room h e = never (sym h ∙ e)
+
 module _ {A : Type 0} (cw : List ℕ) (n : ℕ) (w : List ℕ) where
-  pub no-counters : length cw < counter_words → long_enough cw n w ≡ true → A
-  no-counters h e = never (short-counters cw n w false true h ∙ e)
-
-  pub no-reply : counter_words ≤ length cw → length w < n → long_enough cw n w ≡ true → A
-  no-reply h k e = never (short-reply cw n w false true h k ∙ e)
-
+  -- and only where there is none
   pub some-room : counter_words ≤ length cw → n ≤ length w → long_enough cw n w ≡ false → A
   some-room h k e = never (sym (room cw n w false true h k ∙ e))
+
+  pub short : (s a : A) → long_enough cw n w ≡ false → s ≡ if_short cw n w s a
+  unfolding if_short
+  short s a h =
+      decide (ltb (length cw) counter_words)
+      (λ l. rw l)
+      (λ l. decide (ltb (length w) n) (λ k. rw (l, k)) (λ k. no-room h (rw (l, k))))
 
 -- ---- counters, a cursor and a reply
 
 module _ {A : Type 0} (cw : List ℕ) (k : ℕ) (q : List ℕ) (n : ℕ) (w : List ℕ) (s a : A) where
+  pub any-short : long_enough cw n w ≡ false → s ≡ if_any_short cw k q n w s a
+  unfolding if_any_short if_short
+  any-short h =
+      decide (ltb (length q) k)
+      (λ i. decide (ltb (length cw) counter_words) (λ l. rw l) (λ l. rw (l, i)))
+      (λ i. rw i (short cw n w s a h))
+
   pub any-short-counters : length cw < counter_words → s ≡ if_any_short cw k q n w s a
   unfolding if_any_short
   any-short-counters h = simp (lt-ltb (length cw) counter_words h)

@@ -11,8 +11,6 @@ use lib.Seq.{set-get_or, get_or-set_other}
 use borrow.Author.Tests.{leb-true}
 use Rattle.store.specs.declared.Counters.{Counters}
 use Rattle.store.specs.declared.ScanCursor.{ScanCursor}
-use Rattle.store.specs.declared.Scanned.{Scanned}
-use Rattle.store.specs.declared.Scanned.TheVariants.{Refused as NotScanned}
 use Rattle.store.specs.declared.Refusal.{Refusal}
 use Rattle.store.specs.declared.Refusal.TheVariants.{Capacity, BadCursor, NoBudget, StaleCursor}
 use Rattle.store.specs.Tables.{Tables, word, fits}
@@ -22,6 +20,8 @@ use Rattle.store.specs.Values.{scanned_values}
 use Rattle.store.proofs.Numbers.{refusal-positive}
 use Rattle.store.proofs.Tests.{decide, cond-all}
 use Rattle.capi_calls.specs.Words.{chain_of, chain_word, cursor_from, with_cursor, misread, next_from}
+use Rattle.std.specs.Prelude.{Err, Result}
+use Rattle.store.specs.declared.Scanned.{Scanned}
 
 -- a chain word of at most 3 is the word of its chain
 chain-word : (k : ℕ) → k ≤ 3 → chain_word (chain_of k) ≡ k
@@ -42,11 +42,11 @@ module _ (w : List ℕ) where
       (ap (set (set w 4 r) 5) (sym (get_or-set_other w 4 5 r 0 (λ e. omega (arith, e)))) ∙ set-get_or (set w 4 r) 5 0)
 
   -- the cursor that s answers, written over the words, is a write of its record alone
-  abbrev pub OneWord : Scanned → Type 0
+  abbrev pub OneWord : Result Scanned Refusal → Type 0
   OneWord s = (scanned_values s).refusal ≡ 0
       → with_cursor w (scanned_values s).cursor ≡ set w 4 (scanned_values s).cursor.next.0
 
-  refused : (e : Refusal) → OneWord (NotScanned e)
+  refused : (e : Refusal) → OneWord (Err e)
   refused e h = absurd (refusal-positive e h)
 
   walked : word w 3 ≤ 3 → (z : Option Step) → OneWord (scanned_as (cursor_from w) z)

@@ -8,9 +8,10 @@ ghost use Rattle.store.specs.Tables.{lent};
 ghost use Rattle.capi_calls.specs.Words.{filed};
 ghost use Rattle.capi_calls.specs.Calls.{export_call};
 
-use capi_calls::{COUNTER_WORDS, NUMBER_REPLY_WORDS, TOO_SHORT};
-use capi_words::replies::export_answer;
-use capi_words::words::counters_of;
+use capi_calls::{NUMBER_REPLY_WORDS, TOO_SHORT};
+use capi_words::replies::total_answer;
+use capi_words::words::counters_beside;
+use table::lent::Tables;
 
 // Write the file: the reply has its length in bytes; the first T working words are 0 afterwards.
 pub fn lt_export(
@@ -27,14 +28,16 @@ pub fn lt_export(
         ≡ export_call counters.now (lent resources.entry statements.entry index.entry text.entry)
         out.old work.old reply.old }
 {
-    if counters.len() < COUNTER_WORDS {
+    let Some(c) = counters_beside(counters, reply, NUMBER_REPLY_WORDS) else {
         return TOO_SHORT;
-    }
-    if reply.len() < NUMBER_REPLY_WORDS {
-        return TOO_SHORT;
-    }
-    let c = counters_of(counters);
-    let a = export_answer(exporter::export_file(c, resources, statements, index, text, out, work));
+    };
+    let tables = Tables {
+        resources,
+        statements,
+        index,
+        text,
+    };
+    let a = total_answer(exporter::export_file(c, tables, out, work));
     reply[0] = a.number;
     a.result
 }

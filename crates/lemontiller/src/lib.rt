@@ -16,16 +16,16 @@ ghost use Rattle.capi_calls.specs.Calls.{kind_call, CheckCall, FindCall, name_ca
 ghost use Rattle.capi_calls.specs.Calls.{open_call, next_call, assert_call, EnterCall};
 
 use capi_calls::{
-    ASSERT_REPLY_WORDS, COUNTER_WORDS, CURSOR_WORDS, FIND_REPLY_WORDS, LINE_WORDS,
-    NAME_REPLY_WORDS, NUMBER_REPLY_WORDS, SCAN_REPLY_WORDS, STATEMENT_REPLY_WORDS, TOO_SHORT,
+    ASSERT_REPLY_WORDS, CURSOR_WORDS, FIND_REPLY_WORDS, LINE_WORDS, NAME_REPLY_WORDS,
+    NUMBER_REPLY_WORDS, SCAN_REPLY_WORDS, STATEMENT_REPLY_WORDS, TOO_SHORT,
 };
 use capi_words::replies::{
-    assert_answer, asserted_counters, check_answer, enter_answer, interned_counters, kind_answer,
-    line_answer, lookup_answer, name_answer, retract_answer, scanned_answer, scanned_cursor,
-    statement_answer,
+    assert_answer, asserted_counters, check_answer, enter_answer, kind_answer, line_answer,
+    lookup_answer, name_answer, retract_answer, scanned_answer, scanned_cursor, statement_answer,
 };
-use capi_words::words::{counters_of, next_from, put_counters, put_cursor, triple_of};
-use store::{ResourceId, ScanOpened, StatementId, refusal_number};
+use capi_words::words::{counters_beside, next_from, put_counters, put_cursor, triple_of};
+use store::{ResourceId, StatementId, refusal_number};
+use table::lent::Tables;
 
 pub mod export;
 pub mod names;
@@ -63,14 +63,16 @@ pub fn lt_check(
     ensures { CheckCall counters.now (lent resources.entry statements.entry index.entry text.entry)
         reply.old (done result reply.new) }
 {
-    if counters.len() < COUNTER_WORDS {
+    let Some(c) = counters_beside(counters, reply, NUMBER_REPLY_WORDS) else {
         return TOO_SHORT;
-    }
-    if reply.len() < NUMBER_REPLY_WORDS {
-        return TOO_SHORT;
-    }
-    let c = counters_of(counters);
-    let a = check_answer(integrity::check(c, resources, statements, index, text));
+    };
+    let tables = Tables {
+        resources,
+        statements,
+        index,
+        text,
+    };
+    let a = check_answer(integrity::check(c, tables));
     reply[0] = a.number;
     a.result
 }
@@ -88,14 +90,16 @@ pub fn lt_find(
     ensures { FindCall counters.now (lent resources.entry statements.entry index.entry text.entry)
         name.now reply.old (done result reply.new) }
 {
-    if counters.len() < COUNTER_WORDS {
+    let Some(c) = counters_beside(counters, reply, FIND_REPLY_WORDS) else {
         return TOO_SHORT;
-    }
-    if reply.len() < FIND_REPLY_WORDS {
-        return TOO_SHORT;
-    }
-    let c = counters_of(counters);
-    let a = lookup_answer(dictionary::find(c, resources, statements, index, text, name));
+    };
+    let tables = Tables {
+        resources,
+        statements,
+        index,
+        text,
+    };
+    let a = lookup_answer(dictionary::find(c, tables, name));
     reply[0] = a.number;
     reply[1] = a.position;
     a.result
@@ -114,15 +118,17 @@ pub fn lt_name(
     ensures { done result reply.new ≡ name_call counters.now
         (lent resources.entry statements.entry index.entry text.entry) number reply.old }
 {
-    if counters.len() < COUNTER_WORDS {
+    let Some(c) = counters_beside(counters, reply, NAME_REPLY_WORDS) else {
         return TOO_SHORT;
-    }
-    if reply.len() < NAME_REPLY_WORDS {
-        return TOO_SHORT;
-    }
-    let c = counters_of(counters);
+    };
+    let tables = Tables {
+        resources,
+        statements,
+        index,
+        text,
+    };
     let n = ResourceId(number);
-    let a = name_answer(table::name_span(c, resources, statements, index, text, n));
+    let a = name_answer(table::name_span(c, tables, n));
     reply[0] = a.start;
     reply[1] = a.size;
     a.result
@@ -141,15 +147,17 @@ pub fn lt_statement(
     ensures { done result reply.new ≡ statement_call counters.now
         (lent resources.entry statements.entry index.entry text.entry) number reply.old }
 {
-    if counters.len() < COUNTER_WORDS {
+    let Some(c) = counters_beside(counters, reply, STATEMENT_REPLY_WORDS) else {
         return TOO_SHORT;
-    }
-    if reply.len() < STATEMENT_REPLY_WORDS {
-        return TOO_SHORT;
-    }
-    let c = counters_of(counters);
+    };
+    let tables = Tables {
+        resources,
+        statements,
+        index,
+        text,
+    };
     let n = StatementId(number);
-    let a = statement_answer(table::read_statement(c, resources, statements, index, text, n));
+    let a = statement_answer(table::read_statement(c, tables, n));
     reply[0] = a.subject;
     reply[1] = a.predicate;
     reply[2] = a.object;
@@ -165,8 +173,7 @@ pub fn lt_read_line(text: &[u8], at: usize, reply: &mut [u64]) -> u32
         return TOO_SHORT;
     }
     let read = ntriples::read_line(text, at);
-    let line = read.line;
-    let a = line_answer(line, read.next);
+    let a = line_answer(read.line, read.next);
     reply[0] = a.what;
     reply[1] = a.next;
     reply[2] = a.subject.start;
@@ -194,13 +201,9 @@ pub fn lt_retract(
         ≡ retract_call counters.now (tables resources.old statements.old index.now text.now)
         (triple subject predicate object) reply.old }
 {
-    if counters.len() < COUNTER_WORDS {
+    let Some(c) = counters_beside(counters, reply, NUMBER_REPLY_WORDS) else {
         return TOO_SHORT;
-    }
-    if reply.len() < NUMBER_REPLY_WORDS {
-        return TOO_SHORT;
-    }
-    let c = counters_of(counters);
+    };
     let x = triple_of(subject, predicate, object);
     let a = retract_answer(statement::retract(c, resources, statements, index, text, x));
     reply[0] = a.number;
@@ -223,20 +226,22 @@ pub fn lt_scan_open(
         (lent resources.entry statements.entry index.entry text.entry) (triple subject predicate object)
         cursor.old }
 {
-    if counters.len() < COUNTER_WORDS {
+    let Some(c) = counters_beside(counters, cursor, CURSOR_WORDS) else {
         return TOO_SHORT;
-    }
-    if cursor.len() < CURSOR_WORDS {
-        return TOO_SHORT;
-    }
-    let c = counters_of(counters);
+    };
+    let tables = Tables {
+        resources,
+        statements,
+        index,
+        text,
+    };
     let x = triple_of(subject, predicate, object);
-    match scan::scan_open(c, resources, statements, index, text, x) {
-        ScanOpened::Refused(e) => refusal_number(e),
-        ScanOpened::Cursor(q) => {
+    match scan::scan_open(c, tables, x) {
+        Ok(q) => {
             put_cursor(cursor, q);
             0
         }
+        Err(e) => refusal_number(e),
     }
 }
 
@@ -255,29 +260,33 @@ pub fn lt_scan_next(
         ≡ next_call counters.now (lent resources.entry statements.entry index.entry text.entry)
         cursor.old budget reply.old }
 {
-    if counters.len() < COUNTER_WORDS {
+    let Some(c) = counters_beside(counters, reply, SCAN_REPLY_WORDS) else {
         return TOO_SHORT;
-    }
+    };
     if cursor.len() < CURSOR_WORDS {
         return TOO_SHORT;
     }
-    if reply.len() < SCAN_REPLY_WORDS {
-        return TOO_SHORT;
-    }
-    let c = counters_of(counters);
-    let next = next_from(c, resources, statements, index, text, cursor, budget);
+    let tables = Tables {
+        resources,
+        statements,
+        index,
+        text,
+    };
+    let next = next_from(c, tables, cursor, budget);
     let a = scanned_answer(next);
     reply[0] = a.status;
     reply[1] = a.number;
     reply[2] = a.visits;
-    if a.result != 0 {
-        return a.result;
+    match next {
+        Ok(scanned) => {
+            // One word is enough: an answered next moves the cursor's record, word 4, and leaves its pattern, chain and
+            // number of reclaims as they were read.
+            let q = scanned_cursor(scanned);
+            cursor[4] = q.next.0;
+            0
+        }
+        Err(_) => a.result,
     }
-    // One word is enough: an answered next moves the cursor's record, word 4, and leaves its pattern, chain and number
-    // of reclaims as they were read.
-    let q = scanned_cursor(next);
-    cursor[4] = q.next.0;
-    0
 }
 
 // Assert: status (1 new, 2 already, 3 revived) and the statement's number; counters and tables as answered.
@@ -297,24 +306,21 @@ pub fn lt_assert(
         ≡ assert_call counters.old (tables resources.old statements.old index.now text.now)
         (triple subject predicate object) reply.old }
 {
-    if counters.len() < COUNTER_WORDS {
+    let Some(c) = counters_beside(counters, reply, ASSERT_REPLY_WORDS) else {
         return TOO_SHORT;
-    }
-    if reply.len() < ASSERT_REPLY_WORDS {
-        return TOO_SHORT;
-    }
-    let c = counters_of(counters);
+    };
     let x = triple_of(subject, predicate, object);
     let done = statement::assert(c, resources, statements, index, text, x);
     let a = assert_answer(done);
     reply[0] = a.status;
     reply[1] = a.number;
-    if a.result != 0 {
-        return a.result;
+    match done {
+        Ok(asserted) => {
+            put_counters(counters, asserted_counters(asserted));
+            0
+        }
+        Err(_) => a.result,
     }
-    let d = asserted_counters(done);
-    put_counters(counters, d);
-    0
 }
 
 // Enter a name: its number, old or new; counters and tables as answered.
@@ -331,20 +337,17 @@ pub fn lt_enter(
         (tables resources.new statements.now index.new text.new) name.now reply.old
         (beside result counters.new reply.new) }
 {
-    if counters.len() < COUNTER_WORDS {
+    let Some(c) = counters_beside(counters, reply, NUMBER_REPLY_WORDS) else {
         return TOO_SHORT;
-    }
-    if reply.len() < NUMBER_REPLY_WORDS {
-        return TOO_SHORT;
-    }
-    let c = counters_of(counters);
+    };
     let entered = dictionary::intern(c, resources, statements, index, text, name);
     let told = enter_answer(entered);
     reply[0] = told.number;
-    if told.result != 0 {
-        return told.result;
+    match entered {
+        Ok(name) => {
+            put_counters(counters, name.counters);
+            0
+        }
+        Err(_) => told.result,
     }
-    let d = interned_counters(entered);
-    put_counters(counters, d);
-    0
 }

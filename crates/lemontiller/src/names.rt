@@ -6,9 +6,10 @@ ghost use Rattle.store.specs.Tables.{lent};
 ghost use Rattle.capi_calls.specs.Words.{done};
 ghost use Rattle.capi_calls.specs.Calls.{PrefixCall};
 
-use capi_calls::{COUNTER_WORDS, NUMBER_REPLY_WORDS, TOO_SHORT};
-use capi_words::replies::prefix_answer;
-use capi_words::words::counters_of;
+use capi_calls::{NUMBER_REPLY_WORDS, TOO_SHORT};
+use capi_words::replies::total_answer;
+use capi_words::words::counters_beside;
+use table::lent::Tables;
 
 // List the names with a prefix: their numbers in byte order of name, as many as fit; the reply has the total.
 pub fn lt_names_with_prefix(
@@ -24,16 +25,16 @@ pub fn lt_names_with_prefix(
     ensures { PrefixCall counters.now (lent resources.entry statements.entry index.entry text.entry)
         prefix.now numbers.old numbers.new reply.old (done result reply.new) }
 {
-    if counters.len() < COUNTER_WORDS {
+    let Some(c) = counters_beside(counters, reply, NUMBER_REPLY_WORDS) else {
         return TOO_SHORT;
-    }
-    if reply.len() < NUMBER_REPLY_WORDS {
-        return TOO_SHORT;
-    }
-    let c = counters_of(counters);
-    let a = prefix_answer(prefix::names_with_prefix(
-        c, resources, statements, index, text, prefix, numbers,
-    ));
+    };
+    let tables = Tables {
+        resources,
+        statements,
+        index,
+        text,
+    };
+    let a = total_answer(prefix::names_with_prefix(c, tables, prefix, numbers));
     reply[0] = a.number;
     a.result
 }

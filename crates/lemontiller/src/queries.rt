@@ -4,50 +4,39 @@
 // of `capi_calls`.
 ghost use Rattle.std.specs.Prelude.{◌≡◌, ◌≤◌, length};
 ghost use Rattle.store.specs.Tables.{lent};
+ghost use Rattle.table.specs.Lent.{held};
 ghost use Rattle.capi_calls.specs.Words.{done, beside};
 ghost use Rattle.capi_calls.specs.QueryWords.{query_cursor_words, next_query_from};
 ghost use Rattle.capi_calls.specs.QueryCalls.{query_open_call, query_next_call};
 
-use capi_calls::{COUNTER_WORDS, QUERY_CURSOR_WORDS, QUERY_REPLY_WORDS, TOO_SHORT};
-use capi_query_words::queries::{
-    opening_refusal, put_query_answer, put_query_cursor, query_cursor_of, spelt, step_refusal,
-};
-use capi_words::words::counters_of;
-use graph::{QueryAnswer, QueryOpening};
+use capi_calls::{QUERY_CURSOR_WORDS, QUERY_REPLY_WORDS, TOO_SHORT};
+use capi_query_words::queries::{put_query_answer, put_query_cursor, query_cursor_of, spelt};
+use capi_words::words::counters_beside;
+use graph::QueryAnswer;
 use query::{query_next, query_open};
-use query_stack::stack::refused;
-use store::{Counters, Refusal};
+use store::{Counters, Refusal, refusal_number};
+use table::lent::Tables;
 
 // Next of a query from a cursor's words. Words that tell no cursor are refused 6, after refusals 1, 8 and 13.
 fn query_from(
     c: Counters,
-    resources: &[u32],
-    statements: &[u32],
-    index: &[u32],
-    text: &[u8],
+    tables: Tables,
     words: &[u32],
     cursor: &[u32],
     budget: u32,
-) -> QueryAnswer
+) -> Result<QueryAnswer, Refusal>
     requires { query_cursor_words ≤ length cursor.now }
-    ensures { result ≡ next_query_from c (lent resources.entry statements.entry index.entry text.entry)
-        words.now cursor.now budget }
+    ensures { result ≡ next_query_from c (held tables.entry) words.now cursor.now budget }
 {
     if spelt(cursor) {
         let q = query_cursor_of(cursor);
-        return query_next(c, resources, statements, index, text, words, q, budget);
+        return query_next(c, tables, words, q, budget);
     }
-    let o = query_open(c, resources, statements, index, text, words);
-    let opening = o.opening;
-    match opening {
-        QueryOpening::Refused(e) => refused(e),
-        QueryOpening::Opened => {
-            if cursor[2] != c.generation {
-                return refused(Refusal::StaleCursor);
-            }
-            refused(Refusal::BadCursor)
-        }
+    query_open(c, tables, words)?;
+    if cursor[2] != c.generation {
+        return Err(Refusal::StaleCursor);
     }
+    Err(Refusal::BadCursor)
 }
 
 // Open a query: the cursor at the start, with the number of reclaims, which stays as it was beside a refusal (1, 8).
@@ -63,22 +52,22 @@ pub fn lt_query_open(
     ensures { done result cursor.new ≡ query_open_call counters.now
         (lent resources.entry statements.entry index.entry text.entry) words.now cursor.old }
 {
-    if counters.len() < COUNTER_WORDS {
+    let Some(c) = counters_beside(counters, cursor, QUERY_CURSOR_WORDS) else {
         return TOO_SHORT;
+    };
+    let tables = Tables {
+        resources,
+        statements,
+        index,
+        text,
+    };
+    match query_open(c, tables, words) {
+        Ok(q) => {
+            put_query_cursor(cursor, q);
+            0
+        }
+        Err(e) => refusal_number(e),
     }
-    if cursor.len() < QUERY_CURSOR_WORDS {
-        return TOO_SHORT;
-    }
-    let c = counters_of(counters);
-    let o = query_open(c, resources, statements, index, text, words);
-    let opening = o.opening;
-    let r = opening_refusal(opening);
-    if r != 0 {
-        return r;
-    }
-    let q = o.cursor;
-    put_query_cursor(cursor, q);
-    0
 }
 
 // Next of a query: status, visits, the number of each variable; the cursor moves on, and stays as it was beside a
@@ -98,24 +87,25 @@ pub fn lt_query_next(
         ≡ query_next_call counters.now (lent resources.entry statements.entry index.entry text.entry)
         words.now cursor.old budget reply.old }
 {
-    if counters.len() < COUNTER_WORDS {
+    let Some(c) = counters_beside(counters, reply, QUERY_REPLY_WORDS) else {
         return TOO_SHORT;
-    }
+    };
     if cursor.len() < QUERY_CURSOR_WORDS {
         return TOO_SHORT;
     }
-    if reply.len() < QUERY_REPLY_WORDS {
-        return TOO_SHORT;
-    }
-    let c = counters_of(counters);
-    let a = query_from(c, resources, statements, index, text, words, cursor, budget);
+    let tables = Tables {
+        resources,
+        statements,
+        index,
+        text,
+    };
+    let a = query_from(c, tables, words, cursor, budget);
     put_query_answer(reply, a);
-    let step = a.step;
-    let r = step_refusal(step);
-    if r != 0 {
-        return r;
+    match a {
+        Ok(answer) => {
+            put_query_cursor(cursor, answer.cursor);
+            0
+        }
+        Err(e) => refusal_number(e),
     }
-    let q = a.cursor;
-    put_query_cursor(cursor, q);
-    0
 }

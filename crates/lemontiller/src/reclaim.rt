@@ -8,7 +8,7 @@ ghost use Rattle.capi_calls.specs.Calls.{ReclaimCall};
 
 use capi_calls::{COUNTER_WORDS, TOO_SHORT};
 use capi_words::words::{counters_of, put_counters};
-use store::{Reclaimed, refusal_number};
+use store::refusal_number;
 
 // Reclaim: counters and tables as answered, all as they were beside a refusal (1, 14, 9). There is no reply: the
 // counters tell all.
@@ -27,10 +27,10 @@ pub fn lt_reclaim(
     }
     let c = counters_of(counters);
     match compaction::reclaim(c, resources, statements, index, text) {
-        Reclaimed::Refused(e) => refusal_number(e),
-        Reclaimed::Done(d) => {
+        Ok(d) => {
             put_counters(counters, d);
             0
         }
+        Err(e) => refusal_number(e),
     }
 }

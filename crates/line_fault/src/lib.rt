@@ -5,38 +5,45 @@
 // lies, or which part is due. What is told here has no contract: the offset is the reader's.
 #![tactic(auto)]
 
-// The fault. `Ends` and `Within`: in an IRI (1), a label (2) or a literal (3) that is not complete. `Due`: a subject (0), a predicate (1),
-// an object (2), a dot (3) or the line's end (4).
-#[derive(Clone, Copy)]
+use term::NAME_LIMIT;
+use term::class::{byte_at, is_alnum, is_label_byte, is_letter};
+
+// A name that is not complete.
+#[derive(Clone, Copy, PartialEq, Eq)]
+pub enum Name {
+    Iri,
+    Label,
+    Literal,
+}
+
+// A part of a line.
+#[derive(Clone, Copy, PartialEq, Eq)]
+pub enum Part {
+    Subject,
+    Predicate,
+    Object,
+    Dot,
+    LineEnd,
+}
+
+// The fault. `Ends` and `Within`: in a name. `Due`: that part.
+#[derive(Clone, Copy, PartialEq, Eq)]
 pub enum Fault {
     Mark,
     NotAscii,
     Stray,
-    Ends(u32),
+    Ends(Name),
     TooLong,
     Escape,
-    Within(u32),
-    Due(u32),
+    Within(Name),
+    Due(Part),
 }
 
-const IRI: u32 = 1;
-
-const LABEL: u32 = 2;
-
-const LITERAL: u32 = 3;
-
-const OBJECT: u32 = 2;
-
-const DOT: u32 = 3;
-
-const LINE_END: u32 = 4;
-
-// The longest name.
-const NAME_LIMIT: usize = 255;
+const BYTE_ORDER_MARK: [u8; 3] = [239, 187, 191];
 
 // Between names, or where in a name. `Closed`: after a literal's closing quote; `Tag`, `Subtag`: in a tag up to its first `-`, and from there
 // on; `Hat`, `Hats`: after one and two `^`.
-#[derive(Clone, Copy)]
+#[derive(Clone, Copy, PartialEq, Eq)]
 enum Place {
     Between,
     Comment,
@@ -56,229 +63,175 @@ enum Place {
 #[derive(Clone, Copy)]
 struct Standing {
     place: Place,
-    part: u32,
+    part: Part,
     start: usize,
 }
 
-fn at(place: Place, part: u32, start: usize) -> Standing {
-    Standing {
-        place: place,
-        part: part,
-        start: start,
-    }
-}
-
 // The part after one.
-fn after(part: u32) -> u32 {
+fn after(part: Part) -> Part {
     match part {
-        0 => 1,
-        1 => 2,
-        2 => 3,
-        _ => LINE_END,
+        Part::Subject => Part::Predicate,
+        Part::Predicate => Part::Object,
+        Part::Object => Part::Dot,
+        Part::Dot | Part::LineEnd => Part::LineEnd,
     }
 }
 
 // The part after a label whose last byte is this one: a dot that ends an object's label is the line's.
-fn after_label(part: u32, last: u8) -> u32 {
-    if part == OBJECT {
-        if last == b'.' {
-            return LINE_END;
-        }
+fn after_label(part: Part, last: u8) -> Part {
+    if part == Part::Object && last == b'.' {
+        return Part::LineEnd;
     }
     after(part)
 }
 
-fn is_letter_or_digit(b: u8) -> bool {
-    match b {
-        b'0'..=b'9' => true,
-        b'A'..=b'Z' => true,
-        b'a'..=b'z' => true,
-        _ => false,
-    }
-}
-
-// A byte that may go on in a label.
-fn is_label_byte(b: u8) -> bool {
-    match b {
-        b'-' | b'.' | b'_' => true,
-        _ => is_letter_or_digit(b),
-    }
-}
-
 // A byte that may go on in a tag, up to its first `-`.
 fn is_tag_byte(b: u8) -> bool {
-    match b {
-        b'0'..=b'9' => false,
-        _ => is_subtag_byte(b),
-    }
+    b == b'-' || is_letter(b)
 }
 
 // A byte that may go on in a tag after its first `-`.
 fn is_subtag_byte(b: u8) -> bool {
-    if b == b'-' {
-        return true;
-    }
-    is_letter_or_digit(b)
+    b == b'-' || is_alnum(b)
 }
 
 // A byte between names, or the first of one.
-fn between(part: u32, i: usize, b: u8) -> Standing {
-    match b {
-        b'<' => at(Place::Iri, part, i),
-        b'_' => at(Place::Label, part, i),
-        b'"' => at(Place::Text, part, i),
-        b'.' => at(Place::Between, LINE_END, i),
-        b'#' => at(Place::Comment, LINE_END, i),
-        _ => at(Place::Between, part, i),
-    }
+fn between(part: Part, start: usize, b: u8) -> Standing {
+    let (place, part) = match b {
+        b'<' => (Place::Iri, part),
+        b'_' => (Place::Label, part),
+        b'"' => (Place::Text, part),
+        b'.' => (Place::Between, Part::LineEnd),
+        b'#' => (Place::Comment, Part::LineEnd),
+        _ => (Place::Between, part),
+    };
+    Standing { place, part, start }
 }
 
-// A byte of a label, or the first after it.
-fn label(s: Standing, i: usize, b: u8, last: u8) -> Standing {
-    if b == b':' {
-        return s;
+impl Standing {
+    // The same at another place.
+    fn at(self, place: Place) -> Standing {
+        Standing { place, ..self }
     }
-    if is_label_byte(b) {
-        return s;
-    }
-    between(after_label(s.part, last), i, b)
-}
 
-// A byte after a literal's closing quote.
-fn closed(s: Standing, i: usize, b: u8) -> Standing {
-    match b {
-        b'@' => at(Place::Tag, s.part, s.start),
-        b'^' => at(Place::Hat, s.part, s.start),
-        _ => between(DOT, i, b),
+    // At another place if the byte is the one that leads there.
+    fn moved(self, b: u8, by: u8, place: Place) -> Standing {
+        if b == by { self.at(place) } else { self }
     }
-}
 
-// A byte of a tag, or the first after it.
-fn tag(s: Standing, i: usize, b: u8) -> Standing {
-    if b == b'-' {
-        return at(Place::Subtag, s.part, s.start);
+    // A byte of a label, or the first after it.
+    fn label(self, i: usize, b: u8, last: u8) -> Standing {
+        if b == b':' || is_label_byte(b) {
+            return self;
+        }
+        between(after_label(self.part, last), i, b)
     }
-    if is_subtag_byte(b) {
-        return s;
-    }
-    between(DOT, i, b)
-}
 
-// The standing, at another place if the byte is the one that leads there.
-fn moved(s: Standing, b: u8, by: u8, place: Place) -> Standing {
-    if b == by {
-        return at(place, s.part, s.start);
+    // A byte after a literal's closing quote.
+    fn closed(self, i: usize, b: u8) -> Standing {
+        match b {
+            b'@' => self.at(Place::Tag),
+            b'^' => self.at(Place::Hat),
+            _ => between(Part::Dot, i, b),
+        }
     }
-    s
-}
 
-// A byte of a literal's text.
-fn text(s: Standing, b: u8) -> Standing {
-    match b {
-        b'\\' => at(Place::Escape, s.part, s.start),
-        b'"' => at(Place::Closed, s.part, s.start),
-        _ => s,
+    // A byte of a tag, or the first after it.
+    fn tag(self, i: usize, b: u8) -> Standing {
+        if b == b'-' {
+            return self.at(Place::Subtag);
+        }
+        if is_alnum(b) {
+            return self;
+        }
+        between(Part::Dot, i, b)
     }
-}
 
-// A byte of an IRI: its closing one ends a part.
-fn iri(s: Standing, i: usize, b: u8) -> Standing {
-    if b == b'>' {
-        return at(Place::Between, after(s.part), i);
+    // A byte of a literal's text.
+    fn text(self, b: u8) -> Standing {
+        match b {
+            b'\\' => self.at(Place::Escape),
+            b'"' => self.at(Place::Closed),
+            _ => self,
+        }
     }
-    s
-}
 
-// One byte more, at i, after the byte `last`.
-fn step(s: Standing, i: usize, b: u8, last: u8) -> Standing {
-    let place = s.place;
-    match place {
-        Place::Between => between(s.part, i, b),
-        Place::Comment => s,
-        Place::Iri => iri(s, i, b),
-        Place::Label => label(s, i, b, last),
-        Place::Text => text(s, b),
-        Place::Escape => at(Place::Text, s.part, s.start),
-        Place::Closed => closed(s, i, b),
-        Place::Tag => tag(s, i, b),
-        Place::Subtag => tag(s, i, b),
-        Place::Hat => moved(s, b, b'^', Place::Hats),
-        Place::Hats => moved(s, b, b'<', Place::Datatype),
-        Place::Datatype => iri(s, i, b),
+    // A byte of an IRI: its closing one ends a part.
+    fn iri(self, i: usize, b: u8) -> Standing {
+        if b == b'>' {
+            return Standing {
+                place: Place::Between,
+                part: after(self.part),
+                start: i,
+            };
+        }
+        self
     }
-}
 
-// The byte at a position, 0 past the line's end.
-fn byte_at(line: &[u8], i: usize) -> u8 {
-    if i < line.len() {
-        return line[i];
+    // One byte more, at i, after the byte `last`.
+    fn step(self, i: usize, b: u8, last: u8) -> Standing {
+        match self.place {
+            Place::Between => between(self.part, i, b),
+            Place::Comment => self,
+            Place::Iri | Place::Datatype => self.iri(i, b),
+            Place::Label => self.label(i, b, last),
+            Place::Text => self.text(b),
+            Place::Escape => self.at(Place::Text),
+            Place::Closed => self.closed(i, b),
+            Place::Tag | Place::Subtag => self.tag(i, b),
+            Place::Hat => self.moved(b, b'^', Place::Hats),
+            Place::Hats => self.moved(b, b'<', Place::Datatype),
+        }
     }
-    0
+
+    // Within which name a position lies, `length` bytes after its first one, that is not complete there.
+    fn open_name(self, length: usize, last: u8, before: u8) -> Option<Name> {
+        match self.place {
+            Place::Between | Place::Comment | Place::Closed => None,
+            Place::Iri => Some(Name::Iri),
+            Place::Label if label_complete(self.part, length, last, before) => None,
+            Place::Label => Some(Name::Label),
+            Place::Tag | Place::Subtag if is_alnum(last) => None,
+            _ => Some(Name::Literal),
+        }
+    }
+
+    // Which part is due after a name that is complete, or between names.
+    fn due(self, last: u8) -> Part {
+        match self.place {
+            Place::Label => after_label(self.part, last),
+            Place::Closed | Place::Tag | Place::Subtag => Part::Dot,
+            _ => self.part,
+        }
+    }
 }
 
 // The byte that stands so many bytes before a position, 0 before the line.
 fn byte_before(line: &[u8], k: usize, n: usize) -> u8 {
-    if k < n {
-        return 0;
+    match k.checked_sub(n) {
+        Some(i) => byte_at(line, i),
+        None => 0,
     }
-    byte_at(line, k - n)
 }
 
 // Where a reading of the first k bytes stands.
 fn read_to(line: &[u8], k: usize) -> Standing {
-    let mut s = at(Place::Between, 0, 0);
-    let mut last = 0u8;
-    let mut i = 0;
-    // The first i bytes are read, the last of them is `last`.
-    while i < line.len() {
-        if i >= k {
-            return s;
-        }
-        let b = line[i];
-        s = step(s, i, b, last);
-        last = b;
-        i += 1;
+    let mut s = Standing {
+        place: Place::Between,
+        part: Part::Subject,
+        start: 0,
+    };
+    let mut last = 0;
+    for (i, b) in line.iter().take(k).enumerate() {
+        s = s.step(i, *b, last);
+        last = *b;
     }
     s
 }
 
 // Whether a label of so many bytes is complete with these two last ones.
-fn label_complete(part: u32, length: usize, last: u8, before: u8) -> bool {
-    if length < 3 {
-        return false;
-    }
-    if last != b'.' {
-        return true;
-    }
-    if part != OBJECT {
-        return false;
-    }
-    before != b'.'
-}
-
-// Whether a literal is not complete after this byte of its tag: 0 where it is.
-fn open_tag(last: u8) -> u32 {
-    if is_letter_or_digit(last) { 0 } else { LITERAL }
-}
-
-// Within which name a position lies that is not complete there: an IRI, a label or a literal; 0 for none.
-fn open_name(s: Standing, length: usize, last: u8, before: u8) -> u32 {
-    let place = s.place;
-    match place {
-        Place::Between => 0,
-        Place::Comment => 0,
-        Place::Closed => 0,
-        Place::Iri => IRI,
-        Place::Label => {
-            if label_complete(s.part, length, last, before) {
-                return 0;
-            }
-            LABEL
-        }
-        Place::Tag => open_tag(last),
-        Place::Subtag => open_tag(last),
-        _ => LITERAL,
-    }
+fn label_complete(part: Part, length: usize, last: u8, before: u8) -> bool {
+    length >= 3 && (last != b'.' || part == Part::Object && before != b'.')
 }
 
 // Whether a byte would go on in the name before it.
@@ -287,76 +240,36 @@ fn goes_on(place: Place, b: u8) -> bool {
         Place::Label => is_label_byte(b),
         Place::Tag => is_tag_byte(b),
         Place::Subtag => is_subtag_byte(b),
-        Place::Closed => {
-            if b == b'@' {
-                return true;
-            }
-            b == b'^'
-        }
+        Place::Closed => matches!(b, b'@' | b'^'),
         _ => false,
     }
 }
 
-// Which part is due after a name that is complete, or between names.
-fn due(s: Standing, last: u8) -> u32 {
-    let place = s.place;
-    match place {
-        Place::Label => after_label(s.part, last),
-        Place::Closed => DOT,
-        Place::Tag => DOT,
-        Place::Subtag => DOT,
-        _ => s.part,
-    }
-}
-
-// Whether the line begins with a byte order mark.
-fn begins_with_mark(line: &[u8]) -> bool {
-    if byte_at(line, 0) != 239 {
-        return false;
-    }
-    if byte_at(line, 1) != 187 {
-        return false;
-    }
-    byte_at(line, 2) == 191
-}
-
 // Whether a byte stands in no line, but for a tab as white.
 fn is_stray(b: u8) -> bool {
-    match b {
-        32..=126 => false,
-        _ => true,
-    }
+    !matches!(b, 32..=126)
 }
 
 // The fault at offset k within or after a name, of a byte that may stand in a line.
 fn fault_of(s: Standing, k: usize, b: u8, last: u8, before: u8) -> Fault {
-    let place = s.place;
-    let length = std::num::wrapping_sub_usize(k, s.start);
-    let open = open_name(s, length, last, before);
-    if length == NAME_LIMIT {
-        if open != 0 {
-            return Fault::TooLong;
-        }
-        if goes_on(place, b) {
-            return Fault::TooLong;
-        }
+    let length = k.wrapping_sub(s.start);
+    let open = s.open_name(length, last, before);
+    if length == NAME_LIMIT && (open.is_some() || goes_on(s.place, b)) {
+        return Fault::TooLong;
     }
-    if open == 0 {
-        return Fault::Due(due(s, last));
-    }
-    match place {
-        Place::Escape => Fault::Escape,
-        _ => Fault::Within(open),
+    match open {
+        None => Fault::Due(s.due(last)),
+        Some(_) if s.place == Place::Escape => Fault::Escape,
+        Some(name) => Fault::Within(name),
     }
 }
 
 // The fault at the line's end.
 fn fault_at_end(s: Standing, k: usize, last: u8, before: u8) -> Fault {
-    let open = open_name(s, std::num::wrapping_sub_usize(k, s.start), last, before);
-    if open != 0 {
-        return Fault::Ends(open);
+    match s.open_name(k.wrapping_sub(s.start), last, before) {
+        Some(name) => Fault::Ends(name),
+        None => Fault::Due(s.due(last)),
     }
-    Fault::Due(due(s, last))
 }
 
 // Why the line, without its ending, cannot be read at offset k.
@@ -367,10 +280,8 @@ pub fn fault_at(line: &[u8], k: usize) -> Fault {
     if k >= line.len() {
         return fault_at_end(read_to(line, k), k, last, before);
     }
-    if k == 0 {
-        if begins_with_mark(line) {
-            return Fault::Mark;
-        }
+    if k == 0 && line.starts_with(&BYTE_ORDER_MARK) {
+        return Fault::Mark;
     }
     if b >= 128 {
         return Fault::NotAscii;

@@ -2,7 +2,8 @@
 // first bytes that differ. It is the order of whole lines, so that it is right on names with any bytes.
 //
 // Resources with one number have one name, and what two names have in common is passed over in one go; on a sound store the next byte
-// then decides. Each function asks that the names are closed by zero bytes; the export sees to it.
+// then decides. Each function asks that the names are closed by zero bytes; the export sees to it. The tables are slices: no index is
+// read, and four tables would ask callers for one.
 #![tactic(auto)]
 
 ghost use Rattle.std.specs.Prelude.{◌≡◌};
@@ -93,6 +94,7 @@ fn rest_not_more(resources: &[u32], text: &[u8], x: Triple, a: Head, y: Triple, 
 {
     let mut p = a;
     let mut q = b;
+    // A loop: two readings step by step, each from name to name and to the dot and LF, and no iterator has these steps.
     // The bytes passed are the same.
     loop {
         let u = byte_at(text, p);
@@ -117,6 +119,7 @@ fn alike(text: &[u8], i: usize, j: usize) -> usize
     ensures { Common text.now i j result }
 {
     let mut k = 0;
+    // A loop: it ends at a zero byte, which is no end of a range, and neither slice's end is tested at a byte.
     // The first k bytes are the same, and none is 0.
     loop {
         let u = text[i + k];
@@ -167,13 +170,13 @@ pub fn not_more(
 {
     let x = table::word::triple_at(statements, a);
     let y = table::word::triple_at(statements, b);
-    if x.subject.0 != y.subject.0 {
+    if x.subject != y.subject {
         return name_not_more(resources, text, x, y, Position::Subject);
     }
-    if x.predicate.0 != y.predicate.0 {
+    if x.predicate != y.predicate {
         return name_not_more(resources, text, x, y, Position::Predicate);
     }
-    if x.object.0 != y.object.0 {
+    if x.object != y.object {
         return name_not_more(resources, text, x, y, Position::Object);
     }
     true

@@ -1,6 +1,7 @@
 // The numbers of statements sorted by their lines: a merge sort in the words that hold them, at most n log2 n comparisons.
 //
 // A statement's number takes 16 bits and a word has 32, so a word holds two: the low half the order so far, the high half the merged one.
+// The tables are slices, as `line_order` has them: no index is read.
 #![tactic(auto)]
 
 ghost use Rattle.std.specs.Prelude.{◌≡◌, map, ◌+◌, ◌≤◌, ◌<◌, length, take, drop};
@@ -40,20 +41,16 @@ fn merge(resources: &[u32], statements: &[u32], text: &[u8], work: &mut [u32], m
     ensures { Merge (ByLine resources.now statements.now text.now)
         (take mid work.old) (drop mid work.old) (map high work.new) }
 {
-    let n = work.len();
     let mut i: usize = 0;
     let mut j: usize = mid;
-    let mut k: usize = 0;
     // The runs before i and j are merged into the first k high halves; no low half has changed.
-    while k < n {
+    for k in 0..work.len() {
         if from_left(resources, statements, text, work, i, j, mid) {
             work[k] = work[k] % 65536 + 65536 * (work[i] % 65536);
             i += 1;
-            k += 1;
         } else {
             work[k] = work[k] % 65536 + 65536 * (work[j] % 65536);
             j += 1;
-            k += 1;
         }
     }
 }
@@ -62,11 +59,8 @@ fn merge(resources: &[u32], statements: &[u32], text: &[u8], work: &mut [u32], m
 fn unpack(work: &mut [u32])
     ensures { work.new ≡ map high work.old }
 {
-    let mut k: usize = 0;
-    // The first k words are unpacked.
-    while k < work.len() {
-        work[k] = work[k] / 65536;
-        k += 1;
+    for word in work.iter_mut() {
+        *word /= 65536;
     }
 }
 

@@ -22,7 +22,7 @@ use Rattle.store.specs.Values.{statement_values, name_values, StatementValues, N
 use Rattle.store.proofs.Tests.{decide, and_l, and_r, and-of, all-at, all3-at}
 use Rattle.store.proofs.Answers.{read-refuses, name-refuses}
 use Rattle.graph.proofs.Names.{term-low, term-high}
-use Rattle.lines.specs.declared.Exported.TheVariants.{Length, Refused as NotExported}
+use Rattle.std.specs.Prelude.{Ok, Err}
 use Rattle.lines.specs.Export.{file_of, readable, nameable, legible, all_legible, Written, written, over, space_for, export_of}
 use Rattle.lines.specs.Export.{exported_values}
 use Rattle.lines.specs.ExportClaims.{Nine, Overwritten, ExportRefuses, SoundExports}
@@ -115,11 +115,11 @@ module _ (c : Counters) (m : Tables) (out work : List ℕ) where
 
   -- each way, with what it answers
   pub ways : (P : Written → Type 0)
-      → (fits c m ≡ false → P (written out work (NotExported Capacity)))
-      → (fits c m ≡ true → Nine c m → P (written out work (NotExported Damaged)))
-      → (fits c m ≡ true → (Nine c m → ⊥) → Short → P (written out work (NotExported ExportSpace)))
+      → (fits c m ≡ false → P (written out work (Err Capacity)))
+      → (fits c m ≡ true → Nine c m → P (written out work (Err Damaged)))
+      → (fits c m ≡ true → (Nine c m → ⊥) → Short → P (written out work (Err ExportSpace)))
       → (fits c m ≡ true → (Nine c m → ⊥) → (Short → ⊥)
-      → P (written (over (file_of c m) out) (over (replicate c.statements 0) work) (Length (length (file_of c m)))))
+      → P (written (over (file_of c m) out) (over (replicate c.statements 0) work) (Ok (length (file_of c m)))))
       → P result
   unfolding export_of
   ways P one nine eleven done =
@@ -168,9 +168,9 @@ module _ (c : Counters) (m : Tables) (out work : List ℕ) where
 
   all-written : fits c m ≡ true → (Nine c m → ⊥) → length (file_of c m) ≤ length out → c.statements ≤ length work
       → result
-      ≡ written (over (file_of c m) out) (over (replicate c.statements 0) work) (Length (length (file_of c m)))
+      ≡ written (over (file_of c m) out) (over (replicate c.statements 0) work) (Ok (length (file_of c m)))
   all-written e none f g =
-      ways (λ z. z ≡ written (over (file_of c m) out) (over (replicate c.statements 0) work) (Length (length (file_of c m))))
+      ways (λ z. z ≡ written (over (file_of c m) out) (over (replicate c.statements 0) work) (Ok (length (file_of c m))))
       (λ a. clash e a) (λ a n. absurd (none n)) (λ a n s. absurd (space-not (space-of f g) s)) (λ a n s. refl)
 
   none_written : says result ≢ 0

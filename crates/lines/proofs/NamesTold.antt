@@ -14,14 +14,15 @@ use borrow.Author.Tests.{eqb-true, eqb-false, ltb-true, ltb-false}
 use Rattle.store.specs.declared.Counters.{Counters}
 use Rattle.store.specs.declared.ResourceId.{ResourceId}
 use Rattle.store.specs.declared.Refusal.{Refusal}
-use Rattle.store.specs.declared.NameRead.{NameRead}
-use Rattle.store.specs.declared.NameRead.TheVariants.{Span, Refused as NotNamed}
 use Rattle.store.specs.Tables.{Tables, fits, offset_at, word}
 use Rattle.store.specs.Names.{up_to_zero, name_at}
 use Rattle.store.specs.Reading.{in_range, name_window, zero_from, span_to, name_span_of}
 use Rattle.store.specs.Values.{name_values}
 use Rattle.store.proofs.Tests.{decide, range-of}
 use Rattle.lines.specs.ExportClaims.{NamesAreTold}
+use Rattle.std.specs.Prelude.{Err, Result}
+use Rattle.store.specs.Replies.{span_as}
+use Rattle.store.specs.declared.NameSpan.{NameSpan}
 
 -- ---- a name's first byte
 
@@ -111,10 +112,11 @@ module _ (t : List ℕ) (e : ℕ) where
 
   -- ---- the span told of it
 
-  part-told : (o : ℕ) (s : Option ℕ) → Sought name_window o s → (a n : ℕ) → span_to o s ≡ Span a n
+  part-told : (o : ℕ) (s : Option ℕ) → Sought name_window o s → (a n : ℕ) → span_to o s ≡ span_as a n
       → take n (drop a t) ≡ up_to_zero (drop o t)
   part-told o none f a n p = absurd (let x : ◌≡◌ {A = ℕ} 0 1 = cc in omega arith)
-  part-told o (some z) f a n p = let x : o ≡ a = cc in let d : z - o ≡ n = cc in rw (← x, ← d) f.name
+  part-told o (some z) f a n p =
+      let x = ap (λ r. (name_values r).start) p in let d = ap (λ r. (name_values r).size) p in rw (← x, ← d) f.name
 
   nine-told : (o : ℕ) (s : Option ℕ) → Sought name_window o s
       → ((name_values (span_to o s)).refusal ≡ 9) ↔ NoZero name_window o
@@ -136,7 +138,7 @@ module _ (c : Counters) (m : Tables) (y : ResourceId) where
   abbrev found : Option ℕ
   found = zero_from m.text c.text name_window start
 
-  refused-or-found : (P : NameRead → Type 0) → ((r : Refusal) → P (NotNamed r)) → P (span_to start found)
+  refused-or-found : (P : Result NameSpan Refusal → Type 0) → ((r : Refusal) → P (Err r)) → P (span_to start found)
       → P (name_span_of c m y)
   unfolding name_span_of
   refused-or-found P refused told =
@@ -144,10 +146,10 @@ module _ (c : Counters) (m : Tables) (y : ResourceId) where
       (λ f. rw f (decide (in_range c.resources y.0) (λ q. rw q told) (λ q. rw q (refused _))))
       (λ f. rw f (refused _))
 
-  part-is : (a n : ℕ) → name_span_of c m y ≡ Span a n → take n (drop a m.text) ≡ name_at m y.0
+  part-is : (a n : ℕ) → name_span_of c m y ≡ span_as a n → take n (drop a m.text) ≡ name_at m y.0
   unfolding name_at
   part-is a n =
-      refused-or-found (λ r. r ≡ Span a n → take n (drop a m.text) ≡ up_to_zero (drop start m.text))
+      refused-or-found (λ r. r ≡ span_as a n → take n (drop a m.text) ≡ up_to_zero (drop start m.text))
       (λ r p. absurd (let x : ◌≡◌ {A = ℕ} 0 1 = cc in omega arith))
       (part-told m.text c.text start found (seeks m.text c.text name_window start) a n)
 

@@ -1,10 +1,11 @@
 -- The file of the live statements (02, note 1): the line of a statement, the lines in rising byte order, and what writing them
 -- answers and writes, on any tables. Assumes nothing.
-use Rattle.std.specs.Prelude.{◌&&◌, ◌∷◌, ◌++◌, ◌-◌}
+use Rattle.std.specs.Prelude.{Result, Ok, Err, ◌&&◌, ◌∷◌, ◌++◌, ◌-◌}
 use Rattle.store.specs.Prelude.{Bool, true, false, cond, not, List, [], map, ℕ, suc, length, drop, replicate, eqb}
 use Rattle.store.specs.Prelude.{leb}
 use Rattle.store.specs.declared.Counters.{Counters}
 use Rattle.store.specs.declared.Position.{Position}
+use Rattle.store.specs.declared.Refusal.{Refusal}
 use Rattle.store.specs.declared.Refusal.TheVariants.{Capacity, Damaged, ExportSpace}
 use Rattle.store.specs.Shared.{unless, at, all3, below}
 use Rattle.store.specs.Lists.{all_below}
@@ -15,8 +16,6 @@ use Rattle.store.specs.Reading.{statement_of, name_span_of}
 use Rattle.store.specs.Values.{Values, numbered, refused_with, refusal_number, statement_values, name_values}
 use Rattle.graph.specs.Meaning.{RdfTriple}
 use Rattle.graph.specs.Graph.{named}
-use Rattle.lines.specs.declared.Exported.{Exported}
-use Rattle.lines.specs.declared.Exported.TheVariants.{Length, Refused as NotExported}
 
 -- ---- a line, in the canonical form of RDF 1.1 N-Triples
 
@@ -79,9 +78,9 @@ all_legible c m = all_below (λ i. legible c m (suc i)) c.statements
 pub record Written : Type 0 where
   pub out : List ℕ
   pub work : List ℕ
-  pub reply : Exported
+  pub reply : Result ℕ Refusal
 
-abbrev pub written : List ℕ → List ℕ → Exported → Written
+abbrev pub written : List ℕ → List ℕ → Result ℕ Refusal → Written
 written out work r = record { out = out; work = work; reply = r }
 
 -- l from the first on; what is lent beyond it keeps its values
@@ -95,12 +94,12 @@ space_for c m out work = leb (length (file_of c m)) (length out) && leb c.statem
 -- Write the file: 1; 9; 11; else the file, T working words zeroed, and the file's length
 unfoldable pub export_of : Counters → Tables → List ℕ → List ℕ → Written
 export_of c m out work =
-    unless (fits c m) (written out work (NotExported Capacity))
-    (unless (all_legible c m) (written out work (NotExported Damaged))
-    (unless (space_for c m out work) (written out work (NotExported ExportSpace))
-    (written (over (file_of c m) out) (over (replicate c.statements 0) work) (Length (length (file_of c m))))))
+    unless (fits c m) (written out work (Err Capacity))
+    (unless (all_legible c m) (written out work (Err Damaged))
+    (unless (space_for c m out work) (written out work (Err ExportSpace))
+    (written (over (file_of c m) out) (over (replicate c.statements 0) work) (Ok (length (file_of c m))))))
 
 -- the paper's number and values: the length, or the refusal
-abbrev pub exported_values : Exported → Values
-exported_values (Length n) = numbered n
-exported_values (NotExported r) = refused_with (refusal_number r)
+abbrev pub exported_values : Result ℕ Refusal → Values
+exported_values (Ok n) = numbered n
+exported_values (Err r) = refused_with (refusal_number r)

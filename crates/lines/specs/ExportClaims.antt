@@ -7,7 +7,6 @@ use Rattle.term.specs.Grammar.{name_limit}
 use Rattle.store.specs.declared.Counters.{Counters}
 use Rattle.store.specs.declared.Position.{Position}
 use Rattle.store.specs.declared.ResourceId.{ResourceId}
-use Rattle.store.specs.declared.NameRead.TheVariants.{Span}
 use Rattle.store.specs.Shared.{unless, at}
 use Rattle.store.specs.Tables.{Tables, fits, triple_at, offset_at, word}
 use Rattle.store.specs.Names.{more, compare_bytes, name_at}
@@ -26,6 +25,7 @@ use Rattle.graph.specs.Claims.{SoundStore, graph_in, SameGraph, load_of}
 use Rattle.lines.specs.Claims.{names_in}
 use Rattle.lines.specs.CanonicalForm.{Canonical}
 use Rattle.lines.specs.Export.{line_of, live_numbers, live_lines, sort_lines, file_of, export_of, exported_values}
+use Rattle.store.specs.Replies.{span_as}
 
 -- ---- the order: the same lines, each as often, and none is more than a later one
 
@@ -54,7 +54,7 @@ SameLinesSameFile = (c c' : Counters) (m m' : Tables) → Permᴰ (live_lines c 
 -- The names in a line are those that "name of a number" tells, on any tables; and that gives 9 exactly if the offset is at or past B or no
 -- zero byte follows within 256 bytes and before B.
 pub record NameTold (c : Counters) (m : Tables) (y : ResourceId) : Type 0 where
-  pub part : (a n : ℕ) → name_span_of c m y ≡ Span a n → take n (drop a m.text) ≡ name_at m y.0
+  pub part : (a n : ℕ) → name_span_of c m y ≡ span_as a n → take n (drop a m.text) ≡ name_at m y.0
   pub nine : fits c m ≡ true → 0 < y.0 → y.0 ≤ c.resources
       → ((name_values (name_span_of c m y)).refusal ≡ 9)
       ↔ ((i : ℕ) → i < 256 → offset_at m.resources y.0 + i < c.text → word m.text (offset_at m.resources y.0 + i) ≢ 0)

@@ -4,5 +4,5 @@
 use std::process::ExitCode;
 
 fn main(rt: HostRuntime) -> ExitCode {
-    programs::ending(programs::lemontiller_load(&rt))
+    programs::lemontiller_load(&rt).into()
 }

@@ -72,6 +72,3 @@ read-inside {text} {from} {line} R = line-inside text from line (sym R.answered)
 
 pub read-moves : {text : List ℕ} {from next : ℕ} → Ends text from next → (from < next) × (next ≤ length text)
 read-moves {text} {from} N = rw N.moved (moves name_limit text from N.before-end)
-
-pub parts-inside : (text : List ℕ) (a b : Line) → a ≡ b → LineInside text a → LineInside text b
-parts-inside text a b e h = rw e at h

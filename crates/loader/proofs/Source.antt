@@ -15,8 +15,7 @@ use Rattle.ntriples.specs.declared.Line.TheVariants as answer
 use Rattle.graph.specs.Claims.{SoundStore}
 use Rattle.graph.proofs.Theorems.{line-loads}
 use Rattle.lines.specs.Claims.{names_in}
-use Rattle.loader.specs.declared.line.Outcome.{Outcome}
-use Rattle.loader.specs.Lines.{line_at, load_line_of, lines_from, load_lines_of, LoadsLines}
+use Rattle.loader.specs.Lines.{Came, line_at, load_line_of, lines_from, load_lines_of, LoadsLines}
 use Rattle.loader.specs.Steps.{Takes, Ends}
 use Rattle.loader.proofs.Inside.{read-moves}
 
@@ -39,7 +38,7 @@ so-far-none c m text from e = record { sound = λ S. S; onward = λ S qs. (lengt
 module _ (c : Counters) (m : Tables) (text : List ℕ) (d : Counters) (m' : Tables) (from : ℕ) (F : SoFar c m text d m' from) where
   module _ (e : Counters) (m'' : Tables) (next : ℕ) (N : Ends text from next) (K : Takes d m' m'' text from e) where
     after : Sound d m' → (qs : List ScanCursor) → store e m'' qs ≡ (load_line_of (store d m' qs) text (line_at text from)).0
-    after S qs = ap (λ (w : Store × Outcome). w.0) (K.loads.sound S qs)
+    after S qs = ap (λ (w : Store × Came). w.0) (K.loads.sound S qs)
 
     one_line : (n : ℕ) → Sound d m' → (qs : List ScanCursor) → length text ≤ from + n
         → (k : ℕ) × (length text ≤ next + k) × (lines_from n (store d m' qs) text from ≡ lines_from k (store e m'' qs) text next)

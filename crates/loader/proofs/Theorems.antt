@@ -11,11 +11,10 @@ use Rattle.store.proofs.Tests.{decide}
 use Rattle.graph.specs.Claims.{load_of}
 use Rattle.graph.proofs.Theorems.{line-loads}
 use Rattle.lines.specs.Claims.{names_in}
-use Rattle.loader.specs.declared.line.Outcome.{Outcome}
-use Rattle.loader.specs.Lines.{outcome_of, load_line_of, refusal_in, CodeLoads, CodeLoadsFile}
+use Rattle.loader.specs.Lines.{Came, came, outcome_of, load_line_of, refusal_in, CodeLoads, CodeLoadsFile}
 use Rattle.loader.proofs.ExportedFile as exported
 
-status-only : (b : Bool) (x y : Outcome) → refusal_in x ≡ 0 → refusal_in y ≡ 0 → refusal_in (cond b x y) ≡ 0
+status-only : (b : Bool) (x y : Came) → refusal_in x ≡ 0 → refusal_in y ≡ 0 → refusal_in (cond b x y) ≡ 0
 status-only true x y p q = p
 status-only false x y p q = q
 
@@ -31,8 +30,8 @@ code-loads c m m' text x y z r S L =
     let y' = names_in text x y z in
     let a = load_of (store c m []) y' in
     let e = L.sound S [] in
-    let p : store r.counters m' [] ≡ a.0 = ap (λ (w : Store × Outcome). w.0) e in
-    let q : refusal_in r.outcome ≡ a.1.refusal = ap (λ (w : Store × Outcome). refusal_in w.1) e ∙ refusal_is a.1 in
+    let p : store r.counters m' [] ≡ a.0 = ap (λ (w : Store × Came). w.0) e in
+    let q : refusal_in (came r.outcome) ≡ a.1.refusal = ap (λ (w : Store × Came). refusal_in w.1) e ∙ refusal_is a.1 in
     rw (p, q) (line-loads (store c m []) S y').0
 
 pub code-loads-file : CodeLoadsFile

@@ -1,12 +1,13 @@
 -- Loading lines (paper 01, "Loading program"): what a line comes to and what it does to the store, by `load_of` of crate `graph`; all lines
 -- of a text, one after another; and what holds of the code that loads them. Assumes nothing.
-use Rattle.std.specs.Prelude.{◌≡◌, ◌≢◌, false, cond, List, [], ℕ, zero, suc, length, drop, eqb, leb, ltb}
+use Rattle.std.specs.Prelude.{◌≡◌, ◌≢◌, false, cond, List, [], ℕ, zero, suc, length, drop, eqb, leb, ltb, Result, Ok, Err}
 use Rattle.term.specs.Grammar.{name_limit}
 use Rattle.store.specs.declared.Counters.{Counters}
 use Rattle.store.specs.declared.ScanCursor.{ScanCursor}
 use Rattle.store.specs.Shared.{unless, fresh_counters}
 use Rattle.store.specs.Tables.{Tables, fits}
-use Rattle.store.specs.Values.{Values}
+use Rattle.store.specs.declared.Refusal.{Refusal}
+use Rattle.store.specs.Values.{Values, refusal_number}
 use Rattle.store.specs.Soundness.{Sound}
 use Rattle.store.specs.History.{Store, store, capacities_of}
 use Rattle.ntriples.specs.declared.Span.{Span}
@@ -18,7 +19,7 @@ use Rattle.graph.specs.Claims.{load_of, canonical_triple, Loaded, SameGraph}
 use Rattle.lines.specs.Claims.{names_in}
 use Rattle.lines.specs.Export.{live_numbers, file_of}
 use Rattle.loader.specs.declared.line.Outcome.{Outcome}
-use Rattle.loader.specs.declared.line.Outcome.TheVariants.{Nothing, New, Already, Revived, Refused}
+use Rattle.loader.specs.declared.line.Outcome.TheVariants as loaded
 use Rattle.loader.specs.declared.line.LineLoaded.{LineLoaded}
 
 -- ---- what a line comes to
@@ -35,24 +36,40 @@ content_of text from = length (first_line_of (drop from text))
 unfoldable pub line_at : List ℕ → ℕ → Line
 line_at text from = unless (leb (content_of text from) line_limit) (answer.Refused line_limit) (read_of name_limit text from).line
 
+-- what a line comes to, in numbers: nothing, a statement that is new, there already or there again, or a refusal
+pub data Came : Type 0 where
+  Nothing : Came
+  New : ℕ → Came
+  Already : ℕ → Came
+  Revived : ℕ → Came
+  Refused : ℕ → Came
+
+-- of the code's answer
+abbrev pub came : Result Outcome Refusal → Came
+came (Ok loaded.Nothing) = Came.Nothing
+came (Ok (loaded.New n)) = Came.New n.0
+came (Ok (loaded.Already n)) = Came.Already n.0
+came (Ok (loaded.Revived n)) = Came.Revived n.0
+came (Err e) = Came.Refused (refusal_number e)
+
 -- what a triple comes to, by the values of the last call made: status 1 is "new", 2 "already", 3 "revived", which only a store that
 -- something was retracted from answers
-abbrev pub outcome_of : Values → Outcome
-outcome_of v = unless (eqb v.refusal 0) (Refused v.refusal)
-    (cond (eqb v.status 1) (New v.number) (cond (eqb v.status 2) (Already v.number) (Revived v.number)))
+abbrev pub outcome_of : Values → Came
+outcome_of v = unless (eqb v.refusal 0) (Came.Refused v.refusal)
+    (cond (eqb v.status 1) (Came.New v.number) (cond (eqb v.status 2) (Came.Already v.number) (Came.Revived v.number)))
 
 -- the store after a line, and what it comes to
-abbrev pub ended : Store → Outcome → Store × Outcome
+abbrev pub ended : Store → Came → Store × Came
 ended s o = (s, o)
 
-abbrev pub reported : Store × Values → Store × Outcome
+abbrev pub reported : Store × Values → Store × Came
 reported a = ended a.0 (outcome_of a.1)
 
 -- a line of the text, by what was read of it
-unfoldable pub load_line_of : Store → List ℕ → Line → Store × Outcome
-load_line_of s text answer.End = ended s Nothing
-load_line_of s text answer.Nothing = ended s Nothing
-load_line_of s text (answer.Refused k) = ended s (Refused 10)
+unfoldable pub load_line_of : Store → List ℕ → Line → Store × Came
+load_line_of s text answer.End = ended s Came.Nothing
+load_line_of s text answer.Nothing = ended s Came.Nothing
+load_line_of s text (answer.Refused k) = ended s (Came.Refused 10)
 load_line_of s text (answer.Triple x y z) = reported (load_of s (names_in text x y z))
 
 -- at most n lines of the text from a position on, one after another: the store after them
@@ -69,7 +86,7 @@ load_lines_of s text = lines_from (length text) s text 0
 
 -- the counters and the outcome answered and the tables left are those of the definition, whatever listings are open
 abbrev pub Exact : Counters → Tables → Tables → List ℕ → Line → LineLoaded → Type 0
-Exact c m m' text line r = (qs : List ScanCursor) → ended (store r.counters m' qs) r.outcome ≡ load_line_of (store c m qs) text line
+Exact c m m' text line r = (qs : List ScanCursor) → ended (store r.counters m' qs) (came r.outcome) ≡ load_line_of (store c m qs) text line
 
 -- exact on a sound store; on any tables where a counter is over its capacity, and where no triple was read
 pub record Loads (c : Counters) (m m' : Tables) (text : List ℕ) (line : Line) (r : LineLoaded) : Type 0 where
@@ -82,19 +99,19 @@ pub record LoadsLines (c : Counters) (m m' : Tables) (text : List ℕ) (d : Coun
   pub sound : Sound c m → (qs : List ScanCursor) → store d m' qs ≡ load_lines_of (store c m qs) text
 
 -- the refusal's number, or 0
-abbrev pub refusal_in : Outcome → ℕ
-refusal_in Nothing = 0
-refusal_in (New n) = 0
-refusal_in (Already n) = 0
-refusal_in (Revived n) = 0
-refusal_in (Refused n) = n
+abbrev pub refusal_in : Came → ℕ
+refusal_in Came.Nothing = 0
+refusal_in (Came.New n) = 0
+refusal_in (Came.Already n) = 0
+refusal_in (Came.Revived n) = 0
+refusal_in (Came.Refused n) = n
 
 -- Loaded by the code into a sound store, a triple is added to the graph, and nothing else; a refusal leaves the graph. The store stays
 -- sound, and so the next line is exact too; fresh counters are sound over any tables (`FreshIsSound` of crate `store`).
 abbrev pub CodeLoads : Type 0
 CodeLoads = (c : Counters) (m m' : Tables) (text : List ℕ) (x y z : Span) (r : LineLoaded) → Sound c m
     → Loads c m m' text (answer.Triple x y z) r
-    → Loaded (store c m []) (store r.counters m' []) (canonical_triple (names_in text x y z)) (refusal_in r.outcome)
+    → Loaded (store c m []) (store r.counters m' []) (canonical_triple (names_in text x y z)) (refusal_in (came r.outcome))
 
 -- ---- the file of the live statements (02, note 1)
 

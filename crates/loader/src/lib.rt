@@ -7,7 +7,7 @@
 // remain.
 //
 // `line` loads a line, `load` every line of a source, `block` what fills the buffer, `file` what a file or standard input has; `output`
-// writes, `told` tells of a line; `buffer` makes the tables and the long buffers of the shell and of the exporting program.
+// writes, `told` tells of a line; `buffer` has the lengths of the tables and of the long buffers of the shell and of the exporting program.
 #![tactic(auto)]
 
 pub mod block;

@@ -1,19 +1,19 @@
 // Every line of a source, one after another.
-ghost use Rattle.store.specs.Tables.{tables};
+ghost use Rattle.table.specs.Lent.{held_mut, SameSlices};
 ghost use Rattle.loader.specs.Lines.{LoadsLines};
 ghost use Rattle.loader.specs.Steps.{Takes, ReadAt};
 
-use crate::line::load_line;
+use crate::line::{content, load_line};
 use crate::told;
 use ntriples::Line;
-use report::tally;
 use report::tally::Report;
 use std::rt::Env;
 use store::Counters;
 use streams::Outputs;
+use table::lent::TablesMut;
 
 // How far a load is: the store's counters, the lines that have ended, how many bytes of the line being read stand at the front of the
-// buffer; whether it is quiet: then nothing is written to standard output; and what was told of refused lines.
+// buffer; whether it is quiet, as was asked for: then nothing is written to standard output; and what was told of refused lines.
 #[derive(Clone, Copy)]
 pub struct Load {
     pub counters: Counters,
@@ -23,109 +23,60 @@ pub struct Load {
     pub report: Report,
 }
 
-// A load that has read nothing, over tables that hold anything.
-pub fn start(quiet: bool) -> Load {
-    Load {
-        counters: Counters::fresh(),
-        lines: 0,
-        used: 0,
-        quiet: quiet,
-        report: tally::fresh(),
+impl Load {
+    // A load that has read nothing, over tables that hold anything.
+    pub fn new(quiet: bool) -> Load {
+        Load {
+            counters: Counters::fresh(),
+            lines: 0,
+            used: 0,
+            quiet,
+            report: Report::fresh(),
+        }
     }
-}
-
-// How many lines of all files were refused.
-pub fn missing(l: Load) -> u64 {
-    l.report.missing
-}
-
-// How many files could not be read.
-pub fn unread(l: Load) -> u64 {
-    l.report.unread
-}
-
-// Whether all that was told could be written.
-pub fn written(l: Load) -> bool {
-    l.report.written
-}
-
-// 0 where all is loaded, 1 where a line was refused, 2 where something could not be read or written.
-pub fn status(l: Load) -> u32 {
-    tally::status(l.report)
-}
-
-// A load with another report.
-pub fn reported(l: Load, t: Report) -> Load {
-    let mut m = l;
-    m.report = t;
-    m
 }
 
 // Takes a line that was read: loads it, reports it, and counts it.
 fn take_line(
     rt: &(impl Outputs + Env),
     l: Load,
-    resources: &mut [u32],
-    statements: &mut [u32],
-    index: &mut [u32],
-    text: &mut [u8],
+    tables: &mut TablesMut,
     source: &[u8],
     from: usize,
     line: Line,
     next: usize,
 ) -> Load
     requires { ReadAt source.now from line next }
-    ensures { Takes l.counters
-        (tables resources.old statements.old index.old text.old)
-        (tables resources.new statements.new index.new text.new)
+    ensures same { SameSlices tables.new tables.old }
+    ensures loads { Takes l.counters (held_mut tables.old) (held_mut tables.new)
         source.now from result.counters }
 {
     let c = l.counters;
-    let r = load_line(
-        c, resources, statements, index, text, source, from, line, next,
-    );
-    let number = tally::counted(l.lines);
-    let outcome = r.outcome;
-    let d = r.counters;
-    let t = told::with_line(
-        rt, l.report, l.quiet, number, outcome, source, from, line, next,
-    );
+    let r = load_line(c, tables, source, from, line, next);
+    let lines = l.lines.saturating_add(1);
+    let bytes = content(source, from, next);
+    let report = told::with_line(rt, l.report, l.quiet, lines, r.outcome, bytes, line);
     Load {
-        counters: d,
-        lines: number,
-        used: l.used,
-        quiet: l.quiet,
-        report: t,
+        counters: r.counters,
+        lines,
+        report,
+        ..l
     }
 }
 
 // Loads every line of the source, by one reader.
-pub fn load_lines(
-    rt: &(impl Outputs + Env),
-    l: Load,
-    resources: &mut [u32],
-    statements: &mut [u32],
-    index: &mut [u32],
-    text: &mut [u8],
-    source: &[u8],
-) -> Load
-    ensures { LoadsLines l.counters
-        (tables resources.old statements.old index.old text.old)
-        (tables resources.new statements.new index.new text.new)
+pub fn load_lines(rt: &(impl Outputs + Env), l: Load, tables: &mut TablesMut, source: &[u8]) -> Load
+    ensures same { SameSlices tables.new tables.old }
+    ensures loads { LoadsLines l.counters (held_mut tables.old) (held_mut tables.new)
         source.now result.counters }
 {
     let mut m = l;
     let mut r = line_reader::reader(source);
-    // The lines before `r` are loaded; `m` is how far the load is.
-    loop {
+    // The lines before `r` are loaded; `m` is how far the load is. A while: reading a line moves the reader on.
+    while r.at < source.len() {
         let from = r.at;
-        if from >= source.len() {
-            break;
-        }
         let line = line_reader::read_line(&mut r);
-        m = take_line(
-            rt, m, resources, statements, index, text, source, from, line, r.at,
-        );
+        m = take_line(rt, m, tables, source, from, line, r.at);
     }
     m
 }

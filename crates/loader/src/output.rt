@@ -2,7 +2,7 @@
 // tested.
 use crate::line::Outcome;
 use report::output::{append, append_decimal, put};
-use store::Counters;
+use store::{Counters, Refusal, refusal_number};
 use streams::{Output, Outputs};
 
 // A line of output fits: at most two numbers of 20 digits and 24 other bytes.
@@ -19,13 +19,13 @@ fn write_line(rt: &impl Outputs, number: u64, word: &[u8], n: u32) -> bool {
 }
 
 // Writes what a line came to.
-pub fn outcome(rt: &impl Outputs, number: u64, outcome: Outcome) -> bool {
+pub fn outcome(rt: &impl Outputs, number: u64, outcome: Result<Outcome, Refusal>) -> bool {
     match outcome {
-        Outcome::Nothing => true,
-        Outcome::New(n) => write_line(rt, number, b" new ", n),
-        Outcome::Already(n) => write_line(rt, number, b" already ", n),
-        Outcome::Revived(n) => write_line(rt, number, b" revived ", n),
-        Outcome::Refused(n) => write_line(rt, number, b" refused ", n),
+        Ok(Outcome::Nothing) => true,
+        Ok(Outcome::New(n)) => write_line(rt, number, b" new ", n.0),
+        Ok(Outcome::Already(n)) => write_line(rt, number, b" already ", n.0),
+        Ok(Outcome::Revived(n)) => write_line(rt, number, b" revived ", n.0),
+        Err(e) => write_line(rt, number, b" refused ", refusal_number(e)),
     }
 }
 

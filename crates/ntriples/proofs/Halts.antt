@@ -18,7 +18,7 @@ use Rattle.term.proofs.Booleans.{decide}
 use Rattle.term.proofs.Names.{never}
 use Rattle.term.proofs.Turn.{below_or}
 use Rattle.ntriples.specs.declared.Span.{Span}
-use Rattle.ntriples.specs.declared.TermEnd.TheVariants as term
+use Rattle.std.specs.Prelude.{Ok, Err}
 use Rattle.ntriples.specs.declared.ObjectEnd.TheVariants as object
 use Rattle.ntriples.specs.Grammar.{span}
 use Rattle.ntriples.specs.Reader.{Outcome, Terms, Fails, State, Gap, Inside, After, Broken, is_dot, opens, dotted}
@@ -410,7 +410,7 @@ term-scanned text stop a cut h t e f = rw (f, e) (scanned text stop a t)
 
 module _ {text : List ℕ} {stop a : ℕ} {h : Halt} (t : TermScanned text stop a h) where
   pub term-over : (n : ℕ) → stop ≤ length text → 1 ≤ n → opens n (get_or text a 0) ≡ true → a + 255 < h.at
-      → TermEnds text stop n a (term.Broken (a + 255))
+      → TermEnds text stop n a (Err (a + 255))
   term-over n k j o l =
       let g = t.far l in (
         omega arith,
@@ -419,7 +419,7 @@ module _ {text : List ℕ} {stop a : ℕ} {h : Halt} (t : TermScanned text stop 
       )
 
   pub term-whole : (n : ℕ) → stop ≤ length text → opens n (get_or text a 0) ≡ true → h.at ≤ a + 255
-      → whole_of h.state ≡ true → TermEnds text stop n a (term.Whole h.at)
+      → whole_of h.state ≡ true → TermEnds text stop n a (Ok h.at)
   term-whole n k o l w =
       let x = t.low in (
         omega arith,
@@ -429,7 +429,7 @@ module _ {text : List ℕ} {stop a : ℕ} {h : Halt} (t : TermScanned text stop 
 
   -- where no dot can be the line's
   fails : (n : ℕ) → stop ≤ length text → opens n (get_or text a 0) ≡ true → h.at ≤ a + 255 → whole_of h.state ≡ false
-      → dotted n h.state ≡ false → TermEnds text stop n a (term.Broken h.at)
+      → dotted n h.state ≡ false → TermEnds text stop n a (Err h.at)
   fails n k o l w d =
       let x = t.low in (
         omega arith,
@@ -437,11 +437,11 @@ module _ {text : List ℕ} {stop a : ℕ} {h : Halt} (t : TermScanned text stop 
       )
 
   pub term-broken : (n : ℕ) → stop ≤ length text → 1 ≤ n → opens n (get_or text a 0) ≡ true → h.at ≤ a + 255
-      → whole_of h.state ≡ false → TermEnds text stop n a (term.Broken h.at)
+      → whole_of h.state ≡ false → TermEnds text stop n a (Err h.at)
   term-broken n k j o l w = fails n k o l w (later-dotless n h.state j)
 
   pub object-over-dot : stop ≤ length text → opens 0 (get_or text a 0) ≡ true → a + 255 < h.at → is_dot h.state ≡ true
-      → ObjectEnds text stop a (object.Dotted (a + 255))
+      → ObjectEnds text stop a (Ok (object.Dotted (a + 255)))
   object-over-dot k o l d =
       let g = t.far l in
       let x = g.over.before in (
@@ -451,7 +451,7 @@ module _ {text : List ℕ} {stop a : ℕ} {h : Halt} (t : TermScanned text stop 
       )
 
   pub object-over : stop ≤ length text → opens 0 (get_or text a 0) ≡ true → a + 255 < h.at → is_dot h.state ≡ false
-      → ObjectEnds text stop a (object.Broken (a + 255))
+      → ObjectEnds text stop a (Err (a + 255))
   object-over k o l d =
       let g = t.far l in (
         omega arith,
@@ -460,11 +460,11 @@ module _ {text : List ℕ} {stop a : ℕ} {h : Halt} (t : TermScanned text stop 
       )
 
   pub object-whole : stop ≤ length text → opens 0 (get_or text a 0) ≡ true → h.at ≤ a + 255 → whole_of h.state ≡ true
-      → ObjectEnds text stop a (object.Whole h.at)
+      → ObjectEnds text stop a (Ok (object.Whole h.at))
   object-whole k o l w = term-whole 0 k o l w
 
   pub object-dot : stop ≤ length text → opens 0 (get_or text a 0) ≡ true → h.at ≤ a + 255 → is_dot h.state ≡ true
-      → ObjectEnds text stop a (object.Dotted (h.at - 1))
+      → ObjectEnds text stop a (Ok (object.Dotted (h.at - 1)))
   object-dot k o l d =
       let x = t.low in
       let u = t.high in
@@ -475,5 +475,5 @@ module _ {text : List ℕ} {stop a : ℕ} {h : Halt} (t : TermScanned text stop 
       )
 
   pub object-broken : stop ≤ length text → opens 0 (get_or text a 0) ≡ true → h.at ≤ a + 255 → whole_of h.state ≡ false
-      → is_dot h.state ≡ false → ObjectEnds text stop a (object.Broken h.at)
+      → is_dot h.state ≡ false → ObjectEnds text stop a (Err h.at)
   object-broken k o l w d = fails 0 k o l w (dotless 0 h.state d)

@@ -1,9 +1,12 @@
 -- Runs of one class of bytes, and reading on, one byte at a time. Assumes nothing.
 use Prim.Native.Nat.{ℕ, ◌+◌, ◌≤◌, ◌<◌}
-use mathlib.Core.Path.{◌≡◌, refl, sym, ◌∙◌}
+use mathlib.Core.Path.{◌≡◌, sym, ap, ◌∙◌}
 use mathlib.Core.List.{List, [], ◌∷◌}
-use mathlib.Core.Bool.{Bool, true, false}
-use lib.ListN.{length, get_or, take, drop_of_length-le, length-take}
+use mathlib.Core.Bool.{Bool, true, false, cond}
+use lib.ListN.{length, get_or, take, drop, drop_of_length-le, length-take, length-drop}
+use Rattle.std.specs.List.{prefix_len}
+use Rattle.std.proofs.lemmas.List.{get_or-drop, get_or-take}
+use Rattle.std.proofs.lemmas.List.Sums.{prefix_len-le-length, prefix_len_stops}
 use lib.Seq.{slice, slice-cons}
 use native.Mathlib.Omega.{arith}
 use native.Mathlib.Numerals.{add-one}
@@ -35,44 +38,33 @@ pub run_end_lem : (f : ℕ → Bool) (text : List ℕ) (i stop : ℕ) → stop �
 unfolding run_end
 run_end_lem f text i stop h = rw (slice-none text i stop h)
 
--- a loop over a run stands at i: the end of the run from the beginning is that from here
-pub record Running (f : ℕ → Bool) (text : List ℕ) (from stop i : ℕ) : Type 0 where
-  pub after : from ≤ i
-  pub before : i ≤ stop
-  pub in_text : stop ≤ length text
-  pub end : run_end f from (slice from stop text) ≡ run_end f i (slice i stop text)
+run-first : (f : ℕ → Bool) (i b : ℕ) (s : List ℕ) (t : Bool) → run_end f (i + 1) s ≡ i + 1 + prefix_len f s
+    → elim t [ true ↦ run_end f (i + 1) s | false ↦ i ] ≡ i + cond t (1 + prefix_len f s) 0
+run-first f i b s true e = omega (arith, e)
+run-first f i b s false e = omega arith
 
-pub running : (f : ℕ → Bool) {text : List ℕ} {from stop : ℕ} → Inline text from stop → Running f text from stop from
-running f l = record { after = omega arith; before = l.before; in_text = l.in_text; end = refl }
+-- where the run ends, by how many bytes of the class stand first
+pub run-prefix : (f : ℕ → Bool) (i : ℕ) (s : List ℕ) → run_end f i s ≡ i + prefix_len f s
+unfolding run_end
+run-prefix f i [] = omega arith
+run-prefix f i (b ∷ s) = run-first f i b s (f b) (run-prefix f (i + 1) s)
 
-module _ {f : ℕ → Bool} {text : List ℕ} {from stop i : ℕ} (v : Running f text from stop i) where
-  pub running-on : i < stop → f (get_or text i 0) ≡ true → Running f text from stop (i + 1)
-  running-on h e =
-      let a = v.after in
-      record {
-        after = omega arith;
-        before = omega arith;
-        in_text = v.in_text;
-        end = v.end ∙ run-turn f text i stop h v.in_text e;
-      }
-
-  pub running-out : i < stop → f (get_or text i 0) ≡ false → RunEnd f text from stop i
-  running-out h e =
-      record {
-        end = sym (v.end ∙ run_out f text i stop h v.in_text e);
-        after = v.after;
-        before = v.before;
-        out = λ _. e;
-      }
-
-  pub running-end : stop ≤ i → RunEnd f text from stop i
-  running-end h =
-      record {
-        end = sym (v.end ∙ run_end_lem f text i stop h);
-        after = v.after;
-        before = v.before;
-        out = λ k. absurd (omega arith);
-      }
+pub run-is : (f : ℕ → Bool) {text : List ℕ} {i stop r : ℕ} → Inline text i stop
+    → r ≡ i + prefix_len f (drop i (take stop text)) → RunEnd f text i stop r
+run-is f {text} {i} {stop} l e =
+    let line = take stop text in
+    let n = length-take stop text in
+    let m = length-drop i line in
+    let b = l.before in
+    let t = l.in_text in
+    let k = prefix_len-le-length f (drop i line) in
+    record {
+      end = e ∙ sym (run-prefix f i (drop i line));
+      after = omega arith;
+      before = omega arith;
+      out = λ h. rw e (sym (ap f (get_or-drop i line (prefix_len f (drop i line)) 0 ∙ get_or-take stop text (i + prefix_len f (drop i line)) 0 (omega arith)))
+          ∙ prefix_len_stops f (drop i line) 0 (omega arith));
+    }
 
 -- reading on by one byte, and at the line's end
 pub onward-next : (text : List ℕ) (stop i : ℕ) (p : State) → i < stop → stop ≤ length text

@@ -7,16 +7,14 @@ use mathlib.Core.Bool.{Bool, true, false}
 use mathlib.Core.Logic.{◌⊎◌, inl, inr}
 use lib.Dec.{eqb}
 use lib.ListN.{length, get_or, take, drop, take-append-drop}
-use lib.Seq.{slice, slice_empty, length-slice, length-take-le, take_all, take-suc, take-take, drop-cons, drop-append-le}
+use lib.Seq.{slice, slice_empty, length-slice, length-take-le, take_all, take-suc, drop-cons, drop-append-le}
 use native.Mathlib.Omega.{arith}
 use native.Mathlib.Numerals.{add-one}
 use borrow.Author.Tests.{eqb-true, eqb-false, eq-eqb, ne_eqb}
 use Rattle.term.proofs.Booleans.{decide}
 use Rattle.ntriples.specs.declared.Span.{Span}
-use Rattle.ntriples.specs.declared.TermEnd.{TermEnd}
-use Rattle.ntriples.specs.declared.TermEnd.TheVariants as term
+use Rattle.std.specs.Prelude.{Result, Err}
 use Rattle.ntriples.specs.declared.ObjectEnd.{ObjectEnd}
-use Rattle.ntriples.specs.declared.ObjectEnd.TheVariants as object
 use Rattle.ntriples.specs.Grammar.{white, comment_byte}
 use Rattle.ntriples.specs.Reader.{Outcome, Empty, Terms, Fails, State, Begin, Gap, After, CommentAfterDot}
 use Rattle.ntriples.specs.Reader.{CommentLine, Broken, opens, after_of, enter_of, gap_of, advance_of, end_of, line_of}
@@ -24,6 +22,7 @@ use Rattle.ntriples.specs.Grammar.{Unbroken, FirstLine}
 use Rattle.ntriples.specs.Reader.{answer_of, read_spelled}
 use Rattle.ntriples.specs.Productions.{Inline, OnLine, TermAt, NotWhite, RunEnd, run_end, onward, TermEnds}
 use Rattle.ntriples.specs.Productions.{ObjectEnds, cr_dropped, EolAt}
+use Rattle.std.proofs.lemmas.List.{take_rest, get_or-drop, length-drop}
 use Rattle.ntriples.proofs.Forth.{opens-any, gap-space}
 use Rattle.ntriples.proofs.Halts.{strictly, step-to, at-end, onward-broken}
 use Rattle.ntriples.proofs.Runs.{run-turn, run_out, run_end_lem}
@@ -189,14 +188,14 @@ line-next {i = i} {stop = stop} p n =
     record { begun = omega arith; before = omega arith; in_text = p.in_text }
 
 -- a place where a term is due, and none begins
-pub term-none : (text : List ℕ) (stop a n : ℕ) → a ≡ stop → TermEnds text stop n a (term.Broken a)
+pub term-none : (text : List ℕ) (stop a n : ℕ) → a ≡ stop → TermEnds text stop n a (Err a)
 unfolding end_of
 term-none text stop a n h =
     (omega arith, λ ms. at-end text stop a (Gap ms (suc n)) (Fails a) (omega arith) (ap Fails (sym h)))
 
 pub term-closed : (text : List ℕ) (stop a n : ℕ) → NotWhite text a stop → (a ≡ stop → ⊥)
     → opens n (get_or text a 0) ≡ false
-    → TermEnds text stop n a (term.Broken a)
+    → TermEnds text stop n a (Err a)
 unfolding advance_of gap_of enter_of
 term-closed text stop a n d h o =
     let k = strictly a stop d.before h in
@@ -208,20 +207,20 @@ pub term-opened : (text : List ℕ) (stop a n : ℕ) → NotWhite text a stop �
 term-opened text stop a n d h o =
     record { before = strictly a stop d.before h; in_text = d.in_text; opening = opens-any n (get_or text a 0) o }
 
-pub object-none : (text : List ℕ) (stop a : ℕ) → a ≡ stop → ObjectEnds text stop a (object.Broken a)
+pub object-none : (text : List ℕ) (stop a : ℕ) → a ≡ stop → ObjectEnds text stop a (Err a)
 object-none text stop a h = term-none text stop a 0 h
 
 pub object-closed : (text : List ℕ) (stop a : ℕ) → NotWhite text a stop → (a ≡ stop → ⊥)
     → opens 0 (get_or text a 0) ≡ false
-    → ObjectEnds text stop a (object.Broken a)
+    → ObjectEnds text stop a (Err a)
 object-closed text stop a d h o = term-closed text stop a 0 d h o
 
 -- how a term ends, by the answer of its function
-pub term_told : (text : List ℕ) (stop n a : ℕ) (r r' : TermEnd) → r ≡ r' → TermEnds text stop n a r
+pub term_told : (text : List ℕ) (stop n a : ℕ) (r r' : Result ℕ ℕ) → r ≡ r' → TermEnds text stop n a r
     → TermEnds text stop n a r'
 term_told text stop n a r r' e h = rw e at h
 
-pub object-told : (text : List ℕ) (stop a : ℕ) (r r' : ObjectEnd) → r ≡ r' → ObjectEnds text stop a r
+pub object-told : (text : List ℕ) (stop a : ℕ) (r r' : Result ObjectEnd ℕ) → r ≡ r' → ObjectEnds text stop a r
     → ObjectEnds text stop a r'
 object-told text stop a r r' e h = rw e at h
 
@@ -266,11 +265,11 @@ pub eol-turn : (text : List ℕ) (at i : ℕ) → at ≤ i → i < length text �
     → Unbroken (slice at (i + 1) text)
 eol-turn text at i h k n u = rw (slice_snoc text at i h k) (unbroken-snoc _ _ u (ne_eqb (get_or text i 0) 10 n))
 
--- the same over a block of bytes
-pub block-begin : (text : List ℕ) (i : ℕ) → Unbroken (slice i (i + 0) text)
+-- the same over some bytes from there on
+block-begin : (text : List ℕ) (i : ℕ) → Unbroken (slice i (i + 0) text)
 block-begin text i = let e : i + 0 ≡ i = omega arith in rw e (eol-begin text i)
 
-pub block-turn : (text : List ℕ) (i j : ℕ) → i + j < length text → (get_or text (i + j) 0 ≡ 10 → ⊥)
+block-turn : (text : List ℕ) (i j : ℕ) → i + j < length text → (get_or text (i + j) 0 ≡ 10 → ⊥)
     → Unbroken (slice i (i + j) text)
     → Unbroken (slice i (i + (j + 1)) text)
 block-turn text i j h n u =
@@ -280,20 +279,51 @@ pub unbroken-append : (l k : List ℕ) → Unbroken l → Unbroken k → Unbroke
 unbroken-append l k Unbroken.none v = v
 unbroken-append l k (Unbroken.byte {s = s} h u) v = Unbroken.byte h (unbroken-append s k u v)
 
-slice-join : (text : List ℕ) (i j k : ℕ) → i ≤ j → j ≤ k → k ≤ length text
-    → slice i k text ≡ slice i j text ++ slice j k text
-slice-join text i j k h l t =
-    let n = length-take-le j text (omega arith) in
-    let m : i ≤ length (take j text) = omega arith in
-    let e : take k text ≡ take j text ++ slice j k text =
-    sym (take-append-drop j (take k text)) ∙ ap (λ (z : List ℕ). z ++ slice j k text) (take-take j k text l)
-    in
-    ap (drop i) e ∙ drop-append-le i (take j text) (slice j k text) m
+pub eol-upto : (text : List ℕ) (at n : ℕ) → at + n ≤ length text → ((k : ℕ) → k < n → get_or text (at + k) 0 ≡ 10 → ⊥)
+    → Unbroken (slice at (at + n) text)
+eol-upto text at zero h f = block-begin text at
+eol-upto text at (suc n) h f =
+    let e : at + suc n ≡ at + (n + 1) = omega arith in
+    rw e (block-turn text at n (omega arith) (f n (omega arith)) (eol-upto text at n (omega arith) (λ k l. f k (omega arith))))
 
-pub eol-join : (text : List ℕ) (i j k : ℕ) → i ≤ j → j ≤ k → k ≤ length text → Unbroken (slice i j text)
-    → Unbroken (slice j k text)
-    → Unbroken (slice i k text)
-eol-join text i j k h l t u v = rw (slice-join text i j k h l t) (unbroken-append _ _ u v)
+-- what is read at a place of the text from `at` on
+rest-at : (text : List ℕ) (at k : ℕ) → get_or (take (length text - at) (drop at text)) k 0 ≡ get_or text (at + k) 0
+rest-at text at k = rw (take_rest text at) (get_or-drop at text k 0)
+
+rest-long : (text : List ℕ) (at : ℕ) → length (take (length text - at) (drop at text)) ≡ length text - at
+rest-long text at = rw (take_rest text at) (length-drop at text)
+
+-- no LF up to the place n of the text from `at` on
+rest-unbroken : (text : List ℕ) (at n : ℕ) → at + n ≤ length text
+    → ((k : ℕ) → k < n → eqb (get_or (take (length text - at) (drop at text)) k 0) 10 ≡ true → ⊥) → Unbroken (slice at (at + n) text)
+rest-unbroken text at n h f =
+    eol-upto text at n h (λ k l e. f k l (eq-eqb _ 10 (rest-at text at k ∙ e)))
+
+-- the first LF, and none
+pub eol-found : (text : List ℕ) (at i : ℕ) → at ≤ length text → i < length (take (length text - at) (drop at text))
+    → ((k : ℕ) → k < i → eqb (get_or (take (length text - at) (drop at text)) k 0) 10 ≡ true → ⊥)
+    → eqb (get_or (take (length text - at) (drop at text)) i 0) 10 ≡ true → EolAt text at (at + i)
+eol-found text at i h l f e =
+    let n = rest-long text at in
+    record {
+      after = omega arith;
+      before = omega arith;
+      unbroken = rest-unbroken text at i (omega arith) f;
+      lf = λ _. sym (rest-at text at i) ∙ eqb-true _ 10 e;
+    }
+
+pub eol-none : (text : List ℕ) (at : ℕ) → at ≤ length text
+    → ((k : ℕ) → k < length (take (length text - at) (drop at text)) → eqb (get_or (take (length text - at) (drop at text)) k 0) 10 ≡ true → ⊥)
+    → EolAt text at (length text)
+eol-none text at h f =
+    let n = rest-long text at in
+    let e : at + (length text - at) ≡ length text = omega arith in
+    record {
+      after = h;
+      before = omega arith;
+      unbroken = rw e at (rest-unbroken text at (length text - at) (omega arith) (λ k l. f k (omega arith)));
+      lf = λ k. absurd (omega arith);
+    }
 
 -- the line ends at the end of the text
 pub read-last : (text : List ℕ) (i e : ℕ) → i < length text → EolAt text i e → e ≡ length text

@@ -5,8 +5,7 @@ use Rattle.std.specs.Prelude.{ℕ, suc, ◌+◌, ◌-◌, ◌≤◌, ◌<◌, �
 use Rattle.std.proofs.Math.Seq.{slice}
 use Rattle.term.specs.Grammar.{name_limit}
 use Rattle.ntriples.specs.declared.Span.{Span}
-use Rattle.ntriples.specs.declared.TermEnd.{TermEnd}
-use Rattle.ntriples.specs.declared.TermEnd.TheVariants as term
+use Rattle.std.specs.Prelude.{Result, Ok, Err}
 use Rattle.ntriples.specs.declared.ObjectEnd.{ObjectEnd}
 use Rattle.ntriples.specs.declared.ObjectEnd.TheVariants as object
 use Rattle.ntriples.specs.Grammar.{span, white}
@@ -61,25 +60,25 @@ onward text stop i p = end_of stop (state_of name_limit i p (slice i stop text))
 
 -- The subject or the predicate that begins at a, after which n more terms follow, ends before e: the reading is between
 -- terms there. Or no line goes on at k.
-abbrev pub TermEnds : List ℕ → ℕ → ℕ → ℕ → TermEnd → Type 0
-TermEnds text stop n a (term.Whole e) =
+abbrev pub TermEnds : List ℕ → ℕ → ℕ → ℕ → Result ℕ ℕ → Type 0
+TermEnds text stop n a (Ok e) =
     (a ≤ e) × (e ≤ stop)
     × ((ms : List Span) → onward text stop a (Gap ms (suc n)) ≡ onward text stop e (Gap (ms ++ (span a e ∷ [])) n))
-TermEnds text stop n a (term.Broken k) = (a ≤ k) × ((ms : List Span) → onward text stop a (Gap ms (suc n)) ≡ Fails k)
+TermEnds text stop n a (Err k) = (a ≤ k) × ((ms : List Span) → onward text stop a (Gap ms (suc n)) ≡ Fails k)
 
 -- The same of every place before the object that permits the term's first byte.
-abbrev pub EarlierEnds : List ℕ → ℕ → ℕ → TermEnd → Type 0
+abbrev pub EarlierEnds : List ℕ → ℕ → ℕ → Result ℕ ℕ → Type 0
 EarlierEnds text stop a r = (n : ℕ) → 1 ≤ n → opens n (get_or text a 0) ≡ true → TermEnds text stop n a r
 
 -- The same for the object; `Dotted e`: it is a blank node that ends before e, where the line's dot stands.
-abbrev pub ObjectEnds : List ℕ → ℕ → ℕ → ObjectEnd → Type 0
-ObjectEnds text stop a (object.Whole e) =
+abbrev pub ObjectEnds : List ℕ → ℕ → ℕ → Result ObjectEnd ℕ → Type 0
+ObjectEnds text stop a (Ok (object.Whole e)) =
     (a ≤ e) × (e ≤ stop)
     × ((ms : List Span) → onward text stop a (Gap ms 1) ≡ onward text stop e (Gap (ms ++ (span a e ∷ [])) 0))
-ObjectEnds text stop a (object.Dotted e) =
+ObjectEnds text stop a (Ok (object.Dotted e)) =
     (a ≤ e) × (e < stop)
     × ((ms : List Span) → onward text stop a (Gap ms 1) ≡ onward text stop (e + 1) (After (ms ++ (span a e ∷ []))))
-ObjectEnds text stop a (object.Broken k) = (a ≤ k) × ((ms : List Span) → onward text stop a (Gap ms 1) ≡ Fails k)
+ObjectEnds text stop a (Err k) = (a ≤ k) × ((ms : List Span) → onward text stop a (Gap ms 1) ≡ Fails k)
 
 -- how far the scan of the term that begins at a goes: to the line's end, and over 256 bytes at most
 unfoldable pub cut_of : ℕ → ℕ → ℕ
@@ -88,21 +87,6 @@ cut_of a stop = cond (ltb (a + 256) stop) (a + 256) stop
 -- where the line that begins at i ends, if its LF stands at e: one CR before the LF is dropped
 unfoldable pub cr_dropped : List ℕ → ℕ → ℕ → ℕ
 cr_dropped text i e = cond (eqb e i) e (cond (eqb (get_or text (e - 1) 0) 13) (e - 1) e)
-
--- r is false only if b is no LF, and none was seen before
-pub record Seen (b : ℕ) (before r : Bool) : Type 0 where
-  pub other : r ≡ false → (b ≡ 10 → ⊥)
-  pub none : r ≡ false → before ≡ false
-
--- no LF stands from i up to j, if none was seen
-pub record BlockSeen (text : List ℕ) (i j : ℕ) (r : Bool) : Type 0 where
-  pub none : r ≡ false → Unbroken (slice i j text)
-
--- no LF stands from i up to r
-pub record Passed (text : List ℕ) (i r : ℕ) : Type 0 where
-  pub after : i ≤ r
-  pub before : r ≤ length text
-  pub unbroken : Unbroken (slice i r text)
 
 -- no LF stands from i up to r, and a LF or the end of the text at r
 pub record EolAt (text : List ℕ) (i r : ℕ) : Type 0 where

@@ -3,7 +3,9 @@
 // A function for each production of the line's grammar has the production's name: white space, comment, subject,
 // predicate, object, triple. Each takes the text, the position where the production begins and the position `stop`
 // where the line ends, and gives the position where the production ends, or the position of the first byte that
-// continues no line. A run of bytes of one class is one loop, so reading is linear in the line's length.
+// continues no line. A run of bytes of one class is one call of `run_end`, so reading is linear in the line's length.
+// Text, position and stop are parameters, and what holds of them is asked, since all but the text change from production
+// to production.
 //
 // The only refusal is 10, with its offset in the line.
 #![tactic(auto)]
@@ -14,9 +16,11 @@ ghost use Rattle.ntriples.specs.Grammar.{white, comment_byte};
 ghost use Rattle.ntriples.specs.Reader.{is_dot, opens, Begin, Gap, After, CommentLine, answer_of, read_spelled};
 ghost use Rattle.ntriples.specs.Reader.{read_of};
 ghost use Rattle.ntriples.specs.Productions.{Inline, OnLine, TermAt, NotWhite, Reached, RunEnd, onward, TermEnds};
-ghost use Rattle.ntriples.specs.Productions.{EarlierEnds, ObjectEnds, cut_of, cr_dropped, Seen, BlockSeen, Passed};
+ghost use Rattle.ntriples.specs.Productions.{EarlierEnds, ObjectEnds, cut_of, cr_dropped};
 ghost use Rattle.ntriples.specs.Productions.{EolAt};
 
+use memchr::memchr;
+use term::class::run_end;
 use term::production::Scan;
 
 // A part of the text: the position of its first byte, and the position after its last.
@@ -29,6 +33,8 @@ pub struct Span {
 // What reading a line answers. End: the position is at or past the text's end. Nothing: a blank line or a comment line.
 // Triple: the parts of the subject, the predicate and the object, without the string ending. Refused: refusal 10, with
 // its offset in the line.
+// Refused is an answer among the others, and no Err: a reader goes on past the line, to `next`, and within the crate each
+// hand-up changes the offset from the text's to the line's.
 #[derive(Clone, Copy)]
 pub enum Line {
     End,
@@ -44,19 +50,11 @@ pub struct LineRead {
     pub next: usize,
 }
 
-// Where a subject or a predicate ends, or the position of the byte that continues no line.
-#[derive(Clone, Copy)]
-pub enum TermEnd {
-    Whole(usize),
-    Broken(usize),
-}
-
 // Where an object ends. Dotted: it is a blank node, and the byte after it is the line's dot.
 #[derive(Clone, Copy)]
 pub enum ObjectEnd {
     Whole(usize),
     Dotted(usize),
-    Broken(usize),
 }
 
 // A space or a tab.
@@ -64,10 +62,7 @@ pub enum ObjectEnd {
 pub fn is_white(b: u8) -> bool
     ensures { result ≡ white b }
 {
-    match b {
-        b' ' | b'\t' => true,
-        _ => false,
-    }
+    matches!(b, b' ' | b'\t')
 }
 
 // A byte of a comment: a tab or 32..126.
@@ -75,11 +70,7 @@ pub fn is_white(b: u8) -> bool
 fn is_comment_byte(b: u8) -> bool
     ensures { result ≡ comment_byte b }
 {
-    match b {
-        b'\t' => true,
-        32..=126 => true,
-        _ => false,
-    }
+    matches!(b, b'\t' | 32..=126)
 }
 
 // The end of the spaces and tabs from `from` on.
@@ -87,15 +78,7 @@ fn white_space(text: &[u8], from: usize, stop: usize) -> usize
     requires { Inline text.now from stop }
     ensures { RunEnd white text.now from stop result }
 {
-    // From `from` up to `i` there are spaces and tabs.
-    let mut i = from;
-    while i < stop {
-        if !is_white(text[i]) {
-            return i;
-        }
-        i += 1;
-    }
-    i
+    run_end(&text[..stop], from, is_white)
 }
 
 // The end of the bytes of a comment from `from` on.
@@ -103,15 +86,7 @@ fn comment(text: &[u8], from: usize, stop: usize) -> usize
     requires { Inline text.now from stop }
     ensures { RunEnd comment_byte text.now from stop result }
 {
-    // From `from` up to `i` there are bytes of a comment.
-    let mut i = from;
-    while i < stop {
-        if !is_comment_byte(text[i]) {
-            return i;
-        }
-        i += 1;
-    }
-    i
+    run_end(&text[..stop], from, is_comment_byte)
 }
 
 // A lone dot after a label's byte, which may be the line's.
@@ -119,10 +94,7 @@ fn comment(text: &[u8], from: usize, stop: usize) -> usize
 fn is_dot(q: Scan) -> bool
     ensures { result ≡ is_dot q }
 {
-    match q {
-        Scan::Dot => true,
-        _ => false,
-    }
+    matches!(q, Scan::Dot)
 }
 
 // How far the scan of a term that begins at `a` goes: to the line's end, and to byte 256 of the term, the first that is
@@ -137,8 +109,8 @@ fn cut(a: usize, stop: usize) -> usize
     a + term::NAME_LIMIT + 1
 }
 
-// The end of the subject or the predicate that begins at `a`.
-fn term_end(text: &[u8], a: usize, stop: usize) -> TermEnd
+// The end of the subject or the predicate that begins at `a`. Err, here and below: the position of the byte that continues no line.
+fn term_end(text: &[u8], a: usize, stop: usize) -> Result<usize, usize>
     requires { TermAt text.now a stop }
     ensures { EarlierEnds text.now stop a result }
 {
@@ -146,17 +118,17 @@ fn term_end(text: &[u8], a: usize, stop: usize) -> TermEnd
     let q = h.state;
     let i = h.at;
     if i - a > term::NAME_LIMIT {
-        return TermEnd::Broken(a + term::NAME_LIMIT);
+        return Err(a + term::NAME_LIMIT);
     }
     if term::whole(q) {
-        return TermEnd::Whole(i);
+        return Ok(i);
     }
-    TermEnd::Broken(i)
+    Err(i)
 }
 
 // The end of the object that begins at `a`. A lone dot after a blank node's label is the line's if no byte of a label
 // follows it, or if it is byte 256.
-fn object_end(text: &[u8], a: usize, stop: usize) -> ObjectEnd
+fn object_end(text: &[u8], a: usize, stop: usize) -> Result<ObjectEnd, usize>
     requires { TermAt text.now a stop }
     ensures { ObjectEnds text.now stop a result }
 {
@@ -164,18 +136,19 @@ fn object_end(text: &[u8], a: usize, stop: usize) -> ObjectEnd
     let q = h.state;
     let i = h.at;
     if i - a > term::NAME_LIMIT {
+        let over = a + term::NAME_LIMIT;
         if is_dot(q) {
-            return ObjectEnd::Dotted(a + term::NAME_LIMIT);
+            return Ok(ObjectEnd::Dotted(over));
         }
-        return ObjectEnd::Broken(a + term::NAME_LIMIT);
+        return Err(over);
     }
     if term::whole(q) {
-        return ObjectEnd::Whole(i);
+        return Ok(ObjectEnd::Whole(i));
     }
     if is_dot(q) {
-        return ObjectEnd::Dotted(i - 1);
+        return Ok(ObjectEnd::Dotted(i - 1));
     }
-    ObjectEnd::Broken(i)
+    Err(i)
 }
 
 // Whether a term that `more` terms follow may begin with `b`: with `<`, an IRI; with `_`, a blank node, which is no
@@ -192,43 +165,43 @@ fn opens_term(more: u32, b: u8) -> bool
 }
 
 // The subject or the predicate that begins at `a`; `more` terms follow it.
-fn earlier_term(text: &[u8], a: usize, stop: usize, more: u32) -> TermEnd
+fn earlier_term(text: &[u8], a: usize, stop: usize, more: u32) -> Result<usize, usize>
     requires not_white { NotWhite text.now a stop }
     requires le_more { 1 ≤ more }
     ensures { TermEnds text.now stop more a result }
 {
     if a == stop {
-        return TermEnd::Broken(a);
+        return Err(a);
     }
     if !opens_term(more, text[a]) {
-        return TermEnd::Broken(a);
+        return Err(a);
     }
     term_end(text, a, stop)
 }
 
-fn subject(text: &[u8], a: usize, stop: usize) -> TermEnd
+fn subject(text: &[u8], a: usize, stop: usize) -> Result<usize, usize>
     requires { NotWhite text.now a stop }
     ensures { TermEnds text.now stop 2 a result }
 {
     earlier_term(text, a, stop, 2)
 }
 
-fn predicate(text: &[u8], a: usize, stop: usize) -> TermEnd
+fn predicate(text: &[u8], a: usize, stop: usize) -> Result<usize, usize>
     requires { NotWhite text.now a stop }
     ensures { TermEnds text.now stop 1 a result }
 {
     earlier_term(text, a, stop, 1)
 }
 
-fn object(text: &[u8], a: usize, stop: usize) -> ObjectEnd
+fn object(text: &[u8], a: usize, stop: usize) -> Result<ObjectEnd, usize>
     requires { NotWhite text.now a stop }
     ensures { ObjectEnds text.now stop a result }
 {
     if a == stop {
-        return ObjectEnd::Broken(a);
+        return Err(a);
     }
     if !opens_term(0, text[a]) {
-        return ObjectEnd::Broken(a);
+        return Err(a);
     }
     object_end(text, a, stop)
 }
@@ -274,15 +247,15 @@ fn after_predicate(text: &[u8], at: usize, from: usize, stop: usize, s: Span, p:
 {
     let a = white_space(text, from, stop);
     match object(text, a, stop) {
-        ObjectEnd::Whole(e) => {
+        Ok(ObjectEnd::Whole(e)) => {
             let o = Span { start: a, end: e };
             after_object(text, at, e, stop, s, p, o)
         }
-        ObjectEnd::Dotted(e) => {
+        Ok(ObjectEnd::Dotted(e)) => {
             let o = Span { start: a, end: e };
             after_dot(text, at, e + 1, stop, s, p, o)
         }
-        ObjectEnd::Broken(k) => Line::Refused(k - at),
+        Err(k) => Line::Refused(k - at),
     }
 }
 
@@ -293,11 +266,11 @@ fn after_subject(text: &[u8], at: usize, from: usize, stop: usize, s: Span) -> L
 {
     let a = white_space(text, from, stop);
     match predicate(text, a, stop) {
-        TermEnd::Whole(e) => {
+        Ok(e) => {
             let p = Span { start: a, end: e };
             after_predicate(text, at, e, stop, s, p)
         }
-        TermEnd::Broken(k) => Line::Refused(k - at),
+        Err(k) => Line::Refused(k - at),
     }
 }
 
@@ -307,14 +280,14 @@ fn triple(text: &[u8], at: usize, from: usize, stop: usize) -> Line
     ensures { result ≡ answer_of at (onward text.now stop from (Gap [] 3)) }
 {
     match subject(text, from, stop) {
-        TermEnd::Whole(e) => {
+        Ok(e) => {
             let s = Span {
                 start: from,
                 end: e,
             };
             after_subject(text, at, e, stop, s)
         }
-        TermEnd::Broken(k) => Line::Refused(k - at),
+        Err(k) => Line::Refused(k - at),
     }
 }
 
@@ -345,61 +318,15 @@ fn whole_line(text: &[u8], at: usize, stop: usize) -> Line
     triple(text, at, a, stop)
 }
 
-// Whether a LF was seen: this byte, or one before it.
-fn seen(b: u8, before: bool) -> bool
-    ensures { Seen b before result }
-{
-    if b == b'\n' {
-        return true;
-    }
-    before
-}
-
-// Whether one of the 16 bytes from `from` on is a LF. All are looked at, so that a machine may test them at once.
-fn block_seen(text: &[u8], from: usize) -> bool
-    requires { from + 16 ≤ length text.now }
-    ensures { BlockSeen text.now from (from + 16) result }
-{
-    // `found` is false only if the first `j` bytes have no LF.
-    let mut found = false;
-    let mut j = 0;
-    while j < 16 {
-        found = seen(text[from + j], found);
-        j += 1;
-    }
-    found
-}
-
-// A position from `at` on with no LF before it: whole blocks of 16 bytes are passed over.
-fn skip_blocks(text: &[u8], at: usize) -> usize
-    requires { at ≤ length text.now }
-    ensures { Passed text.now at result }
-{
-    // No LF stands from `at` up to `i`.
-    let mut i = at;
-    while text.len() - i >= 16 {
-        if block_seen(text, i) {
-            return i;
-        }
-        i += 16;
-    }
-    i
-}
-
 // The position of the first LF from `at` on, or the text's end.
 fn end_of_line(text: &[u8], at: usize) -> usize
     requires { at ≤ length text.now }
     ensures { EolAt text.now at result }
 {
-    // No LF stands from `at` up to `i`.
-    let mut i = skip_blocks(text, at);
-    while i < text.len() {
-        if text[i] == b'\n' {
-            return i;
-        }
-        i += 1;
+    match memchr(b'\n', &text[at..]) {
+        Some(i) => at + i,
+        None => text.len(),
     }
-    i
 }
 
 // Where the line ends whose LF stands at `lf`: one CR before the LF is dropped.

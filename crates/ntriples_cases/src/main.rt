@@ -51,6 +51,7 @@ fn print_span(rt: &impl Outputs, p: ntriples::Span) {
     print_number(rt, p.end);
 }
 
+// Each program of cases writes its own form of an answer: a crate for it would be longer.
 fn print_answer(rt: &impl Outputs, line: ntriples::Line) {
     match line {
         ntriples::Line::End => {
@@ -89,7 +90,7 @@ fn past(table: &[u8], i: usize) -> usize
     i
 }
 
-// The digit that `b` is; a to f are 10 to 15, any other byte is 16.
+// The digit that `b` is; a to f are 10 to 15, any other byte is 16. No Option: in a byte's second place the 16 counts on.
 fn digit(b: u8) -> usize
     ensures { result ≤ 16 }
 {
@@ -105,21 +106,17 @@ fn decimal(table: &[u8], from: usize) -> Number
     requires { from ≤ length table.now }
     ensures { (result.value ≤ 9999) × (from ≤ result.next) × (result.next ≤ length table.now) }
 {
-    // `v` is the number that the digits from `from` up to `i` spell.
-    let mut i = from;
-    let mut v: usize = 0;
-    while i < table.len() {
-        let d = digit(table[i]);
-        if d >= 10 {
-            return Number { value: v, next: i };
+    let mut value = 0;
+    for (i, b) in table[from..].iter().enumerate() {
+        let d = digit(*b);
+        if d >= 10 || value >= 1000 {
+            let next = from + i;
+            return Number { value, next };
         }
-        if v >= 1000 {
-            return Number { value: v, next: i };
-        }
-        v = v * 10 + d;
-        i += 1;
+        value = value * 10 + d;
     }
-    Number { value: v, next: i }
+    let next = table.len();
+    Number { value, next }
 }
 
 // The byte that two hexadecimal digits from `from` on spell.
@@ -206,18 +203,9 @@ fn fill(text: &mut [u8], from: usize, count: usize, b: u8) -> usize
     requires { from ≤ length text.old }
     ensures { (result ≤ length text.new) × (length text.new ≡ length text.old) }
 {
-    // `b` stands from `from` up to `i`, and is still to be laid out `left` times.
-    let mut i = from;
-    let mut left = count;
-    while left > 0 {
-        if i >= text.len() {
-            return i;
-        }
-        text[i] = b;
-        i += 1;
-        left -= 1;
-    }
-    i
+    let end = from.saturating_add(count).min(text.len());
+    text[from..end].fill(b);
+    end
 }
 
 // Lays out the text that stands from `from` on up to the LF.
@@ -226,7 +214,8 @@ fn lay(table: &[u8], from: usize, text: &mut [u8]) -> Laid
     ensures from_le_next { (from ≤ result.next) × (result.next ≤ length table.now) × (result.len ≤ length text.new) }
     ensures text_len_unchanged { length text.new ≡ length text.old }
 {
-    // The first `n` bytes of the text are what stands in the table from `from` up to `i`.
+    // The first `n` bytes of the text are what stands in the table from `from` up to `i`. A while: a piece takes as many bytes of the
+    // table as its escape has, so no iterator over them is plainer.
     let mut i = from;
     let mut n = 0;
     while i < table.len() {
@@ -273,15 +262,12 @@ fn main(rt: HostRuntime) {
     let mut table = [0; ROOM];
     let mut text = [0; LINE_ROOM];
     let got = streams::read_full(&mut rt.stdin(), &mut table);
-    // The cases before `i` are run, and `n` is the next one's number.
+    // The cases before `i` are run. Each takes a byte or more, so there are no more cases than bytes.
     let mut i = 0;
-    let mut n = 1;
-    while i < got {
-        let next = case(&rt, n, &table[0..got], i, &mut text);
-        if next <= i {
+    for n in 1..got + 1 {
+        if i >= got {
             return;
         }
-        i = next;
-        n += 1;
+        i = case(&rt, n, &table[..got], i, &mut text);
     }
 }

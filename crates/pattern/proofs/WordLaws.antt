@@ -1,12 +1,11 @@
 -- Laws of a query's words: one word, all of them, how many patterns they are. Assumes nothing.
-use mathlib.Core.Path.{◌≡◌, refl}
+use mathlib.Core.Path.{◌≡◌, refl, ap}
+use Rattle.std.specs.List.{list_all}
 use mathlib.Core.Bool.{Bool, true, false, ◌&&◌, and-false}
 use mathlib.Core.List.{List, [], ◌∷◌}
-use Prim.Native.Nat.{ℕ, zero, suc, ◌+◌, ◌*◌, ◌%◌, ◌≤◌, ◌<◌}
+use Prim.Native.Nat.{ℕ, ◌+◌, ◌*◌, ◌%◌, ◌≤◌, ◌<◌}
 use native.Mathlib.Omega.{arith}
-use native.Mathlib.Numerals.{add-one}
-use lib.ListN.{length, get_or, drop}
-use lib.Seq.{drop-cons}
+use lib.ListN.{length}
 use lib.Dec.{eqb, leb, ltb}
 use borrow.Author.Tests.{eqb-true, eq-eqb, ne_eqb, lt-ltb, le-leb, lt-leb}
 use Rattle.graph.specs.Words.{patterns_of, word_ok, all_ok, words_ok, first_variable, variables, max_patterns}
@@ -34,17 +33,10 @@ module _ (r w : ℕ) where
 
 -- ---- all of them
 
-pub all_none : (r : ℕ) (ws : List ℕ) (i : ℕ) → length ws ≤ i → all_ok r (drop i ws) ≡ true
+pub all-listed : (r : ℕ) (ws : List ℕ) → all_ok r ws ≡ list_all (word_ok r) ws
 unfolding all_ok
-all_none r [] zero h = refl
-all_none r [] (suc i) h = refl
-all_none r (w ∷ ws) zero h = absurd (omega arith)
-all_none r (w ∷ ws) (suc i) h = all_none r ws i (omega arith)
-
-pub all-step : (r : ℕ) (ws : List ℕ) (i : ℕ) → i < length ws → all_ok r (drop i ws) ≡ word_ok r (get_or ws i 0)
-    && all_ok r (drop (i + 1) ws)
-unfolding all_ok
-all-step r ws i h = rw (add-one, drop-cons ws i 0 h)
+all-listed r [] = refl
+all-listed r (w ∷ ws) = ap (λ (b : Bool). word_ok r w && b) (all-listed r ws)
 
 -- ---- how many patterns
 

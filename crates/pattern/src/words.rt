@@ -34,15 +34,7 @@ pub fn words_ok(r: u32, words: &[u32]) -> bool
     if n > PATTERN_WORDS * MAX_PATTERNS {
         return false;
     }
-    let mut i = 0;
-    // Each of the first i words is a number or a variable.
-    while i < n {
-        if !word_ok(r, words[i]) {
-            return false;
-        }
-        i += 1;
-    }
-    true
+    words.iter().all(|w| word_ok(r, *w))
 }
 
 // How many patterns there are.

@@ -1,12 +1,14 @@
 -- Laws of levels: a record by its number, what levels in an array bind, refusal 9 before any visit, retracted
 -- records, whether a record remains, levels written. Assumes nothing.
 use mathlib.Core.Path.{◌≡◌, refl, sym, ap, ◌∙◌}
-use mathlib.Core.Bool.{Bool, true, false, ◌&&◌, ◌||◌, and-false, or-false}
-use mathlib.Core.List.{List, [], ◌∷◌}
+use mathlib.Core.Bool.{Bool, true, false, ◌&&◌, ◌||◌, and-false, or-false, or-true}
+use mathlib.Core.List.{List, [], ◌∷◌, ◌++◌}
 use mathlib.Core.Option.{Option, none, some}
 use Prim.Native.Nat.{ℕ, zero, suc, ◌+◌, ◌-◌, ◌≤◌, ◌<◌}
 use native.Mathlib.Omega.{arith}
-use lib.ListN.{get_or, set, replicate}
+use lib.ListN.{length, take, drop, get_or, set, replicate}
+use lib.Seq.{paste, paste-zero, paste-suc}
+use Rattle.std.proofs.lemmas.List.{length-take, get_or-take, get_or_default}
 use lib.Dec.{eqb, leb, ltb}
 use borrow.Author.Tests.{leb-true, leb-false, eqb-true, eqb-false, lt-ltb, le-ltb}
 use Rattle.store.specs.declared.Triple.{Triple}
@@ -20,8 +22,9 @@ use Rattle.graph.specs.Query.{match, or_else, record_at, past, level_retracted, 
 use Rattle.graph.specs.Query.{next_pattern, binds, asked}
 use Rattle.graph.specs.Place.{level, no_level, levels_of, written}
 use Rattle.graph.specs.Words.{pattern, max_patterns, Bindings, unbound, under}
-use Rattle.pattern.specs.declared.binding.Matched.{Matched}
-use Rattle.pattern.specs.Matching.{matched_as}
+use Rattle.std.specs.Prelude.{Option as Optional}
+use Rattle.std.specs.Option.{unwrap_or}
+use Rattle.pattern.specs.Matching.{solved}
 use Rattle.pattern_level.specs.Levels.{level_intact}
 use Rattle.store.proofs.Tests.{decide, and_l, and_r}
 use Rattle.graph.proofs.Laws.{prev-minus, levels-length}
@@ -53,6 +56,14 @@ intact-at stm l h = rw (below_prev (past stm l).statement.0 l.statement.0 h, pre
 
 -- ---- the first levels of an array
 
+-- an entry of the first d
+pub first_of : {A : Type 0} (xs : List A) (d i : ℕ) (x y : A) → i < length (take d xs)
+    → (i < d) × (get_or (take d xs) i x ≡ get_or xs i y)
+first_of xs d i x y h =
+    let k : i < d = omega (arith, length-take d xs) in
+    let l : i < length xs = omega (arith, length-take d xs) in
+    (k, get_or-take d xs i x k ∙ get_or_default xs i x y l)
+
 pub next-at : (ps : List QueryPattern) (ls : List Level) (d : ℕ) → next_pattern ps (levels_of ls d)
     ≡ get_or ps d (pattern 0 0 0)
 unfolding next_pattern
@@ -81,17 +92,17 @@ module _ (r t : ℕ) (stm : List ℕ) (ps : List QueryPattern) (ls : List Level)
   asked_is d x p b e f g = e ∙ rw (f, g) (sym (asked-at d))
 
 -- what the levels bind, level by level
-pub bound-or : (b : Solution) (o : Option Bindings) → (matched_as b o).bound.values ≡ or_else o b.values
+pub bound-or : (b : Solution) (o : Option Bindings) → (unwrap_or (solved o) b).values ≡ or_else o b.values
 bound-or b none = refl
 bound-or b (some b') = refl
 
 pub bindings-step : (stm : List ℕ) (ps : List QueryPattern) (ls : List Level) (i : ℕ) (x : QueryPattern)
-    (y : Triple) (b : Solution) (m : Matched)
+    (y : Triple) (b : Solution) (m : Optional Solution)
     → x ≡ get_or ps i (pattern 0 0 0) → y ≡ triple_at stm ((get_or ls i no_level).statement.0 - 1) → b.values
     ≡ binds stm ps (levels_of ls i)
-    → m ≡ matched_as b (match x y b.values) → m.bound.values ≡ binds stm ps (levels_of ls (i + 1))
+    → m ≡ solved (match x y b.values) → (unwrap_or m b).values ≡ binds stm ps (levels_of ls (i + 1))
 bindings-step stm ps ls i x y b m e d f k =
-    ap (λ (z : Matched). z.bound.values) k ∙ bound-or b (match x y b.values)
+    ap (λ (z : Optional Solution). (unwrap_or z b).values) k ∙ bound-or b (match x y b.values)
     ∙ rw (e, d, f, ← record-at stm (get_or ls i no_level).statement.0) (sym (binds-step 0 0 stm ps ls i))
 
 -- ---- a test of the first levels, one level more at a time
@@ -171,33 +182,52 @@ module _ (stm : List ℕ) (l : Level) (up : List Level) where
   remains-gone h = remains-rest stm l up ∙ rw (le-ltb 0 l.statement.0 (omega arith))
 
 module _ (stm : List ℕ) (ls : List Level) where
-  pub rest-none : (i : ℕ) → i ≤ 0 → rest_of stm (levels_of ls i) ≡ false
+  pub rest-none : rest_of stm (levels_of ls 0) ≡ false
   unfolding rest_of levels_of
-  rest-none zero e = refl
-  rest-none (suc i) e = absurd (omega arith)
+  rest-none = refl
 
-  rest-step : (i : ℕ) → 0 < i
-      → rest_of stm (levels_of ls i) ≡ ltb 0 (past stm (get_or ls (i - 1) no_level)).statement.0
-      || rest_of stm (levels_of ls (i - 1))
+  rest-step : (i : ℕ) → rest_of stm (levels_of ls (i + 1)) ≡ ltb 0 (past stm (get_or ls i no_level)).statement.0
+      || rest_of stm (levels_of ls i)
   unfolding rest_of levels_of
-  rest-step zero h = absurd (omega arith)
-  rest-step (suc i) h = let q : suc i - 1 ≡ i = omega arith in rw (q, rest_of, levels_of)
+  rest-step i = let q : i + 1 ≡ suc i = omega arith in rw (q, rest_of, levels_of)
 
-  pub rest_some : (i : ℕ) (e : Level) → 0 < i → e ≡ past stm (get_or ls (i - 1) no_level) → (e.statement.0 ≡ 0 → ⊥)
-      → rest_of stm (levels_of ls i) ≡ true
-  rest_some i e h d n = rest-step i h ∙ rw (← d, lt-ltb 0 e.statement.0 (omega arith))
+  -- one record that remains is enough
+  pub rest_some : (i d : ℕ) (e : Level) → i < d → e ≡ past stm (get_or ls i no_level) → (e.statement.0 ≡ 0 → ⊥)
+      → rest_of stm (levels_of ls d) ≡ true
+  rest_some i zero e h k n = absurd (omega arith)
+  rest_some i (suc d) e h k n =
+      let q : suc d ≡ d + 1 = omega arith in
+      decide (eqb i d)
+      (λ f. let z : e ≡ past stm (get_or ls d no_level) = rw (eqb-true i d f) at k in
+      rw q (rest-step d ∙ rw (← z, lt-ltb 0 e.statement.0 (omega arith))))
+      (λ f. let z = eqb-false i d f in
+      rw q (rest-step d ∙ rw (rest_some i d e (omega arith) k n)
+      (or-true (ltb 0 (past stm (get_or ls d no_level)).statement.0))))
 
-  pub rest-less : (i : ℕ) (e : Level) → 0 < i → e ≡ past stm (get_or ls (i - 1) no_level) → e.statement.0 ≡ 0
-      → rest_of stm (levels_of ls i) ≡ rest_of stm (levels_of ls (i - 1))
-  rest-less i e h d n = rest-step i h ∙ rw (← d, le-ltb 0 e.statement.0 (omega arith))
+  pub rest-less : (i : ℕ) (e : Level) → e ≡ past stm (get_or ls i no_level) → e.statement.0 ≡ 0
+      → rest_of stm (levels_of ls i) ≡ false → rest_of stm (levels_of ls (i + 1)) ≡ false
+  rest-less i e d n f = rest-step i ∙ rw (← d, le-ltb 0 e.statement.0 (omega arith), f)
 
 -- ---- levels written
 
-pub written_none : (ls : List Level) → written (levels_of ls 0) ≡ replicate max_patterns no_level
-unfolding written levels_of
-written_none ls = refl
-
-pub written_step : (ls : List Level) (i : ℕ) → written (levels_of ls (i + 1))
+written_step : (ls : List Level) (i : ℕ) → written (levels_of ls (i + 1))
     ≡ set (written (levels_of ls i)) i (get_or ls i no_level)
 unfolding written levels_of
 written_step ls i = let q : i + 1 ≡ suc i = omega arith in rw (q, written, levels_of, levels-length ls i)
+
+-- the first d levels copied over zeros
+written-paste : (ls : List Level) (d : ℕ) → d ≤ max_patterns → d ≤ length ls
+    → written (levels_of ls d) ≡ paste (replicate max_patterns no_level) 0 ls d
+unfolding written levels_of
+written-paste ls zero h k = paste-zero (replicate max_patterns no_level) 0 ls
+written-paste ls (suc d) h k =
+    let q : d ≡ 0 + d = omega arith in
+    rw (levels-length ls d, written-paste ls d (omega arith) (omega arith))
+    (ap (λ (n : ℕ). set (paste (replicate max_patterns no_level) 0 ls d) n (get_or ls d no_level)) q
+    ∙ paste-suc (replicate max_patterns no_level) 0 ls d no_level (omega arith) (omega arith))
+
+pub written_copied : (ls : List Level) (d : ℕ) → d ≤ max_patterns → d ≤ length ls
+    → take d ls ++ drop d (replicate max_patterns no_level) ≡ written (levels_of ls d)
+written_copied ls d h k =
+    let q : d ≡ 0 + d = omega arith in
+    ap (λ (n : ℕ). take d ls ++ drop n (replicate max_patterns no_level)) q ∙ sym (written-paste ls d h k)

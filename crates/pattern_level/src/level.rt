@@ -1,9 +1,10 @@
 // The levels of a query's place: one for each pattern entered, its chain and a record on it (paper 01, "Next of a
 // question").
 //
-// Levels stand in an array, the first pattern first; a function is told how many of them count. What each entered
-// record must be for its words to be read is asked of the caller, who has tested it (refusal 6) or visited the
-// record.
+// Levels stand in an array, the first pattern first; a function is told how many of them count. The array is the
+// cursor's, which has a place for each of six in C's words, and the next level is written into it where it stands: a
+// slice of those that count would be no plainer. What each entered record must be for its words to be read is asked of
+// the caller, who has tested it (refusal 6) or visited the record.
 ghost use Rattle.std.specs.Prelude.{◌≡◌, ◌<◌, ◌≤◌, length, get_or};
 ghost use Rattle.table.specs.Held.{StatementHeld};
 ghost use Rattle.graph.specs.Query.{past, level_retracted, intact, remains, binds};
@@ -65,15 +66,11 @@ pub fn bindings(
         (levels_of levels d) }
 {
     let mut bound = none_bound();
-    let mut i: u32 = 0;
     // `bound` is what the first i levels bind.
-    while i < d {
+    for i in 0..d {
         let l = levels[i as usize];
         let n = l.statement;
-        let m = meet(pattern_at(words, i), triple_at(statements, n), bound);
-        let b = m.bound;
-        bound = b;
-        i += 1;
+        bound = meet(pattern_at(words, i), triple_at(statements, n), bound).unwrap_or(bound);
     }
     bound
 }
@@ -84,14 +81,11 @@ pub fn intact(statements: &[u32], levels: [Level; MAX_PATTERNS], d: u32) -> bool
     requires { LevelsHeld statements.now levels d }
     ensures { result ≡ intact statements.now (levels_of levels d) }
 {
-    let mut i: u32 = 0;
-    // The records of the first i levels are intact.
-    while i < d {
-        let l = levels[i as usize];
-        if !level_intact(statements, l) {
+    // The records of the levels so far are intact.
+    for l in &levels[..d as usize] {
+        if !level_intact(statements, *l) {
             return false;
         }
-        i += 1;
     }
     true
 }
@@ -101,16 +95,13 @@ pub fn first_retracted(statements: &[u32], levels: [Level; MAX_PATTERNS], d: u32
     requires { LevelsHeld statements.now levels d }
     ensures { FirstRetracted statements.now levels d result }
 {
-    let mut i: u32 = 0;
     // No record of the first i levels is retracted.
-    while i < d {
-        let l = levels[i as usize];
-        if level_retracted(statements, l) {
-            break;
+    for i in 0..d {
+        if level_retracted(statements, levels[i as usize]) {
+            return i;
         }
-        i += 1;
     }
-    i
+    d
 }
 
 // Whether a record remains on a chain: of the deepest level, which is level `top` from 0, or of one entered before it.
@@ -122,15 +113,12 @@ pub fn remains(statements: &[u32], levels: [Level; MAX_PATTERNS], top: u32) -> b
     if l.statement.0 != 0 {
         return true;
     }
-    let mut i = top;
-    // No record remains on the chains of the levels from i on.
-    while i > 0 {
-        let e = levels[(i - 1) as usize];
-        let after = past(statements, e);
+    // No record remains on the chains of the levels so far.
+    for e in &levels[..top as usize] {
+        let after = past(statements, *e);
         if after.statement.0 != 0 {
             return true;
         }
-        i -= 1;
     }
     false
 }
@@ -145,13 +133,7 @@ pub fn written(levels: [Level; MAX_PATTERNS], d: u32) -> [Level; MAX_PATTERNS]
         statement: StatementId(0),
     };
     let mut out = [none; MAX_PATTERNS];
-    let mut i: u32 = 0;
-    // `out` has the first i levels, zeros past them.
-    while i < d {
-        let l = levels[i as usize];
-        out[i as usize] = l;
-        i += 1;
-    }
+    out[..d as usize].copy_from_slice(&levels[..d as usize]);
     out
 }
 

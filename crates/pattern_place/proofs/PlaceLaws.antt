@@ -1,16 +1,16 @@
 -- Laws of a place: refusal 6 for one level, for the levels of an array, for a cursor, and what is bound where it does
 -- not apply. Assumes nothing.
-use mathlib.Core.Path.{◌≡◌, refl, sym, ap, ◌∙◌}
-use mathlib.Core.Bool.{Bool, true, false, ◌&&◌, false≢true}
+use mathlib.Core.Path.{◌≡◌, refl, sym, ◌∙◌}
+use mathlib.Core.Logic.{◌⊎◌, inl, inr}
+use mathlib.Core.Bool.{Bool, true, false, ◌&&◌}
 use mathlib.Core.List.{List}
 use mathlib.Core.Option.{Option, none, some}
 use Prim.Native.Nat.{ℕ, zero, suc, ◌+◌, ◌-◌, ◌≤◌, ◌<◌}
 use native.Mathlib.Omega.{arith}
 use lib.ListN.{length, get_or}
 use borrow.Author.Tests.{lt-ltb, le-ltb, le-leb, lt-leb}
-use Rattle.store.specs.declared.Triple.{Triple}
 use Rattle.store.specs.Shared.{known}
-use Rattle.store.specs.Lists.{is_some}
+use Rattle.store.specs.Lists.{is_some as found}
 use Rattle.store.specs.Tables.{triple_at}
 use Rattle.store.specs.Scan.{chain_ok}
 use Rattle.graph.specs.declared.QueryPattern.{QueryPattern}
@@ -21,11 +21,12 @@ use Rattle.graph.specs.declared.Progress.TheVariants.{Start, Within, End}
 use Rattle.graph.specs.Query.{match, or_else, binds, asked, entered_ok, place_ok}
 use Rattle.graph.specs.Place.{no_level, place_as, levels_of, inside_of}
 use Rattle.graph.specs.Words.{pattern, Bindings, under}
-use Rattle.pattern.specs.declared.binding.Matched.{Matched}
-use Rattle.pattern.specs.Matching.{matched_as}
+use Rattle.std.specs.Prelude.{Option as Optional, Some, None, IfSome}
+use Rattle.std.specs.Option.{is_some}
+use Rattle.pattern.specs.Matching.{solved}
 use Rattle.pattern_place.specs.Tested.{level_ok, LevelTested, LevelsTested, deepest_ok, InsideTested, PlaceTested}
 use Rattle.graph.proofs.Laws.{levels-length}
-use Rattle.pattern_level.proofs.LevelLaws.{record-at, bound-or, next-at, binds-step, prefix-fails, prefix-each}
+use Rattle.pattern_level.proofs.LevelLaws.{record-at, next-at, binds-step, prefix-fails, prefix-each}
 
 -- ---- one entered level
 
@@ -45,7 +46,7 @@ module _ (r t : ℕ) (stm : List ℕ) (x : QueryPattern) (b : Bindings) (e : Lev
 
   ok-record : (e.statement.0 ≡ 0 → ⊥) → e.statement.0 ≤ t → chain_ok e.chain (under b x) ≡ true
       → level_ok r t stm x b e
-      ≡ known r (triple_at stm (e.statement.0 - 1)) && is_some (match x (triple_at stm (e.statement.0 - 1)) b)
+      ≡ known r (triple_at stm (e.statement.0 - 1)) && found (match x (triple_at stm (e.statement.0 - 1)) b)
   unfolding level_ok
   ok-record h k f =
       rw (
@@ -61,29 +62,31 @@ module _ (r t : ℕ) (stm : List ℕ) (x : QueryPattern) (b : Bindings) (e : Lev
 
   pub ok-match : (e.statement.0 ≡ 0 → ⊥) → e.statement.0 ≤ t → chain_ok e.chain (under b x) ≡ true
       → known r (triple_at stm (e.statement.0 - 1)) ≡ true
-      → level_ok r t stm x b e ≡ is_some (match x (triple_at stm (e.statement.0 - 1)) b)
+      → level_ok r t stm x b e ≡ found (match x (triple_at stm (e.statement.0 - 1)) b)
   ok-match h k f g = ok-record h k f ∙ rw g
 
-hit-some : (b : Solution) (o : Option Bindings) → (matched_as b o).hit ≡ is_some o
-hit-some b none = refl
-hit-some b (some b') = refl
+hit-some : (o : Option Bindings) → is_some (solved o) ≡ found o
+hit-some none = refl
+hit-some (some b) = refl
+
+bound-some : (b : Bindings) (o : Option Bindings) → IfSome (solved o) (λ s. s.values ≡ or_else o b)
+bound-some b none = tt
+bound-some b (some b') = refl
 
 module _ (r t : ℕ) (stm : List ℕ) (x : QueryPattern) (b : Solution) (e : Level) where
-  pub tested-miss : level_ok r t stm x b.values e ≡ false
-      → LevelTested r t stm x b e (record { hit = false; bound = b })
-  tested-miss h = record { told = sym h; binds-on = λ z. absurd (false≢true z) }
+  pub tested-miss : level_ok r t stm x b.values e ≡ false → LevelTested r t stm x b e None
+  tested-miss h = record { told = sym h; binds-on = tt }
 
-  pub tested-meet : (m : Matched) → m ≡ matched_as b (match x (triple_at stm (e.statement.0 - 1)) b.values)
-      → level_ok r t stm x b.values e ≡ is_some (match x (triple_at stm (e.statement.0 - 1)) b.values)
+  pub tested-meet : (m : Optional Solution) → m ≡ solved (match x (triple_at stm (e.statement.0 - 1)) b.values)
+      → level_ok r t stm x b.values e ≡ found (match x (triple_at stm (e.statement.0 - 1)) b.values)
       → LevelTested r t stm x b e m
   tested-meet m d h =
-      record {
-        told = ap (λ (z : Matched). z.hit) d
-            ∙ hit-some b (match x (triple_at stm (e.statement.0 - 1)) b.values) ∙ sym h;
-        binds-on = λ z. ap (λ (z : Matched). z.bound.values) d
-            ∙ bound-or b (match x (triple_at stm (e.statement.0 - 1)) b.values)
-            ∙ ap (λ (y : Triple). or_else (match x y b.values) b.values) (sym (record-at stm e.statement.0));
-      }
+      rw d
+      (record {
+        told = hit-some (match x (triple_at stm (e.statement.0 - 1)) b.values) ∙ sym h;
+        binds-on = rw (record-at stm e.statement.0)
+            (bound-some b.values (match x (triple_at stm (e.statement.0 - 1)) b.values));
+      })
 
 -- ---- the first levels of an array
 
@@ -113,36 +116,31 @@ module _ (r t : ℕ) (stm : List ℕ) (ps : List QueryPattern) (ls : List Level)
 
 -- the loop over the levels that 6 tests: one that fails, one more, all of them
 module _ (r t : ℕ) (stm : List ℕ) (ps : List QueryPattern) (ls : List Level) (i : ℕ) (x : QueryPattern)
-    (b : Solution) (m : Matched) where
-  at_level : x ≡ get_or ps i (pattern 0 0 0) → b.values ≡ binds stm ps (levels_of ls i)
+    (b : Solution) where
+  at_level : (m : Optional Solution) → x ≡ get_or ps i (pattern 0 0 0) → b.values ≡ binds stm ps (levels_of ls i)
       → LevelTested r t stm x b (get_or ls i no_level) m
-      → m.hit ≡ level_ok r t stm (get_or ps i (pattern 0 0 0)) (binds stm ps (levels_of ls i)) (get_or ls i no_level)
-  at_level e f q = q.told ∙ rw (e, f)
+      → is_some m ≡ level_ok r t stm (get_or ps i (pattern 0 0 0)) (binds stm ps (levels_of ls i)) (get_or ls i no_level)
+  at_level m e f q = q.told ∙ rw (e, f)
 
   pub levels-miss : (d : ℕ) → i < d → x ≡ get_or ps i (pattern 0 0 0) → b.values ≡ binds stm ps (levels_of ls i)
-      → LevelTested r t stm x b (get_or ls i no_level) m → m.hit ≡ false → LevelsTested r t stm ps (levels_of ls d) m
-  levels-miss d h e f q z =
+      → LevelTested r t stm x b (get_or ls i no_level) None → LevelsTested r t stm ps (levels_of ls d) None
+  levels-miss d h e f q =
       let g : entered_ok stm ps r t (levels_of ls (i + 1)) ≡ false = entered-step r t stm ps ls i
-      ∙ rw (← at_level e f q, z) in
-      record {
-        told = z ∙ sym (entered-false r t stm ps ls (i + 1) d (omega arith) g);
-        binds-all = λ y. absurd
-            (false≢true (sym z ∙ y));
-      }
+      ∙ rw (← at_level None e f q) in
+      record { told = sym (entered-false r t stm ps ls (i + 1) d (omega arith) g); binds-all = tt }
 
-  pub levels-hit : x ≡ get_or ps i (pattern 0 0 0) → b.values ≡ binds stm ps (levels_of ls i)
-      → LevelTested r t stm x b (get_or ls i no_level) m → m.hit ≡ true → entered_ok stm ps r t (levels_of ls i) ≡ true
-      → (m.bound.values ≡ binds stm ps (levels_of ls (i + 1))) × (entered_ok stm ps r t (levels_of ls (i + 1)) ≡ true)
-  levels-hit e f q z g = (
-    q.binds-on z ∙ rw (e, f) (sym (binds-step r t stm ps ls i)),
-    entered-step r t stm ps ls i
-        ∙ rw (← at_level e f q, z) g,
+  pub levels-hit : (s : Solution) → x ≡ get_or ps i (pattern 0 0 0) → b.values ≡ binds stm ps (levels_of ls i)
+      → LevelTested r t stm x b (get_or ls i no_level) (Some s) → entered_ok stm ps r t (levels_of ls i) ≡ true
+      → (s.values ≡ binds stm ps (levels_of ls (i + 1))) × (entered_ok stm ps r t (levels_of ls (i + 1)) ≡ true)
+  levels-hit s e f q g = (
+    q.binds-on ∙ rw (e, f) (sym (binds-step r t stm ps ls i)),
+    entered-step r t stm ps ls i ∙ rw (← at_level (Some s) e f q) g,
   )
 
 pub levels-done : (r t : ℕ) (stm : List ℕ) (ps : List QueryPattern) (ls : List Level) (i d : ℕ) (b : Solution) → i ≡ d
     → b.values ≡ binds stm ps (levels_of ls i) → entered_ok stm ps r t (levels_of ls i) ≡ true
-    → LevelsTested r t stm ps (levels_of ls d) (record { hit = true; bound = b })
-levels-done r t stm ps ls i d b h e f = rw (← h) (record { told = sym f; binds-all = λ z. e })
+    → LevelsTested r t stm ps (levels_of ls d) (Some b)
+levels-done r t stm ps ls i d b h e f = rw (← h) (record { told = sym f; binds-all = e })
 
 -- ---- the place
 
@@ -184,19 +182,16 @@ within-start e = let z : ◌≡◌ {A = ℕ} 0 1 = cc in absurd (omega arith)
 within_end : {A : Type 0} → End ≡ Within → A
 within_end e = let z : ◌≡◌ {A = ℕ} 0 1 = cc in absurd (omega arith)
 
-module _ (r t : ℕ) (stm : List ℕ) (ps : List QueryPattern) (q : QueryCursor) (m : Matched) where
-  pub tested-start : q.progress ≡ Start → m.hit ≡ true → PlaceTested r t stm ps q m
+module _ (r t : ℕ) (stm : List ℕ) (ps : List QueryPattern) (q : QueryCursor) where
+  -- nothing is entered
+  pub tested-out : (b : Solution) → (q.progress ≡ Start) ⊎ (q.progress ≡ End) → PlaceTested r t stm ps q (Some b)
   unfolding place_as place_ok
-  tested-start e h =
-      record { told = h ∙ rw e; handed = λ z. record { binds-here = λ f g. within-start (sym e ∙ f) } }
+  tested-out b (inl e) = record { told = rw e; handed = record { binds-here = λ f g. within-start (sym e ∙ f) } }
+  tested-out b (inr e) = record { told = rw e; handed = record { binds-here = λ f g. within_end (sym e ∙ f) } }
 
-  pub tested-end : q.progress ≡ End → m.hit ≡ true → PlaceTested r t stm ps q m
-  unfolding place_as place_ok
-  tested-end e h =
-      record { told = h ∙ rw e; handed = λ z. record { binds-here = λ f g. within_end (sym e ∙ f) } }
-
-  pub tested-within : q.progress ≡ Within → InsideTested r t stm ps q.levels q.depth m
+  pub tested-within : (m : Optional Solution) → q.progress ≡ Within → InsideTested r t stm ps q.levels q.depth m
       → PlaceTested r t stm ps q m
   unfolding place_as
-  tested-within e k =
-      record { told = rw e k.told; handed = λ z. record { binds-here = λ f g. k.binds-inside z g } }
+  tested-within None e k = record { told = rw e k.told; handed = tt }
+  tested-within (Some b) e k =
+      record { told = rw e k.told; handed = record { binds-here = λ f g. k.binds-inside g } }

@@ -25,11 +25,8 @@ use Rattle.dictionary.specs.Search.{middle}
 use Rattle.dictionary.proofs.Steps.{pow2}
 use Rattle.dictionary.proofs.Named.{at_head, at_tail, clean-head}
 use Rattle.prefix.specs.Boundary.{side_of, probe_of, boundary_of, boundary_from, run_of}
-use Rattle.prefix.specs.declared.boundary.Side.{Side}
-use Rattle.prefix.specs.declared.boundary.Side.TheVariants.{Below, Alike, Above}
+use Rattle.std.proofs.Common.{Option, Some, Ordering, Less, Equal, Greater}
 use Rattle.prefix.specs.declared.boundary.Edge.{Edge}
-use Rattle.prefix.specs.declared.boundary.Edge.TheVariants.{At}
-use Rattle.prefix.specs.declared.boundary.Run.TheVariants.{Between}
 
 -- ---- a name against a prefix
 
@@ -58,10 +55,10 @@ lies after equal = after
 lies after more = false
 
 -- what a probe tells of it
-abbrev to_side : Bool → ByteOrdering → Side
-to_side after less = Below
-to_side after equal = cond after Below Alike
-to_side after more = Above
+abbrev to_side : Bool → ByteOrdering → Option Ordering
+to_side after less = Some Less
+to_side after equal = cond after (Some Less) (Some Equal)
+to_side after more = Some Greater
 
 abbrev is_equal : ByteOrdering → Bool
 is_equal less = false
@@ -201,10 +198,10 @@ module _ (ns : List (List ℕ)) (c : Counters) (m : Tables) (N : Named ns c m) (
 
   -- what a search answers: the entries before it lie below the boundary, those from it on above; those from `top` on lie
   -- above both boundaries
-  pub record Split (after : Bool) (first : ℕ) (s : Edge) : Type 0 where
+  pub record Split (after : Bool) (first : ℕ) (s : Option Edge) : Type 0 where
     pub at : ℕ
     pub top : ℕ
-    pub told : s ≡ At at top
+    pub told : s ≡ Some (record { below = at; top = top })
     pub onward : first ≤ at
     pub upward : at ≤ top
     pub within : top ≤ R
@@ -257,7 +254,7 @@ module _ (ns : List (List ℕ)) (c : Counters) (m : Tables) (N : Named ns c m) (
           → Split after first (boundary_of c m.resources m.index m.text w after f lo hi z)
 
       ends : (k z : ℕ) → first ≤ k → k ≤ z → z ≤ R → Low after k → High after k → High true z
-          → Split after first (At k z)
+          → Split after first (Some (record { below = k; top = z }))
       ends k z a b d l h t = record {
         at = k;
         top = z;
@@ -278,21 +275,21 @@ module _ (ns : List (List ℕ)) (c : Counters) (m : Tables) (N : Named ns c m) (
         abbrev Turns : Type 0
         Turns = Split after first (boundary_of c m.resources m.index m.text w after (suc f) lo hi z)
 
-        right : to_side after (order (nm k) w) ≡ Below → passes after k ≡ true → Turns
+        right : to_side after (order (nm k) w) ≡ Some Less → passes after k ≡ true → Turns
         unfolding boundary_of
         right s e =
             let p = probe-is after k (omega arith) ∙ s in
             rw (boundary_of, lt-ltb lo hi lt, p)
             (ih (k + 1) hi z (omega arith) (omega arith) b d (omega arith) (low_up after k (omega arith) e) g t)
 
-        left : to_side after (order (nm k) w) ≡ Alike → passes after k ≡ false → Turns
+        left : to_side after (order (nm k) w) ≡ Some Equal → passes after k ≡ false → Turns
         unfolding boundary_of
         left s e =
             let p = probe-is after k (omega arith) ∙ s in
             rw (boundary_of, lt-ltb lo hi lt, p)
             (ih lo k z a (omega arith) (omega arith) d (omega arith) l (high_down after k (omega arith) e) t)
 
-        down : to_side after (order (nm k) w) ≡ Above → passes after k ≡ false → passes true k ≡ false → Turns
+        down : to_side after (order (nm k) w) ≡ Some Greater → passes after k ≡ false → passes true k ≡ false → Turns
         unfolding boundary_of
         down s e q =
             let p = probe-is after k (omega arith) ∙ s in
@@ -303,9 +300,9 @@ module _ (ns : List (List ℕ)) (c : Counters) (m : Tables) (N : Named ns c m) (
         turn : (o : ByteOrdering) → order (nm k) w ≡ o → (x : Bool) → after ≡ x → Turns
         turn less e x q = right (ap (to_side after) e) (ap (lies after) e)
         turn equal e true q =
-            right (ap (to_side after) e ∙ ap (λ (y : Bool). cond y Below Alike) q) (ap (lies after) e ∙ q)
+            right (ap (to_side after) e ∙ ap (λ (y : Bool). cond y (Some Less) (Some Equal)) q) (ap (lies after) e ∙ q)
         turn equal e false q =
-            left (ap (to_side after) e ∙ ap (λ (y : Bool). cond y Below Alike) q) (ap (lies after) e ∙ q)
+            left (ap (to_side after) e ∙ ap (λ (y : Bool). cond y (Some Less) (Some Equal)) q) (ap (lies after) e ∙ q)
         turn more e x q = down (ap (to_side after) e) (ap (lies after) e) (ap (lies true) e)
 
       splits : (f : ℕ) → Claim f
@@ -333,7 +330,7 @@ module _ (ns : List (List ℕ)) (c : Counters) (m : Tables) (N : Named ns c m) (
         splits true start.at 16 start.at start.top start.top (omega arith) a (omega arith) b (omega arith)
         (λ i q. below_both (order (nm i) w) (start.low i q)) start.above start.above
 
-    pub run_is : run_of c m.resources m.index m.text w ≡ Between start.at end.at
+    pub run_is : run_of c m.resources m.index m.text w ≡ Some (record { start = start.at; end = end.at })
     unfolding run_of
     run_is = rw (start.told, end.told)
 

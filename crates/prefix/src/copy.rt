@@ -6,11 +6,6 @@ ghost use Rattle.store.specs.Prefix.{filled};
 pub fn fill(list: &[u32], words: &mut [u32])
     ensures { words.new ≡ filled words.old list.now }
 {
-    let n = table::word::lesser(list.len(), words.len());
-    let mut i = 0;
-    // The first i words are the list's.
-    while i < n {
-        words[i] = list[i];
-        i += 1;
-    }
+    let n = list.len().min(words.len());
+    words[..n].copy_from_slice(&list[..n]);
 }

@@ -7,11 +7,12 @@
 // that no sound store has. The bytes are taken as they are: a zero byte meets no name.
 #![tactic(auto)]
 
-ghost use Rattle.store.specs.Tables.{lent};
 ghost use Rattle.store.specs.Prefix.{PrefixAnswer};
+ghost use Rattle.table.specs.Lent.{held};
 
-use store::{Counters, Prefixed, Refusal};
+use store::{Counters, Refusal};
 use table::fits;
+use table::lent::Tables;
 
 pub mod boundary;
 mod copy;
@@ -20,29 +21,23 @@ mod copy;
 // the list keep their values. A refusal writes nothing.
 pub fn names_with_prefix(
     c: Counters,
-    resources: &[u32],
-    statements: &[u32],
-    index: &[u32],
-    text: &[u8],
+    tables: Tables,
     prefix: &[u8],
     numbers: &mut [u32],
-) -> Prefixed
-    ensures { PrefixAnswer c (lent resources.entry statements.entry index.entry text.entry)
+) -> Result<u32, Refusal>
+    ensures { PrefixAnswer c (held tables.entry)
         prefix.now numbers.old numbers.new result }
 {
-    if !fits(c, resources, statements, index, text) {
-        return Prefixed::Refused(Refusal::Capacity);
+    if !fits(c, tables) {
+        return Err(Refusal::Capacity);
     }
     if prefix.len() > Counters::MAX_NAME as usize {
-        return Prefixed::Refused(Refusal::Malformed);
+        return Err(Refusal::Malformed);
     }
-    match boundary::run_of(c, resources, index, text, prefix) {
-        boundary::Run::Unreadable => Prefixed::Refused(Refusal::Damaged),
-        boundary::Run::Between(lo, hi) => {
-            let from = lo as usize;
-            let end = hi as usize;
-            copy::fill(&index[from..end], numbers);
-            Prefixed::Total(hi - lo)
-        }
-    }
+    let found = boundary::run_of(c, tables, prefix);
+    let run = found.ok_or(Refusal::Damaged)?;
+    let from = run.start as usize;
+    let end = run.end as usize;
+    copy::fill(&tables.index[from..end], numbers);
+    Ok(run.end - run.start)
 }

@@ -4,8 +4,8 @@
 // `load` and `export` have the work of two of them, `shell_session` that of the third; `usage` answers arguments that ask for a text.
 #![tactic(auto)]
 
+use report::status::Status;
 use std::io::Input;
-use std::process::ExitCode;
 use std::rt::{Env, Files};
 use streams::{Outputs, Terminal};
 
@@ -14,36 +14,28 @@ mod load;
 mod usage;
 
 // The loading program.
-pub fn lemontiller_load<R: Outputs + Env + Files + Input>(rt: &R) -> u32 {
-    let a = arguments::read(rt, b"");
-    if arguments::ended(a) {
-        return usage::load(rt, a);
+pub fn lemontiller_load<R: Outputs + Env + Files + Input>(rt: &R) -> Status {
+    let asked = arguments::read(rt, b"");
+    match asked.ending {
+        Some(ending) => usage::load(rt, ending),
+        None => load::run(rt, asked.files),
     }
-    load::run(rt, a.files)
 }
 
 // The program that writes bay files in canonical form.
-pub fn lemontiller_export<R: Outputs + Env + Files + Input>(rt: &R) -> u32 {
-    let a = arguments::read(rt, b"--partial");
-    if arguments::ended(a) {
-        return usage::export(rt, a);
+pub fn lemontiller_export<R: Outputs + Env + Files + Input>(rt: &R) -> Status {
+    let asked = arguments::read(rt, b"--partial");
+    match asked.ending {
+        Some(ending) => usage::export(rt, ending),
+        None => export::run(rt, asked.files, asked.own),
     }
-    export::run(rt, a.files, a.own)
 }
 
 // The technician's shell.
-pub fn lemontiller_shell<R: Outputs + Env + Files + Input + Terminal>(rt: &R) -> u32 {
-    let a = arguments::read(rt, b"--all");
-    if arguments::ended(a) {
-        return usage::shell(rt, a);
-    }
-    shell_session::run(rt, a.own)
-}
-
-// A status as the system takes it. No program answers one that does not fit; that would be something that went wrong.
-pub fn ending(status: u32) -> ExitCode {
-    match u8::try_from(status) {
-        Ok(code) => ExitCode::from(code),
-        Err(_) => ExitCode::FAILURE,
+pub fn lemontiller_shell<R: Outputs + Env + Files + Input + Terminal>(rt: &R) -> Status {
+    let asked = arguments::read(rt, b"--all");
+    match asked.ending {
+        Some(ending) => usage::shell(rt, ending),
+        None => shell_session::run(rt, asked.own),
     }
 }

@@ -1,8 +1,9 @@
 // What is written where an argument asks for a text, or is an option that the program does not have.
 ghost use Rattle.streams.specs.Counts.{IsPrefixLen};
 
-use arguments::Asked;
+use arguments::Ending;
 use report::output::{append, put};
+use report::status::Status;
 use std::rt::Env;
 use streams::{Output, Outputs};
 
@@ -10,41 +11,39 @@ use streams::{Output, Outputs};
 const LINE: usize = 4352;
 
 // Writes a text that was asked for, and answers the status.
-fn text(rt: &impl Outputs, bytes: &[u8]) -> u32 {
+fn text(rt: &impl Outputs, bytes: &[u8]) -> Status {
     if put(rt, Output::Standard, bytes) {
-        0
+        Status::Done
     } else {
-        2
+        Status::Failed
     }
 }
 
 // Tells that argument i is no option of the program.
-fn unknown(rt: &(impl Outputs + Env), i: usize) -> u32 {
+fn unknown(rt: &(impl Outputs + Env), i: usize) -> Status {
     let mut out = [0u8; LINE];
-    let mut option = streams::buffer();
+    let mut option = [0u8; streams::ARGUMENT];
     let n = streams::argument_or_nothing(rt, i, &mut option);
     let a = append(&mut out, 0, b"unknown option ");
     let b = append(&mut out, a, &option[..n]);
     let c = append(&mut out, b, b"\n--help tells what there is\n");
     put(rt, Output::Error, &out[..c]);
-    2
+    Status::Failed
 }
 
 // Answers what was asked for; `help` is the program's usage.
-fn answer(rt: &(impl Outputs + Env), a: Asked, help: &[u8]) -> u32 {
-    if a.help {
-        return text(rt, help);
+fn answer(rt: &(impl Outputs + Env), ending: Ending, help: &[u8]) -> Status {
+    match ending {
+        Ending::Help => text(rt, help),
+        Ending::Version => text(rt, b"lemontiller 0.2.0\n"),
+        Ending::Unknown(i) => unknown(rt, i),
     }
-    if a.version {
-        return text(rt, b"lemontiller 0.2.0\n");
-    }
-    unknown(rt, a.unknown)
 }
 
-pub fn load(rt: &(impl Outputs + Env), a: Asked) -> u32 {
+pub fn load(rt: &(impl Outputs + Env), ending: Ending) -> Status {
     answer(
         rt,
-        a,
+        ending,
         b"usage: lemontiller-load [FILE...]
 
 Reads N-Triples and tells what became of each line: NUMBER new N, already N or
@@ -61,10 +60,10 @@ written.
     )
 }
 
-pub fn export(rt: &(impl Outputs + Env), a: Asked) -> u32 {
+pub fn export(rt: &(impl Outputs + Env), ending: Ending) -> Status {
     answer(
         rt,
-        a,
+        ending,
         b"usage: lemontiller-export [--partial] [FILE...]
 
 Reads N-Triples and writes the statements as one file in canonical form, lines
@@ -83,10 +82,10 @@ written.
     )
 }
 
-pub fn shell(rt: &(impl Outputs + Env), a: Asked) -> u32 {
+pub fn shell(rt: &(impl Outputs + Env), ending: Ending) -> Status {
     answer(
         rt,
-        a,
+        ending,
         b"usage: lemontiller-shell [--all] [FILE...]
 
 Loads N-Triples files and answers the questions and commands on standard input,

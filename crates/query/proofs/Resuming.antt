@@ -10,6 +10,8 @@ use lib.ListN.{length, get_or, set}
 use lib.Seq.{get_or-set_other}
 use lib.Dec.{eqb, leb, ltb}
 use borrow.Author.Tests.{eqb-true, eqb-false, eq-eqb, ne_eqb, ltb-true, ltb-false, leb-true}
+use Rattle.std.specs.Prelude.{Result, Ok, Err}
+use Rattle.store.specs.declared.Refusal.{Refusal}
 use Rattle.store.specs.declared.Refusal.TheVariants.{Damaged as Nine}
 use Rattle.store.specs.declared.Counters.{Counters}
 use Rattle.store.specs.declared.Triple.{Triple}
@@ -23,15 +25,13 @@ use Rattle.graph.specs.declared.Level.{Level}
 use Rattle.graph.specs.Query.{match, record_at, past, level_retracted, intact, any_retracted, pruned, binds, asked}
 use Rattle.graph.specs.Words.{patterns_of, pattern, max_patterns, words_ok, Bindings, unbound, under}
 use Rattle.graph.specs.Place.{no_level, start, inside, levels_of, inside_of, written, finish}
-use Rattle.graph.specs.Query.{place_ok, Answer, refused, found, enter, begun, walk, resume}
+use Rattle.graph.specs.Query.{place_ok, Turn, bad, Answer, refused, found, enter, begun, walk, resume}
 use Rattle.pattern_level.specs.Levels.{LevelsHeld, FirstRetracted}
 use Rattle.pattern_place.specs.Tested.{level_ok}
 use Rattle.query_stack.specs.declared.stack.Stack.{Stack}
-use Rattle.query_stack.specs.declared.stack.Outcome.{Outcome}
-use Rattle.query_stack.specs.declared.stack.Outcome.TheVariants.{Damaged, Onward, Whole}
 use Rattle.query_stack.specs.declared.stack.Turned.{Turned}
-use Rattle.query_stack.specs.Stack.{deepest, entered, stand_as, entered_as}
-use Rattle.query_walk.specs.Turn.{Ready, Stands, onto, turn_as, TurnIs}
+use Rattle.query_stack.specs.Stack.{deepest, entered, stand_as, onto, entered_as, onward}
+use Rattle.query_walk.specs.Turn.{Ready, Stands, TurnIs}
 use Rattle.query.specs.Resume.{onward_as, Pruned}
 use Rattle.store.proofs.Tests.{decide, and_l, and_r}
 use Rattle.table.proofs.Capacity.{fits-room}
@@ -301,7 +301,7 @@ pub begin-none : (r t : ℕ) (res stm ws : List ℕ) (budget : ℕ) → length (
 unfolding resume
 begin-none r t res stm ws budget e = rw (eq-eqb (length (patterns_of ws)) 0 e)
 
--- the first of some patterns entered, and what is then written over an array of levels
+-- the first of some patterns is entered, over an array of levels
 pub record First : Type 0 where
   pub r : ℕ
   pub t : ℕ
@@ -315,49 +315,47 @@ pub record First : Type 0 where
   pub size : length ls ≡ max_patterns
   pub b : Solution
   pub open-all : b.values ≡ unbound
-  pub m : Turned
-  pub made : m ≡ entered_as t res (under b.values (get_or (patterns_of ws) 0 (pattern 0 0 0))) 0 b
 
 module _ (h : First) where
   abbrev all : List QueryPattern
   all = patterns_of h.ws
 
-  abbrev stack : Stack
-  stack = onto h.ls h.m
+  abbrev answered : Result Turned Refusal
+  answered = entered_as h.t h.res (under h.b.values (get_or all 0 (pattern 0 0 0))) 0 h.b
 
   abbrev asked-for : Answer
   asked-for = resume h.r h.t h.res h.stm all start h.budget
 
-  first-turn : TurnIs h.r h.t h.stm h.ws (enter h.r h.t h.res h.stm all []) h.ls h.m
-  first-turn =
+  abbrev turn : Turn
+  turn = enter h.r h.t h.res h.stm all []
+
+  leads : (m : Result Turned Refusal) → m ≡ answered → TurnIs h.r h.t h.stm h.ws turn h.ls (onward m)
+  leads m e =
       let n = h.some_pattern in
-      rw (h.made, ← levels-none h.ls)
+      rw (e, ← levels-none h.ls)
       (entering h.r h.t h.res h.stm h.ws h.ls 0 h.b (omega arith) (omega arith) h.size
       (sure-none h.r h.t h.stm h.ls) (h.open-all ∙ sym (binds-none 0 0 h.stm all h.ls)))
 
-  starts : (o : Outcome) → h.m.outcome ≡ o
-      → asked-for ≡ begun h.r h.t h.res h.stm all h.budget (turn_as o stack)
+  starts : (z : Turn) → z ≡ turn → asked-for ≡ begun h.r h.t h.res h.stm all h.budget z
   unfolding resume
-  starts o f =
+  starts z f =
       rw (ne_eqb (length all) 0 h.some_pattern)
-      (ap (begun h.r h.t h.res h.stm all h.budget)
-      (sym first-turn.told ∙ ap (λ (z : Outcome). turn_as z stack) f))
+      (ap (begun h.r h.t h.res h.stm all h.budget) (sym f))
 
-  pub begin-damaged : h.m.outcome ≡ Damaged → asked-for ≡ refused Nine
+  pub begin-refused : (e : Refusal) → Err e ≡ answered → asked-for ≡ refused e
   unfolding begun
-  begin-damaged f = starts Damaged f
+  begin-refused e d = let l = leads (Err e) d in starts bad l.1 ∙ ap (λ (e : Refusal). refused e) (sym l.0)
 
-  pub begin-whole : h.m.outcome ≡ Whole → asked-for ≡ refused Nine
-  unfolding begun
-  begin-whole f = starts Whole f
+  module _ (m : Turned) (made : Ok m ≡ answered) where
+    abbrev stack : Stack
+    stack = onto h.ls m
 
-  pub begin-onward : h.m.outcome ≡ Onward
-      → asked-for ≡ walk h.r h.t h.res h.stm all h.budget (deepest stack) (entered stack) 0
-  unfolding begun
-  begin-onward f = starts Onward f
+    pub begin-onward : asked-for ≡ walk h.r h.t h.res h.stm all h.budget (deepest stack) (entered stack) 0
+    unfolding begun
+    begin-onward = starts _ (leads (Ok m) made).1
 
-  pub begin-stands : h.m.outcome ≡ Onward → Stands h.r h.t h.stm h.ws stack
-  begin-stands f = first-turn.stands f
+    pub begin-stands : Stands h.r h.t h.stm h.ws stack
+    begin-stands = (leads (Ok m) made).2
 
-  pub begin-slot : h.m.top < max_patterns
-  begin-slot = first-turn.slot
+    pub begin-slot : m.top < max_patterns
+    begin-slot = (leads (Ok m) made).0

@@ -13,7 +13,7 @@ use graph::{Level, MAX_PATTERNS, Progress, QueryAnswer, QueryCursor, QueryStep, 
 use pattern::binding::{none_bound, under};
 use pattern::words::{pattern_at, patterns};
 use pattern_level::level::{first_retracted, intact, past, written};
-use query_stack::stack::{Outcome, Stack, ended, enter, no_levels, refused, stand};
+use query_stack::stack::{Stack, ended, enter, no_levels, stand};
 use query_walk::walk::walk;
 use store::{Counters, Refusal};
 
@@ -25,38 +25,30 @@ pub fn begin(
     statements: &[u32],
     words: &[u32],
     budget: u32,
-) -> QueryAnswer
+) -> Result<QueryAnswer, Refusal>
     requires { Ready c.resources c.statements resources.now statements.now words.now }
     ensures { result ≡ packed c.generation (resume c.resources c.statements resources.now
         statements.now (patterns_of words.now) start budget) }
 {
     if patterns(words) == 0 {
-        return QueryAnswer {
+        return Ok(QueryAnswer {
             step: QueryStep::Found,
             visits: 0,
             solution: none_bound(),
             cursor: no_levels(c.generation, Progress::End),
-        };
+        });
     }
     let bare = no_levels(0, Progress::Start);
-    let mut levels = bare.levels;
-    let m = enter(c.statements, resources, words, 0, none_bound());
-    let b = m.bound;
-    let x = m.asked;
-    let e = m.level;
-    let outcome = m.outcome;
-    levels[m.top as usize] = e;
-    let s = Stack {
+    let levels = bare.levels;
+    let m = enter(c.statements, resources, words, 0, none_bound())?;
+    let mut s = Stack {
         top: m.top,
         levels: levels,
-        bound: b,
-        asked: x,
+        bound: m.bound,
+        asked: m.asked,
     };
-    match outcome {
-        Outcome::Damaged => refused(Refusal::Damaged),
-        Outcome::Onward => walk(c, resources, statements, words, s, budget),
-        Outcome::Whole => refused(Refusal::Damaged),
-    }
+    s.write(m);
+    walk(c, resources, statements, words, s, budget)
 }
 
 // The level to go on from: the deepest, level `top`, or level i after its record, which was retracted since.
@@ -108,7 +100,7 @@ pub fn go_on(
     top: u32,
     b: Solution,
     budget: u32,
-) -> QueryAnswer
+) -> Result<QueryAnswer, Refusal>
     requires { Ready c.resources c.statements resources.now statements.now words.now
         × (place_ok statements.now (patterns_of words.now) c.resources c.statements
         (inside (get_or levels top no_level) (levels_of levels top)) ≡ true)
@@ -118,7 +110,7 @@ pub fn go_on(
         (inside (get_or levels top no_level) (levels_of levels top)) budget) }
 {
     if !intact(statements, levels, top) {
-        return refused(Refusal::Damaged);
+        return Err(Refusal::Damaged);
     }
     let s = pruned(statements, words, levels, top, b);
     walk(c, resources, statements, words, s, budget)
@@ -133,7 +125,7 @@ pub fn resume(
     q: QueryCursor,
     b: Solution,
     budget: u32,
-) -> QueryAnswer
+) -> Result<QueryAnswer, Refusal>
     requires { Ready c.resources c.statements resources.now statements.now words.now
         × (place_ok statements.now (patterns_of words.now) c.resources c.statements (place_of q) ≡ true)
         × Handed statements.now (patterns_of words.now) q b }
@@ -159,6 +151,6 @@ pub fn resume(
                 budget,
             )
         }
-        Progress::End => ended(c.generation, 0),
+        Progress::End => Ok(ended(c.generation, 0)),
     }
 }

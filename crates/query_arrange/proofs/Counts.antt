@@ -1,4 +1,4 @@
--- The loops over a query's patterns: their counts tested, the first of least key sought. Assumes nothing.
+-- A query's patterns: their counts tested, the first of least key sought. Assumes nothing.
 use mathlib.Core.Path.{◌≡◌, refl, sym, ◌∙◌}
 use mathlib.Core.Bool.{Bool, true, false, cond, ◌&&◌, true≢false}
 use mathlib.Core.List.{List, [], ◌∷◌}
@@ -8,6 +8,10 @@ use native.Mathlib.Numerals.{add-one}
 use lib.ListN.{length, get_or, drop}
 use lib.Seq.{drop-cons}
 use lib.Dec.{leb}
+use Rattle.std.proofs.Common.{zero-add}
+use Rattle.std.specs.Bool.{MatchBool}
+use Rattle.std.specs.List.{AllWithin, HoldsAt, range_with_len}
+use Rattle.std.proofs.lemmas.List.FromFn.{length-range_with_len, get_or-range_with_len}
 use borrow.Author.Tests.{leb-true, lt-leb, le-leb}
 use Rattle.store.proofs.Tests.{decide, and_l, and_r, and-of}
 use Rattle.graph.specs.declared.QueryPattern.{QueryPattern}
@@ -70,7 +74,43 @@ module _ (t : ℕ) (res : List ℕ) where
       (none-lower (key_of t res x) t ps (keys t res x (counts-low t res x (and_l (countable t res x) _ a))).1 (and_r (leb t (key_of t res x)) _ e))))
       (λ e. rw e (omega arith))
 
--- ---- a turn of each loop
+-- ---- every pattern tested
+
+module _ (t : ℕ) (res : List ℕ) where
+  abbrev Tested : List QueryPattern → ℕ → Bool → Type 0
+  Tested ps i b = countable t res (get_or ps i (pattern 0 0 0)) ≡ b
+
+  each-countable : (ps : List QueryPattern) → ((i : ℕ) → i < length ps → Tested ps i true) → all_countable t res ps ≡ true
+  unfolding all_countable
+  each-countable [] h = refl
+  each-countable (x ∷ ps) h =
+      and-of (countable t res x) (all_countable t res ps) (h 0 (omega arith))
+      (each-countable ps (λ i g. h (suc i) (omega arith)))
+
+  some-not : (ps : List QueryPattern) (i : ℕ) → i < length ps → Tested ps i false → all_countable t res ps ≡ false
+  unfolding all_countable
+  some-not [] i h e = absurd (omega arith)
+  some-not (x ∷ ps) zero h e = rw e
+  some-not (x ∷ ps) (suc i) h e = rw (some-not ps i (omega arith) e) (either (countable t res x))
+    where
+      either : (b : Bool) → b && false ≡ false
+      either true = refl
+      either false = refl
+
+  -- what a search of the numbers below n for one that fails comes to
+  pub every-tested : (ps : List QueryPattern) (n : ℕ) (b : Bool) → n ≡ length ps
+      → MatchBool b (AllWithin (λ i. Tested ps i true) (range_with_len 0 n) 0 (length (range_with_len 0 n)))
+      ((k : ℕ) × (k < length (range_with_len 0 n)) × HoldsAt (λ i. Tested ps i false) (range_with_len 0 n) k)
+      → b ≡ all_countable t res ps
+  every-tested ps n true e h =
+      sym (each-countable ps (λ i g.
+      let z : i < n = omega (arith, g, e) in
+      rw (get_or-range_with_len 0 n i 0 z, zero-add) at (h i 0 (omega arith) (rw (length-range_with_len 0 n) z))))
+  every-tested ps n false e (k, g, h) =
+      let z : k < n = rw (length-range_with_len 0 n) at g in
+      sym (some-not ps k (omega (arith, z, e)) (rw (get_or-range_with_len 0 n k 0 z, zero-add) at (h 0)))
+
+-- ---- a turn of the search for the least key
 
 drop_all : {A : Type 0} (l : List A) (n : ℕ) → length l ≤ n → drop n l ≡ []
 drop_all [] zero h = refl
@@ -83,24 +123,8 @@ module _ (t : ℕ) (res : List ℕ) (ps : List QueryPattern) where
   abbrev pub at : ℕ → QueryPattern
   at n = get_or ps n (pattern 0 0 0)
 
-  pub countable-none : (n : ℕ) → length ps ≤ n → all_countable t res (drop n ps) ≡ true
-  unfolding all_countable
-  countable-none n h = rw (drop_all ps n h)
-
-  countable-step : (n : ℕ) → n < length ps
-      → all_countable t res (drop n ps) ≡ countable t res (at n) && all_countable t res (drop (n + 1) ps)
-  unfolding all_countable
-  countable-step n h = rw (add-one, drop-cons ps n (pattern 0 0 0) h)
-
   -- the pattern read, x, and what was found of it
   module _ (n : ℕ) (x : QueryPattern) (h : n < length ps) (e : x ≡ at n) where
-    pub countable-fails : (b : Bool) → b ≡ countable t res x → b ≡ false → all_countable t res (drop n ps) ≡ false
-    countable-fails b d q = countable-step n h ∙ rw (← e, ← d, q) refl
-
-    pub countable-goes-on : (b : Bool) → b ≡ countable t res x → b ≡ true
-        → all_countable t res (drop n ps) ≡ all_countable t res (drop (n + 1) ps)
-    countable-goes-on b d q = countable-step n h ∙ rw (← e, ← d, q) refl
-
     pub least-new : (i k key : ℕ) → key ≡ key_of t res x → key < k
         → least_from t res i k n (drop n ps) ≡ least_from t res n key (n + 1) (drop (n + 1) ps)
     least-new i k key d g =

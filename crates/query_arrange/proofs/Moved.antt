@@ -1,13 +1,28 @@
--- Words of a pattern moved to the front, the words before it moved up by three one at a time, from the last. Assumes
--- nothing.
+-- Words of a pattern moved to the front: the words up to its end turned by three. Assumes nothing.
 use mathlib.Core.Path.{◌≡◌, refl, sym, ap, ◌∙◌}
 use mathlib.Core.List.{List, [], ◌∷◌, ◌++◌, append_assoc}
-use Prim.Native.Nat.{ℕ, zero, suc, ◌+◌, ◌*◌, ◌≤◌, ◌<◌}
+use Prim.Native.Nat.{ℕ, zero, suc, ◌+◌, ◌-◌, ◌*◌, ◌≤◌, ◌<◌}
 use native.Mathlib.Omega.{arith}
 use native.Mathlib.Numerals.{add-one}
 use lib.ListN.{length, take, drop, get_or, set, length-append, take-append-drop, get_or-append}
 use lib.Seq.{take-suc, drop-cons, drop-drop, get_or-take, set_at, length-take-le}
+use Rattle.std.proofs.lemmas.List.{drop-take, take-take}
 use Rattle.graph.specs.Arranging.{to_front}
+
+-- r is the words up to the end of pattern i with their last three in front
+pub turned : (ws r : List ℕ) (i : ℕ) → 3 * i + 3 ≤ length ws
+    → (let s = take (3 * (i + 1)) ws in r ≡ drop (length s - 3) s ++ take (length s - 3) s)
+    → r ++ drop (3 * (i + 1)) ws ≡ to_front i ws
+unfolding to_front
+turned ws r i h e =
+    let k = 3 * i in
+    let q : 3 * (i + 1) ≡ k + 3 = omega arith in
+    let n : length (take (k + 3) ws) - 3 ≡ k = omega (arith, length-take-le (k + 3) ws h) in
+    let d : r ≡ drop k (take (k + 3) ws) ++ take k (take (k + 3) ws) = rw (q, n) at e in
+    rw (q, d, drop-take k 3 ws, take-take k (k + 3) ws (omega arith))
+    (append_assoc (take 3 (drop k ws)) (take k ws) (drop (k + 3) ws))
+
+-- ---- the words before a pattern moved up by three one at a time, from the last
 
 -- the words below the pattern at k, from j on, are moved
 unfoldable pub moved : List ℕ → ℕ → ℕ → List ℕ

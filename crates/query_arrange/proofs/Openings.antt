@@ -1,28 +1,27 @@
 -- The second opening at each way out, by its tests and the pattern found. Assumes nothing.
-use mathlib.Core.Path.{◌≡◌, refl, sym, ap, ◌∙◌}
-use mathlib.Core.Bool.{true, false}
+use mathlib.Core.Path.{◌≡◌, refl}
+use mathlib.Core.Bool.{true}
 use mathlib.Core.List.{List, [], ◌∷◌}
 use Prim.Native.Nat.{ℕ, suc, ◌+◌, ◌*◌, ◌≤◌, ◌<◌}
 use native.Mathlib.Omega.{arith}
 use lib.ListN.{length}
 use Rattle.store.specs.declared.Counters.{Counters}
-use Rattle.store.specs.declared.Refusal.TheVariants.{Capacity, BadQuery, Damaged}
+use Rattle.std.specs.Prelude.{Ok}
 use Rattle.store.specs.Tables.{Tables, fits}
 use Rattle.store.proofs.Tests.{decide}
 use Rattle.table.proofs.Capacity.{fits-room}
 use Rattle.graph.specs.declared.QueryPattern.{QueryPattern}
-use Rattle.graph.specs.declared.QueryOpened.{QueryOpened}
-use Rattle.graph.specs.declared.QueryOpening.TheVariants.{Opened, Refused as NotOpened}
+use Rattle.graph.specs.declared.QueryCursor.{QueryCursor}
+use Rattle.graph.specs.Place.{start_cursor}
 use Rattle.graph.specs.Words.{variables, pattern, patterns_of, words_ok}
-use Rattle.graph.specs.Query.{opened_with}
 use Rattle.graph.specs.Arranging.{all_countable, key_of, none_below, least_at, to_front, arranged, arranged_with, arrange_of}
 use Rattle.graph.proofs.Laws.{patterns-length}
 use Rattle.graph.proofs.Bind.{Fits3}
 use Rattle.graph.proofs.Solve.{every-at}
 use Rattle.graph.proofs.Levels.{LowWords}
 use Rattle.graph.proofs.Calls.{words-few, words-fitting}
-use Rattle.graph.proofs.Fronting.{least-here, least_on, arrange-capacity, arrange-words}
-use Rattle.graph.proofs.Fronting.{arrange-damaged, arrange-opened}
+use Rattle.graph.proofs.Fronting.{least-here, least_on}
+use Rattle.graph.proofs.Fronting.{arrange-opened}
 use Rattle.query_arrange.specs.Held.{QueryHeld}
 
 pub query-held : (c : Counters) (m : Tables) (ws : List ℕ) → fits c m ≡ true → words_ok c.resources ws ≡ true
@@ -70,24 +69,8 @@ in_words t res ws i e h = one (patterns_of ws) (patterns-length ws).0 e
 
 pub opened : (c : Counters) (m : Tables) (ws : List ℕ) → fits c m ≡ true → words_ok c.resources ws ≡ true
     → all_countable c.statements m.resources (patterns_of ws) ≡ true
-    → (i : ℕ) (ws' : List ℕ) (o : QueryOpened)
-    → i ≡ least_at c.statements m.resources (patterns_of ws) → ws' ≡ to_front i ws → o ≡ opened_with Opened c.generation
-    → arranged_with ws' o ≡ arrange_of c m ws
+    → (i : ℕ) (ws' : List ℕ) (q : QueryCursor)
+    → i ≡ least_at c.statements m.resources (patterns_of ws) → ws' ≡ to_front i ws → q ≡ start_cursor c.generation
+    → arranged_with ws' (Ok q) ≡ arrange_of c m ws
 unfolding arranged
 opened c m ws f w a i ws' o e d q = rw (arrange-opened c m ws f w a, q, d, e)
-
--- ---- refused
-
-module _ (c : Counters) (m : Tables) (ws : List ℕ) (o : QueryOpened) where
-  pub refused-capacity : o ≡ opened_with (NotOpened Capacity) 0 → fits c m ≡ false → arranged_with ws o
-      ≡ arrange_of c m ws
-  refused-capacity q f = ap (arranged_with ws) q ∙ sym (arrange-capacity c m ws f)
-
-  pub refused-words : o ≡ opened_with (NotOpened BadQuery) 0 → fits c m ≡ true → words_ok c.resources ws ≡ false
-      → arranged_with ws o ≡ arrange_of c m ws
-  refused-words q f w = ap (arranged_with ws) q ∙ sym (arrange-words c m ws f w)
-
-  pub refused-damaged : o ≡ opened_with (NotOpened Damaged) 0 → fits c m ≡ true → words_ok c.resources ws ≡ true
-      → all_countable c.statements m.resources (patterns_of ws) ≡ false
-      → arranged_with ws o ≡ arrange_of c m ws
-  refused-damaged q f w a = ap (arranged_with ws) q ∙ sym (arrange-damaged c m ws f w a)

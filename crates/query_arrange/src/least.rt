@@ -15,24 +15,18 @@ fn word_countable(t: u32, resources: &[u32], p: Position, w: u32) -> bool
     requires { WordHeld resources.now w }
     ensures { result ≡ (is_variable w || leb (count_at resources.now p w) t) }
 {
-    if w >= FIRST_VARIABLE {
-        return true;
-    }
-    count_at(resources, ResourceId(w), p) <= t
+    w >= FIRST_VARIABLE || count_at(resources, ResourceId(w), p) <= t
 }
 
 // Whether no count of a pattern is above t.
+#[tactic(auto, unfolding(graph::specs::Arranging::countable))]
 fn pattern_countable(t: u32, resources: &[u32], x: QueryPattern) -> bool
     requires { PatternHeld resources.now x }
     ensures { result ≡ countable t resources.now x }
 {
-    if !word_countable(t, resources, Position::Subject, x.subject) {
-        return false;
-    }
-    if !word_countable(t, resources, Position::Predicate, x.predicate) {
-        return false;
-    }
-    word_countable(t, resources, Position::Object, x.object)
+    word_countable(t, resources, Position::Subject, x.subject)
+        && word_countable(t, resources, Position::Predicate, x.predicate)
+        && word_countable(t, resources, Position::Object, x.object)
 }
 
 // Whether no count at a place with a resource number is above t; where not, the opening refuses 9.
@@ -40,20 +34,11 @@ pub fn all_countable(t: u32, resources: &[u32], words: &[u32]) -> bool
     requires { QueryHeld resources.now words.now }
     ensures { result ≡ all_countable t resources.now (patterns_of words.now) }
 {
-    let n = patterns(words);
-    let mut i: u32 = 0;
-    // No count of the first i patterns is above t.
-    while i < n {
-        let x = pattern_at(words, i);
-        if !pattern_countable(t, resources, x) {
-            return false;
-        }
-        i += 1;
-    }
-    true
+    (0..patterns(words)).all(|i| pattern_countable(t, resources, pattern_at(words, i)))
 }
 
 // A word's count at its place; t for a variable.
+#[tactic(auto, unfolding(graph::specs::Arranging::count_or))]
 fn count_or(t: u32, resources: &[u32], p: Position, w: u32) -> u32
     requires { WordHeld resources.now w }
     ensures { result ≡ count_or t resources.now p w }
@@ -64,16 +49,8 @@ fn count_or(t: u32, resources: &[u32], p: Position, w: u32) -> u32
     count_at(resources, ResourceId(w), p)
 }
 
-fn lesser(a: u32, b: u32) -> u32
-    ensures { result ≡ min a b }
-{
-    if a <= b {
-        return a;
-    }
-    b
-}
-
 // The least count of a pattern; t where it has none.
+#[tactic(auto, unfolding(graph::specs::Arranging::key_of))]
 fn key_of(t: u32, resources: &[u32], x: QueryPattern) -> u32
     requires { PatternHeld resources.now x }
     ensures { result ≡ key_of t resources.now x }
@@ -81,7 +58,7 @@ fn key_of(t: u32, resources: &[u32], x: QueryPattern) -> u32
     let s = count_or(t, resources, Position::Subject, x.subject);
     let p = count_or(t, resources, Position::Predicate, x.predicate);
     let o = count_or(t, resources, Position::Object, x.object);
-    lesser(s, lesser(p, o))
+    s.min(p.min(o))
 }
 
 // The first pattern of least key, from 0. No count is above t, so that no key is.
@@ -89,21 +66,15 @@ pub fn least_at(t: u32, resources: &[u32], words: &[u32]) -> u32
     requires { QueryHeld resources.now words.now × (all_countable t resources.now (patterns_of words.now) ≡ true) }
     ensures { result ≡ least_at t resources.now (patterns_of words.now) }
 {
-    let n = patterns(words);
     let mut best: u32 = 0;
     let mut least = t;
-    let mut i: u32 = 0;
     // Of the first i patterns `best` is the first of least key, and `least` its key.
-    while i < n {
-        let x = pattern_at(words, i);
-        let k = key_of(t, resources, x);
+    for i in 0..patterns(words) {
+        let k = key_of(t, resources, pattern_at(words, i));
         if k < least {
             best = i;
             least = k;
-            i += 1;
-            continue;
         }
-        i += 1;
     }
     best
 }

@@ -1,13 +1,14 @@
 -- Laws of the walk's stack: answers, stacks and turns by their parts, a level more, a record put to a pattern by what
 -- the code's `meet` told. Assumes nothing.
-use mathlib.Core.Path.{◌≡◌, sym, ap, ap₂, ◌∙◌}
-use mathlib.Core.Bool.{true, false, false≢true}
+use mathlib.Core.Path.{◌≡◌, refl, sym, ap, ap₂, ◌∙◌}
 use mathlib.Core.List.{List, ◌∷◌}
 use mathlib.Core.Option.{Option, none, some}
 use Prim.Native.Nat.{ℕ, suc, ◌+◌, ◌-◌}
 use native.Mathlib.Omega.{arith}
 use lib.ListN.{length, get_or}
 use borrow.Author.Tests.{eq-eqb, ne_eqb}
+use Rattle.std.specs.Prelude.{Option as Optional, Some, None, Result, Ok}
+use Rattle.store.specs.declared.Refusal.{Refusal}
 use Rattle.store.specs.declared.Triple.{Triple}
 use Rattle.graph.specs.declared.QueryPattern.{QueryPattern}
 use Rattle.graph.specs.declared.QueryStep.{QueryStep}
@@ -18,12 +19,11 @@ use Rattle.graph.specs.declared.Level.{Level}
 use Rattle.graph.specs.Query.{past, binds, asked}
 use Rattle.graph.specs.Place.{level, no_level, levels_of}
 use Rattle.graph.specs.Words.{pattern, Bindings, under}
-use Rattle.pattern.specs.Matching.{matched_as}
-use Rattle.pattern.specs.declared.binding.Matched.{Matched}
+use Rattle.pattern.specs.Matching.{solved}
 use Rattle.query_stack.specs.declared.stack.Stack.{Stack}
 use Rattle.query_stack.specs.declared.stack.Outcome.TheVariants.{Onward, Whole}
 use Rattle.query_stack.specs.declared.stack.Turned.{Turned}
-use Rattle.query_stack.specs.Stack.{stand_as, popped_as, entered_as, met_at, tried_as}
+use Rattle.query_stack.specs.Stack.{stand_as, popped_as, entered_as, onward, tried_as}
 use Rattle.query_stack.specs.declared.stack.Outcome.{Outcome}
 
 -- ---- answers and stacks by their parts
@@ -47,7 +47,7 @@ stack_is stm ps ls top b x e f = ap₂ (λ (y : Bindings) (z : Triple). made y z
 pub popped-is : (stm : List ℕ) (ps : List QueryPattern) (q : Stack) (b : Solution) (x : Triple) (l : Level)
     → b.values ≡ binds stm ps (levels_of q.levels (q.top - 1))
     → x ≡ asked stm ps (levels_of q.levels (q.top - 1)) → l ≡ past stm (get_or q.levels (q.top - 1) no_level)
-    → ◌≡◌ {A = Turned} (record { bound = b; asked = x; level = l; top = q.top - 1; outcome = Onward })
+    → ◌≡◌ {A = Turned} (record { bound = b; asked = x; level = l; top = q.top - 1 })
     (popped_as stm ps q)
 popped-is stm ps q b x l e f g =
     ap₂ (λ (y : Bindings) (z : Triple). made y z l) e f
@@ -55,8 +55,7 @@ popped-is stm ps q b x l e f g =
     (asked stm ps (levels_of q.levels (q.top - 1))) y) g
   where
     made : Bindings → Triple → Level → Turned
-    made y z l =
-        record { bound = record { values = y }; asked = z; level = l; top = q.top - 1; outcome = Onward }
+    made y z l = record { bound = record { values = y }; asked = z; level = l; top = q.top - 1 }
 
 -- ---- levels in an array
 
@@ -64,53 +63,39 @@ pub levels-step : (ls : List Level) (d : ℕ) → levels_of ls (d + 1) ≡ get_o
 unfolding levels_of
 levels-step ls d = let q : d + 1 ≡ suc d = omega arith in rw (q, levels_of)
 
--- ---- what `meet` told
+-- ---- what the code's `meet` told
 
-module _ (m : Matched) (b : Solution) where
-  pub met : (o : Option Bindings) → m ≡ matched_as b o → m.hit ≡ true → o ≡ some m.bound.values
-  met none e h = absurd (false≢true (sym (ap (λ (z : Matched). z.hit) e) ∙ h))
-  met (some b') e h = ap (λ (z : Matched). some z.bound.values) (sym e)
+pub met-none : (o : Option Bindings) → None ≡ solved o → o ≡ none
+met-none none e = refl
+met-none (some b) e = cc
 
--- ---- a record put to a pattern, by what the code's `meet` told
+abbrev bindings_of : Optional Solution → Option Bindings
+bindings_of None = none
+bindings_of (Some s) = some s.values
 
-module _ (t : ℕ) (res stm : List ℕ) (ps : List QueryPattern) (top : ℕ) (l : Level) (x : Triple) (b : Solution) (n : ℕ)
-    (m : Matched) (d : m ≡ matched_as b (met_at stm ps top l b)) where
-  abbrev reply : Option Bindings → Turned
-  reply o = tried_as t res ps top l x b n o
+pub met-some : (o : Option Bindings) (y : Solution) → Some y ≡ solved o → o ≡ some y.values
+met-some none y e = cc
+met-some (some b) y e = ap bindings_of (sym e)
 
-  abbrev stays : Solution → Level → Outcome → Turned
-  stays y e o = record { bound = y; asked = x; level = e; top = top; outcome = o }
+-- ---- a record put to a pattern
 
-  pub tried-unmet : m.hit ≡ false → (e : Level) → e ≡ level l.chain n
-      → stays m.bound e Onward ≡ reply (met_at stm ps top l b)
+module _ (t : ℕ) (res : List ℕ) (ps : List QueryPattern) (top : ℕ) (l : Level) (x : Triple) (b : Solution) (n : ℕ)
+    (o : Option Bindings) where
+  abbrev reply : Result Outcome Refusal
+  reply = tried_as t res ps top l x b n o
+
+  abbrev stays : Solution → Turned
+  stays y = record { bound = y; asked = x; level = level l.chain n; top = top }
+
+  pub tried-unmet : o ≡ none → Ok (Onward (stays b)) ≡ reply
   unfolding tried_as
-  tried-unmet h e f = by (met_at stm ps top l b) d
-    where
-      by : (o : Option Bindings) → m ≡ matched_as b o → stays m.bound e Onward ≡ reply o
-      by none z = ap₂ (λ (y : Solution) (g : Level). stays y g Onward) (ap (λ (y : Matched). y.bound) z) f
-      by (some b') z = absurd (false≢true (sym h ∙ ap (λ (y : Matched). y.hit) z))
+  tried-unmet e = rw e
 
-  pub tried-last : m.hit ≡ true → (e : Level) → e ≡ level l.chain n → top + 1 ≡ length ps
-      → stays m.bound e Whole ≡ reply (met_at stm ps top l b)
+  pub tried-last : (y : Solution) → o ≡ some y.values → top + 1 ≡ length ps → Ok (Whole (stays y)) ≡ reply
   unfolding tried_as
-  tried-last h e f g = by (met_at stm ps top l b) d
-    where
-      by : (o : Option Bindings) → m ≡ matched_as b o → stays m.bound e Whole ≡ reply o
-      by none z = absurd (false≢true (sym (ap (λ (y : Matched). y.hit) z) ∙ h))
-      by (some b') z =
-          rw (eq-eqb (top + 1) (length ps) g)
-          (ap₂ (λ (y : Solution) (g : Level). stays y g Whole) (ap (λ (y : Matched). y.bound) z) f)
+  tried-last y e g = rw (e, eq-eqb (top + 1) (length ps) g)
 
-  pub tried-more : m.hit ≡ true → (top + 1 ≡ length ps → ⊥) → (e : Turned)
-      → e ≡ entered_as t res (under m.bound.values (get_or ps (top + 1) (pattern 0 0 0))) (top + 1) m.bound
-      → e ≡ reply (met_at stm ps top l b)
+  pub tried-more : (y : Solution) → o ≡ some y.values → (top + 1 ≡ length ps → ⊥) → (e : Result Turned Refusal)
+      → e ≡ entered_as t res (under y.values (get_or ps (top + 1) (pattern 0 0 0))) (top + 1) y → onward e ≡ reply
   unfolding tried_as
-  tried-more h g e f = by (met_at stm ps top l b) d
-    where
-      by : (o : Option Bindings) → m ≡ matched_as b o → e ≡ reply o
-      by none z = absurd (false≢true (sym (ap (λ (y : Matched). y.hit) z) ∙ h))
-      by (some b') z =
-          rw (ne_eqb (top + 1) (length ps) g)
-          (f
-          ∙ ap (λ (y : Solution). entered_as t res (under y.values (get_or ps (top + 1) (pattern 0 0 0))) (top + 1) y)
-          (ap (λ (y : Matched). y.bound) z))
+  tried-more y d g e f = rw (d, ne_eqb (top + 1) (length ps) g) (ap onward f)

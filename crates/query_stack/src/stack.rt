@@ -8,12 +8,12 @@ ghost use Rattle.table.specs.Held.{StatementHeld};
 ghost use Rattle.chain_walk.specs.declared.walk.Sought.TheVariants.{LiveMatch};
 ghost use Rattle.chain.specs.Chains.{PatternHeld};
 ghost use Rattle.chain_walk.specs.Walks.{visit_of};
-ghost use Rattle.graph.specs.Query.{refused, ended, found, answered, packed};
+ghost use Rattle.graph.specs.Query.{ended, found, answered, packed};
 ghost use Rattle.graph.specs.Place.{no_level, levels_of, inside, level, cursor_at, cursor_with};
 ghost use Rattle.graph.specs.Words.{max_patterns, patterns_of, pattern, under};
 ghost use Rattle.pattern_level.specs.Levels.{QueryOk, LevelsHeld};
 ghost use Rattle.query_stack.specs.Stack.{deepest, entered, stand_as, popped_as, entered_as, met_at, NextHeld};
-ghost use Rattle.query_stack.specs.Stack.{tried_as, over_as};
+ghost use Rattle.query_stack.specs.Stack.{tried_as, over_as, onto};
 
 use chain::pick::{pick_chain, pickable, start_of};
 use chain_walk::walk::{Sought, Visited, visit};
@@ -25,21 +25,14 @@ use store::{Chain, Refusal, StatementId, Triple};
 use table::word::triple_at;
 
 // Where the walk stands: the deepest level, from 0; the levels; what those before the deepest bind;
-// the deepest level's pattern under them, 0 for an open variable.
+// the deepest level's pattern under them, 0 for an open variable. The levels are the cursor's array, and what is entered
+// is written in place: there is no heap.
 #[derive(Clone, Copy)]
 pub struct Stack {
     pub top: u32,
     pub levels: [Level; MAX_PATTERNS],
     pub bound: Solution,
     pub asked: Triple,
-}
-
-// What a turn leads to: refusal 9, another place, or a whole solution, which is then what the stack has bound.
-#[derive(Clone, Copy)]
-pub enum Outcome {
-    Damaged,
-    Onward,
-    Whole,
 }
 
 // What a turn writes over the stack: what the levels before the deepest bind; the deepest level's pattern under them;
@@ -50,7 +43,26 @@ pub struct Turned {
     pub asked: Triple,
     pub level: Level,
     pub top: u32,
-    pub outcome: Outcome,
+}
+
+// What a record put to a pattern leads to: another place, or a whole solution, which is then what the stack has bound.
+#[derive(Clone, Copy)]
+pub enum Outcome {
+    Onward(Turned),
+    Whole(Turned),
+}
+
+impl Stack {
+    // Write over the stack what a turn gives.
+    pub fn write(&mut self, m: Turned)
+        requires { m.top < max_patterns }
+        ensures { self.new ≡ onto self.old.levels m }
+    {
+        self.bound = m.bound;
+        self.asked = m.asked;
+        self.top = m.top;
+        self.levels[m.top as usize] = m.level;
+    }
 }
 
 // A level of a chain, at record n.
@@ -72,21 +84,9 @@ pub fn no_levels(generation: u32, progress: Progress) -> QueryCursor
     cursor_of(generation, progress, levels, 0)
 }
 
-// A refusal: zeros beside it, whatever the number of reclaims.
-pub fn refused(e: Refusal) -> QueryAnswer
-    ensures { result ≡ packed 0 (refused e) }
-{
-    QueryAnswer {
-        step: QueryStep::Refused(e),
-        visits: 0,
-        solution: none_bound(),
-        cursor: no_levels(0, Progress::Start),
-    }
-}
-
 // No solution is left: the end.
 pub fn ended(generation: u32, visits: u32) -> QueryAnswer
-    ensures { result ≡ packed generation (ended visits) }
+    ensures { Ok result ≡ packed generation (ended visits) }
 {
     QueryAnswer {
         step: QueryStep::Ended,
@@ -148,12 +148,17 @@ pub fn popped(statements: &[u32], words: &[u32], q: Stack) -> Turned
         asked: under(bound, pattern_at(words, top)),
         level: past(statements, l),
         top: top,
-        outcome: Outcome::Onward,
     }
 }
 
-// The next pattern is entered, at no visit: its chain is picked as a scan's.
-pub fn enter(t: u32, resources: &[u32], words: &[u32], top: u32, bound: Solution) -> Turned
+// The next pattern is entered, at no visit: its chain is picked as a scan's, which a damaged count refuses.
+pub fn enter(
+    t: u32,
+    resources: &[u32],
+    words: &[u32],
+    top: u32,
+    bound: Solution,
+) -> Result<Turned, Refusal>
     requires { QueryOk words.now × (top < length (patterns_of words.now))
         × PatternHeld resources.now (under bound.values (get_or (patterns_of words.now) top (pattern 0 0 0))) }
     ensures { result ≡ entered_as t resources.now
@@ -161,22 +166,15 @@ pub fn enter(t: u32, resources: &[u32], words: &[u32], top: u32, bound: Solution
 {
     let x = under(bound, pattern_at(words, top));
     if !pickable(t, resources, x) {
-        return Turned {
-            bound: bound,
-            asked: x,
-            level: level(Chain::All, StatementId(0)),
-            top: top,
-            outcome: Outcome::Damaged,
-        };
+        return Err(Refusal::Damaged);
     }
     let chain = pick_chain(resources, x);
-    Turned {
+    Ok(Turned {
         bound: bound,
         asked: x,
         level: level(chain, start_of(t, resources, chain, x)),
         top: top,
-        outcome: Outcome::Onward,
-    }
+    })
 }
 
 // A live record of level l that the chain's scan would give is put to the pattern: no match, on along the chain to
@@ -192,44 +190,44 @@ pub fn tried(
     x: Triple,
     b: Solution,
     next: StatementId,
-) -> Turned
+) -> Result<Outcome, Refusal>
     requires { QueryOk words.now × (top < length (patterns_of words.now))
         × StatementHeld statements.now l.statement.0
         × NextHeld resources.now statements.now (patterns_of words.now) top l b }
     ensures { result ≡ tried_as t resources.now (patterns_of words.now) top l x b next.0
         (met_at statements.now (patterns_of words.now) top l b) }
 {
-    let m = meet(
+    let met = meet(
         pattern_at(words, top),
         triple_at(statements, l.statement),
         b,
     );
-    let bound = m.bound;
-    if !m.hit {
-        return Turned {
-            bound: bound,
+    let after = moved(l, next);
+    match met {
+        None => Ok(Outcome::Onward(Turned {
+            bound: b,
             asked: x,
-            level: moved(l, next),
+            level: after,
             top: top,
-            outcome: Outcome::Onward,
-        };
+        })),
+        Some(bound) => {
+            if top + 1 == patterns(words) {
+                return Ok(Outcome::Whole(Turned {
+                    bound: bound,
+                    asked: x,
+                    level: after,
+                    top: top,
+                }));
+            }
+            Ok(Outcome::Onward(enter(t, resources, words, top + 1, bound)?))
+        }
     }
-    if top + 1 == patterns(words) {
-        return Turned {
-            bound: bound,
-            asked: x,
-            level: moved(l, next),
-            top: top,
-            outcome: Outcome::Whole,
-        };
-    }
-    enter(t, resources, words, top + 1, bound)
 }
 
 // The budget is spent: ended where no chain has a record left. Chains that have run out stay in the place.
 pub fn out_of_budget(generation: u32, statements: &[u32], q: Stack, visits: u32) -> QueryAnswer
     requires { (q.top < max_patterns) × LevelsHeld statements.now q.levels q.top }
-    ensures { result ≡ packed generation (over_as statements.now q visits) }
+    ensures { Ok result ≡ packed generation (over_as statements.now q visits) }
 {
     let levels = q.levels;
     if remains(statements, levels, q.top) {
@@ -248,7 +246,7 @@ pub fn out_of_budget(generation: u32, statements: &[u32], q: Stack, visits: u32)
 // A whole solution is found: the stack has bound it.
 pub fn whole(generation: u32, s: Stack, visits: u32) -> QueryAnswer
     requires { s.top < max_patterns }
-    ensures { result ≡ packed generation (found s.bound.values visits (inside (deepest s) (entered s))) }
+    ensures { Ok result ≡ packed generation (found s.bound.values visits (inside (deepest s) (entered s))) }
 {
     let solution = s.bound;
     let levels = s.levels;
@@ -270,9 +268,9 @@ pub fn moved(l: Level, n: StatementId) -> Level
     level(chain, n)
 }
 
-// A visit of a level's record, where x is the level's pattern under the earlier levels:
-// damaged, a live record that x lets through, or another; with the next record on the chain.
-pub fn seen(statements: &[u32], r: u32, l: Level, x: Triple) -> Visited
+// A visit of a level's record, where x is the level's pattern under the earlier levels: a live record that x lets
+// through, or another, with the next record on the chain; a damaged record is refused.
+pub fn seen(statements: &[u32], r: u32, l: Level, x: Triple) -> Result<Visited, Refusal>
     requires { StatementHeld statements.now l.statement.0 }
     ensures { result ≡ visit_of LiveMatch r statements.now l.chain x (l.statement.0 - 1) }
 {

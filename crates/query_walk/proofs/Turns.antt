@@ -1,6 +1,6 @@
 -- Laws of a turn of the walk: chains that have run out, a visit, a match, the next pattern entered; what both loops
 -- keep, and the walk at each way out of a turn. Assumes nothing.
-use mathlib.Core.Path.{◌≡◌, refl, sym, ap, ap₂, ◌∙◌}
+use mathlib.Core.Path.{◌≡◌, refl, sym, ap, ap₂, subst, ◌∙◌}
 use mathlib.Core.Bool.{Bool, true, false, cond, not, ◌&&◌, false≢true}
 use mathlib.Core.List.{List, [], ◌∷◌}
 use mathlib.Core.Option.{Option, none, some}
@@ -9,17 +9,18 @@ use native.Mathlib.Omega.{arith}
 use lib.ListN.{length, get_or, set}
 use lib.Dec.{eqb}
 use borrow.Author.Tests.{eqb-true, eqb-false, eq-eqb, ne_eqb}
+use Rattle.std.specs.Prelude.{Result, Ok, Err}
 use Rattle.store.specs.declared.StatementId.{StatementId}
 use Rattle.store.specs.declared.Chain.{Chain}
-use Rattle.store.specs.declared.Chain.TheVariants.{All}
 use Rattle.store.specs.declared.Triple.{Triple}
+use Rattle.store.specs.declared.Refusal.{Refusal}
 use Rattle.store.specs.declared.Refusal.TheVariants.{Damaged as Nine}
 use Rattle.store.specs.Shared.{known, agrees, matches}
 use Rattle.store.specs.Tables.{statement_words, triple_at}
 use Rattle.store.specs.Walk.{entry_at, pick_chain, pickable, start_of, link_of, visitable}
 use Rattle.chain_walk.specs.declared.walk.Sought.TheVariants.{LiveMatch}
 use Rattle.chain_walk.specs.declared.walk.Visited.{Visited}
-use Rattle.chain_walk.specs.declared.walk.Visited.TheVariants.{Damaged as BadRecord, Hit, Miss}
+use Rattle.chain_walk.specs.declared.walk.Visited.TheVariants.{Hit, Miss}
 use Rattle.chain_walk.specs.Walks.{hits, visit_of}
 use Rattle.graph.specs.declared.QueryPattern.{QueryPattern}
 use Rattle.graph.specs.declared.Solution.{Solution}
@@ -32,10 +33,10 @@ use Rattle.graph.specs.Query.{Answer, refused, found, ended, enter, hit, tried, 
 use Rattle.pattern_level.specs.Levels.{QueryOk, LevelsHeld}
 use Rattle.query_stack.specs.declared.stack.Stack.{Stack}
 use Rattle.query_stack.specs.declared.stack.Outcome.{Outcome}
-use Rattle.query_stack.specs.declared.stack.Outcome.TheVariants.{Damaged, Onward, Whole}
+use Rattle.query_stack.specs.declared.stack.Outcome.TheVariants.{Onward, Whole}
 use Rattle.query_stack.specs.declared.stack.Turned.{Turned}
-use Rattle.query_stack.specs.Stack.{deepest, entered, popped_as, entered_as, met_at, NextHeld, tried_as}
-use Rattle.query_walk.specs.Turn.{Ready, LevelSure, Stands, Visitable, onto, turn_as, TurnIs, tried_at}
+use Rattle.query_stack.specs.Stack.{deepest, entered, onto, popped_as, entered_as, met_at, NextHeld, onward, tried_as}
+use Rattle.query_walk.specs.Turn.{Ready, LevelSure, Stands, Visitable, TurnIs, tried_at}
 use Rattle.store.proofs.Tests.{decide, and_l}
 use Rattle.chain.proofs.Chains.{pick-bound, start-within}
 use Rattle.chain_walk.proofs.Walks.{falling, was-damaged, was-hit, was-miss}
@@ -98,12 +99,6 @@ module _ (r t : ℕ) (stm ws : List ℕ) (q : Stack) (s : Stands r t stm ws q) (
 
 -- ---- a pattern entered
 
-pub not-onward : {A : Type 0} → Whole ≡ Onward → A
-not-onward e = let z : ◌≡◌ {A = ℕ} 0 1 = cc in absurd (omega arith)
-
-pub not-damaged : {A : Type 0} → Damaged ≡ Onward → A
-not-damaged e = let z : ◌≡◌ {A = ℕ} 0 1 = cc in absurd (omega arith)
-
 module _ (r t : ℕ) (res stm ws : List ℕ) (ls : List Level) (d : ℕ) (b : Solution) (few : d < length (patterns_of ws))
     (small : d < max_patterns) (size : length ls ≡ max_patterns) (sure : Sure r t stm ls d)
     (bound-is : b.values ≡ binds stm (patterns_of ws) (levels_of ls d)) where
@@ -124,39 +119,35 @@ module _ (r t : ℕ) (res stm ws : List ℕ) (ls : List Level) (d : ℕ) (b : So
   enter-is = rw asked_entry
 
   abbrev goes : Turned
-  goes = record { bound = b; asked = entry; level = first-level; top = d; outcome = Onward }
+  goes = record { bound = b; asked = entry; level = first-level; top = d }
 
-  abbrev damaged-entry : Turned
-  damaged-entry = record { bound = b; asked = entry; level = level All 0; top = d; outcome = Damaged }
-
-  entered-yes : pickable t res entry ≡ true → entered_as t res entry d b ≡ goes
+  entered-yes : pickable t res entry ≡ true → entered_as t res entry d b ≡ Ok goes
   unfolding entered_as
   entered-yes e = rw e
 
-  entered-no : pickable t res entry ≡ false → entered_as t res entry d b ≡ damaged-entry
+  entered-no : pickable t res entry ≡ false → entered_as t res entry d b ≡ Err Nine
   unfolding entered_as
   entered-no e = rw e
 
-  pub entering : TurnIs r t stm ws (enter r t res stm (patterns_of ws) (levels_of ls d)) ls (entered_as t res entry d b)
+  abbrev Entering : Result Turned Refusal → Type 0
+  Entering o = TurnIs r t stm ws (enter r t res stm (patterns_of ws) (levels_of ls d)) ls (onward o)
+
+  pub entering : Entering (entered_as t res entry d b)
   entering = decide (pickable t res entry) yes no
     where
-      yes : pickable t res entry ≡ true → TurnIs r t stm ws (enter r t res stm (patterns_of ws) (levels_of ls d)) ls
-          (entered_as t res entry d b)
+      yes : pickable t res entry ≡ true → Entering (entered_as t res entry d b)
       yes e =
-          rw (entered-yes e)
-          (record {
-            told =
-                ap₂ go (top-is r t stm ws ls d first-level few small size) (levels-set ls d d first-level (omega arith))
-                ∙ sym (enter-is ∙ rw e);
-            stands =
-                λ z. stands-new r t stm ws ls d first-level few small size b entry sure
-                (start-within t res entry e (pick_chain res entry) (pick-bound res entry)) bound-is (sym asked_entry);
-            slot = small;
-          })
+          let f : Entering (Ok goes) = (
+            small,
+            ap₂ go (top-is r t stm ws ls d first-level few small size) (levels-set ls d d first-level (omega arith))
+                ∙ sym (enter-is ∙ rw e),
+            stands-new r t stm ws ls d first-level few small size b entry sure
+                (start-within t res entry e (pick_chain res entry) (pick-bound res entry)) bound-is (sym asked_entry),
+          ) in
+          subst Entering (sym (entered-yes e)) f
 
-      no : pickable t res entry ≡ false → TurnIs r t stm ws (enter r t res stm (patterns_of ws) (levels_of ls d)) ls
-          (entered_as t res entry d b)
-      no e = rw (entered-no e) (record { told = sym (enter-is ∙ rw e); stands = λ z. not-damaged z; slot = small })
+      no : pickable t res entry ≡ false → Entering (entered_as t res entry d b)
+      no e = let f : Entering (Err Nine) = (refl, sym (enter-is ∙ rw e)) in subst Entering (sym (entered-no e)) f
 
 -- ---- a visit
 
@@ -213,14 +204,17 @@ module _ (r t : ℕ) (res stm ws : List ℕ) (k : Ready r t res stm ws) (q : Sta
       go_on true a z = absurd (false≢true z)
       go_on false a z = refl
 
-  abbrev visited : Visited
+  abbrev visited : Result Visited Refusal
   visited = visit_of LiveMatch r stm chain_of q.asked (num - 1)
 
-  pub visit-damaged : visited ≡ BadRecord → visit r t res stm (patterns_of ws) (deepest q) (entered q) ≡ bad
+  pub visit-damaged : (d : Refusal) → visited ≡ Err d
+      → (d ≡ Nine) × (visit r t res stm (patterns_of ws) (deepest q) (entered q) ≡ bad)
   unfolding visit
-  visit-damaged e = rw (prev-minus num, ← s.asked_is, was-damaged LiveMatch r stm chain_of q.asked (num - 1) e)
+  visit-damaged d e =
+      let w = was-damaged LiveMatch r stm chain_of q.asked (num - 1) d e in
+      (w.1, rw (prev-minus num, ← s.asked_is, w.0))
 
-  pub visit-missed : (m : StatementId) → visited ≡ Miss m → (num ≡ 0 → ⊥)
+  pub visit-missed : (m : StatementId) → visited ≡ Ok (Miss m) → (num ≡ 0 → ⊥)
       → (visit r t res stm (patterns_of ws) (deepest q) (entered q) ≡ go (level chain_of m.0) (entered q))
       × (m.0 < num)
   unfolding visit tried
@@ -230,7 +224,7 @@ module _ (r t : ℕ) (res stm ws : List ℕ) (k : Ready r t res stm ws) (q : Sta
       let y = a.2 in
       (rw (prev-minus num, ← s.asked_is, a.0, hit-none a.1, past-at stm (deepest q), y), omega arith)
 
-  pub visit-hit : (m : StatementId) → visited ≡ Hit m → (num ≡ 0 → ⊥)
+  pub visit-hit : (m : StatementId) → visited ≡ Ok (Hit m) → (num ≡ 0 → ⊥)
       → (visit r t res stm (patterns_of ws) (deepest q) (entered q)
       ≡ tried r t res stm (patterns_of ws) (deepest q) (entered q) meeting)
       × Visitable r stm q × (m.0 ≡ link_of stm chain_of (num - 1))
@@ -292,38 +286,37 @@ module _ (r t : ℕ) (res stm ws : List ℕ) (k : Ready r t res stm ws) (q : Sta
   abbrev turn : Turn
   turn = tried r t res stm (patterns_of ws) (deepest q) (entered q) meeting
 
-  abbrev moved : Solution → ℕ → Outcome → Turned
-  moved b n o = record { bound = b; asked = q.asked; level = level chain_of n; top = q.top; outcome = o }
+  abbrev Leads : Result Outcome Refusal → Type 0
+  Leads = TurnIs r t stm ws turn q.levels
+
+  abbrev moved : Solution → ℕ → Turned
+  moved b n = record { bound = b; asked = q.asked; level = level chain_of n; top = q.top }
 
   turned-miss : (n : ℕ) → Visitable r stm q → n ≡ link_of stm chain_of (num - 1) → meeting ≡ none
-      → TurnIs r t stm ws turn q.levels (moved q.bound n Onward)
+      → Leads (Ok (Onward (moved q.bound n)))
   unfolding tried
   turned-miss n v e o =
       let p = moved-place (level chain_of n) in
       let f = falling r stm chain_of q.asked (num - 1) v.sound in
-      let w = s.next-within in
-      record {
-        told = ap₂ go (p.0 ∙ next_past n e) p.1
-            ∙ sym (ap (tried r t res stm (patterns_of ws) (deepest q) (entered q)) o);
-        stands = λ z. moved-stands n (omega arith);
-        slot = top_small;
-      }
+      let w = s.next-within in (
+        top_small,
+        ap₂ go (p.0 ∙ next_past n e) p.1
+            ∙ sym (ap (tried r t res stm (patterns_of ws) (deepest q) (entered q)) o),
+        moved-stands n (omega arith),
+      )
 
   turned-whole : (n : ℕ) (b : Solution) → n ≡ link_of stm chain_of (num - 1) → meeting ≡ some b.values
-      → q.top + 1 ≡ length (patterns_of ws) → TurnIs r t stm ws turn q.levels (moved b n Whole)
+      → q.top + 1 ≡ length (patterns_of ws) → Leads (Ok (Whole (moved b n)))
   unfolding tried
   turned-whole n b e o h =
       let p = moved-place (level chain_of n) in
       let g : suc (length (entered q)) ≡ length (patterns_of ws) = ap suc (levels-length q.levels q.top)
-      ∙ (let y : suc q.top ≡ q.top + 1 = omega arith in y ∙ h) in
-      record {
-        told =
-            ap₂ (whole b.values) (p.0 ∙ next_past n e) p.1
+      ∙ (let y : suc q.top ≡ q.top + 1 = omega arith in y ∙ h) in (
+        top_small,
+        ap₂ (whole b.values) (p.0 ∙ next_past n e) p.1
             ∙ sym (ap (tried r t res stm (patterns_of ws) (deepest q) (entered q)) o
-            ∙ rw (eq-eqb (suc (length (entered q))) (length (patterns_of ws)) g));
-        stands = λ z. not-onward z;
-        slot = top_small;
-      }
+            ∙ rw (eq-eqb (suc (length (entered q))) (length (patterns_of ws)) g)),
+      )
 
   module _ (b : Solution) (o : meeting ≡ some b.values) (more : q.top + 1 ≡ length (patterns_of ws) → ⊥) where
     binds-next : binds stm (patterns_of ws) (levels_of q.levels (q.top + 1)) ≡ b.values
@@ -341,8 +334,8 @@ module _ (r t : ℕ) (res stm ws : List ℕ) (k : Ready r t res stm ws) (q : Sta
         ∙ rw (ne_eqb (suc (length (entered q))) (length (patterns_of ws)) g, ← levels-step q.levels q.top)
 
     turned-enter : Visitable r stm q
-        → TurnIs r t stm ws turn q.levels
-        (entered_as t res (under b.values (get_or (patterns_of ws) (q.top + 1) (pattern 0 0 0))) (q.top + 1) b)
+        → Leads
+        (onward (entered_as t res (under b.values (get_or (patterns_of ws) (q.top + 1) (pattern 0 0 0))) (q.top + 1) b))
     turned-enter v =
         let n = s.few in
         let e = (ready-query r t res stm ws k).few in
@@ -371,8 +364,7 @@ module _ (r t : ℕ) (res stm ws : List ℕ) (k : Ready r t res stm ws) (q : Sta
       }
 
   turned_by : (n : ℕ) → Visitable r stm q → n ≡ link_of stm chain_of (num - 1) → (o : Option Bindings) → meeting ≡ o
-      → TurnIs r t stm ws turn q.levels
-      (tried_as t res (patterns_of ws) q.top (deepest q) q.asked q.bound n o)
+      → Leads (tried_as t res (patterns_of ws) q.top (deepest q) q.asked q.bound n o)
   unfolding tried_as
   turned_by n v e none d = turned-miss n v e d
   turned_by n v e (some b') d =
@@ -380,11 +372,11 @@ module _ (r t : ℕ) (res stm ws : List ℕ) (k : Ready r t res stm ws) (q : Sta
       (λ z. rw z (turned-whole n (record { values = b' }) e d (eqb-true (q.top + 1) (length (patterns_of ws)) z)))
       (λ z. rw z (turned-enter (record { values = b' }) d (eqb-false (q.top + 1) (length (patterns_of ws)) z) v))
 
-  pub turned-is : (n : ℕ) (m : Turned) → Visitable r stm q → n ≡ link_of stm chain_of (num - 1)
+  pub turned-is : (n : ℕ) (m : Result Outcome Refusal) → Visitable r stm q → n ≡ link_of stm chain_of (num - 1)
       → m ≡ tried_as t res (patterns_of ws) q.top (deepest q) q.asked q.bound n
       (met_at stm (patterns_of ws) q.top (deepest q) q.bound)
-      → TurnIs r t stm ws turn q.levels m
-  turned-is n m v e d = rw (d, met-is) (turned_by n v e meeting refl)
+      → Leads m
+  turned-is n m v e d = subst Leads (sym (d ∙ rw met-is)) (turned_by n v e meeting refl)
 
 -- ---- the loops
 
@@ -486,7 +478,7 @@ module _ (h : Here) where
       }
 
   module _ (some-record : last.statement.0 ≡ 0 → ⊥) where
-    abbrev seen : Visited
+    abbrev seen : Result Visited Refusal
     seen = visit_of LiveMatch h.r h.stm last.chain h.q.asked (last.statement.0 - 1)
 
     abbrev turn_here : Turn
@@ -522,11 +514,12 @@ module _ (h : Here) where
           less = omega arith;
         }
 
-    pub sees-damaged : seen ≡ BadRecord → from_here ≡ refused Nine
-    sees-damaged d =
-        bad-here (visit-damaged h.r h.t h.res h.stm h.ws h.ready h.q h.stands d)
+    pub sees-damaged : (e : Refusal) → seen ≡ Err e → from_here ≡ refused e
+    sees-damaged e d =
+        let v = visit-damaged h.r h.t h.res h.stm h.ws h.ready h.q h.stands e d in
+        bad-here v.1 ∙ ap (λ (z : Refusal). refused z) (sym v.0)
 
-    pub sees-miss : (n : StatementId) (l : Level) → seen ≡ Miss n → l ≡ level last.chain n.0
+    pub sees-miss : (n : StatementId) (l : Level) → seen ≡ Ok (Miss n) → l ≡ level last.chain n.0
         → Onward-to (at_level l) (h.v + 1)
     sees-miss n l d f =
         let x = visit-missed h.r h.t h.res h.stm h.ws h.ready h.q h.stands n d some-record in
@@ -537,7 +530,7 @@ module _ (h : Here) where
         (omega (arith, x.1))))
         (omega arith)
 
-    module _ (n : StatementId) (d : seen ≡ Hit n) where
+    module _ (n : StatementId) (d : seen ≡ Ok (Hit n)) where
       hit-here : (turn_here ≡ tried_at h.r h.t h.res h.stm ps h.q) × Visitable h.r h.stm h.q
           × (n.0 ≡ link_of h.stm last.chain (last.statement.0 - 1))
       hit-here = visit-hit h.r h.t h.res h.stm h.ws h.ready h.q h.stands n d some-record
@@ -550,52 +543,56 @@ module _ (h : Here) where
         next-held h.r h.t h.res h.stm h.ws h.ready h.q h.stands hit-here.1,
       )
 
--- that live record put to the pattern, and what is then written
+-- that live record put to the pattern, and what the code answers
 pub record Tried : Type 0 where
   pub at : Here
   pub some-record : (deepest at.q).statement.0 ≡ 0 → ⊥
   pub n : StatementId
   pub hit : visit_of LiveMatch at.r at.stm (deepest at.q).chain at.q.asked
-      ((deepest at.q).statement.0 - 1) ≡ Hit n
-  pub m : Turned
-  pub made : m ≡ tried_as at.t at.res (patterns_of at.ws) at.q.top (deepest at.q) at.q.asked
-      at.q.bound n.0 (met_at at.stm (patterns_of at.ws) at.q.top (deepest at.q) at.q.bound)
+      ((deepest at.q).statement.0 - 1) ≡ Ok (Hit n)
 
 module _ (x : Tried) where
   abbrev h : Here
   h = x.at
 
-  abbrev after : Stack
-  after = onto h.q.levels x.m
-
   abbrev met : Turn
   met = tried_at h.r h.t h.res h.stm (ps h) h.q
 
-  T : TurnIs h.r h.t h.stm h.ws met h.q.levels x.m
-  T =
+  abbrev answered : Result Outcome Refusal
+  answered = tried_as h.t h.res (patterns_of h.ws) h.q.top (deepest h.q) h.q.asked h.q.bound x.n.0
+      (met_at h.stm (patterns_of h.ws) h.q.top (deepest h.q) h.q.bound)
+
+  leads : (m : Result Outcome Refusal) → m ≡ answered → TurnIs h.r h.t h.stm h.ws met h.q.levels m
+  leads m e =
       let y = hit-here h x.some-record x.n x.hit in
-      turned-is h.r h.t h.res h.stm h.ws h.ready h.q h.stands x.n.0 x.m y.1 y.2
-      x.made
+      turned-is h.r h.t h.res h.stm h.ws h.ready h.q h.stands x.n.0 m y.1 y.2 e
 
-  outcome-is : (o : Outcome) → x.m.outcome ≡ o → turn_here h x.some-record ≡ turn_as o after
-  outcome-is o f =
-      (hit-here h x.some-record x.n x.hit).0 ∙ sym T.told ∙ ap (λ (z : Outcome). turn_as z after) f
+  turn-is : (z : Turn) → z ≡ met → turn_here h x.some-record ≡ z
+  turn-is z e = (hit-here h x.some-record x.n x.hit).0 ∙ sym e
 
-  pub tried-top : x.m.top < max_patterns
-  tried-top = T.slot
+  pub tried-refused : (e : Refusal) → Err e ≡ answered → from_here h ≡ refused e
+  tried-refused e d =
+      let l = leads (Err e) d in
+      bad-here h x.some-record (turn-is bad l.1) ∙ ap (λ (z : Refusal). refused z) (sym l.0)
 
-  pub tried-damaged : x.m.outcome ≡ Damaged → from_here h ≡ refused Nine
-  tried-damaged f = bad-here h x.some-record (outcome-is Damaged f)
+  pub onward-slot : (m : Turned) → Ok (Onward m) ≡ answered → m.top < max_patterns
+  onward-slot m d = (leads (Ok (Onward m)) d).0
 
-  pub tried-onward : x.m.outcome ≡ Onward → Onward-to h after (h.v + 1)
-  tried-onward f =
-      let n = tried-top in
-      go-here h x.some-record (deepest after) (entered after) after (outcome-is Onward f) refl refl (T.stands f)
-      (omega arith)
+  pub tried-onward : (m : Turned) → Ok (Onward m) ≡ answered → Onward-to h (onto h.q.levels m) (h.v + 1)
+  tried-onward m d =
+      let l = leads (Ok (Onward m)) d in
+      let after = onto h.q.levels m in
+      let n = l.0 in
+      go-here h x.some-record (deepest after) (entered after) after (turn-is _ l.1) refl refl l.2 (omega arith)
 
-  pub tried-whole : x.m.outcome ≡ Whole → from_here h ≡ found x.m.bound.values (h.v + 1)
-      (inside (deepest after) (entered after))
-  tried-whole f =
+  pub whole-slot : (m : Turned) → Ok (Whole m) ≡ answered → m.top < max_patterns
+  whole-slot m d = (leads (Ok (Whole m)) d).0
+
+  pub tried-whole : (m : Turned) → Ok (Whole m) ≡ answered
+      → (let after = onto h.q.levels m in
+      from_here h ≡ found m.bound.values (h.v + 1) (inside (deepest after) (entered after)))
+  tried-whole m d =
+      let after = onto h.q.levels m in
       turn-whole h.r h.t h.res h.stm (ps h) (last h) (up h) h.v (h.budget - h.v) (last h) (up h)
-      x.m.bound.values (deepest after) (entered after) (some_left h) (backtracked-here h x.some-record)
-      (outcome-is Whole f)
+      m.bound.values (deepest after) (entered after) (some_left h) (backtracked-here h x.some-record)
+      (turn-is _ (leads (Ok (Whole m)) d).1)

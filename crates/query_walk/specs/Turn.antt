@@ -1,5 +1,7 @@
 -- What holds of the walk's stack before each turn, and what a turn leads to. Assumes nothing.
-use Rattle.std.specs.Prelude.{◌≡◌, true, List, ℕ, ◌-◌, ◌*◌, ◌≤◌, ◌<◌, length, get_or, set}
+use Rattle.std.specs.Prelude.{◌≡◌, true, List, ℕ, ◌-◌, ◌*◌, ◌≤◌, ◌<◌, length, get_or, Result, Ok, Err}
+use Rattle.store.specs.declared.Refusal.{Refusal}
+use Rattle.store.specs.declared.Refusal.TheVariants.{Damaged}
 use Rattle.store.specs.Shared.{known, max_resources}
 use Rattle.store.specs.Tables.{resource_words, statement_words}
 use Rattle.store.specs.Walk.{visitable}
@@ -10,9 +12,8 @@ use Rattle.graph.specs.Place.{no_level}
 use Rattle.graph.specs.Words.{max_patterns, patterns_of, words_ok}
 use Rattle.query_stack.specs.declared.stack.Stack.{Stack}
 use Rattle.query_stack.specs.declared.stack.Outcome.{Outcome}
-use Rattle.query_stack.specs.declared.stack.Outcome.TheVariants.{Damaged, Onward, Whole}
-use Rattle.query_stack.specs.declared.stack.Turned.{Turned}
-use Rattle.query_stack.specs.Stack.{deepest, entered}
+use Rattle.query_stack.specs.declared.stack.Outcome.TheVariants.{Onward, Whole}
+use Rattle.query_stack.specs.Stack.{deepest, entered, onto}
 
 -- ---- what holds
 
@@ -45,20 +46,14 @@ pub record Visitable (r : ℕ) (stm : List ℕ) (q : Stack) : Type 0 where
 
 -- ---- a turn
 
--- the levels with what a turn writes over them
-abbrev pub onto : List Level → Turned → Stack
-onto ls m = record { top = m.top; levels = set ls m.top m.level; bound = m.bound; asked = m.asked }
-
--- the code's turn as the definition's; a whole solution is what the stack has bound
-abbrev pub turn_as : Outcome → Stack → Turn
-turn_as Damaged q = bad
-turn_as Onward q = go (deepest q) (entered q)
-turn_as Whole q = whole q.bound.values (deepest q) (entered q)
-
-pub record TurnIs (r t : ℕ) (stm ws : List ℕ) (turn : Turn) (ls : List Level) (m : Turned) : Type 0 where
-  pub told : turn_as m.outcome (onto ls m) ≡ turn
-  pub stands : m.outcome ≡ Onward → Stands r t stm ws (onto ls m)
-  pub slot : m.top < max_patterns
+-- what a record put to the pattern leads to, as the definition's turn, over the levels ls: a refusal is 9; another
+-- place, where the stack stands; a whole solution, which is what the stack has bound
+abbrev pub TurnIs : (r t : ℕ) (stm ws : List ℕ) → Turn → List Level → Result Outcome Refusal → Type 0
+TurnIs r t stm ws turn ls (Ok (Onward m)) =
+    (m.top < max_patterns) × (go (deepest (onto ls m)) (entered (onto ls m)) ≡ turn) × Stands r t stm ws (onto ls m)
+TurnIs r t stm ws turn ls (Ok (Whole m)) =
+    (m.top < max_patterns) × (whole m.bound.values (deepest (onto ls m)) (entered (onto ls m)) ≡ turn)
+TurnIs r t stm ws turn ls (Err e) = (e ≡ Damaged) × (bad ≡ turn)
 
 -- the deepest record, live and on its chain, put to the pattern
 abbrev pub tried_at : (r t : ℕ) → List ℕ → List ℕ → List QueryPattern → Stack → Turn

@@ -8,13 +8,11 @@ ghost use Rattle.query_walk.specs.Turn.{Ready, Stands};
 
 use chain_walk::walk::Visited;
 use graph::QueryAnswer;
-use query_stack::stack::{
-    Outcome, Stack, ended, moved, out_of_budget, popped, refused, seen, tried, whole,
-};
+use query_stack::stack::{Outcome, Stack, ended, moved, out_of_budget, popped, seen, tried, whole};
 use store::{Counters, Refusal};
 
-// The walk from a place, with at most `budget` visits, left from inside at the first whole solution, with the stack
-// that has bound it. Chains that have run out are left only once a further visit is sought.
+// The walk from a place, with at most `budget` visits: the loop is left from inside, by its label, at the first whole
+// solution, with the stack that has bound it. Chains that have run out are left only once a further visit is sought.
 pub fn walk(
     c: Counters,
     resources: &[u32],
@@ -22,7 +20,7 @@ pub fn walk(
     words: &[u32],
     from: Stack,
     budget: u32,
-) -> QueryAnswer
+) -> Result<QueryAnswer, Refusal>
     requires { Ready c.resources c.statements resources.now statements.now words.now
         × Stands c.resources c.statements statements.now words.now from }
     ensures { result ≡ packed c.generation (walk c.resources c.statements resources.now
@@ -31,12 +29,13 @@ pub fn walk(
     let mut q = from;
     let mut visits: u32 = 0;
     // Here and in the loop within: `visits` were made and no solution found, and the walk from q with what is left of
-    // the budget answers as the walk asked for.
+    // the budget answers as the walk asked for. The loop is left by its label with the stack that has bound the solution: the
+    // form that docs/DECISIONS.md names for this walk ("Forms").
     let found = 'walk: loop {
         // Along the deepest level's chain; a match enters the next pattern.
         loop {
             if visits == budget {
-                return out_of_budget(c.generation, statements, q, visits);
+                return Ok(out_of_budget(c.generation, statements, q, visits));
             }
             let l = q.levels[q.top as usize];
             if l.statement.0 == 0 {
@@ -44,15 +43,14 @@ pub fn walk(
             }
             visits += 1;
             let x = q.asked;
-            match seen(statements, c.resources, l, x) {
-                Visited::Damaged => return refused(Refusal::Damaged),
+            let visited = seen(statements, c.resources, l, x)?;
+            match visited {
                 Visited::Miss(n) => {
                     let after = moved(l, n);
                     q.levels[q.top as usize] = after;
                 }
                 Visited::Hit(n) => {
-                    let b = q.bound;
-                    let m = tried(
+                    let outcome = tried(
                         c.statements,
                         resources,
                         statements,
@@ -60,37 +58,25 @@ pub fn walk(
                         q.top,
                         l,
                         x,
-                        b,
+                        q.bound,
                         n,
-                    );
-                    let b = m.bound;
-                    let x = m.asked;
-                    let e = m.level;
-                    let outcome = m.outcome;
-                    q.bound = b;
-                    q.asked = x;
-                    q.top = m.top;
-                    q.levels[m.top as usize] = e;
+                    )?;
                     match outcome {
-                        Outcome::Damaged => return refused(Refusal::Damaged),
-                        Outcome::Onward => {}
-                        Outcome::Whole => break 'walk q,
+                        Outcome::Onward(m) => q.write(m),
+                        Outcome::Whole(m) => {
+                            q.write(m);
+                            break 'walk q;
+                        }
                     }
                 }
             }
         }
         // The chain has run out, and its level is left.
         if q.top == 0 {
-            return ended(c.generation, visits);
+            return Ok(ended(c.generation, visits));
         }
         let m = popped(statements, words, q);
-        let b = m.bound;
-        let x = m.asked;
-        let e = m.level;
-        q.bound = b;
-        q.asked = x;
-        q.top = m.top;
-        q.levels[m.top as usize] = e;
+        q.write(m);
     };
-    whole(c.generation, found, visits)
+    Ok(whole(c.generation, found, visits))
 }

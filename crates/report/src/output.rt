@@ -3,24 +3,17 @@ ghost use Rattle.streams.specs.Counts.{IsPrefixLen};
 
 use std::io::Error;
 use streams::{Output, Outputs, decimal, fail};
-use table::word::lesser;
 
 // Writes to an output, and answers whether all was written. Standard error tells if it was standard output that could not be.
 pub fn put(rt: &impl Outputs, to: Output, bytes: &[u8]) -> bool {
     match rt.write_bytes(to, bytes) {
         Ok(()) => true,
         Err(e) => {
-            tell_unwritten(rt, to, e);
+            if to == Output::Standard {
+                fail(rt, b"standard output", e);
+            }
             false
         }
-    }
-}
-
-// Tells on standard error that standard output could not be written.
-fn tell_unwritten(rt: &impl Outputs, to: Output, error: Error) {
-    match to {
-        Output::Standard => fail(rt, b"standard output", error),
-        Output::Error => {}
     }
 }
 
@@ -34,21 +27,14 @@ pub fn cannot(rt: &impl Outputs, name: &[u8], error: Error) -> bool {
     true
 }
 
-// Appends bytes to what stands before `at`, as far as there is room, and answers where they end.
+// Appends bytes to what stands before `at`, as far as there is room, and answers where they end. No struct of a buffer and its length: the
+// clause speaks of the slice that is lent, of whatever size.
 pub fn append(out: &mut [u8], at: usize, bytes: &[u8]) -> usize
     ensures { IsPrefixLen result out.new }
 {
-    let mut end = lesser(at, out.len());
-    let mut i = 0;
-    // The first i bytes are stored, and end at `end`.
-    while i < bytes.len() {
-        if end >= out.len() {
-            return end;
-        }
-        out[end] = bytes[i];
-        end += 1;
-        i += 1;
-    }
+    let start = at.min(out.len());
+    let end = start + bytes.len().min(out.len() - start);
+    out[start..end].copy_from_slice(&bytes[..end - start]);
     end
 }
 

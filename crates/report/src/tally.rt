@@ -3,9 +3,11 @@ ghost use Rattle.streams.specs.Counts.{IsPrefixLen};
 
 use crate::output;
 use crate::output::{append, append_decimal};
-use line_fault::Fault;
+use crate::status::Status;
+use line_fault::{Fault, Name, Part};
 use std::io::Error;
 use std::rt::Env;
+use store::Refusal;
 use streams::{Output, Outputs};
 
 // Of one file so many refused lines are told, and then their number.
@@ -14,14 +16,11 @@ const TOLD: u64 = 20;
 // A file's name of at most 4,096 bytes, three numbers and a reason.
 const REPORT_LINE: usize = 4352;
 
-// The refusal for want of room.
-const FULL: u32 = 3;
-
-// The argument that names the file being read, 0 for standard input, and how many lines were read before it; how many of its lines were
+// The argument that names the file being read, none for standard input, and how many lines were read before it; how many of its lines were
 // refused, and of all files'; whether one found no room, how many files could not be read, and whether all that was told was written.
 #[derive(Clone, Copy)]
 pub struct Report {
-    pub file: usize,
+    pub file: Option<usize>,
     pub before: u64,
     pub refused: u64,
     pub missing: u64,
@@ -30,33 +29,15 @@ pub struct Report {
     pub written: bool,
 }
 
-// Before anything is read.
-pub fn fresh() -> Report {
-    Report {
-        file: 0,
-        before: 0,
-        refused: 0,
-        missing: 0,
-        full: false,
-        unread: 0,
-        written: true,
-    }
-}
-
-// One more. Nothing comes as far as the number can count.
-pub fn counted(n: u64) -> u64 {
-    if n < 18446744073709551615 { n + 1 } else { n }
-}
-
 // Appends the name of a file, by the argument that names it.
-fn append_file(rt: &impl Env, out: &mut [u8], at: usize, file: usize) -> usize
+fn append_file(rt: &impl Env, out: &mut [u8], at: usize, file: Option<usize>) -> usize
     ensures { IsPrefixLen result out.new }
 {
-    if file == 0 {
+    let Some(i) = file else {
         return append(out, at, b"standard input");
-    }
-    let mut name = streams::buffer();
-    let n = streams::argument_or_nothing(rt, file, &mut name);
+    };
+    let mut name = [0u8; streams::ARGUMENT];
+    let n = streams::argument_or_nothing(rt, i, &mut name);
     append(out, at, &name[..n])
 }
 
@@ -70,27 +51,27 @@ fn append_byte(out: &mut [u8], at: usize, b: u8, words: &[u8]) -> usize
 }
 
 // Appends the kind of a name.
-fn append_kind(out: &mut [u8], at: usize, kind: u32) -> usize
+fn append_kind(out: &mut [u8], at: usize, kind: Name) -> usize
     ensures { IsPrefixLen result out.new }
 {
     match kind {
-        1 => append(out, at, b"an IRI"),
-        2 => append(out, at, b"a label"),
-        _ => append(out, at, b"a literal"),
+        Name::Iri => append(out, at, b"an IRI"),
+        Name::Label => append(out, at, b"a label"),
+        Name::Literal => append(out, at, b"a literal"),
     }
 }
 
 // Appends what is due.
-fn append_due(out: &mut [u8], at: usize, part: u32) -> usize
+fn append_due(out: &mut [u8], at: usize, part: Part) -> usize
     ensures { IsPrefixLen result out.new }
 {
     let a = append(out, at, b"expected ");
     match part {
-        0 => append(out, a, b"a subject"),
-        1 => append(out, a, b"a predicate"),
-        2 => append(out, a, b"an object"),
-        3 => append(out, a, b"a dot"),
-        _ => append(out, a, b"the line's end"),
+        Part::Subject => append(out, a, b"a subject"),
+        Part::Predicate => append(out, a, b"a predicate"),
+        Part::Object => append(out, a, b"an object"),
+        Part::Dot => append(out, a, b"a dot"),
+        Part::LineEnd => append(out, a, b"the line's end"),
     }
 }
 
@@ -116,28 +97,27 @@ fn append_fault(out: &mut [u8], at: usize, f: Fault, b: u8) -> usize
     }
 }
 
-// A byte of the line, 0 past its end.
-fn byte_at(line: &[u8], i: usize) -> u8 {
-    if i < line.len() {
-        return line[i];
-    }
-    0
-}
-
 // Appends the column of offset k, and what stands between it and the reason.
 fn append_column(out: &mut [u8], at: usize, k: usize) -> usize
     ensures { IsPrefixLen result out.new }
 {
-    let a = append_decimal(out, at, counted(k as u64));
+    let a = append_decimal(out, at, (k as u64).saturating_add(1));
     append(out, a, b": ")
 }
 
-// Appends column and reason of a line that was refused n, without its ending: it finds no room, is over the limit, or cannot be read at
+// Appends column and reason of a line that was refused with e, without its ending: it finds no room, is over the limit, or cannot be read at
 // offset k.
-fn append_reason(out: &mut [u8], at: usize, n: u32, line: &[u8], k: usize, limit: usize) -> usize
+fn append_reason(
+    out: &mut [u8],
+    at: usize,
+    e: Refusal,
+    line: &[u8],
+    k: usize,
+    limit: usize,
+) -> usize
     ensures { IsPrefixLen result out.new }
 {
-    if n == FULL {
+    if e == Refusal::Full {
         return append(out, at, b"1: no room for one more");
     }
     if line.len() > limit {
@@ -145,106 +125,120 @@ fn append_reason(out: &mut [u8], at: usize, n: u32, line: &[u8], k: usize, limit
         return append(out, a, b"over 1024 bytes");
     }
     let a = append_column(out, at, k);
-    append_fault(out, a, line_fault::fault_at(line, k), byte_at(line, k))
+    append_fault(
+        out,
+        a,
+        line_fault::fault_at(line, k),
+        line.get(k).copied().unwrap_or(0),
+    )
 }
 
-// Tells that line `number` of all was refused n: file, line and column, and why.
-fn tell_line(
-    rt: &(impl Outputs + Env),
-    t: Report,
-    number: u64,
-    n: u32,
-    line: &[u8],
-    k: usize,
-    limit: usize,
-) -> bool {
-    let mut out = [0u8; REPORT_LINE];
-    let a = append_file(rt, &mut out, 0, t.file);
-    let b = append(&mut out, a, b":");
-    let c = append_decimal(&mut out, b, std::num::wrapping_sub_u64(number, t.before));
-    let d = append(&mut out, c, b":");
-    let e = append_reason(&mut out, d, n, line, k, limit);
-    let f = append(&mut out, e, b"\n");
-    output::put(rt, Output::Error, &out[..f])
-}
+impl Report {
+    // Before anything is read.
+    pub fn fresh() -> Report {
+        Report {
+            file: None,
+            before: 0,
+            refused: 0,
+            missing: 0,
+            full: false,
+            unread: 0,
+            written: true,
+        }
+    }
 
-// With line `number` of all, refused n, without its ending: where it is 10, the line is over the limit, or cannot be read at offset k.
-pub fn with_refused(
-    rt: &(impl Outputs + Env),
-    t: Report,
-    number: u64,
-    n: u32,
-    line: &[u8],
-    k: usize,
-    limit: usize,
-) -> Report {
-    let mut u = t;
-    u.refused = counted(t.refused);
-    u.missing = counted(t.missing);
-    if n == FULL {
-        u.full = true;
+    // Tells that line `number` of all was refused with e: file, line and column, and why.
+    fn tell_line(
+        self,
+        rt: &(impl Outputs + Env),
+        number: u64,
+        e: Refusal,
+        line: &[u8],
+        k: usize,
+        limit: usize,
+    ) -> bool {
+        let mut out = [0u8; REPORT_LINE];
+        let a = append_file(rt, &mut out, 0, self.file);
+        let b = append(&mut out, a, b":");
+        let c = append_decimal(&mut out, b, number.wrapping_sub(self.before));
+        let d = append(&mut out, c, b":");
+        let f = append_reason(&mut out, d, e, line, k, limit);
+        let g = append(&mut out, f, b"\n");
+        output::put(rt, Output::Error, &out[..g])
     }
-    if u.refused > TOLD {
-        return u;
-    }
-    u.written = tell_line(rt, t, number, n, line, k, limit);
-    u
-}
 
-// With what was just written, or not.
-pub fn with_written(t: Report, written: bool) -> Report {
-    let mut u = t;
-    u.written = written;
-    u
-}
+    // With line `number` of all, refused with e, without its ending: where it is no line, it is over the limit, or cannot be read at offset k.
+    pub fn with_refused(
+        self,
+        rt: &(impl Outputs + Env),
+        number: u64,
+        e: Refusal,
+        line: &[u8],
+        k: usize,
+        limit: usize,
+    ) -> Report {
+        let refused = self.refused.saturating_add(1);
+        let written = if refused > TOLD {
+            self.written
+        } else {
+            self.tell_line(rt, number, e, line, k, limit)
+        };
+        Report {
+            refused,
+            missing: self.missing.saturating_add(1),
+            full: self.full || e == Refusal::Full,
+            written,
+            ..self
+        }
+    }
 
-// With a file begun after so many lines, named by an argument, or standard input (0).
-pub fn with_file(t: Report, file: usize, lines: u64) -> Report {
-    let mut u = t;
-    u.file = file;
-    u.before = lines;
-    u.refused = 0;
-    u
-}
+    // With what was just written, or not.
+    pub fn with_written(self, written: bool) -> Report {
+        Report { written, ..self }
+    }
 
-// With a file ended: where not all of its refused lines were told, their number is.
-pub fn with_end(rt: &(impl Outputs + Env), t: Report) -> Report {
-    let mut u = t;
-    if !t.written {
-        return t;
+    // With a file begun after so many lines, named by an argument, or standard input.
+    pub fn with_file(self, file: Option<usize>, lines: u64) -> Report {
+        Report {
+            file,
+            before: lines,
+            refused: 0,
+            ..self
+        }
     }
-    if t.refused <= TOLD {
-        return t;
-    }
-    let mut out = [0u8; REPORT_LINE];
-    let a = append_file(rt, &mut out, 0, t.file);
-    let b = append(&mut out, a, b": ");
-    let c = append_decimal(&mut out, b, t.refused);
-    let d = append(&mut out, c, b" lines refused\n");
-    u.written = output::put(rt, Output::Error, &out[..d]);
-    u
-}
 
-// With something that could not be read, and why.
-pub fn with_unread(rt: &impl Outputs, t: Report, name: &[u8], error: Error) -> Report {
-    let mut u = t;
-    u.unread = counted(t.unread);
-    u.written = output::cannot(rt, name, error);
-    u
-}
+    // With a file ended: where not all of its refused lines were told, their number is.
+    pub fn with_end(self, rt: &(impl Outputs + Env)) -> Report {
+        if !self.written || self.refused <= TOLD {
+            return self;
+        }
+        let mut out = [0u8; REPORT_LINE];
+        let a = append_file(rt, &mut out, 0, self.file);
+        let b = append(&mut out, a, b": ");
+        let c = append_decimal(&mut out, b, self.refused);
+        let d = append(&mut out, c, b" lines refused\n");
+        self.with_written(output::put(rt, Output::Error, &out[..d]))
+    }
 
-// What a load comes to: 2 where something could not be read or written, 1 where a line was refused, otherwise 0.
-pub fn status(t: Report) -> u32 {
-    if t.unread != 0 {
-        return 2;
+    // With something that could not be read, and why.
+    pub fn with_unread(self, rt: &impl Outputs, name: &[u8], error: Error) -> Report {
+        Report {
+            unread: self.unread.saturating_add(1),
+            written: output::cannot(rt, name, error),
+            ..self
+        }
     }
-    if !t.written {
-        return 2;
+
+    // What a load comes to.
+    pub fn status(self) -> Status {
+        if self.unread != 0 || !self.written {
+            Status::Failed
+        } else if self.missing != 0 {
+            Status::Refused
+        } else {
+            Status::Done
+        }
     }
-    if t.missing != 0 {
-        return 1;
-    }
-    0
 }
 
 // Tells words and a number, and answers whether they were written.
@@ -259,18 +253,14 @@ pub fn tell(rt: &impl Outputs, words: &[u8], n: u64) -> bool {
 // Tells what a file lacks that is about to be written, where lines were refused or files could not be read, and answers whether that was
 // written.
 pub fn tell_lacks(rt: &impl Outputs, missing: u64, unread: u64) -> bool {
-    if unread == 0 {
-        if missing == 0 {
-            return true;
-        }
-        return tell(rt, b"lines missing from the file: ", missing);
+    match (unread, missing) {
+        (0, 0) => true,
+        (0, _) => tell(rt, b"lines missing from the file: ", missing),
+        (_, 0) => output::put(rt, Output::Error, b"not everything could be read\n"),
+        _ => tell(
+            rt,
+            b"not everything could be read, lines missing from the file: ",
+            missing,
+        ),
     }
-    if missing == 0 {
-        return output::put(rt, Output::Error, b"not everything could be read\n");
-    }
-    tell(
-        rt,
-        b"not everything could be read, lines missing from the file: ",
-        missing,
-    )
 }

@@ -1,6 +1,6 @@
 -- Laws of a scan: its pattern lies in the table, a cursor that is taken stands within T, and next by the walk that code
 -- makes. Assumes nothing.
-use mathlib.Core.Path.{◌≡◌, refl, sym, ap, ◌∙◌}
+use mathlib.Core.Path.{◌≡◌, refl, sym, ap, ap₂, ◌∙◌}
 use mathlib.Core.Bool.{Bool, true, false, ◌&&◌}
 use mathlib.Core.List.{List}
 use Prim.Native.Nat.{ℕ, ◌≤◌, ◌<◌}
@@ -19,9 +19,10 @@ use Rattle.chain.specs.Chains.{PatternHeld}
 use Rattle.chain.proofs.Chains.{held}
 use Rattle.chain.specs.declared.plan.Plan.{Plan}
 use Rattle.chain_walk.specs.declared.walk.Sought.TheVariants.{LiveMatch}
-use Rattle.chain.specs.Plans.{plan_of}
-use Rattle.chain.proofs.Plans.{plan-chain, plan-pattern, plan-resource}
+use Rattle.chain.specs.Planned.{resource_of}
 use Rattle.chain_walk.proofs.Walks.{record-by}
+use Rattle.std.specs.Prelude.{Result}
+use Rattle.store.specs.declared.Refusal.{Refusal}
 use Rattle.chain_walk.specs.declared.walk.Walked.{Walked}
 use Rattle.chain_walk.specs.Walks.{record_has, hits, step_of}
 
@@ -51,8 +52,8 @@ module _ (c : Counters) (m : Tables) (q : ScanCursor) where
       third false b = refl
 
   -- next by the walk that code makes by a plan
-  pub next-walk : (a : Walked) (b : ℕ) → fits c m ≡ true → q.generation ≡ c.generation → cursor_ok c m q ≡ true
-      → (b ≡ 0 → ⊥) → (p : Plan) → p ≡ plan_of q.chain q.pattern
+  pub next-walk : (a : Result Walked Refusal) (b : ℕ) → fits c m ≡ true → q.generation ≡ c.generation → cursor_ok c m q ≡ true
+      → (b ≡ 0 → ⊥) → (p : Plan) → (p.chain ≡ q.chain) × (p.pattern ≡ q.pattern)
       → step_of a ≡ walk (link_of m.statements p.chain)
       (visitable c.resources m.statements p.chain p.pattern)
       (hits LiveMatch m.statements p.pattern) b q.next.0
@@ -62,14 +63,15 @@ module _ (c : Counters) (m : Tables) (q : ScanCursor) where
       let e : step_of a ≡ walk (link_of m.statements q.chain)
       (visitable c.resources m.statements q.chain q.pattern)
       (λ i. matches q.pattern (entry_at m.statements i)) b q.next.0 =
-      w ∙ rw (plan-chain p q.chain q.pattern d, plan-pattern p q.chain q.pattern d) in
+      w ∙ rw (d.0, d.1) in
       rw (f, eq-eqb q.generation c.generation g, k, ne_eqb b 0 h) (ap (scanned_as q) (sym e))
 
 -- ---- a cursor tested by a plan
 
-module _ (p : Plan) (ch : Chain) (x : Triple) (e : p ≡ plan_of ch x) where
+module _ (p : Plan) (ch : Chain) (x : Triple) (e : (p.chain ≡ ch) × (p.pattern ≡ x)) where
   pub chain_by : {b : Bool} → b ≡ chain_ok p.chain p.pattern → b ≡ chain_ok ch x
-  chain_by h = h ∙ rw (plan-chain p ch x e, plan-pattern p ch x e)
+  chain_by h = h ∙ ap₂ chain_ok e.0 e.1
 
   pub record-told : (stm : List ℕ) (n : ℕ) {b : Bool} → b ≡ record_has stm ch p.resource.0 n → b ≡ record_ok stm ch x n
-  record-told stm n h = h ∙ rw (plan-resource p ch x e) (record-by stm ch x n)
+  record-told stm n h =
+      h ∙ ap (λ (y : ℕ). record_has stm ch y n) (p.planned.0 ∙ ap₂ resource_of e.0 e.1) ∙ record-by stm ch x n

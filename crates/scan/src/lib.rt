@@ -6,45 +6,39 @@
 #![tactic(auto)]
 
 ghost use Rattle.std.specs.Prelude.{◌≡◌, ◌*◌, ◌≤◌, length};
-ghost use Rattle.store.specs.Tables.{lent, statement_words};
+ghost use Rattle.store.specs.Tables.{statement_words};
+ghost use Rattle.table.specs.Lent.{held};
 ghost use Rattle.store.specs.Scan.{cursor_in, open_of, next_of};
-ghost use Rattle.chain.specs.Plans.{plan_of};
 ghost use Rattle.scan.specs.Cursors.{CursorTested};
 
 use chain::pick::{pick_chain, pickable, start_of};
-use chain::plan::{Plan, chain_fits, plan_of};
+use chain::plan::Plan;
 use chain_walk::walk::{Sought, Walked, record_has, walk};
-use store::{Counters, Refusal, ScanCursor, ScanOpened, Scanned, StatementId, Triple};
+use store::{Counters, Refusal, ScanCursor, Scanned, StatementId, Triple};
 use table::fits;
+use table::lent::Tables;
 use table::triple::within;
 
 // Open a pattern scan: a cursor of the store's generation, before the first record of the bound position of least
 // count.
-pub fn scan_open(
-    c: Counters,
-    resources: &[u32],
-    statements: &[u32],
-    index: &[u32],
-    text: &[u8],
-    x: Triple,
-) -> ScanOpened
+pub fn scan_open(c: Counters, tables: Tables, x: Triple) -> Result<ScanCursor, Refusal>
     ensures { result
-        ≡ open_of c (lent resources.entry statements.entry index.entry text.entry) x }
+        ≡ open_of c (held tables.entry) x }
 {
-    if !fits(c, resources, statements, index, text) {
-        return ScanOpened::Refused(Refusal::Capacity);
+    if !fits(c, tables) {
+        return Err(Refusal::Capacity);
     }
     if !within(c.resources, x) {
-        return ScanOpened::Refused(Refusal::UnknownNumber);
+        return Err(Refusal::UnknownNumber);
     }
-    if !pickable(c.statements, resources, x) {
-        return ScanOpened::Refused(Refusal::Damaged);
+    if !pickable(c.statements, tables.resources, x) {
+        return Err(Refusal::Damaged);
     }
-    let chain = pick_chain(resources, x);
-    let first = start_of(c.statements, resources, chain, x);
-    ScanOpened::Cursor(ScanCursor {
+    let chain = pick_chain(tables.resources, x);
+    let first = start_of(c.statements, tables.resources, chain, x);
+    Ok(ScanCursor {
         pattern: x,
-        chain: chain,
+        chain,
         next: first,
         generation: c.generation,
     })
@@ -54,7 +48,7 @@ pub fn scan_open(
 // pattern.
 fn cursor_ok(c: Counters, statements: &[u32], q: ScanCursor, plan: Plan) -> bool
     requires { (statement_words * c.statements ≤ length statements.now)
-        × (plan ≡ plan_of q.chain q.pattern) }
+        × ((plan.chain ≡ q.chain) × (plan.pattern ≡ q.pattern)) }
     ensures { CursorTested c statements.now q result }
 {
     let x = q.pattern;
@@ -64,7 +58,7 @@ fn cursor_ok(c: Counters, statements: &[u32], q: ScanCursor, plan: Plan) -> bool
     if q.next.0 > c.statements {
         return false;
     }
-    if !chain_fits(plan) {
+    if !plan.chain_fits() {
         return false;
     }
     let chain = q.chain;
@@ -75,51 +69,45 @@ fn cursor_ok(c: Counters, statements: &[u32], q: ScanCursor, plan: Plan) -> bool
 fn moved(q: ScanCursor, next: StatementId) -> ScanCursor
     ensures { result ≡ cursor_in q.generation q.pattern q.chain next.0 }
 {
-    let mut m = q;
-    m.next = next;
-    m
+    ScanCursor { next, ..q }
 }
 
 // Next of a pattern scan: the first live match within the budget, or that the chain or the budget has ended. A cursor
 // of another generation is refused before the rest of it is tested: a reclaim numbers statements anew.
 pub fn scan_next(
     c: Counters,
-    resources: &[u32],
-    statements: &[u32],
-    index: &[u32],
-    text: &[u8],
+    tables: Tables,
     q: ScanCursor,
     budget: u32,
-) -> Scanned
+) -> Result<Scanned, Refusal>
     ensures { result
-        ≡ next_of c (lent resources.entry statements.entry index.entry text.entry) q budget }
+        ≡ next_of c (held tables.entry) q budget }
 {
-    if !fits(c, resources, statements, index, text) {
-        return Scanned::Refused(Refusal::Capacity);
+    if !fits(c, tables) {
+        return Err(Refusal::Capacity);
     }
     if q.generation != c.generation {
-        return Scanned::Refused(Refusal::StaleCursor);
+        return Err(Refusal::StaleCursor);
     }
     let chain = q.chain;
     let x = q.pattern;
-    let plan = plan_of(chain, x);
-    if !cursor_ok(c, statements, q, plan) {
-        return Scanned::Refused(Refusal::BadCursor);
+    let plan = Plan::new(chain, x);
+    if !cursor_ok(c, tables.statements, q, plan) {
+        return Err(Refusal::BadCursor);
     }
     if budget == 0 {
-        return Scanned::Refused(Refusal::NoBudget);
+        return Err(Refusal::NoBudget);
     }
     match walk(
-        statements,
+        tables.statements,
         c.resources,
         plan,
         Sought::LiveMatch,
         q.next,
         budget,
-    ) {
-        Walked::Found(n, visits, next) => Scanned::Found(n, visits, moved(q, next)),
-        Walked::Ended(visits) => Scanned::Ended(visits, moved(q, StatementId(0))),
-        Walked::Spent(visits, next) => Scanned::Spent(visits, moved(q, next)),
-        Walked::Damaged => Scanned::Refused(Refusal::Damaged),
+    )? {
+        Walked::Found(n, visits, next) => Ok(Scanned::Found(n, visits, moved(q, next))),
+        Walked::Ended(visits) => Ok(Scanned::Ended(visits, moved(q, StatementId(0)))),
+        Walked::Spent(visits, next) => Ok(Scanned::Spent(visits, moved(q, next))),
     }
 }

@@ -4,5 +4,5 @@
 use std::process::ExitCode;
 
 fn main(rt: HostRuntime) -> ExitCode {
-    programs::ending(programs::lemontiller_shell(&rt))
+    programs::lemontiller_shell(&rt).into()
 }

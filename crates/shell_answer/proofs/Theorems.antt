@@ -14,6 +14,7 @@ use Rattle.graph.specs.Claims.{reading, scanning}
 use Rattle.graph.specs.Work.{work_of, scan_work_of}
 use Rattle.graph.proofs.Theorems.{query-reads, scan-reads}
 use Rattle.shell_answer.specs.declared.Told.{Told}
+use Rattle.shell_answer.specs.Told.{account}
 use Rattle.shell_answer.specs.Claims.{ListRead, Whole, QuestionsAreReadThrough, ListsAreReadThrough}
 use Rattle.shell_answer.proofs.Whole.{whole}
 
@@ -29,11 +30,11 @@ few c m S x =
 pub questions-are-read-through : QuestionsAreReadThrough
 questions-are-read-through c m S ws ok =
     let r = query-reads c m S ws ok in
-    (r.1.0, r.1.1, λ t T. whole (reading c m ws) r.1.0 (work_of c m ws) r.1.2 r.2 t (T.opened r.0))
+    (r.1.0, r.1.1, λ t T. whole (reading c m ws) r.1.0 (work_of c m ws) r.1.2 r.2 (account t) (T.opened r.0))
 
 pub lists-are-read-through : ListsAreReadThrough
 lists-are-read-through c m S x known =
     let r = scan-reads c m S x known in
-    let w : (t : Told) → ListRead c m x t → Whole r.all (scan_work_of c m x) t =
-    λ t T. whole (scanning c m x) r.all (scan_work_of c m x) r.read r.ends t (T.opened r.opened) in
+    let w : (t : Told) → ListRead c m x t → Whole r.all (scan_work_of c m x) (account t) =
+    λ t T. whole (scanning c m x) r.all (scan_work_of c m x) r.read r.ends (account t) (T.opened r.opened) in
     (r.all, r.exactly, λ t T. (λ d. (w t T).ends d (omega (arith, few c m S x)), w t T))

@@ -11,7 +11,6 @@ use Rattle.store.proofs.Tests.{decide, cond-all}
 use Rattle.store.proofs.Walks.{walk_end, walk-out, walk-damaged, walk-hit, walk-miss}
 use Rattle.store.specs.declared.Counters.{Counters}
 use Rattle.store.specs.declared.ScanCursor.{ScanCursor}
-use Rattle.store.specs.declared.Scanned.{Scanned}
 use Rattle.store.specs.Shared.{matches}
 use Rattle.store.specs.Tables.{Tables, fits}
 use Rattle.store.specs.Values.{scanned_values}
@@ -20,9 +19,13 @@ use Rattle.store.specs.Scan.{scanned_as, cursor_ok, walk_from, next_of}
 use Rattle.graph.specs.declared.QueryCursor.{QueryCursor}
 use Rattle.graph.specs.declared.QueryAnswer.{QueryAnswer}
 use Rattle.graph.specs.Query.{next_query_of}
+use Rattle.graph.specs.Values.{query_values}
 use Rattle.graph.proofs.Theorems.{within-budget}
+use Rattle.std.specs.Prelude.{Result}
+use Rattle.store.specs.declared.Refusal.{Refusal}
+use Rattle.store.specs.declared.Scanned.{Scanned}
 
-abbrev Within : ℕ → Scanned → Type 0
+abbrev Within : ℕ → Result Scanned Refusal → Type 0
 Within b s = (scanned_values s).visits ≤ b
 
 after-within : (q : ScanCursor) (b : ℕ) (w : Option Step) → Within b (scanned_as q w)
@@ -58,10 +61,10 @@ scan-within c m q b =
     (omega arith)
 
 -- of what was answered, with the budget b
-pub scanned-within : (c : Counters) (m : Tables) (q : ScanCursor) (b : ℕ) {s : Scanned} → next_of c m q b ≡ s
+pub scanned-within : (c : Counters) (m : Tables) (q : ScanCursor) (b : ℕ) {s : Result Scanned Refusal} → next_of c m q b ≡ s
     → (scanned_values s).visits ≤ b
 scanned-within c m q b e = rw e at (scan-within c m q b)
 
-pub answered-within : (c : Counters) (m : Tables) (ws : List ℕ) (q : QueryCursor) (b : ℕ) {a : QueryAnswer} → next_query_of c m ws q b ≡ a
-    → a.visits ≤ b
+pub answered-within : (c : Counters) (m : Tables) (ws : List ℕ) (q : QueryCursor) (b : ℕ) {a : Result QueryAnswer Refusal}
+    → next_query_of c m ws q b ≡ a → (query_values a).visits ≤ b
 answered-within c m ws q b e = rw e at (within-budget c m ws q b)

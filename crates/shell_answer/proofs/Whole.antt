@@ -7,8 +7,7 @@ use lib.ListN.{length, length-replicate}
 use Rattle.store.proofs.Tests.{decide}
 use Rattle.graph.specs.Claims.{Reply, AllPositive, NoneRefused, Read, Ends}
 use Rattle.graph.proofs.ReadThrough.{read_all}
-use Rattle.shell_answer.specs.declared.Told.{Told}
-use Rattle.shell_answer.specs.Told.{budget, budgets, refusal_in, TellsOf}
+use Rattle.shell_answer.specs.Told.{Account, budget, budgets, refusal_in, TellsOf}
 use Rattle.shell_answer.specs.Claims.{Whole}
 
 positive : (n : ℕ) → AllPositive (budgets n)
@@ -22,15 +21,15 @@ module _ {A Q : Type 0} where
   none-refused (r ∷ rs) h = rw h.0 (none-refused rs h.1)
 
   pub whole : (read : List ℕ → List (Reply A Q)) (all : List A) (work : ℕ) → ((bs : List ℕ) → AllPositive bs → Read (read bs) all)
-      → Ends read work → (t : Told) → TellsOf read t → Whole all work t
+      → Ends read work → (t : Account) → TellsOf read t → Whole all work t
   whole read all work R E t T =
       let bs = budgets T.calls in
       let p = positive T.calls in
-      let told-ended = ap (λ (t : Told). t.ended) T.tells in
-      let unrefused = ap (λ (t : Told). t.refusal) T.tells ∙ none-refused (read bs) (R bs p).unrefused in record {
+      let told-ended = ap (λ (t : Account). t.ended) T.tells in
+      let unrefused = ap (λ (t : Account). t.refusal) T.tells ∙ none-refused (read bs) (R bs p).unrefused in record {
         unrefused = unrefused;
-        found = λ e. ap (λ (t : Told). t.found) T.tells ∙ ap length (read_all (R bs p) (sym told-ended ∙ e));
-        visits = λ e. ap (λ (t : Told). t.visits) T.tells ∙ E.visits bs p (sym told-ended ∙ e);
+        found = λ e. ap (λ (t : Account). t.found) T.tells ∙ ap length (read_all (R bs p) (sym told-ended ∙ e));
+        visits = λ e. ap (λ (t : Account). t.visits) T.tells ∙ E.visits bs p (sym told-ended ∙ e);
         ends =
             λ w h.
             decide t.ended (λ y. y)

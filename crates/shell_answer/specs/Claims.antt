@@ -15,21 +15,21 @@ use Rattle.graph.specs.Values.{query_opened_values}
 use Rattle.graph.specs.Work.{work_of, scan_work_of}
 use Rattle.graph.specs.Claims.{reading, scanning, AllInOrder, AllMatches}
 use Rattle.shell_answer.specs.declared.Told.{Told}
-use Rattle.shell_answer.specs.Told.{max_calls, ReadThrough}
+use Rattle.shell_answer.specs.Told.{max_calls, Account, account, ReadThrough}
 
 -- ---- what the code answers, on any tables and words
 
 abbrev pub QuestionRead : Counters → Tables → List ℕ → Told → Type 0
-QuestionRead c m ws t = ReadThrough (query_opened_values (open_query_of c m ws)).refusal (reading c m ws) t
+QuestionRead c m ws t = ReadThrough (query_opened_values (open_query_of c m ws)).refusal (reading c m ws) (account t)
 
 abbrev pub ListRead : Counters → Tables → Triple → Told → Type 0
-ListRead c m x t = ReadThrough (opened_values (open_of c m x)).refusal (scanning c m x) t
+ListRead c m x t = ReadThrough (opened_values (open_of c m x)).refusal (scanning c m x) (account t)
 
 -- ---- on a sound store
 
 -- not refused; once ended, all are found, with these visits; ended wherever all that was found was written and two calls more than that
 -- may be made
-pub record Whole {A : Type 0} (all : List A) (work : ℕ) (t : Told) : Type 0 where
+pub record Whole {A : Type 0} (all : List A) (work : ℕ) (t : Account) : Type 0 where
   pub unrefused : t.refusal ≡ 0
   pub found : t.ended ≡ true → t.found ≡ length all
   pub visits : t.ended ≡ true → t.visits ≡ work
@@ -37,10 +37,10 @@ pub record Whole {A : Type 0} (all : List A) (work : ℕ) (t : Told) : Type 0 wh
 
 abbrev pub QuestionsAreReadThrough : Type 0
 QuestionsAreReadThrough = (c : Counters) (m : Tables) → Sound c m → (ws : List ℕ) → words_ok c.resources ws ≡ true
-    → (ss : List Bindings) × AllInOrder c m ws ss × ((t : Told) → QuestionRead c m ws t → Whole ss (work_of c m ws) t)
+    → (ss : List Bindings) × AllInOrder c m ws ss × ((t : Told) → QuestionRead c m ws t → Whole ss (work_of c m ws) (account t))
 
 -- a list has always ended, unless something could not be written
 abbrev pub ListsAreReadThrough : Type 0
 ListsAreReadThrough = (c : Counters) (m : Tables) → Sound c m → (x : Triple) → within c.resources x ≡ true
     → (ns : List ℕ) × AllMatches c m x ns
-    × ((t : Told) → ListRead c m x t → (t.written ≡ true → t.ended ≡ true) × Whole ns (scan_work_of c m x) t)
+    × ((t : Told) → ListRead c m x t → ((account t).written ≡ true → (account t).ended ≡ true) × Whole ns (scan_work_of c m x) (account t))

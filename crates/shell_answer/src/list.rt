@@ -1,41 +1,50 @@
 // A list read through.
-ghost use Rattle.store.specs.Tables.{lent};
+ghost use Rattle.table.specs.Lent.{held};
 ghost use Rattle.graph.specs.Claims.{read_on, scan_next};
-ghost use Rattle.shell_answer.specs.Told.{TellsOf};
+ghost use Rattle.shell_answer.specs.Told.{TellsOf, account};
 ghost use Rattle.shell_answer.specs.Claims.{ListRead};
 
-use crate::{BUDGET, CALLS, Told, told_ended, told_refused, told_stopped};
+use crate::{BUDGET, CALLS, End, Told};
 use shell_print::names;
-use store::{Counters, ScanCursor, ScanOpened, Scanned, Triple};
+use store::{Counters, ScanCursor, Scanned, Triple};
 use streams::Outputs;
+use table::lent::Tables;
 
 // Reads on from a cursor until the reading has ended, or a write fails, and writes each statement as it comes.
-fn read_on(
-    rt: &impl Outputs,
-    c: Counters,
-    resources: &[u32],
-    statements: &[u32],
-    index: &[u32],
-    text: &[u8],
-    start: ScanCursor,
-) -> Told
+// `question` has such a loop too: replies differ in type and in what they find, and one loop over both would take two closures with clauses
+// longer than the loop.
+fn read_on(rt: &impl Outputs, c: Counters, tables: Tables, start: ScanCursor) -> Told
     ensures { TellsOf (read_on (scan_next c
-        (lent resources.entry statements.entry index.entry text.entry)) start) result }
+        (held tables.entry)) start) (account result) }
 {
     let mut q = start;
     let mut found: u64 = 0;
     let mut visits: u64 = 0;
-    let mut turns = CALLS;
     // `found` statements are written, with `visits` visits; `q` is how far the reading is.
-    while turns > 0 {
-        match scan::scan_next(c, resources, statements, index, text, q, BUDGET) {
-            Scanned::Refused(e) => return told_refused(store::refusal_number(e), found, visits),
-            Scanned::Ended(v, _) => return told_ended(found, visits + v as u64),
+    for _ in 0..CALLS {
+        let reply = match scan::scan_next(c, tables, q, BUDGET) {
+            Ok(reply) => reply,
+            Err(e) => return Told {
+                end: End::Refused(e),
+                found,
+                visits,
+            },
+        };
+        match reply {
+            Scanned::Ended(v, _) => return Told {
+                end: End::Ended,
+                found,
+                visits: visits + v as u64,
+            },
             Scanned::Found(n, v, next) => {
                 found += 1;
                 visits += v as u64;
-                if !names::statement(rt, c, resources, statements, index, text, n) {
-                    return told_stopped(found, visits, false);
+                if !names::statement(rt, c, tables, n) {
+                    return Told {
+                        end: End::Unwritten,
+                        found,
+                        visits,
+                    };
                 }
                 q = next;
             }
@@ -44,25 +53,24 @@ fn read_on(
                 q = next;
             }
         }
-        turns -= 1;
     }
-    told_stopped(found, visits, true)
+    Told {
+        end: End::Stopped,
+        found,
+        visits,
+    }
 }
 
 // Reads the list of a pattern through, 0 standing for any.
-pub fn read_through(
-    rt: &impl Outputs,
-    c: Counters,
-    resources: &[u32],
-    statements: &[u32],
-    index: &[u32],
-    text: &[u8],
-    x: Triple,
-) -> Told
-    ensures { ListRead c (lent resources.entry statements.entry index.entry text.entry) x result }
+pub fn read_through(rt: &impl Outputs, c: Counters, tables: Tables, x: Triple) -> Told
+    ensures { ListRead c (held tables.entry) x result }
 {
-    match scan::scan_open(c, resources, statements, index, text, x) {
-        ScanOpened::Refused(e) => told_refused(store::refusal_number(e), 0, 0),
-        ScanOpened::Cursor(q) => read_on(rt, c, resources, statements, index, text, q),
+    match scan::scan_open(c, tables, x) {
+        Err(e) => Told {
+            end: End::Refused(e),
+            found: 0,
+            visits: 0,
+        },
+        Ok(q) => read_on(rt, c, tables, q),
     }
 }

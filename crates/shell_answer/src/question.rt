@@ -1,80 +1,90 @@
 // A question read through.
-ghost use Rattle.store.specs.Tables.{lent};
+ghost use Rattle.table.specs.Lent.{held};
 ghost use Rattle.graph.specs.Claims.{read_on, next_reply};
-ghost use Rattle.shell_answer.specs.Told.{TellsOf};
+ghost use Rattle.shell_answer.specs.Told.{TellsOf, account};
 ghost use Rattle.shell_answer.specs.Claims.{QuestionRead};
 
-use crate::{BUDGET, CALLS, Told, told_ended, told_refused, told_stopped};
-use graph::{QueryCursor, QueryOpening, QueryStep};
+use crate::{BUDGET, CALLS, End, Told};
+use graph::{QueryCursor, QueryStep};
 use shell_print::names;
 use store::Counters;
 use streams::Outputs;
+use table::lent::Tables;
 
 // Reads on from a cursor until the reading has ended, or a write fails, and writes each solution as it comes.
+// `list` has such a loop too: replies differ in type and in what they find, and one loop over both would take two closures with clauses
+// longer than the loop.
 fn read_on(
     rt: &impl Outputs,
     c: Counters,
-    resources: &[u32],
-    statements: &[u32],
-    index: &[u32],
-    text: &[u8],
+    tables: Tables,
     words: &[u32],
     variables: usize,
     start: QueryCursor,
 ) -> Told
     ensures { TellsOf (read_on (next_reply c
-        (lent resources.entry statements.entry index.entry text.entry) words.now) start) result }
+        (held tables.entry) words.now) start) (account result) }
 {
     let mut q = start;
     let mut found: u64 = 0;
     let mut visits: u64 = 0;
-    let mut turns = CALLS;
     // `found` solutions are written, with `visits` visits; `q` is how far the reading is.
-    while turns > 0 {
-        let a = query::query_next(c, resources, statements, index, text, words, q, BUDGET);
+    for _ in 0..CALLS {
+        let a = match query::query_next(c, tables, words, q, BUDGET) {
+            Ok(a) => a,
+            Err(e) => return Told {
+                end: End::Refused(e),
+                found,
+                visits,
+            },
+        };
         let step = a.step;
         visits += a.visits as u64;
         match step {
-            QueryStep::Refused(e) => return told_refused(store::refusal_number(e), found, visits),
-            QueryStep::Ended => return told_ended(found, visits),
+            QueryStep::Ended => return Told {
+                end: End::Ended,
+                found,
+                visits,
+            },
             QueryStep::Found => {
                 let s = a.solution;
                 found += 1;
-                if !names::solution(rt, c, resources, statements, index, text, s, variables) {
-                    return told_stopped(found, visits, false);
+                if !names::solution(rt, c, tables, s, variables) {
+                    return Told {
+                        end: End::Unwritten,
+                        found,
+                        visits,
+                    };
                 }
             }
             QueryStep::Spent => {}
         }
         q = a.cursor;
-        turns -= 1;
     }
-    told_stopped(found, visits, true)
+    Told {
+        end: End::Stopped,
+        found,
+        visits,
+    }
 }
 
 // Reads the question of these words through. The solutions' first `variables` variables are written.
 pub fn read_through(
     rt: &impl Outputs,
     c: Counters,
-    resources: &[u32],
-    statements: &[u32],
-    index: &[u32],
-    text: &[u8],
+    tables: Tables,
     words: &[u32],
     variables: usize,
 ) -> Told
-    ensures { QuestionRead c (lent resources.entry statements.entry index.entry text.entry)
+    ensures { QuestionRead c (held tables.entry)
         words.now result }
 {
-    let o = query::query_open(c, resources, statements, index, text, words);
-    let opening = o.opening;
-    match opening {
-        QueryOpening::Refused(e) => told_refused(store::refusal_number(e), 0, 0),
-        QueryOpening::Opened => {
-            let q = o.cursor;
-            read_on(
-                rt, c, resources, statements, index, text, words, variables, q,
-            )
-        }
+    match query::query_open(c, tables, words) {
+        Err(e) => Told {
+            end: End::Refused(e),
+            found: 0,
+            visits: 0,
+        },
+        Ok(q) => read_on(rt, c, tables, words, variables, q),
     }
 }

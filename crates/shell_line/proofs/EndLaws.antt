@@ -1,62 +1,47 @@
 -- Laws of `specs/Ends`, and of bytes compared and taken from a line: one for each way out of the code. Assumes nothing.
 use Prim.Native.Nat.{ℕ, ◌+◌, ◌-◌, ◌≤◌, ◌<◌, min}
-use mathlib.Core.Path.{◌≡◌, sym, ◌∙◌, ap}
-use mathlib.Core.List.{List, ◌∷◌}
-use mathlib.Core.Bool.{Bool, true, false}
-use lib.Dec.{ltb}
+use mathlib.Core.Path.{◌≡◌, refl, sym, ◌∙◌, ap}
+use mathlib.Core.List.{List, [], ◌∷◌}
+use mathlib.Core.Bool.{Bool, true, false, ◌&&◌}
+use lib.Dec.{ltb, eqb}
+use lib.Pointwise.{pointwise}
 use lib.ListN.{length, get_or, take, drop, drop_of_length-le, length-take}
-use lib.Seq.{slice, drop-cons, take_all, take-length, take-add, drop_at, length-take-le}
+use lib.Seq.{slice, take_all, take-length, take-add, drop_at, length-take-le}
 use native.Mathlib.Omega.{arith}
-use native.Mathlib.Numerals.{add-one}
+use Rattle.std.specs.List.{prefix_len}
+use Rattle.std.proofs.Common.{add_assoc, add-zero}
 use borrow.Author.Tests.{ltb-true, ltb-false, lt-ltb, le-ltb, eq-eqb, ne_eqb}
 use Rattle.term.specs.Bytes.{first_byte, eq_bytes}
 use Rattle.term.specs.Scanner.{halt_of, whole_of}
 use Rattle.term.specs.declared.production.Halt.{Halt}
 use Rattle.term.specs.declared.production.Scan.TheVariants.{Start}
-use Rattle.term.proofs.Booleans.{decide, eq_bytes-not}
+use Rattle.term.proofs.Booleans.{decide}
 use Rattle.term.proofs.Halts.{halt-breaks}
 use Rattle.ntriples.specs.Grammar.{white}
 use Rattle.ntriples.specs.Productions.{run_end}
-use Rattle.ntriples.specs.declared.TermEnd.TheVariants.{Whole, Broken}
+use Rattle.std.specs.Prelude.{Ok, Err}
 use Rattle.shell_line.specs.Ends.{run_from, followed, name_to, name_end, word_end}
 
-drop-next : (s : List ℕ) (i : ℕ) → i < length s → drop i s ≡ get_or s i 0 ∷ drop (i + 1) s
-drop-next s i h = rw (add-one i) (drop-cons s i 0 h)
+-- a run of one class, by how many bytes pass
+run-counts : (f : ℕ → Bool) (i : ℕ) (s : List ℕ) → run_end f i s ≡ i + prefix_len f s
+unfolding run_end
+run-counts f i [] = sym (add-zero i)
+run-counts f i (b ∷ s) =
+    decide (f b)
+    (λ e. rw (run_end, e) (run-counts f (i + 1) s ∙ add_assoc i 1 (prefix_len f s)))
+    (λ e. rw (run_end, e) (sym (add-zero i)))
 
--- a run of one class, byte by byte
-module _ (f : ℕ → Bool) (line : List ℕ) (i : ℕ) where
-  pub run-turn : i < length line → f (get_or line i 0) ≡ true → run_from f line i ≡ run_from f line (i + 1)
-  unfolding run_from run_end
-  run-turn h e = rw (drop-next line i h, run_end, e)
+pub run-is : (f : ℕ → Bool) (line : List ℕ) (i : ℕ) → i + prefix_len f (drop i line) ≡ run_from f line i
+unfolding run_from
+run-is f line i = sym (run-counts f i (drop i line))
 
-  pub run_out : i < length line → f (get_or line i 0) ≡ false → run_from f line i ≡ i
-  unfolding run_from run_end
-  run_out h e = rw (drop-next line i h, run_end, e)
-
-  pub run_end_lem : length line ≤ i → run_from f line i ≡ i
-  unfolding run_from run_end
-  run_end_lem h = rw (drop_of_length-le line h)
-
--- two byte strings, byte by byte
-module _ (a b : List ℕ) where
-  pub same_not : (length a ≡ length b → ⊥) → eq_bytes a b ≡ false
-  same_not h = eq_bytes-not a b (λ e. h (ap length e))
-
-  module _ (i : ℕ) (n : length a ≡ length b) where
-    pub same_turn : i < length a → get_or a i 0 ≡ get_or b i 0 → eq_bytes (drop i a) (drop i b) ≡ eq_bytes (drop (i + 1) a) (drop (i + 1) b)
-    unfolding eq_bytes
-    same_turn h e =
-        let k : i < length b = omega arith in rw (drop-next a i h, drop-next b i k, eq_bytes, eq-eqb (get_or a i 0) (get_or b i 0) e)
-
-    pub same_out : i < length a → (get_or a i 0 ≡ get_or b i 0 → ⊥) → eq_bytes (drop i a) (drop i b) ≡ false
-    unfolding eq_bytes
-    same_out h e =
-        let k : i < length b = omega arith in rw (drop-next a i h, drop-next b i k, eq_bytes, ne_eqb (get_or a i 0) (get_or b i 0) e)
-
-    pub same_end : length a ≤ i → eq_bytes (drop i a) (drop i b) ≡ true
-    unfolding eq_bytes
-    same_end h =
-        let k : length b ≤ i = omega arith in rw (drop_of_length-le a h, drop_of_length-le b k)
+-- two byte strings that are compared element by element
+pub same-is : (a b : List ℕ) → pointwise eqb a b ≡ eq_bytes a b
+unfolding eq_bytes
+same-is [] [] = refl
+same-is [] (y ∷ b) = refl
+same-is (x ∷ a) [] = refl
+same-is (x ∷ a) (y ∷ b) = ap (λ e. eqb x y && e) (same-is a b)
 
 take_within : (line : List ℕ) (end : ℕ) → take (min end (length line)) line ≡ take end line
 take_within line end =
@@ -99,15 +84,15 @@ part-within line start end f m e d =
 
 -- white or the line's end after e
 module _ (line : List ℕ) (e : ℕ) where
-  pub followed-white : e < length line → white (get_or line e 0) ≡ true → followed line (Whole e) ≡ Whole e
+  pub followed-white : e < length line → white (get_or line e 0) ≡ true → followed line (Ok e) ≡ Ok e
   unfolding followed
   followed-white h w = rw (lt-ltb e (length line) h, w)
 
-  pub followed-not : e < length line → white (get_or line e 0) ≡ false → followed line (Whole e) ≡ Broken e
+  pub followed-not : e < length line → white (get_or line e 0) ≡ false → followed line (Ok e) ≡ Err e
   unfolding followed
   followed-not h w = rw (lt-ltb e (length line) h, w)
 
-  pub followed-end : length line ≤ e → followed line (Whole e) ≡ Whole e
+  pub followed-end : length line ≤ e → followed line (Ok e) ≡ Ok e
   unfolding followed
   followed-end h = rw (le-ltb e (length line) h)
 
@@ -122,24 +107,24 @@ module _ (line : List ℕ) (a : ℕ) (h : Halt) (e : h ≡ halt_of Start a (drop
       let o : h.at ≡ a + length b.front = ap (λ x. x.at) halt-is ∙ b.offset in
       omega arith
 
-  pub name-over : a + 255 < h.at → name_end line a ≡ Broken (a + 255)
+  pub name-over : a + 255 < h.at → name_end line a ≡ Err (a + 255)
   unfolding name_end name_to
   name-over l = rw (← halt-is, lt-ltb (a + 255) h.at l)
 
-  pub name-whole : h.at ≤ a + 255 → whole_of h.state ≡ true → name_end line a ≡ Whole h.at
+  pub name-whole : h.at ≤ a + 255 → whole_of h.state ≡ true → name_end line a ≡ Ok h.at
   unfolding name_end name_to
   name-whole l w = rw (← halt-is, le-ltb (a + 255) h.at l, w)
 
-  pub name-broken : h.at ≤ a + 255 → whole_of h.state ≡ false → name_end line a ≡ Broken h.at
+  pub name-broken : h.at ≤ a + 255 → whole_of h.state ≡ false → name_end line a ≡ Err h.at
   unfolding name_end name_to
   name-broken l w = rw (← halt-is, le-ltb (a + 255) h.at l, w)
 
 -- a variable's word
 module _ (line : List ℕ) (i e : ℕ) (r : e ≡ run_from first_byte line i) where
-  pub word_none : e ≡ i → word_end line i ≡ Broken e
+  pub word_none : e ≡ i → word_end line i ≡ Err e
   unfolding word_end
-  word_none h = rw (← r, eq-eqb e i h) (ap Broken (sym h))
+  word_none h = rw (← r, eq-eqb e i h) (ap Err (sym h))
 
-  pub word_some : (e ≡ i → ⊥) → word_end line i ≡ Whole e
+  pub word_some : (e ≡ i → ⊥) → word_end line i ≡ Ok e
   unfolding word_end
   word_some h = rw (← r, ne_eqb e i h)

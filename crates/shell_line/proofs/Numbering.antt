@@ -12,8 +12,7 @@ use Rattle.term.specs.Bytes.{eq_bytes}
 use Rattle.term.proofs.Booleans.{decide, eq_bytes-refl}
 use Rattle.graph.specs.Words.{variables as max_variables}
 use Rattle.ntriples.specs.Grammar.{span}
-use Rattle.ntriples.specs.declared.TermEnd.{TermEnd}
-use Rattle.ntriples.specs.declared.TermEnd.TheVariants.{Whole, Broken}
+use Rattle.std.specs.Prelude.{Result, Ok, Err}
 use Rattle.shell_line.specs.Ends.{followed, name_end, word_end}
 use Rattle.shell_line.specs.Questions.{Part, Name, Any, Variable, Standing, Reading, Read, Unreadable, NoQuestion}
 use Rattle.shell_line.specs.Questions.{dot_due, number_of, numbered, with_part, name_read, any_read, variable_of, variable_read, dot_read}
@@ -70,10 +69,10 @@ Keeps line (Read s) = Variables line s
 Keeps line (Unreadable k) = Unit
 Keeps line (NoQuestion k) = Unit
 
-up-to : (line : List ℕ) (f : ℕ → Reading) (x : TermEnd) → ((e : ℕ) → Keeps line (f e)) → Keeps line (up_to f x)
+up-to : (line : List ℕ) (f : ℕ → Reading) (x : Result ℕ ℕ) → ((e : ℕ) → Keeps line (f e)) → Keeps line (up_to f x)
 unfolding up_to
-up-to line f (Whole e) k = k e
-up-to line f (Broken j) k = tt
+up-to line f (Ok e) k = k e
+up-to line f (Err j) k = tt
 
 module _ (line : List ℕ) (s : Standing) (h : Variables line s) where
   plain : (e : ℕ) (x : Part) → Numbered line s.variables x → Variables line (with_part line s e x s.variables)
@@ -131,7 +130,7 @@ module _ (line : List ℕ) (s : Standing) (h : Variables line s) where
   asked-keeps : (any : Bool) → Keeps line (asked_at any line s)
   unfolding asked_at any_read
   asked-keeps true =
-      up-to line (any_read line s) (followed line (Whole (s.at + 1))) (λ e. plain e (Any (span s.at e)) tt)
+      up-to line (any_read line s) (followed line (Ok (s.at + 1))) (λ e. plain e (Any (span s.at e)) tt)
   asked-keeps false = up-to line (variable_read line s) (followed line (word_end line (s.at + 1))) variable-keeps
 
   name-keeps : Keeps line (name_at line s)
@@ -143,7 +142,7 @@ module _ (line : List ℕ) (s : Standing) (h : Variables line s) where
   unfolding dot_at dot_read
   dot-keeps =
       either (Keeps line) (dot_due (length s.parts) s.dotted)
-      (λ d. up-to line (dot_read line s) (followed line (Whole (s.at + 1)))
+      (λ d. up-to line (dot_read line s) (followed line (Ok (s.at + 1)))
       (λ e. record { parts = h.parts; few = h.few; apart = h.apart })) (λ d. tt)
 
   beyond-keeps : (any : Bool) → Keeps line (beyond_at any s.at)

@@ -15,8 +15,7 @@ use Rattle.term.proofs.Booleans.{decide}
 use Rattle.term.proofs.Halts.{halt-breaks}
 use Rattle.ntriples.specs.Grammar.{white}
 use Rattle.ntriples.specs.Productions.{run_end}
-use Rattle.ntriples.specs.declared.TermEnd.{TermEnd}
-use Rattle.ntriples.specs.declared.TermEnd.TheVariants.{Whole, Broken}
+use Rattle.std.specs.Prelude.{Result, Ok, Err}
 use Rattle.shell_line.specs.Ends.{run_from, white_end, followed, name_to, name_end, word_end}
 use Rattle.shell_line.specs.Questions.{Standing, Reading, Read, Unreadable, NoQuestion}
 use Rattle.shell_line.specs.Questions.{dot_due, number_of, with_part, name_read, any_read, variable_of, variable_read, dot_read}
@@ -48,16 +47,16 @@ unfolding run_from
 from-ends f line i = rw (length-drop i line) at (run_ends f i (drop i line))
 
 -- an end from lo on, or a byte that cannot be read, or the line's end
-abbrev Ends : List ℕ → ℕ → TermEnd → Type 0
-Ends line lo (Whole e) = (lo ≤ e) × (e ≤ length line)
-Ends line lo (Broken k) = k ≤ length line
+abbrev Ends : List ℕ → ℕ → Result ℕ ℕ → Type 0
+Ends line lo (Ok e) = (lo ≤ e) × (e ≤ length line)
+Ends line lo (Err k) = k ≤ length line
 
-followed-ends : (line : List ℕ) (lo : ℕ) (x : TermEnd) → Ends line lo x → Ends line lo (followed line x)
+followed-ends : (line : List ℕ) (lo : ℕ) (x : Result ℕ ℕ) → Ends line lo x → Ends line lo (followed line x)
 unfolding followed
-followed-ends line lo (Whole e) h =
+followed-ends line lo (Ok e) h =
     either (Ends line lo) (ltb e (length line))
     (λ l. either (Ends line lo) (white (get_or line e 0)) (λ w. h) (λ w. h.1)) (λ l. h)
-followed-ends line lo (Broken k) h = h
+followed-ends line lo (Err k) h = h
 
 -- no name is empty
 some_byte : (p : List ℕ) → whole_of (run_of Start p) ≡ true → 1 ≤ length p
@@ -90,11 +89,11 @@ Moves line a (Read s) = a < s.at
 Moves line a (Unreadable k) = k ≤ length line
 Moves line a (NoQuestion k) = k < length line
 
-up-to : (line : List ℕ) (a : ℕ) (f : ℕ → Reading) (x : TermEnd) → Ends line (a + 1) x
+up-to : (line : List ℕ) (a : ℕ) (f : ℕ → Reading) (x : Result ℕ ℕ) → Ends line (a + 1) x
     → ((e : ℕ) → a < e → Moves line a (f e)) → Moves line a (up_to f x)
 unfolding up_to
-up-to line a f (Whole e) h k = k e (omega arith)
-up-to line a f (Broken j) h k = h
+up-to line a f (Ok e) h k = k e (omega arith)
+up-to line a f (Err j) h k = h
 
 past : (line : List ℕ) (a e : ℕ) → a < e → a < white_end line e
 past line a e h = let r = (from-ends white line e).low in omega arith
@@ -114,8 +113,8 @@ module _ (line : List ℕ) (s : Standing) (h : s.at < length line) where
   asked-moves : (any : Bool) → Moves line s.at (asked_at any line s)
   unfolding asked_at any_read with_part
   asked-moves true =
-      up-to line s.at (any_read line s) (followed line (Whole (s.at + 1)))
-      (followed-ends line (s.at + 1) (Whole (s.at + 1)) (omega arith, omega arith)) (λ e k. past line s.at e k)
+      up-to line s.at (any_read line s) (followed line (Ok (s.at + 1)))
+      (followed-ends line (s.at + 1) (Ok (s.at + 1)) (omega arith, omega arith)) (λ e k. past line s.at e k)
   asked-moves false =
       up-to line s.at (variable_read line s) (followed line (word_end line (s.at + 1)))
       (followed-ends line (s.at + 1) (word_end line (s.at + 1)) (word-ends line (s.at + 1) (omega arith)))
@@ -125,8 +124,8 @@ module _ (line : List ℕ) (s : Standing) (h : s.at < length line) where
   unfolding dot_at dot_read
   dot-moves =
       either (Moves line s.at) (dot_due (length s.parts) s.dotted)
-      (λ d. up-to line s.at (dot_read line s) (followed line (Whole (s.at + 1)))
-      (followed-ends line (s.at + 1) (Whole (s.at + 1)) (omega arith, omega arith)) (λ e k. past line s.at e k))
+      (λ d. up-to line s.at (dot_read line s) (followed line (Ok (s.at + 1)))
+      (followed-ends line (s.at + 1) (Ok (s.at + 1)) (omega arith, omega arith)) (λ e k. past line s.at e k))
       (λ d. omega arith)
 
   beyond-moves : (any : Bool) → Moves line s.at (beyond_at any s.at)

@@ -1,5 +1,5 @@
 -- Laws of `specs/Questions`: one for each way out of the code. Assumes nothing.
-use Prim.Native.Nat.{ℕ, zero, suc, ◌+◌, ◌≤◌, ◌<◌, ◌/◌, ◌%◌}
+use Prim.Native.Nat.{ℕ, zero, suc, ◌+◌, ◌≤◌, ◌<◌, ◌/◌, ◌%◌, min}
 use mathlib.Core.Path.{◌≡◌, refl, sym, ◌∙◌, ap}
 use mathlib.Core.Logic.{◌≢◌, ◌⊎◌, inl, inr}
 use mathlib.Core.List.{List, [], ◌∷◌, ◌++◌, map, map-append}
@@ -15,15 +15,16 @@ use Rattle.term.specs.Bytes.{eq_bytes}
 use Rattle.graph.specs.Words.{variables as max_variables}
 use Rattle.term.proofs.Booleans.{decide}
 use Rattle.ntriples.specs.Grammar.{span}
-use Rattle.ntriples.specs.declared.TermEnd.{TermEnd}
-use Rattle.ntriples.specs.declared.TermEnd.TheVariants.{Whole, Broken}
+use Rattle.std.specs.Prelude.{Result, Ok, Err}
 use Rattle.shell_line.specs.Ends.{white_end, followed, name_end, word_end}
 use Rattle.shell_line.specs.Questions.{Part, Name, Any, Variable, Standing, Reading, Read, Unreadable, NoQuestion}
 use Rattle.shell_line.specs.Questions.{dot_due, number_of, numbered, with_part, name_read, any_read, variable_of, variable_read, dot_read}
 use Rattle.shell_line.specs.Questions.{up_to, name_at, asked_at, beyond_at, part_at, dot_at, step_of, end_of, go_on, read_on, begun, parts_of}
-use Rattle.shell_line.specs.Questions.{span_of, word_of, max_parts, no_parts, part_bytes, Holds, TellsReading, Numbers, Finishes}
+use Rattle.shell_line.specs.Questions.{span_of, word_of, max_parts, no_parts, part_bytes, Holds, TellsReading, Tells, Numbers, unreadable_at, no_question_at}
 use Rattle.shell_line.specs.declared.parts.Form.{Form}
 use Rattle.shell_line.specs.declared.parts.Parts.{Parts}
+use Rattle.shell_line.specs.declared.parts.Fault.{Fault}
+use Rattle.std.specs.Prelude.{Result, Ok, Err}
 
 -- whether a dot is due
 module _ (n : ℕ) (d : Bool) where
@@ -39,47 +40,41 @@ module _ (n : ℕ) (d : Bool) where
   unfolding dot_due
   due-third e z = rw (e, ne_eqb n 0 z)
 
--- refusals 10 and 8, as the code's record has them
-abbrev Refused : Parts → ℕ → ℕ → Type 0
-Refused r n k = (r.refusal ≡ n) × (r.offset ≡ k)
-
 module _ {line : List ℕ} {p : Parts} {s : Standing} (h : Holds line p s) where
   due : (b : Bool) → dot_due p.count p.dotted ≡ b → dot_due (length s.parts) s.dotted ≡ b
   due b e = rw (h.count, h.dotted) at e
 
   -- the line's end
-  pub end-first : (r : Parts) → p.count ≡ 0 → Refused r 10 (length line) → TellsReading line r (end_of line s)
+  pub end-first : (r : Fault) → p.count ≡ 0 → r ≡ unreadable_at (length line) → TellsReading line (Err r) (end_of line s)
   unfolding end_of
   end-first r z f = rw (eq-eqb (length s.parts) 0 (sym h.count ∙ z)) f
 
-  pub end-within : (r : Parts) → (p.count ≡ 0 → ⊥) → (p.count % 3 ≡ 0 → ⊥) → Refused r 10 (length line)
-      → TellsReading line r (end_of line s)
+  pub end-within : (r : Fault) → (p.count ≡ 0 → ⊥) → (p.count % 3 ≡ 0 → ⊥) → r ≡ unreadable_at (length line)
+      → TellsReading line (Err r) (end_of line s)
   unfolding end_of
   end-within r z m f =
       rw (ne_eqb (length s.parts) 0 (λ e. z (h.count ∙ e)), ne_eqb (length s.parts % 3) 0 (λ e. m (rw h.count e))) f
 
-  pub end_whole : (p.count ≡ 0 → ⊥) → p.count % 3 ≡ 0 → TellsReading line p (end_of line s)
+  pub end_whole : (p.count ≡ 0 → ⊥) → p.count % 3 ≡ 0 → TellsReading line (Ok p) (end_of line s)
   unfolding end_of
   end_whole z m =
       rw (ne_eqb (length s.parts) 0 (λ e. z (h.count ∙ e)), eq-eqb (length s.parts % 3) 0 (rw h.count at m)) h
 
   -- a dot
-  pub dot-early : (r : Parts) → dot_due p.count p.dotted ≡ false → Refused r 10 p.at → TellsReading line r (dot_at line s)
+  pub dot-early : (r : Fault) → dot_due p.count p.dotted ≡ false → r ≡ unreadable_at p.at → TellsReading line (Err r) (dot_at line s)
   unfolding dot_at
-  dot-early r d f = rw (due false d) (f.0, f.1 ∙ h.at)
+  dot-early r d f = rw (due false d) (f ∙ ap unreadable_at h.at)
 
-  pub dot-broken : (r : Parts) (k : ℕ) → dot_due p.count p.dotted ≡ true
-      → Broken k ≡ followed line (Whole (p.at + 1)) → Refused r 10 k → TellsReading line r (dot_at line s)
+  pub dot-broken : (r : Fault) (k : ℕ) → dot_due p.count p.dotted ≡ true
+      → Err k ≡ followed line (Ok (p.at + 1)) → r ≡ unreadable_at k → TellsReading line (Err r) (dot_at line s)
   unfolding dot_at up_to
   dot-broken r k d e f =
-      let b : followed line (Whole (s.at + 1)) ≡ Broken k = sym (e ∙ ap (λ i. followed line (Whole (i + 1))) h.at) in
+      let b : followed line (Ok (s.at + 1)) ≡ Err k = sym (e ∙ ap (λ i. followed line (Ok (i + 1))) h.at) in
       rw (due true d, b) f
 
-  pub dot-whole : (e a : ℕ) → dot_due p.count p.dotted ≡ true → Whole e ≡ followed line (Whole (p.at + 1))
+  pub dot-whole : (e a : ℕ) → dot_due p.count p.dotted ≡ true → Ok e ≡ followed line (Ok (p.at + 1))
       → a ≡ white_end line e
-      → TellsReading line (record {
-        refusal = p.refusal;
-        offset = p.offset;
+      → TellsReading line (Ok (record {
         at = a;
         count = p.count;
         dotted = true;
@@ -87,12 +82,11 @@ module _ {line : List ℕ} {p : Parts} {s : Standing} (h : Holds line p s) where
         variables = p.variables;
         first = p.first;
         words = p.words;
-      }) (dot_at line s)
+      })) (dot_at line s)
   unfolding dot_at up_to dot_read
   dot-whole e a d w q =
-      let b : followed line (Whole (s.at + 1)) ≡ Whole e = sym (w ∙ ap (λ i. followed line (Whole (i + 1))) h.at) in
+      let b : followed line (Ok (s.at + 1)) ≡ Ok e = sym (w ∙ ap (λ i. followed line (Ok (i + 1))) h.at) in
       rw (due true d, b) (record {
-        unrefused = h.unrefused;
         at = q;
         count = h.count;
         dotted = refl;
@@ -126,8 +120,6 @@ module _ {line : List ℕ} {p : Parts} {s : Standing} (h : Holds line p s) where
   -- a part more
   pub added : (x : Part) (e w a : ℕ) → p.count < max_parts → span_of x ≡ span p.at e → word_of x ≡ w → a ≡ white_end line e
       → Holds line (record {
-        refusal = p.refusal;
-        offset = p.offset;
         at = a;
         count = p.count + 1;
         dotted = false;
@@ -142,7 +134,6 @@ module _ {line : List ℕ} {p : Parts} {s : Standing} (h : Holds line p s) where
       let kp : p.count < length p.parts = omega arith in
       let kw : p.count < length p.words = omega arith in
       record {
-        unrefused = h.unrefused;
         at = q;
         count = ap (λ n. n + 1) h.count ∙ sym (length-append s.parts (x ∷ []));
         dotted = refl;
@@ -179,7 +170,7 @@ pub looking : (line : List ℕ) (p : Parts) (w : List ℕ) → Looking line p w 
 looking line p w = record { few = omega arith; low = λ s h. omega arith; same = λ s h. omega arith }
 
 module _ {line : List ℕ} {p : Parts} {w : List ℕ} {v : ℕ} (k : Looking line p w v) where
-  pub looking-end : p.variables ≤ v → Numbers line p w v
+  looking-end : p.variables ≤ v → Numbers line p w v
   unfolding number_of
   looking-end l s h =
       let n = h.variables in
@@ -188,8 +179,12 @@ module _ {line : List ℕ} {p : Parts} {w : List ℕ} {v : ℕ} (k : Looking lin
       let q = k.same s h in
       omega arith
 
-  pub looking-full : max_variables ≤ v → Numbers line p w v
-  looking-full l s h = let f = h.few in looking-end (omega arith) s h
+  pub looking-known : (n : ℕ) → n ≡ min p.variables max_variables → v ≡ n → Numbers line p w n
+  looking-known n e d s h =
+      let f = k.few in
+      let m = h.few in
+      let o = looking-end (omega arith) s h in
+      omega arith
 
   module _ (l : v < p.variables) (b : Bool) (e : eq_bytes (part_bytes line p (get_or p.first v 0)) w ≡ b) where
     here : (s : Standing) → Holds line p s → number_of w s.variables ≡ v + cond b 0 (suc (number_of w (drop (suc v) s.variables)))
@@ -216,21 +211,19 @@ module _ {line : List ℕ} {p : Parts} {s : Standing} (h : Holds line p s) (e v 
   number : number_of (slice s.at e line) s.variables ≡ v
   number = sym (n ∙ ap (λ i. number_of (slice i e line) s.variables) h.at)
 
-  pub variable-beyond : (r : Parts) → max_variables ≤ v → Refused r 8 p.at → TellsReading line r (variable_read line s e)
+  pub variable-beyond : (r : Fault) → max_variables ≤ v → r ≡ no_question_at p.at → TellsReading line (Err r) (variable_read line s e)
   unfolding variable_read variable_of
-  variable-beyond r l f = rw (number, le-ltb v max_variables l) (f.0, f.1 ∙ h.at)
+  variable-beyond r l f = rw (number, le-ltb v max_variables l) (f ∙ ap no_question_at h.at)
 
   pub variable-known : (r : Parts) → v < max_variables → (v ≡ p.variables → ⊥)
-      → Holds line r (with_part line s e (Variable v (span s.at e)) s.variables) → TellsReading line r (variable_read line s e)
+      → Holds line r (with_part line s e (Variable v (span s.at e)) s.variables) → TellsReading line (Ok r) (variable_read line s e)
   unfolding variable_read variable_of numbered
   variable-known r l d k =
       rw (number, lt-ltb v max_variables l, ne_eqb v (length s.variables) (λ z. d (z ∙ sym h.variables))) k
 
   pub variable-new : (r : Parts) → v < max_variables → v ≡ p.variables
       → Holds line r (with_part line s e (Variable v (span s.at e)) s.variables)
-      → TellsReading line (record {
-        refusal = r.refusal;
-        offset = r.offset;
+      → TellsReading line (Ok (record {
         at = r.at;
         count = r.count;
         dotted = r.dotted;
@@ -238,7 +231,7 @@ module _ {line : List ℕ} {p : Parts} {s : Standing} (h : Holds line p s) (e v 
         variables = v + 1;
         first = set r.first v p.count;
         words = r.words;
-      }) (variable_read line s e)
+      })) (variable_read line s e)
   unfolding variable_read variable_of numbered with_part span_of
   variable-new r l d k =
       let x = Variable v (span s.at e) in
@@ -252,7 +245,6 @@ module _ {line : List ℕ} {p : Parts} {s : Standing} (h : Holds line p s) (e v 
       took-last span_of r.parts p.count s.parts x (span 0 0) h.count
       (ap (λ m. take m r.parts) (sym c) ∙ k.spans) in
       rw (number, lt-ltb v max_variables l, eq-eqb v (length s.variables) vs) (record {
-        unrefused = k.unrefused;
         at = k.at;
         count = k.count;
         dotted = k.dotted;
@@ -285,61 +277,64 @@ module _ {line : List ℕ} {p : Parts} {s : Standing} (h : Holds line p s) (e v 
 
 module _ {line : List ℕ} {p : Parts} {s : Standing} (h : Holds line p s) where
   -- a name
-  name-to : (x : TermEnd) → x ≡ followed line (name_end line p.at) → followed line (name_end line s.at) ≡ x
+  name-to : (x : Result ℕ ℕ) → x ≡ followed line (name_end line p.at) → followed line (name_end line s.at) ≡ x
   name-to x e = sym (e ∙ ap (λ i. followed line (name_end line i)) h.at)
 
-  pub name-fails : (r : Parts) (k : ℕ) → Broken k ≡ followed line (name_end line p.at) → Refused r 10 k
-      → TellsReading line r (name_at line s)
+  pub name-fails : (r : Fault) (k : ℕ) → Err k ≡ followed line (name_end line p.at) → r ≡ unreadable_at k
+      → TellsReading line (Err r) (name_at line s)
   unfolding name_at up_to
-  name-fails r k e f = rw (name-to (Broken k) e) f
+  name-fails r k e f = rw (name-to (Err k) e) f
 
-  pub name-added : (r : Parts) (e : ℕ) → Whole e ≡ followed line (name_end line p.at)
-      → Holds line r (with_part line s e (Name (span s.at e)) s.variables) → TellsReading line r (name_at line s)
+  pub name-added : (r : Result Parts Fault) (e : ℕ) → Ok e ≡ followed line (name_end line p.at)
+      → TellsReading line r (Read (with_part line s e (Name (span s.at e)) s.variables)) → TellsReading line r (name_at line s)
   unfolding name_at up_to name_read
-  name-added r e w k = rw (name-to (Whole e) w) k
+  name-added r e w k = rw (name-to (Ok e) w) k
 
   -- a variable, or `?` for any
-  asked-to : (any : Bool) (x : TermEnd) → x ≡ followed line (cond any (Whole (p.at + 1)) (word_end line (p.at + 1)))
-      → followed line (cond any (Whole (s.at + 1)) (word_end line (s.at + 1))) ≡ x
-  asked-to any x e = sym (e ∙ ap (λ i. followed line (cond any (Whole (i + 1)) (word_end line (i + 1)))) h.at)
+  asked-to : (any : Bool) (x : Result ℕ ℕ) → x ≡ followed line (cond any (Ok (p.at + 1)) (word_end line (p.at + 1)))
+      → followed line (cond any (Ok (s.at + 1)) (word_end line (s.at + 1))) ≡ x
+  asked-to any x e = sym (e ∙ ap (λ i. followed line (cond any (Ok (i + 1)) (word_end line (i + 1)))) h.at)
 
-  pub asked-fails : (any : Bool) (r : Parts) (k : ℕ)
-      → Broken k ≡ followed line (cond any (Whole (p.at + 1)) (word_end line (p.at + 1))) → Refused r 10 k
-      → TellsReading line r (asked_at any line s)
+  pub asked-fails : (any : Bool) (r : Fault) (k : ℕ)
+      → Err k ≡ followed line (cond any (Ok (p.at + 1)) (word_end line (p.at + 1))) → r ≡ unreadable_at k
+      → TellsReading line (Err r) (asked_at any line s)
   unfolding asked_at up_to
-  asked-fails true r k e f = rw (asked-to true (Broken k) e) f
-  asked-fails false r k e f = rw (asked-to false (Broken k) e) f
+  asked-fails true r k e f = rw (asked-to true (Err k) e) f
+  asked-fails false r k e f = rw (asked-to false (Err k) e) f
 
-  pub asked-any : (any : Bool) (r : Parts) (e : ℕ) → any ≡ true
-      → Whole e ≡ followed line (cond any (Whole (p.at + 1)) (word_end line (p.at + 1)))
-      → Holds line r (with_part line s e (Any (span s.at e)) s.variables) → TellsReading line r (asked_at any line s)
+  pub asked-any : (any : Bool) (r : Result Parts Fault) (e : ℕ) → any ≡ true
+      → Ok e ≡ followed line (cond any (Ok (p.at + 1)) (word_end line (p.at + 1)))
+      → TellsReading line r (Read (with_part line s e (Any (span s.at e)) s.variables)) → TellsReading line r (asked_at any line s)
   unfolding asked_at up_to any_read
-  asked-any any r e t w k = rw (t, asked-to true (Whole e) (rw t at w)) k
+  asked-any any r e t w k = rw (t, asked-to true (Ok e) (rw t at w)) k
 
-  pub asked-variable : (any : Bool) (r : Parts) (e : ℕ) → any ≡ false
-      → Whole e ≡ followed line (cond any (Whole (p.at + 1)) (word_end line (p.at + 1)))
+  pub asked-variable : (any : Bool) (r : Result Parts Fault) (e : ℕ) → any ≡ false
+      → Ok e ≡ followed line (cond any (Ok (p.at + 1)) (word_end line (p.at + 1)))
       → TellsReading line r (variable_read line s e) → TellsReading line r (asked_at any line s)
   unfolding asked_at up_to
-  asked-variable any r e t w k = rw (t, asked-to false (Whole e) (rw t at w)) k
+  asked-variable any r e t w k = rw (t, asked-to false (Ok e) (rw t at w)) k
 
   -- a part
-  module _ (form : Form) (r : Parts) where
-    pub part-early : dot_due p.count p.dotted ≡ true → Refused r 10 p.at → TellsReading line r (part_at form line s)
-    unfolding part_at
-    part-early d f = rw (due h true d) (f.0, f.1 ∙ h.at)
+  beyond : (f : Fault) (any : Bool) → f ≡ cond any (unreadable_at p.at) (no_question_at p.at)
+      → TellsReading line (Err f) (beyond_at any s.at)
+  unfolding beyond_at
+  beyond f true e = e ∙ ap unreadable_at h.at
+  beyond f false e = e ∙ ap no_question_at h.at
 
-    beyond : (any : Bool) → Refused r (cond any 10 8) p.at → TellsReading line r (beyond_at any s.at)
-    unfolding beyond_at
-    beyond true f = (f.0, f.1 ∙ h.at)
-    beyond false f = (f.0, f.1 ∙ h.at)
+  module _ (form : Form) where
+    pub part-early : (f : Fault) → dot_due p.count p.dotted ≡ true → f ≡ unreadable_at p.at
+        → TellsReading line (Err f) (part_at form line s)
+    unfolding part_at
+    part-early f d e = rw (due h true d) (e ∙ ap unreadable_at h.at)
 
     module _ (d : dot_due p.count p.dotted ≡ false) where
-      pub part-beyond : form.patterns ≤ p.count / 3 → Refused r (cond form.any 10 8) p.at → TellsReading line r (part_at form line s)
+      pub part-beyond : (f : Fault) → form.patterns ≤ p.count / 3
+          → f ≡ cond form.any (unreadable_at p.at) (no_question_at p.at) → TellsReading line (Err f) (part_at form line s)
       unfolding part_at
-      part-beyond l f =
-          rw (due h false d, le-ltb (length s.parts / 3) form.patterns (rw h.count at l)) (beyond form.any f)
+      part-beyond f l e =
+          rw (due h false d, le-ltb (length s.parts / 3) form.patterns (rw h.count at l)) (beyond f form.any e)
 
-      module _ (l : p.count / 3 < form.patterns) (b : ℕ) (q : b ≡ get_or line p.at 0) where
+      module _ (r : Result Parts Fault) (l : p.count / 3 < form.patterns) (b : ℕ) (q : b ≡ get_or line p.at 0) where
         byte : get_or line s.at 0 ≡ b
         byte = sym (q ∙ ap (λ i. get_or line i 0) h.at)
 
@@ -353,66 +348,79 @@ module _ {line : List ℕ} {p : Parts} {s : Standing} (h : Holds line p s) where
         part-name e t =
             rw (due h false d, lt-ltb (length s.parts / 3) form.patterns (rw h.count at l), byte, ne_eqb b 63 e) t
 
-    pub step-dot : get_or line p.at 0 ≡ 46 → TellsReading line r (dot_at line s) → TellsReading line r (step_of form line s)
+    pub step-dot : (r : Result Parts Fault) → get_or line p.at 0 ≡ 46 → TellsReading line r (dot_at line s) → TellsReading line r (step_of form line s)
     unfolding step_of
-    step-dot e t = rw (eq-eqb (get_or line s.at 0) 46 (ap (λ i. get_or line i 0) (sym h.at) ∙ e)) t
+    step-dot r e t = rw (eq-eqb (get_or line s.at 0) 46 (ap (λ i. get_or line i 0) (sym h.at) ∙ e)) t
 
-    pub step_part : (get_or line p.at 0 ≡ 46 → ⊥) → TellsReading line r (part_at form line s) → TellsReading line r (step_of form line s)
+    pub step_part : (r : Result Parts Fault) → (get_or line p.at 0 ≡ 46 → ⊥) → TellsReading line r (part_at form line s) → TellsReading line r (step_of form line s)
     unfolding step_of
-    step_part e t = rw (ne_eqb (get_or line s.at 0) 46 (λ z. e (ap (λ i. get_or line i 0) h.at ∙ z))) t
+    step_part r e t = rw (ne_eqb (get_or line s.at 0) 46 (λ z. e (ap (λ i. get_or line i 0) h.at ∙ z))) t
 
 -- ---- the loop
 
--- With n turns left, what the record tells is read on as the whole is; or it tells a fault, and the whole is that fault.
-pub data Going (form : Form) (line : List ℕ) (i n : ℕ) (p : Parts) : Type 0 where
-  goes : (s : Standing) → Holds line p s → parts_of form line i ≡ read_on form line n s → Going form line i n p
-  stops : (p.refusal ≡ 0 → ⊥) → TellsReading line p (parts_of form line i) → Going form line i n p
+-- With n turns left, what the record tells is read on as the whole is.
+pub record Going (form : Form) (line : List ℕ) (i n : ℕ) (p : Parts) : Type 0 where
+  pub standing : Standing
+  pub holds : Holds line p standing
+  pub whole : parts_of form line i ≡ read_on form line n standing
 
-pub begins : (form : Form) (line : List ℕ) (i a : ℕ) (p : Parts) → a ≡ white_end line i → p ≡ no_parts a
-    → Going form line i (length line) p
+pub begins : (form : Form) (line : List ℕ) (i n a : ℕ) (p : Parts) → n ≡ length line → a ≡ white_end line i → p ≡ no_parts a
+    → Going form line i n p
 unfolding parts_of begun
-begins form line i a p e q =
-    rw q (goes (begun line i) (record {
-      unrefused = refl;
-      at = e;
-      count = refl;
-      dotted = refl;
-      spans = refl;
-      words = refl;
-      variables = refl;
-      firsts = λ v l. absurd (omega arith);
-      few = omega arith;
-      room = (refl, refl, refl);
-    }) refl)
+begins form line i n a p l e q =
+    rw (q, l) (record {
+      standing = begun line i;
+      holds = record {
+        at = e;
+        count = refl;
+        dotted = refl;
+        spans = refl;
+        words = refl;
+        variables = refl;
+        firsts = λ v l. absurd (omega arith);
+        few = omega arith;
+        room = (refl, refl, refl);
+      };
+      whole = refl;
+    })
 
 pub read-end : (form : Form) (line : List ℕ) (n : ℕ) (s : Standing) → length line ≤ s.at → read_on form line n s ≡ end_of line s
 unfolding read_on
 read-end form line zero s h = refl
 read-end form line (suc n) s h = rw (le-ltb s.at (length line) h)
 
-module _ {form : Form} {line : List ℕ} {i : ℕ} where
-  pub told-fault : {n : ℕ} {p : Parts} → Going form line i n p → (p.refusal ≡ 0 → ⊥) → TellsReading line p (parts_of form line i)
-  told-fault (goes s h e) f = absurd (f h.unrefused)
-  told-fault (stops r t) f = t
-
-  pub told-end : {n : ℕ} {p : Parts} (r : Parts) → Going form line i n p → (length line ≤ p.at) ⊎ (n ≡ 0)
-      → Finishes line p r → TellsReading line r (parts_of form line i)
+module _ {form : Form} {line : List ℕ} {i n : ℕ} {p : Parts} (g : Going form line i n p) where
+  pub told-end : (r : Result Parts Fault) → (length line ≤ p.at) ⊎ (n ≡ 0)
+      → Tells line p r (end_of line) → TellsReading line r (parts_of form line i)
   unfolding read_on
-  told-end {n} r (goes s h e) (inl l) f = rw (e ∙ read-end form line n s (rw h.at at l)) (f.ended s h)
-  told-end {n} r (goes s h e) (inr z) f = rw (e ∙ ap (λ m. read_on form line m s) z) (f.ended s h)
-  told-end {n} r (stops q t) w f = rw (f.refused q) t
+  told-end r (inl l) f =
+      rw (g.whole ∙ read-end form line n g.standing (rw g.holds.at at l)) (f g.standing g.holds)
+  told-end r (inr z) f = rw (g.whole ∙ ap (λ m. read_on form line m g.standing) z) (f g.standing g.holds)
 
-  turned : (n : ℕ) (r : Parts) (x : Reading) → TellsReading line r x → parts_of form line i ≡ go_on (read_on form line n) x
-      → Going form line i n r
-  unfolding go_on
-  turned n r (Read s) t e = goes s t e
-  turned n r (Unreadable k) t e = stops (λ z. let q = t.0 in omega (arith, z)) (rw e t)
-  turned n r (NoQuestion k) t e = stops (λ z. let q = t.0 in omega (arith, z)) (rw e t)
+  module _ (m : ℕ) (k : n ≡ m + 1) (l : p.at < length line) where
+    turned : parts_of form line i ≡ go_on (read_on form line m) (step_of form line g.standing)
+    unfolding read_on
+    turned =
+        g.whole ∙ ap (λ j. read_on form line j g.standing) (k ∙ add-one m)
+        ∙ rw (lt-ltb g.standing.at (length line) (rw g.holds.at at l))
 
-  pub goes_on : (n m : ℕ) (p r : Parts) → n ≡ m + 1 → Going form line i n p → p.refusal ≡ 0 → p.at < length line
-      → ((s : Standing) → Holds line p s → TellsReading line r (step_of form line s)) → Going form line i m r
-  unfolding read_on
-  goes_on n m p r k (goes s h e) z l f =
-      turned m r (step_of form line s) (f s h)
-      (e ∙ ap (λ j. read_on form line j s) (k ∙ add-one m) ∙ rw (lt-ltb s.at (length line) (rw h.at at l)))
-  goes_on n m p r k (stops q t) z l f = absurd (q z)
+    went : (r : Parts) (x : Reading) → TellsReading line (Ok r) x → parts_of form line i ≡ go_on (read_on form line m) x
+        → Going form line i m r
+    unfolding go_on
+    went r (Read s) t e = record { standing = s; holds = t; whole = e }
+    went r (Unreadable j) t e = absurd t
+    went r (NoQuestion j) t e = absurd t
+
+    pub goes_on : (r : Parts) → TellsReading line (Ok r) (step_of form line g.standing) → Going form line i m r
+    goes_on r t = went r (step_of form line g.standing) t turned
+
+    ended : (f : Fault) (x : Reading) → TellsReading line (Err f) x → parts_of form line i ≡ go_on (read_on form line m) x
+        → TellsReading line (Err f) (parts_of form line i)
+    unfolding go_on
+    ended f (Read s) t e = absurd t
+    ended f (Unreadable j) t e = rw e t
+    ended f (NoQuestion j) t e = rw e t
+
+    pub told-fault : (f : Fault) → TellsReading line (Err f) (step_of form line g.standing)
+        → TellsReading line (Err f) (parts_of form line i)
+    told-fault f t = ended f (step_of form line g.standing) t turned

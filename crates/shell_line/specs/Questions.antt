@@ -1,18 +1,19 @@
 -- How the parts of a question and of a list are read (`docs/SHELL.md`, "Questions", and `list` of "Commands"): from left to right, up to
 -- the first fault. `parts_of` is the reading; `TellsReading` says how the code's record tells it. Assumes nothing.
-use Rattle.std.specs.Prelude.{◌/◌, ◌%◌, map, replicate, ◌+◌, ◌*◌, ◌≤◌, ◌<◌, ◌≡◌, ◌∷◌, ◌++◌}
+use Rattle.std.specs.Prelude.{◌/◌, ◌%◌, map, replicate, ◌+◌, ◌*◌, ◌≤◌, ◌<◌, ◌≡◌, ◌∷◌, ◌++◌, Result, Ok, Err}
 use Rattle.std.proofs.Math.Seq.{slice}
 use Rattle.term.specs.Prelude.{ℕ, zero, suc, List, []}
 use Rattle.term.specs.Prelude.{Bool, true, false, cond, ltb, eqb, length, take, get_or}
 use Rattle.term.specs.Bytes.{eq_bytes}
 use Rattle.ntriples.specs.Grammar.{span}
 use Rattle.ntriples.specs.declared.Span.{Span}
-use Rattle.ntriples.specs.declared.TermEnd.{TermEnd}
-use Rattle.ntriples.specs.declared.TermEnd.TheVariants.{Whole, Broken}
+use Rattle.std.specs.Prelude.{Result, Ok, Err}
+use Rattle.store.specs.declared.Refusal.TheVariants.{BadLine, BadQuery}
 use Rattle.graph.specs.Words.{max_patterns, first_variable, variables as max_variables}
 use Rattle.shell_line.specs.Ends.{white_end, followed, name_end, word_end}
 use Rattle.shell_line.specs.declared.parts.Form.{Form}
 use Rattle.shell_line.specs.declared.parts.Parts.{Parts}
+use Rattle.shell_line.specs.declared.parts.Fault.{Fault}
 
 -- A part, with where it stands: a name; the `?` of a list, which stands for any; a variable with its number.
 pub data Part : Type 0 where
@@ -72,16 +73,16 @@ dot_read line s e =
     Read (record { at = white_end line e; parts = s.parts; dotted = true; variables = s.variables })
 
 -- what stands at s.at: it ends before e, or cannot be read at k
-unfoldable pub up_to : (ℕ → Reading) → TermEnd → Reading
-up_to f (Whole e) = f e
-up_to f (Broken k) = Unreadable k
+unfoldable pub up_to : (ℕ → Reading) → Result ℕ ℕ → Reading
+up_to f (Ok e) = f e
+up_to f (Err k) = Unreadable k
 
 unfoldable pub name_at : List ℕ → Standing → Reading
 name_at line s = up_to (name_read line s) (followed line (name_end line s.at))
 
 -- `?`: a variable, with its word, or by itself where it stands for any
 unfoldable pub asked_at : Bool → List ℕ → Standing → Reading
-asked_at true line s = up_to (any_read line s) (followed line (Whole (s.at + 1)))
+asked_at true line s = up_to (any_read line s) (followed line (Ok (s.at + 1)))
 asked_at false line s = up_to (variable_read line s) (followed line (word_end line (s.at + 1)))
 
 -- a part after the last pattern, at i: a seventh pattern is refused 8, and after a list's nothing can be read
@@ -100,7 +101,7 @@ part_at form line s =
 -- A dot: where a part is due it cannot be read.
 unfoldable pub dot_at : List ℕ → Standing → Reading
 dot_at line s =
-    cond (dot_due (length s.parts) s.dotted) (up_to (dot_read line s) (followed line (Whole (s.at + 1))))
+    cond (dot_due (length s.parts) s.dotted) (up_to (dot_read line s) (followed line (Ok (s.at + 1))))
     (Unreadable s.at)
 
 unfoldable pub step_of : Form → List ℕ → Standing → Reading
@@ -158,8 +159,6 @@ max_parts = 3 * max_patterns
 abbrev pub no_parts : ℕ → Parts
 no_parts i =
     record {
-      refusal = 0;
-      offset = 0;
       at = i;
       count = 0;
       dotted = false;
@@ -178,10 +177,8 @@ pub record FirstAt (line : List ℕ) (p : Parts) (vs : List (List ℕ)) (v : ℕ
   pub before : get_or p.first v 0 < p.count
   pub bytes : part_bytes line p (get_or p.first v 0) ≡ get_or vs v []
 
--- The code's record tells how far a reading is: no refusal, the parts by their first `count` entries, each variable by the part where it
--- first stands.
+-- The code's record tells how far a reading is: the parts by their first `count` entries, each variable by the part where it first stands.
 pub record Holds (line : List ℕ) (p : Parts) (s : Standing) : Type 0 where
-  pub unrefused : p.refusal ≡ 0
   pub at : p.at ≡ s.at
   pub count : p.count ≡ length s.parts
   pub dotted : p.dotted ≡ s.dotted
@@ -192,24 +189,34 @@ pub record Holds (line : List ℕ) (p : Parts) (s : Standing) : Type 0 where
   pub few : p.variables ≤ max_variables
   pub room : (length p.parts ≡ max_parts) × (length p.words ≡ max_parts) × (length p.first ≡ max_variables)
 
--- The code's record tells what a reading comes to: the refusal's number and its offset, or the parts.
-abbrev pub TellsReading : List ℕ → Parts → Reading → Type 0
-TellsReading line p (Read s) = Holds line p s
-TellsReading line p (Unreadable k) = (p.refusal ≡ 10) × (p.offset ≡ k)
-TellsReading line p (NoQuestion k) = (p.refusal ≡ 8) × (p.offset ≡ k)
+-- the code's faults: refusal 10 at an offset, and refusal 8 at an offset
+abbrev pub unreadable_at : ℕ → Fault
+unreadable_at k = record { refusal = BadLine; offset = k }
 
--- The contracts of the code's functions: p is the record that one is given, r the one that it gives.
+abbrev pub no_question_at : ℕ → Fault
+no_question_at k = record { refusal = BadQuery; offset = k }
+
+-- The code's answer tells what a reading comes to: the refusal and its offset, or the parts.
+abbrev pub TellsReading : List ℕ → Result Parts Fault → Reading → Type 0
+TellsReading line (Ok p) (Read s) = Holds line p s
+TellsReading line (Err f) (Unreadable k) = f ≡ unreadable_at k
+TellsReading line (Err f) (NoQuestion k) = f ≡ no_question_at k
+TellsReading line (Ok p) (Unreadable k) = ⊥
+TellsReading line (Ok p) (NoQuestion k) = ⊥
+TellsReading line (Err f) (Read s) = ⊥
+
+-- The contracts of the code's functions: p is the record that one is given, r the answer that it gives.
 
 -- whatever reading p tells, r tells f of it
-abbrev pub Tells : List ℕ → Parts → Parts → (Standing → Reading) → Type 0
+abbrev pub Tells : List ℕ → Parts → Result Parts Fault → (Standing → Reading) → Type 0
 Tells line p r f = (s : Standing) → Holds line p s → TellsReading line r (f s)
 
 -- the same where there is room for a part more
-abbrev pub TellsPart : List ℕ → Parts → Parts → (Standing → Reading) → Type 0
+abbrev pub TellsPart : List ℕ → Parts → Result Parts Fault → (Standing → Reading) → Type 0
 TellsPart line p r f = (s : Standing) → Holds line p s → p.count < max_parts → TellsReading line r (f s)
 
 -- the same where something stands there, for a form of no more patterns than there is room for
-abbrev pub TellsForm : Form → List ℕ → Parts → Parts → (Standing → Reading) → Type 0
+abbrev pub TellsForm : Form → List ℕ → Parts → Result Parts Fault → (Standing → Reading) → Type 0
 TellsForm form line p r f =
     (s : Standing) → Holds line p s → form.patterns ≤ max_patterns → p.at < length line → TellsReading line r (f s)
 
@@ -218,16 +225,11 @@ abbrev pub Numbers : List ℕ → Parts → List ℕ → ℕ → Type 0
 Numbers line p w v = (s : Standing) → Holds line p s → v ≡ number_of w s.variables
 
 -- r has the part more that ends before e and has the word w
-abbrev pub Adds : List ℕ → Parts → Parts → ℕ → ℕ → Type 0
+abbrev pub Adds : List ℕ → Parts → Result Parts Fault → ℕ → ℕ → Type 0
 Adds line p r e w =
     (s : Standing) (x : Part) → Holds line p s → p.count < max_parts → span_of x ≡ span p.at e → word_of x ≡ w
-    → Holds line r (with_part line s e x s.variables)
-
--- a refusal stays, and otherwise the line ends
-pub record Finishes (line : List ℕ) (p r : Parts) : Type 0 where
-  pub refused : (p.refusal ≡ 0 → ⊥) → r ≡ p
-  pub ended : Tells line p r (end_of line)
+    → TellsReading line r (Read (with_part line s e x s.variables))
 
 -- r tells what the line from i on reads as, for a form of no more patterns than there is room for: a question or a list
-abbrev pub Reads : Form → List ℕ → ℕ → Parts → Type 0
+abbrev pub Reads : Form → List ℕ → ℕ → Result Parts Fault → Type 0
 Reads form line i r = form.patterns ≤ max_patterns → TellsReading line r (parts_of form line i)

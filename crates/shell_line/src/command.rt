@@ -4,7 +4,7 @@ ghost use Rattle.shell_line.specs.Commands.{words, bare_words, named, all_of, co
 
 use crate::part;
 
-#[derive(Clone, Copy)]
+#[derive(Clone, Copy, PartialEq, Eq)]
 pub enum Command {
     // Blank, or a comment.
     Nothing,
@@ -32,7 +32,8 @@ pub struct CommandRead {
     pub rest: usize,
 }
 
-// The command that a word names.
+// The command that a word names. No match on the words: the definition is a row of tests too, and a test has one equation to prove it by
+// where an arm has one for each byte.
 fn named(word: &[u8]) -> Command
     ensures { result ≡ named word.now words }
 {
@@ -84,8 +85,8 @@ fn whole(command: Command, start: usize) -> CommandRead
     ensures { result ≡ all_of command start }
 {
     CommandRead {
-        command: command,
-        start: start,
+        command,
+        start,
         rest: start,
     }
 }
@@ -105,7 +106,7 @@ pub fn read_command(line: &[u8]) -> CommandRead
             let end = part::word_end(line, start);
             CommandRead {
                 command: named(part::bytes_of(line, start, end)),
-                start: start,
+                start,
                 rest: part::white_end(line, end),
             }
         }

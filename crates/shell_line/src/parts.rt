@@ -1,30 +1,30 @@
 // The parts of a question or of a list, read from left to right up to the first fault.
 ghost use Rattle.std.specs.Prelude.{◌<◌, ◌≡◌, cond, length, get_or};
 ghost use Rattle.std.proofs.Math.Seq.{slice};
-ghost use Rattle.shell_line.specs.Questions.{Reads, Tells, TellsPart, TellsForm, Adds, Numbers, Finishes, part_bytes, no_parts};
-ghost use Rattle.shell_line.specs.Questions.{dot_due, dot_at, asked_at, name_at, variable_read, part_at, step_of, question, list};
+ghost use Rattle.shell_line.specs.Questions.{Reads, Tells, TellsPart, TellsForm, Adds, Numbers, part_bytes, no_parts, unreadable_at, no_question_at};
+ghost use Rattle.shell_line.specs.Questions.{dot_due, dot_at, asked_at, name_at, variable_read, part_at, step_of, end_of, question, list};
 
 use crate::part;
 use graph::{FIRST_VARIABLE, MAX_PATTERNS, VARIABLES};
-use ntriples::{Span, TermEnd};
+use ntriples::Span;
+use store::Refusal;
 
 // As many parts as a question may have.
 pub const MAX_PARTS: usize = 3 * MAX_PATTERNS;
 
 // What is read: a question, whose variables have names, or the pattern of a list, where a lone `?` stands for any.
+// No enum of the two: `LengthIsEnough`, `FaultsInside` and `VariablesNumbered` (`specs/Claims`) hold of a form with any number of patterns.
 #[derive(Clone, Copy)]
 pub struct Form {
     pub any: bool,
     pub patterns: usize,
 }
 
-// How far the reading is: the refusal's number, 0 while there is none, and its offset in the line; where to read on; the parts read,
-// three a pattern; whether a dot stands after the last one; the variables so far, each with the part where it first stands; for each part
-// its word, 0 where it is a name or any.
+// How far the reading is: where to read on; the parts read, three a pattern; whether a dot stands after the last one; the variables so far,
+// each with the part where it first stands; for each part its word, 0 where it is a name or any. Each array has its count beside it, with no
+// heap; the words stand by themselves, since a query takes them as a slice.
 #[derive(Clone, Copy)]
 pub struct Parts {
-    pub refusal: u32,
-    pub offset: usize,
     pub at: usize,
     pub count: usize,
     pub dotted: bool,
@@ -32,6 +32,13 @@ pub struct Parts {
     pub variables: usize,
     pub first: [usize; VARIABLES],
     pub words: [u32; MAX_PARTS],
+}
+
+// The first fault: why a line is refused, and the offset of the byte.
+#[derive(Clone, Copy)]
+pub struct Fault {
+    pub refusal: Refusal,
+    pub offset: usize,
 }
 
 pub fn question() -> Form
@@ -57,9 +64,7 @@ fn none(at: usize) -> Parts
     ensures { result ≡ no_parts at }
 {
     Parts {
-        refusal: 0,
-        offset: 0,
-        at: at,
+        at,
         count: 0,
         dotted: false,
         parts: [Span { start: 0, end: 0 }; MAX_PARTS],
@@ -69,14 +74,25 @@ fn none(at: usize) -> Parts
     }
 }
 
-// A fault: the refusal's number and the offset.
-fn fault(p: Parts, refusal: u32, offset: usize) -> Parts
-    ensures { (result.refusal ≡ refusal) × (result.offset ≡ offset) }
+// The line cannot be read at this offset. This fault and the next stand by the names of their definitions: one function
+// of a refusal would be no shorter.
+fn unreadable(offset: usize) -> Fault
+    ensures { result ≡ unreadable_at offset }
 {
-    let mut r = p;
-    r.refusal = refusal;
-    r.offset = offset;
-    r
+    Fault {
+        refusal: Refusal::BadLine,
+        offset,
+    }
+}
+
+// The line is no question, from this offset on.
+fn no_question(offset: usize) -> Fault
+    ensures { result ≡ no_question_at offset }
+{
+    Fault {
+        refusal: Refusal::BadQuery,
+        offset,
+    }
 }
 
 // Whether a dot is due: three parts of a pattern are read, and no dot after them.
@@ -93,21 +109,21 @@ fn dot_due(p: Parts) -> bool
 }
 
 // Reads the dot at p.at.
-fn read_dot(line: &[u8], p: Parts) -> Parts
+fn read_dot(line: &[u8], p: Parts) -> Result<Parts, Fault>
     requires { p.at < length line.now }
     ensures { Tells line.now p result (dot_at line.now) }
 {
     let at = p.at;
     if !dot_due(p) {
-        return fault(p, 10, at);
+        return Err(unreadable(at));
     }
     match part::dot_end(line, at) {
-        TermEnd::Broken(k) => fault(p, 10, k),
-        TermEnd::Whole(end) => {
+        Err(k) => Err(unreadable(k)),
+        Ok(end) => {
             let mut r = p;
             r.dotted = true;
             r.at = part::white_end(line, end);
-            r
+            Ok(r)
         }
     }
 }
@@ -127,65 +143,58 @@ pub fn part_of(line: &[u8], p: Parts, i: usize) -> &[u8]
 fn variable_number(line: &[u8], p: Parts, at: usize, end: usize) -> usize
     ensures { Numbers line.now p (slice at end line.now) result }
 {
-    let mut v = 0;
+    let known = p.variables.min(VARIABLES);
     // The variables before v have other names.
-    while v < VARIABLES {
-        if v >= p.variables {
-            return v;
-        }
+    for v in 0..known {
         if part::same(part_of(line, p, p.first[v]), part::bytes_of(line, at, end)) {
             return v;
         }
-        v += 1;
     }
-    v
+    known
 }
 
 // A part more, from p.at up to `end`, with its word.
-fn add(line: &[u8], p: Parts, end: usize, word: u32) -> Parts
+fn add(line: &[u8], p: Parts, end: usize, word: u32) -> Result<Parts, Fault>
     ensures { Adds line.now p result end word }
 {
     let mut r = p;
     let i = p.count;
     if i >= MAX_PARTS {
-        return fault(p, 8, p.at);
+        return Err(no_question(p.at));
     }
-    r.parts[i] = Span {
-        start: p.at,
-        end: end,
-    };
+    r.parts[i] = Span { start: p.at, end };
     r.words[i] = word;
     r.count = i + 1;
     r.dotted = false;
     r.at = part::white_end(line, end);
-    r
+    Ok(r)
 }
 
 // A variable more, from p.at up to `end`.
-fn add_variable(line: &[u8], p: Parts, end: usize) -> Parts
+fn add_variable(line: &[u8], p: Parts, end: usize) -> Result<Parts, Fault>
     ensures { TellsPart line.now p result (λ s. variable_read line.now s end) }
 {
     let at = p.at;
     let v = variable_number(line, p, at, end);
     if v >= VARIABLES {
-        return fault(p, 8, at);
+        return Err(no_question(at));
     }
-    let mut r = add(line, p, end, FIRST_VARIABLE + v as u32);
+    let mut r = add(line, p, end, FIRST_VARIABLE + v as u32)?;
     if v == p.variables {
         r.first[v] = p.count;
         r.variables = v + 1;
     }
-    r
+    Ok(r)
 }
 
 // Reads the variable at p.at, or a lone `?`.
-fn read_variable(line: &[u8], p: Parts, any: bool) -> Parts
+fn read_variable(line: &[u8], p: Parts, any: bool) -> Result<Parts, Fault>
     requires { p.at < length line.now }
     ensures { TellsPart line.now p result (asked_at any line.now) }
 {
     match part::variable_part_end(line, p.at, any) {
-        TermEnd::Broken(k) => fault(p, 10, k),
-        TermEnd::Whole(end) => {
+        Err(k) => Err(unreadable(k)),
+        Ok(end) => {
             if any {
                 return add(line, p, end, 0);
             }
@@ -195,33 +204,37 @@ fn read_variable(line: &[u8], p: Parts, any: bool) -> Parts
 }
 
 // Reads the name at p.at.
-fn read_name(line: &[u8], p: Parts) -> Parts
+fn read_name(line: &[u8], p: Parts) -> Result<Parts, Fault>
     ensures { TellsPart line.now p result (name_at line.now) }
 {
     match part::name_end(line, p.at) {
-        TermEnd::Broken(k) => fault(p, 10, k),
-        TermEnd::Whole(end) => add(line, p, end, 0),
+        Err(k) => Err(unreadable(k)),
+        Ok(end) => add(line, p, end, 0),
     }
 }
 
-// The refusal of a part after the last pattern: 8 of a question's, 10 of a list's.
-fn too_many(form: Form) -> u32
-    ensures { result ≡ cond form.any 10 8 }
+// The fault of a part after the last pattern: a list cannot be read there, and a question has too many patterns.
+fn too_many(form: Form, offset: usize) -> Fault
+    ensures { result ≡ cond form.any (unreadable_at offset) (no_question_at offset) }
 {
-    if form.any { 10 } else { 8 }
+    if form.any {
+        unreadable(offset)
+    } else {
+        no_question(offset)
+    }
 }
 
 // Reads the part at p.at, whose first byte is b.
-fn read_part(line: &[u8], p: Parts, form: Form, b: u8) -> Parts
+fn read_part(line: &[u8], p: Parts, form: Form, b: u8) -> Result<Parts, Fault>
     requires { (p.at < length line.now) × (b ≡ get_or line.now p.at 0) }
     ensures { TellsForm form line.now p result (part_at form line.now) }
 {
     let at = p.at;
     if dot_due(p) {
-        return fault(p, 10, at);
+        return Err(unreadable(at));
     }
     if p.count / 3 >= form.patterns {
-        return fault(p, too_many(form), at);
+        return Err(too_many(form, at));
     }
     if b == b'?' {
         return read_variable(line, p, form.any);
@@ -230,12 +243,12 @@ fn read_part(line: &[u8], p: Parts, form: Form, b: u8) -> Parts
 }
 
 // Reads what stands at p.at, a part or a dot.
-fn step(line: &[u8], p: Parts, form: Form) -> Parts
+fn step(line: &[u8], p: Parts, form: Form) -> Result<Parts, Fault>
     ensures { TellsForm form line.now p result (step_of form line.now) }
 {
     let at = p.at;
     if at >= line.len() {
-        return p;
+        return Ok(p);
     }
     let b = line[at];
     if b == b'.' {
@@ -245,37 +258,29 @@ fn step(line: &[u8], p: Parts, form: Form) -> Parts
 }
 
 // The line has ended: within a pattern, or before the first, it cannot be read there.
-fn finish(line: &[u8], p: Parts) -> Parts
-    ensures { Finishes line.now p result }
+fn finish(line: &[u8], p: Parts) -> Result<Parts, Fault>
+    ensures { Tells line.now p result (end_of line.now) }
 {
-    if p.refusal != 0 {
-        return p;
-    }
     if p.count == 0 {
-        return fault(p, 10, line.len());
+        return Err(unreadable(line.len()));
     }
     if p.count % 3 != 0 {
-        return fault(p, 10, line.len());
+        return Err(unreadable(line.len()));
     }
-    p
+    Ok(p)
 }
 
 // Reads the parts from `from` on.
-pub fn read_parts(line: &[u8], from: usize, form: Form) -> Parts
+pub fn read_parts(line: &[u8], from: usize, form: Form) -> Result<Parts, Fault>
     ensures { Reads form line.now from result }
 {
     let mut p = none(part::white_end(line, from));
-    let mut turns = line.len();
     // The parts before p.at are read. Each has a byte or more, so that the turns do not run out.
-    while turns > 0 {
-        if p.refusal != 0 {
-            return p;
-        }
+    for _ in 0..line.len() {
         if p.at >= line.len() {
             return finish(line, p);
         }
-        p = step(line, p, form);
-        turns -= 1;
+        p = step(line, p, form)?;
     }
     finish(line, p)
 }

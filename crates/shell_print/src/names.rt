@@ -3,9 +3,9 @@ ghost use Rattle.streams.specs.Counts.{IsPrefixLen};
 
 use graph::{Solution, VARIABLES};
 use report::output::{append, put};
-use store::{Counters, NameRead, ResourceId, StatementId, StatementRead, Triple};
+use store::{Counters, NameSpan, ResourceId, StatementId, StatementRead, Triple};
 use streams::{Output, Outputs};
-use table::word::lesser;
+use table::lent::Tables;
 
 // Sixteen names of 255 bytes, each with a tab or a LF.
 const LINE: usize = 4096;
@@ -14,28 +14,17 @@ const LINE: usize = 4096;
 fn append_text(out: &mut [u8], at: usize, text: &[u8], start: u32, size: u32) -> usize
     ensures { IsPrefixLen result out.new }
 {
-    let from = lesser(start as usize, text.len());
-    let rest = &text[from..];
-    let n = lesser(size as usize, rest.len());
-    append(out, at, &rest[0..n])
+    let rest = &text[(start as usize).min(text.len())..];
+    append(out, at, &rest[..(size as usize).min(rest.len())])
 }
 
 // Appends the name of a number. Nothing is appended for a number that has none, which no sound store answers.
-fn append_name(
-    out: &mut [u8],
-    at: usize,
-    c: Counters,
-    resources: &[u32],
-    statements: &[u32],
-    index: &[u32],
-    text: &[u8],
-    n: ResourceId,
-) -> usize
+fn append_name(out: &mut [u8], at: usize, c: Counters, tables: Tables, n: ResourceId) -> usize
     ensures { IsPrefixLen result out.new }
 {
-    match table::name_span(c, resources, statements, index, text, n) {
-        NameRead::Refused(_) => append(out, at, b""),
-        NameRead::Span(start, size) => append_text(out, at, text, start, size),
+    match table::name_span(c, tables, n) {
+        Err(_) => append(out, at, b""),
+        Ok(NameSpan { start, size }) => append_text(out, at, tables.text, start, size),
     }
 }
 
@@ -45,15 +34,12 @@ pub fn name(
     to: Output,
     label: &[u8],
     c: Counters,
-    resources: &[u32],
-    statements: &[u32],
-    index: &[u32],
-    text: &[u8],
+    tables: Tables,
     n: ResourceId,
 ) -> bool {
     let mut out = [0u8; LINE];
     let a = append(&mut out, 0, label);
-    let b = append_name(&mut out, a, c, resources, statements, index, text, n);
+    let b = append_name(&mut out, a, c, tables, n);
     let d = append(&mut out, b, b"\n");
     put(rt, to, &out[..d])
 }
@@ -72,79 +58,36 @@ pub fn append_tab(out: &mut [u8], at: usize, v: usize) -> usize
 pub fn solution(
     rt: &impl Outputs,
     c: Counters,
-    resources: &[u32],
-    statements: &[u32],
-    index: &[u32],
-    text: &[u8],
+    tables: Tables,
     s: Solution,
     variables: usize,
 ) -> bool {
     let mut out = [0u8; LINE];
-    let stop = lesser(variables, VARIABLES);
-    let mut v = 0;
     let mut at = 0;
-    // The names of the first v variables stand before `at`.
-    while v < stop {
+    for (v, n) in s.values[..variables.min(VARIABLES)].iter().enumerate() {
         at = append_tab(&mut out, at, v);
-        at = append_name(
-            &mut out,
-            at,
-            c,
-            resources,
-            statements,
-            index,
-            text,
-            s.values[v],
-        );
-        v += 1;
+        at = append_name(&mut out, at, c, tables, *n);
     }
     let end = append(&mut out, at, b"\n");
     put(rt, Output::Standard, &out[..end])
 }
 
 // Writes a triple as a line of N-Triples.
-fn triple(
-    rt: &impl Outputs,
-    c: Counters,
-    resources: &[u32],
-    statements: &[u32],
-    index: &[u32],
-    text: &[u8],
-    x: Triple,
-) -> bool {
+fn triple(rt: &impl Outputs, c: Counters, tables: Tables, x: Triple) -> bool {
     let mut out = [0u8; LINE];
-    let a = append_name(
-        &mut out, 0, c, resources, statements, index, text, x.subject,
-    );
+    let a = append_name(&mut out, 0, c, tables, x.subject);
     let b = append(&mut out, a, b" ");
-    let d = append_name(
-        &mut out,
-        b,
-        c,
-        resources,
-        statements,
-        index,
-        text,
-        x.predicate,
-    );
+    let d = append_name(&mut out, b, c, tables, x.predicate);
     let e = append(&mut out, d, b" ");
-    let f = append_name(&mut out, e, c, resources, statements, index, text, x.object);
+    let f = append_name(&mut out, e, c, tables, x.object);
     let g = append(&mut out, f, b" .\n");
     put(rt, Output::Standard, &out[..g])
 }
 
 // Writes the statement with this number as a line of N-Triples; one that cannot be read, which no sound store has, is passed over.
-pub fn statement(
-    rt: &impl Outputs,
-    c: Counters,
-    resources: &[u32],
-    statements: &[u32],
-    index: &[u32],
-    text: &[u8],
-    n: StatementId,
-) -> bool {
-    match table::read_statement(c, resources, statements, index, text, n) {
-        StatementRead::Is(x, _) => triple(rt, c, resources, statements, index, text, x),
-        StatementRead::Refused(_) => true,
+pub fn statement(rt: &impl Outputs, c: Counters, tables: Tables, n: StatementId) -> bool {
+    match table::read_statement(c, tables, n) {
+        Ok(StatementRead { triple: x, .. }) => triple(rt, c, tables, x),
+        Err(_) => true,
     }
 }

@@ -1,6 +1,6 @@
 -- What is told of a question or a list whose names are known is told of what was typed; where one is unknown, nothing solves it and nothing
 -- matches. Assumes nothing.
-use Rattle.std.proofs.Common.{◌≡◌, ℕ, Bool, true, ◌≢◌, List, [], map, sym, refl, ◌∙◌, ne_eqb}
+use Rattle.std.proofs.Common.{◌≡◌, ℕ, Bool, true, false, ◌≢◌, List, [], map, sym, refl, ◌∙◌, ne_eqb}
 use mathlib.Core.List.Memᴰ
 use lib.ListN.{length-map}
 use Rattle.store.specs.declared.Counters.{Counters}
@@ -17,11 +17,8 @@ use Rattle.shell_words.proofs.Theorems.{question-means, solutions-as-typed, unkn
 use Rattle.shell_answer.specs.declared.Told.{Told}
 use Rattle.shell_answer.specs.Claims.{QuestionRead, ListRead}
 use Rattle.shell_answer.proofs.Theorems.{questions-are-read-through, lists-are-read-through}
-use Rattle.shell_session.specs.Asked.{Answered, Matched, asked_work}
-
--- nothing found, written or not
-abbrev pub none : Bool → Told
-none b = record { refusal = 0; ended = true; found = 0; visits = 0; written = b }
+use Rattle.shell_answer.specs.Told.{account}
+use Rattle.shell_session.specs.Asked.{Answered, Matched, none_told, asked_work}
 
 module _ (c : Counters) (m : Tables) (S : Sound c m) (line : List ℕ) (from : ℕ) (s : Standing) (w : Words)
     (W : WordsAre c m line s.parts w) where
@@ -34,8 +31,8 @@ module _ (c : Counters) (m : Tables) (S : Sound c m) (line : List ℕ) (from : �
   all-work z = rw (sym W.unknown ∙ z, W.words)
 
   module _ (e : parts_of question line from ≡ Read s) where
-    pub none_answers : w.unknown ≢ 0 → (b : Bool) → Answered c m line s.parts (none b)
-    none_answers n b = record {
+    pub none_answers : w.unknown ≢ 0 → (b : Bool) → Answered c m line s.parts (none_told b)
+    none_answers n true = record {
       unrefused = refl;
       solutions = [];
       exact = λ μ. (λ h. absurd (unknown-has-none c m S line from s e w W n μ h), λ h. absurd (Memᴰ.not-nil h));
@@ -44,8 +41,17 @@ module _ (c : Counters) (m : Tables) (S : Sound c m) (line : List ℕ) (from : �
       visits = λ z. sym (no-work n);
       ends = λ d k. refl;
     }
+    none_answers n false = record {
+      unrefused = refl;
+      solutions = [];
+      exact = λ μ. (λ h. absurd (unknown-has-none c m S line from s e w W n μ h), λ h. absurd (Memᴰ.not-nil h));
+      once = tt;
+      found = λ z. refl;
+      visits = λ z. sym (no-work n);
+      ends = λ d k. d;
+    }
 
-    pub reading-answers : w.unknown ≡ 0 → (t : Told) → QuestionRead c m (asked s w) t → Answered c m line s.parts t
+    pub reading-answers : w.unknown ≡ 0 → (t : Told) → QuestionRead c m (asked s w) t → Answered c m line s.parts (account t)
     reading-answers z t T =
         let M = question-means c m S line from s e w W z in
         let R = questions-are-read-through c m S (asked s w) M.0 in
@@ -61,8 +67,8 @@ module _ (c : Counters) (m : Tables) (S : Sound c m) (line : List ℕ) (from : �
         }
 
   module _ (e : parts_of list line from ≡ Read s) where
-    pub none-match : w.unknown ≢ 0 → (b : Bool) → Matched c m line s.parts (none b)
-    none-match n b = record {
+    pub none-match : w.unknown ≢ 0 → (b : Bool) → Matched c m line s.parts (none_told b)
+    none-match n true = record {
       unrefused = refl;
       ended = λ d. refl;
       triples = [];
@@ -70,8 +76,16 @@ module _ (c : Counters) (m : Tables) (S : Sound c m) (line : List ℕ) (from : �
       once = tt;
       found = λ d. refl;
     }
+    none-match n false = record {
+      unrefused = refl;
+      ended = λ d. d;
+      triples = [];
+      exact = λ y. (λ h. absurd ((list-means c m S line from s e w W).1 n y h.0 h.1), λ h. absurd (Memᴰ.not-nil h));
+      once = tt;
+      found = λ d. refl;
+    }
 
-    pub reading-matches : w.unknown ≡ 0 → (t : Told) → ListRead c m (listed w) t → Matched c m line s.parts t
+    pub reading-matches : w.unknown ≡ 0 → (t : Told) → ListRead c m (listed w) t → Matched c m line s.parts (account t)
     reading-matches z t T =
         let M = (list-means c m S line from s e w W).0 z in
         let R = lists-are-read-through c m S (listed w) M.0 in

@@ -4,12 +4,14 @@ ghost use Rattle.streams.specs.Counts.{IsPrefixLen};
 use crate::commands::State;
 use loader::line::Outcome;
 use report::output::{append, append_decimal, put};
-use shell_answer::Told;
+use report::status::Status;
+use shell_answer::{End, Told};
 use shell_line::parts;
 use shell_line::parts::Parts;
 use shell_print::names::append_tab;
-use shell_print::{refusal, status};
-use store::Counters;
+use shell_print::refusal;
+use shell_print::status::told;
+use store::{Counters, Refusal};
 use streams::{Output, Outputs};
 
 // A line of at most 1,024 bytes with what is written beside it. The variables stand in the line, with white between them, and so they fit.
@@ -44,54 +46,35 @@ fn two_counts(rt: &impl Outputs, to: Output, first: &[u8], n: u64, second: &[u8]
 
 // A label and a number, unless it is 0.
 fn count_some(rt: &impl Outputs, label: &[u8], n: u64) -> bool {
-    if n == 0 {
-        return true;
-    }
-    count(rt, Output::Standard, label, n)
+    n == 0 || count(rt, Output::Standard, label, n)
 }
 
 // With a terminal: what was loaded, what of the files was not, and where the commands are listed.
 pub fn greet(rt: &impl Outputs, terminal: bool, s: State) -> bool {
-    let c = s.counters;
     if !terminal {
         return true;
     }
-    if !two_counts(
+    let c = s.counters;
+    two_counts(
         rt,
         Output::Standard,
         b"resources",
         c.resources as u64,
         b"statements",
         c.statements as u64,
-    ) {
-        return false;
-    }
-    if !count_some(rt, b"missing", s.missing) {
-        return false;
-    }
-    if !count_some(rt, b"unread", s.unread) {
-        return false;
-    }
-    put(rt, Output::Standard, b"help lists the commands\n")
+    ) && count_some(rt, b"missing", s.missing)
+        && count_some(rt, b"unread", s.unread)
+        && put(rt, Output::Standard, b"help lists the commands\n")
 }
 
 // With a terminal: the prompt, unless `begun` bytes of the line are read already.
 pub fn prompt(rt: &impl Outputs, terminal: bool, begun: usize) -> bool {
-    if begun > 0 {
-        return true;
-    }
-    if terminal {
-        return put(rt, Output::Standard, b"> ");
-    }
-    true
+    begun > 0 || !terminal || put(rt, Output::Standard, b"> ")
 }
 
 // With a terminal: the input has ended after a prompt.
 pub fn end_prompt(rt: &impl Outputs, terminal: bool) -> bool {
-    if terminal {
-        return put(rt, Output::Standard, b"\n");
-    }
-    true
+    !terminal || put(rt, Output::Standard, b"\n")
 }
 
 // Appends the variables of a question, with tabs between them.
@@ -99,15 +82,12 @@ fn append_variables(out: &mut [u8], bytes: &[u8], p: Parts) -> usize
     ensures { IsPrefixLen result out.new }
 {
     let mut at = append(out, 0, b"");
-    let mut v = 0;
-    // The first v variables stand before `at`.
-    while v < graph::VARIABLES {
-        if v >= p.variables {
-            return at;
-        }
+    for (v, first) in p.first[..p.variables.min(graph::VARIABLES)]
+        .iter()
+        .enumerate()
+    {
         at = append_tab(out, at, v);
-        at = append(out, at, parts::part_of(bytes, p, p.first[v]));
-        v += 1;
+        at = append(out, at, parts::part_of(bytes, p, *first));
     }
     at
 }
@@ -130,57 +110,53 @@ pub fn unknown(rt: &impl Outputs, notices: Output, name: &[u8]) -> bool {
 }
 
 // Done where a reading has ended and all was written; otherwise that is told.
-fn ended(rt: &impl Outputs, notices: Output, t: Told) -> u32 {
-    if !t.written {
-        return status::FAILED;
+fn ended(rt: &impl Outputs, notices: Output, t: Told) -> Status {
+    match t.end {
+        End::Ended => Status::Done,
+        End::Unwritten => Status::Failed,
+        End::Refused(e) => refusal::refused(rt, notices, e),
+        End::Stopped => told(put(rt, notices, b"not ended\n"), Status::Refused),
     }
-    if t.refusal != 0 {
-        return refusal::refused(rt, notices, t.refusal);
-    }
-    if !t.ended {
-        return status::told(put(rt, notices, b"not ended\n"), status::REFUSED);
-    }
-    status::DONE
 }
 
 // The last line of a question; `status` is that of one that has ended.
-pub fn solutions(rt: &impl Outputs, notices: Output, t: Told, status: u32) -> u32 {
+pub fn solutions(rt: &impl Outputs, notices: Output, t: Told, status: Status) -> Status {
     let e = ended(rt, notices, t);
-    if e != status::DONE {
+    if e != Status::Done {
         return e;
     }
     let written = two_counts(rt, notices, b"solutions", t.found, b"visits", t.visits);
-    status::told(written, status)
+    told(written, status)
 }
 
 // The last line of a list; `status` is that of one that has ended.
-pub fn listed(rt: &impl Outputs, notices: Output, t: Told, status: u32) -> u32 {
+pub fn listed(rt: &impl Outputs, notices: Output, t: Told, status: Status) -> Status {
     let e = ended(rt, notices, t);
-    if e != status::DONE {
+    if e != Status::Done {
         return e;
     }
-    status::told(count(rt, notices, b"statements", t.found), status)
+    told(count(rt, notices, b"statements", t.found), status)
 }
 
 // What a command came to: a label and a number.
-pub fn became(rt: &impl Outputs, notices: Output, label: &[u8], n: u32) -> u32 {
-    status::told(count(rt, notices, label, n as u64), status::DONE)
+pub fn became(rt: &impl Outputs, notices: Output, label: &[u8], n: u32) -> Status {
+    told(count(rt, notices, label, n as u64), Status::Done)
 }
 
 // What an assert came to.
-pub fn outcome(rt: &impl Outputs, notices: Output, o: Outcome) -> u32 {
-    match o {
-        Outcome::Nothing => status::DONE,
-        Outcome::New(n) => became(rt, notices, b"new", n),
-        Outcome::Already(n) => became(rt, notices, b"already", n),
-        Outcome::Revived(n) => became(rt, notices, b"revived", n),
-        Outcome::Refused(n) => refusal::refused(rt, notices, n),
+pub fn outcome(rt: &impl Outputs, notices: Output, outcome: Result<Outcome, Refusal>) -> Status {
+    match outcome {
+        Ok(Outcome::Nothing) => Status::Done,
+        Ok(Outcome::New(n)) => became(rt, notices, b"new", n.0),
+        Ok(Outcome::Already(n)) => became(rt, notices, b"already", n.0),
+        Ok(Outcome::Revived(n)) => became(rt, notices, b"revived", n.0),
+        Err(e) => refusal::refused(rt, notices, e),
     }
 }
 
 // There is no such statement to retract.
-pub fn absent(rt: &impl Outputs, notices: Output) -> u32 {
-    status::told(put(rt, notices, b"absent\n"), status::REFUSED)
+pub fn absent(rt: &impl Outputs, notices: Output) -> Status {
+    told(put(rt, notices, b"absent\n"), Status::Refused)
 }
 
 // A label, and a number for each position.
@@ -196,11 +172,7 @@ pub fn three(rt: &impl Outputs, label: &[u8], s: u32, p: u32, o: u32) -> bool {
 
 // What is in use, and how many more there is room for.
 fn in_use(rt: &impl Outputs, label: &[u8], used: u32, capacity: usize) -> bool {
-    let n = used as usize;
-    let mut room = 0;
-    if n < capacity {
-        room = capacity - n;
-    }
+    let room = capacity.saturating_sub(used as usize);
     two_counts(
         rt,
         Output::Standard,
@@ -220,24 +192,16 @@ fn used(
     text: usize,
     live: u32,
 ) -> bool {
-    if !in_use(rt, b"resources", c.resources, resources) {
-        return false;
-    }
-    if !in_use(rt, b"statements", c.statements, statements) {
-        return false;
-    }
-    if !count(rt, Output::Standard, b"live", live as u64) {
-        return false;
-    }
-    if !in_use(rt, b"bytes", c.text, text) {
-        return false;
-    }
-    in_use(
-        rt,
-        b"reclaims",
-        c.generation,
-        Counters::MAX_RECLAIMS as usize,
-    )
+    in_use(rt, b"resources", c.resources, resources)
+        && in_use(rt, b"statements", c.statements, statements)
+        && count(rt, Output::Standard, b"live", live as u64)
+        && in_use(rt, b"bytes", c.text, text)
+        && in_use(
+            rt,
+            b"reclaims",
+            c.generation,
+            Counters::MAX_RECLAIMS as usize,
+        )
 }
 
 // The same, and how many lines of the files were refused and files could not be read.
@@ -248,27 +212,22 @@ pub fn totals(
     statements: usize,
     text: usize,
     live: u32,
-) -> u32 {
-    if !used(rt, s.counters, resources, statements, text, live) {
-        return status::FAILED;
-    }
-    if !count(rt, Output::Standard, b"missing", s.missing) {
-        return status::FAILED;
-    }
-    status::told(
-        count(rt, Output::Standard, b"unread", s.unread),
-        status::DONE,
-    )
+) -> Status {
+    let written = used(rt, s.counters, resources, statements, text, live)
+        && count(rt, Output::Standard, b"missing", s.missing)
+        && count(rt, Output::Standard, b"unread", s.unread);
+    told(written, Status::Done)
 }
 
-pub fn checked(rt: &impl Outputs, sound: bool) -> u32 {
+pub fn checked(rt: &impl Outputs, sound: bool) -> Status {
     if sound {
-        return status::told(put(rt, Output::Standard, b"sound\n"), status::DONE);
+        told(put(rt, Output::Standard, b"sound\n"), Status::Done)
+    } else {
+        told(put(rt, Output::Standard, b"unsound\n"), Status::Refused)
     }
-    status::told(put(rt, Output::Standard, b"unsound\n"), status::REFUSED)
 }
 
-pub fn reclaimed(rt: &impl Outputs, notices: Output, before: u32, after: u32) -> u32 {
+pub fn reclaimed(rt: &impl Outputs, notices: Output, before: u32, after: u32) -> Status {
     let written = two_counts(
         rt,
         notices,
@@ -277,7 +236,7 @@ pub fn reclaimed(rt: &impl Outputs, notices: Output, before: u32, after: u32) ->
         b"after",
         after as u64,
     );
-    status::told(written, status::DONE)
+    told(written, Status::Done)
 }
 
 // The commands, in one screen: `help.txt`.
@@ -310,6 +269,6 @@ A line that begins with # is a comment. What is refused changes nothing.
     )
 }
 
-pub fn help(rt: &impl Outputs) -> u32 {
-    status::told(page(rt), status::DONE)
+pub fn help(rt: &impl Outputs) -> Status {
+    told(page(rt), Status::Done)
 }

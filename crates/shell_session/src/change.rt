@@ -2,24 +2,26 @@
 use crate::answer;
 use loader::line::Outcome;
 use ntriples::{Line, Span};
+use report::status::Status;
 use shell_line::part::bytes_of;
-use shell_print::{names, refusal, status};
-use shell_words::{Found, UNKNOWN, number_of};
-use store::{Counters, Reclaimed, ResourceId, Retracted, Triple};
+use shell_print::{names, refusal};
+use shell_words::number_of;
+use store::{Counters, Refusal, ResourceId, StatementId, Triple};
 use streams::{Output, Outputs};
+use table::lent::{Tables, TablesMut};
 
 // The counters after a command, and its status.
 #[derive(Clone, Copy)]
 pub struct Changed {
     pub counters: Counters,
-    pub status: u32,
+    pub status: Status,
 }
 
 // The counters with a command's status.
-pub fn with_status(c: Counters, status: u32) -> Changed {
+pub fn with_status(c: Counters, status: Status) -> Changed {
     Changed {
         counters: c,
-        status: status,
+        status,
     }
 }
 
@@ -29,24 +31,33 @@ fn rest_of(line: &[u8], from: usize) -> &[u8] {
 }
 
 // Tells that a line cannot be read: at an offset of its rest, which begins at `from`.
-fn unreadable(rt: &impl Outputs, notices: Output, line: &[u8], from: usize, offset: usize) -> u32 {
+fn unreadable(
+    rt: &impl Outputs,
+    notices: Output,
+    line: &[u8],
+    from: usize,
+    offset: usize,
+) -> Status {
     refusal::refused_at(
         rt,
         notices,
         line,
-        10,
-        std::num::wrapping_add_usize(from, offset),
+        Refusal::BadLine,
+        from.wrapping_add(offset),
     )
 }
 
-// Done where the rest of the line has a statement; otherwise it cannot be read, which is told.
-fn tell_unreadable(rt: &impl Outputs, notices: Output, line: &[u8], from: usize) -> u32 {
-    let read = ntriples::read_line(rest_of(line, from), 0);
-    let found = read.line;
-    match found {
-        Line::Triple(_, _, _) => status::DONE,
-        Line::Refused(k) => unreadable(rt, notices, line, from, k),
-        _ => unreadable(rt, notices, line, from, 0),
+// Whether the rest of the line has a statement; if not, it cannot be read, which is told.
+fn tell_unreadable(
+    rt: &impl Outputs,
+    notices: Output,
+    line: &[u8],
+    from: usize,
+) -> Result<(), Status> {
+    match ntriples::read_line(rest_of(line, from), 0).line {
+        Line::Triple(_, _, _) => Ok(()),
+        Line::Refused(k) => Err(unreadable(rt, notices, line, from, k)),
+        _ => Err(unreadable(rt, notices, line, from, 0)),
     }
 }
 
@@ -56,27 +67,10 @@ fn tell_entered(
     notices: Output,
     before: u32,
     d: Counters,
-    resources: &[u32],
-    statements: &[u32],
-    index: &[u32],
-    text: &[u8],
+    tables: Tables,
 ) -> bool {
-    let last = d.resources;
-    let mut n = before;
-    // The names with the numbers after `before`, up to n, are told.
-    while n < last {
-        n += 1;
-        if !names::name(
-            rt,
-            notices,
-            b"entered ",
-            d,
-            resources,
-            statements,
-            index,
-            text,
-            ResourceId(n),
-        ) {
+    for n in before..d.resources {
+        if !names::name(rt, notices, b"entered ", d, tables, ResourceId(n + 1)) {
             return false;
         }
     }
@@ -89,14 +83,11 @@ fn tell_asserted(
     notices: Output,
     before: u32,
     d: Counters,
-    resources: &[u32],
-    statements: &[u32],
-    index: &[u32],
-    text: &[u8],
-    outcome: Outcome,
-) -> u32 {
-    if !tell_entered(rt, notices, before, d, resources, statements, index, text) {
-        return status::FAILED;
+    tables: Tables,
+    outcome: Result<Outcome, Refusal>,
+) -> Status {
+    if !tell_entered(rt, notices, before, d, tables) {
+        return Status::Failed;
     }
     answer::outcome(rt, notices, outcome)
 }
@@ -106,131 +97,94 @@ pub fn assert(
     rt: &impl Outputs,
     notices: Output,
     c: Counters,
-    resources: &mut [u32],
-    statements: &mut [u32],
-    index: &mut [u32],
-    text: &mut [u8],
+    tables: &mut TablesMut,
     line: &[u8],
     from: usize,
 ) -> Changed {
-    let told = tell_unreadable(rt, notices, line, from);
-    if told != status::DONE {
+    if let Err(told) = tell_unreadable(rt, notices, line, from) {
         return with_status(c, told);
     }
     let source = rest_of(line, from);
-    let r = whole_line::load_whole(c, resources, statements, index, text, source);
+    let r = whole_line::load_whole(c, tables, source);
     let d = r.counters;
-    let outcome = r.outcome;
-    let status = tell_asserted(
-        rt,
-        notices,
-        c.resources,
-        d,
-        resources,
-        statements,
-        index,
-        text,
-        outcome,
-    );
+    let status = tell_asserted(rt, notices, c.resources, d, tables.read(), r.outcome);
     with_status(d, status)
 }
 
-// The first refusal of three, 0 if there is none.
-fn first_refusal(s: Found, p: Found, o: Found) -> u32 {
-    if s.refusal != 0 {
-        return s.refusal;
-    }
-    if p.refusal != 0 {
-        return p.refusal;
-    }
-    o.refusal
+// The numbers of a statement's names, where the store has them.
+#[derive(Clone, Copy)]
+struct Numbers {
+    subject: Option<ResourceId>,
+    predicate: Option<ResourceId>,
+    object: Option<ResourceId>,
+}
+
+fn numbers_of(
+    c: Counters,
+    tables: Tables,
+    subject: &[u8],
+    predicate: &[u8],
+    object: &[u8],
+) -> Result<Numbers, Refusal> {
+    Ok(Numbers {
+        subject: number_of(c, tables, subject)?,
+        predicate: number_of(c, tables, predicate)?,
+        object: number_of(c, tables, object)?,
+    })
 }
 
 // Tells a name that the store does not have.
-fn tell_name(rt: &impl Outputs, notices: Output, name: &[u8], f: Found) -> bool {
-    if f.number != UNKNOWN {
-        return true;
-    }
-    answer::unknown(rt, notices, name)
+fn tell_name(rt: &impl Outputs, notices: Output, name: &[u8], number: Option<ResourceId>) -> bool {
+    number.is_some() || answer::unknown(rt, notices, name)
 }
 
-// Tells a refused name, or the names that the store does not have and that there is no such statement.
+// Tells the names that the store does not have and that there is no such statement.
 fn tell_absent(
     rt: &impl Outputs,
     notices: Output,
     subject: &[u8],
     predicate: &[u8],
     object: &[u8],
-    s: Found,
-    p: Found,
-    o: Found,
-) -> u32 {
-    let refused = first_refusal(s, p, o);
-    if refused != 0 {
-        return refusal::refused(rt, notices, refused);
-    }
-    if !tell_name(rt, notices, subject, s) {
-        return status::FAILED;
-    }
-    if !tell_name(rt, notices, predicate, p) {
-        return status::FAILED;
-    }
-    if !tell_name(rt, notices, object, o) {
-        return status::FAILED;
-    }
-    answer::absent(rt, notices)
-}
-
-// The triple of a statement to retract. Done where the store has its names; otherwise that is told.
-#[derive(Clone, Copy)]
-struct Sought {
-    status: u32,
-    triple: Triple,
-}
-
-// No triple.
-fn not_sought(status: u32) -> Sought {
-    Sought {
-        status: status,
-        triple: Triple {
-            subject: ResourceId(UNKNOWN),
-            predicate: ResourceId(UNKNOWN),
-            object: ResourceId(UNKNOWN),
-        },
+    n: Numbers,
+) -> Status {
+    if tell_name(rt, notices, subject, n.subject)
+        && tell_name(rt, notices, predicate, n.predicate)
+        && tell_name(rt, notices, object, n.object)
+    {
+        answer::absent(rt, notices)
+    } else {
+        Status::Failed
     }
 }
 
-// The triple of these parts.
+// The triple of these parts, where the store has their names; otherwise that is told.
 fn seek_parts(
     rt: &impl Outputs,
     notices: Output,
     c: Counters,
-    resources: &[u32],
-    statements: &[u32],
-    index: &[u32],
-    text: &[u8],
+    tables: Tables,
     source: &[u8],
     s: Span,
     p: Span,
     o: Span,
-) -> Sought {
+) -> Result<Triple, Status> {
     let subject = bytes_of(source, s.start, s.end);
     let predicate = bytes_of(source, p.start, p.end);
     let object = bytes_of(source, o.start, o.end);
-    let a = number_of(c, resources, statements, index, text, subject);
-    let b = number_of(c, resources, statements, index, text, predicate);
-    let d = number_of(c, resources, statements, index, text, object);
-    let x = Triple {
-        subject: ResourceId(a.number),
-        predicate: ResourceId(b.number),
-        object: ResourceId(d.number),
-    };
-    if !table::known(c.resources, x) {
-        return not_sought(tell_absent(rt, notices, subject, predicate, object, a, b, d));
-    }
-    Sought {
-        status: status::DONE,
-        triple: x,
+    match numbers_of(c, tables, subject, predicate, object) {
+        Err(e) => Err(refusal::refused(rt, notices, e)),
+        Ok(
+            Numbers {
+                subject: Some(subject),
+                predicate: Some(predicate),
+                object: Some(object),
+            },
+        ) => Ok(Triple {
+            subject,
+            predicate,
+            object,
+        }),
+        Ok(n) => Err(tell_absent(rt, notices, subject, predicate, object, n)),
     }
 }
 
@@ -239,23 +193,28 @@ fn seek(
     rt: &impl Outputs,
     notices: Output,
     c: Counters,
-    resources: &[u32],
-    statements: &[u32],
-    index: &[u32],
-    text: &[u8],
+    tables: Tables,
     line: &[u8],
     from: usize,
-) -> Sought {
+) -> Result<Triple, Status> {
     let source = rest_of(line, from);
-    let read = ntriples::read_line(source, 0);
-    let found = read.line;
-    match found {
-        Line::Triple(s, p, o) => seek_parts(
-            rt, notices, c, resources, statements, index, text, source, s, p, o,
-        ),
-        Line::Refused(k) => not_sought(unreadable(rt, notices, line, from, k)),
-        _ => not_sought(unreadable(rt, notices, line, from, 0)),
+    match ntriples::read_line(source, 0).line {
+        Line::Triple(s, p, o) => seek_parts(rt, notices, c, tables, source, s, p, o),
+        Line::Refused(k) => Err(unreadable(rt, notices, line, from, k)),
+        _ => Err(unreadable(rt, notices, line, from, 0)),
     }
+}
+
+// Strikes a statement out. The tables are four slices: of a struct lent to be written the check lets none be lent on to be read.
+fn strike(
+    c: Counters,
+    resources: &mut [u32],
+    statements: &mut [u32],
+    index: &mut [u32],
+    text: &mut [u8],
+    x: Triple,
+) -> Result<Option<StatementId>, Refusal> {
+    statement::retract(c, resources, statements, index, text, x)
 }
 
 // Retracts the statement in the rest of the line.
@@ -263,46 +222,54 @@ pub fn retract(
     rt: &impl Outputs,
     notices: Output,
     c: Counters,
-    resources: &mut [u32],
-    statements: &mut [u32],
-    index: &[u32],
-    text: &[u8],
+    tables: &mut TablesMut,
     line: &[u8],
     from: usize,
-) -> u32 {
-    let f = seek(
-        rt, notices, c, resources, statements, index, text, line, from,
-    );
-    if f.status != status::DONE {
-        return f.status;
-    }
-    let x = f.triple;
-    match statement::retract(c, resources, statements, index, text, x) {
-        Retracted::Number(n) => answer::became(rt, notices, b"retracted", n.0),
-        Retracted::Absent => answer::absent(rt, notices),
-        Retracted::Refused(e) => refusal::refused(rt, notices, store::refusal_number(e)),
+) -> Status {
+    let x = match seek(rt, notices, c, tables.read(), line, from) {
+        Ok(x) => x,
+        Err(told) => return told,
+    };
+    match strike(
+        c,
+        tables.resources,
+        tables.statements,
+        tables.index,
+        tables.text,
+        x,
+    ) {
+        Ok(Some(n)) => answer::became(rt, notices, b"retracted", n.0),
+        Ok(None) => answer::absent(rt, notices),
+        Err(e) => refusal::refused(rt, notices, e),
     }
 }
 
-// Gives the room of retracted statements back.
-pub fn reclaim(
-    rt: &impl Outputs,
-    notices: Output,
+// Gives the room of retracted statements back, in tables lent as `strike` has them.
+fn shrink(
     c: Counters,
     resources: &mut [u32],
     statements: &mut [u32],
-    index: &[u32],
-    text: &[u8],
-) -> Changed {
-    match compaction::reclaim(c, resources, statements, index, text) {
-        Reclaimed::Done(d) => {
+    index: &mut [u32],
+    text: &mut [u8],
+) -> Result<Counters, Refusal> {
+    compaction::reclaim(c, resources, statements, index, text)
+}
+
+// Gives the room of retracted statements back.
+pub fn reclaim(rt: &impl Outputs, notices: Output, c: Counters, tables: &mut TablesMut) -> Changed {
+    match shrink(
+        c,
+        tables.resources,
+        tables.statements,
+        tables.index,
+        tables.text,
+    ) {
+        Ok(d) => {
             with_status(
                 d,
                 answer::reclaimed(rt, notices, c.statements, d.statements),
             )
         }
-        Reclaimed::Refused(e) => {
-            with_status(c, refusal::refused(rt, notices, store::refusal_number(e)))
-        }
+        Err(e) => with_status(c, refusal::refused(rt, notices, e)),
     }
 }

@@ -2,11 +2,13 @@
 use crate::change::{Changed, with_status};
 use crate::{change, reading};
 use loader::line::LINE_LIMIT;
+use report::status::Status;
 use shell_line::command;
 use shell_line::command::{Command, CommandRead};
-use shell_print::{refusal, status};
-use store::Counters;
+use shell_print::refusal;
+use store::{Counters, Refusal};
 use streams::{Output, Outputs};
+use table::lent::TablesMut;
 
 // How far a session is: the store's counters, how many lines of the files were refused and how many files could not be read, where notices
 // go, the greatest status so far, and whether the session is over.
@@ -16,50 +18,44 @@ pub struct State {
     pub missing: u64,
     pub unread: u64,
     pub notices: Output,
-    pub status: u32,
+    pub status: Status,
     pub over: bool,
 }
 
 // Whether a command takes nothing after its word.
 fn is_bare(command: Command) -> bool {
-    match command {
-        Command::Totals => true,
-        Command::Check => true,
-        Command::Reclaim => true,
-        Command::Save => true,
-        Command::Help => true,
-        Command::Quit => true,
-        _ => false,
-    }
+    matches!(
+        command,
+        Command::Totals
+            | Command::Check
+            | Command::Reclaim
+            | Command::Save
+            | Command::Help
+            | Command::Quit
+    )
 }
 
-// Tells a line that is refused: its word is no command, or something follows one that takes nothing. Done where it is none of these.
-fn tell_refused(rt: &impl Outputs, notices: Output, line: &[u8], k: CommandRead) -> u32 {
-    let command = k.command;
-    let start = k.start;
-    let rest = k.rest;
-    match command {
-        Command::Unknown => refusal::refused_at(rt, notices, line, 10, start),
-        _ => {
-            if !is_bare(command) {
-                return status::DONE;
-            }
-            if rest >= line.len() {
-                return status::DONE;
-            }
-            refusal::refused_at(rt, notices, line, 10, rest)
-        }
+// Tells a line that is refused: its word is no command, or something follows one that takes nothing.
+fn tell_refused(
+    rt: &impl Outputs,
+    notices: Output,
+    line: &[u8],
+    k: CommandRead,
+) -> Result<(), Status> {
+    if k.command == Command::Unknown {
+        return Err(refusal::refused_at(rt, notices, line, Refusal::BadLine, k.start));
     }
+    if is_bare(k.command) && k.rest < line.len() {
+        return Err(refusal::refused_at(rt, notices, line, Refusal::BadLine, k.rest));
+    }
+    Ok(())
 }
 
 // Runs the command, and answers the counters from now on, and its status.
 fn run_command(
     rt: &impl Outputs,
     s: State,
-    resources: &mut [u32],
-    statements: &mut [u32],
-    index: &mut [u32],
-    text: &mut [u8],
+    tables: &mut TablesMut,
     line: &[u8],
     k: CommandRead,
 ) -> Changed {
@@ -68,72 +64,36 @@ fn run_command(
     let command = k.command;
     let at = k.rest;
     match command {
-        Command::Assert => change::assert(
-            rt, notices, c, resources, statements, index, text, line, at,
-        ),
+        Command::Assert => change::assert(rt, notices, c, tables, line, at),
         Command::Retract => {
-            let told = change::retract(
-                rt, notices, c, resources, statements, index, text, line, at,
-            );
+            let told = change::retract(rt, notices, c, tables, line, at);
             with_status(c, told)
         }
-        Command::Reclaim => change::reclaim(rt, notices, c, resources, statements, index, text),
-        _ => with_status(
-            c,
-            reading::answer(rt, s, resources, statements, index, text, line, k),
-        ),
+        Command::Reclaim => change::reclaim(rt, notices, c, tables),
+        _ => with_status(c, reading::answer(rt, s, tables.read(), line, k)),
     }
-}
-
-// Whether a command ends the session.
-fn is_quit(command: Command) -> bool {
-    match command {
-        Command::Quit => true,
-        _ => false,
-    }
-}
-
-// Whether the session is over after a command with this status.
-fn is_over(status: u32, quit: bool) -> bool {
-    if quit {
-        return true;
-    }
-    status == status::FAILED
 }
 
 // The state after a command with this status.
-fn after(s: State, c: Counters, status: u32, quit: bool) -> State {
+fn after(s: State, c: Counters, status: Status, quit: bool) -> State {
     State {
         counters: c,
-        missing: s.missing,
-        unread: s.unread,
-        notices: s.notices,
-        status: status::greater(s.status, status),
-        over: is_over(status, quit),
+        status: s.status.max(status),
+        over: quit || status == Status::Failed,
+        ..s
     }
 }
 
 // Runs a line.
-pub fn run_line(
-    rt: &impl Outputs,
-    s: State,
-    resources: &mut [u32],
-    statements: &mut [u32],
-    index: &mut [u32],
-    text: &mut [u8],
-    line: &[u8],
-) -> State {
+pub fn run_line(rt: &impl Outputs, s: State, tables: &mut TablesMut, line: &[u8]) -> State {
     let c = s.counters;
     if line.len() > LINE_LIMIT {
         return after(s, c, refusal::too_long(rt, s.notices), false);
     }
     let k = command::read_command(line);
-    let refused = tell_refused(rt, s.notices, line, k);
-    if refused != status::DONE {
+    if let Err(refused) = tell_refused(rt, s.notices, line, k) {
         return after(s, c, refused, false);
     }
-    let r = run_command(rt, s, resources, statements, index, text, line, k);
-    let d = r.counters;
-    let command = k.command;
-    after(s, d, r.status, is_quit(command))
+    let r = run_command(rt, s, tables, line, k);
+    after(s, r.counters, r.status, k.command == Command::Quit)
 }

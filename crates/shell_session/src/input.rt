@@ -1,57 +1,52 @@
 // Standard input, line by line, up to its end, to `quit` or to a read or a write that failed.
-ghost use Rattle.std.specs.Prelude.{◌<◌};
-
 use crate::commands::State;
 use crate::{answer, commands};
 use loader::block::keep_rest;
+use ntriples::Span;
+use report::status::Status;
 use shell_line::part::bytes_of;
-use shell_print::status;
 use std::io::Read;
 use streams::Outputs;
-use table::word::lesser;
+use table::lent::TablesMut;
 
-// As many turns as a loop may take that waits for the input to end: nothing says that it does, and no run uses them up.
-const TURNS: u64 = 18446744073709551615;
+// Whether there is more to read: not once the input has ended; and not where a read failed, or the write of a prompt.
+#[derive(Clone, Copy, PartialEq, Eq)]
+enum Source {
+    Open,
+    Ended,
+    Failed,
+}
 
-// How far the input is read. The line at hand, if one is found, stands in the buffer from `start` up to `end`; what is read beyond it, from
-// `at` up to `filled`. Once standard input has ended, what is left is the last line; where a read failed, or the write of a prompt, nothing
-// is left.
+// How far the input is read. The line at hand, if one is found, stands in the buffer; what is read beyond it, from `at` up to `filled`. Once
+// standard input has ended, what is left is the last line; where a read failed, or the write of a prompt, nothing is left.
 #[derive(Clone, Copy)]
 struct Input {
-    start: usize,
-    end: usize,
+    line: Option<Span>,
     at: usize,
     filled: usize,
-    found: bool,
-    ended: bool,
-    failed: bool,
+    source: Source,
 }
 
 // The input with bytes from the buffer's front up to `filled`.
-fn filled_to(filled: usize, ended: bool, failed: bool) -> Input {
+fn filled_to(filled: usize, source: Source) -> Input {
     Input {
-        start: 0,
-        end: 0,
+        line: None,
         at: 0,
-        filled: filled,
-        found: false,
-        ended: ended,
-        failed: failed,
+        filled,
+        source,
     }
 }
 
 // Where a line ends that begins at `from`: at its LF, or at the end of what is filled.
 fn line_end(buffer: &[u8], from: usize, filled: usize) -> usize {
-    let stop = lesser(filled, buffer.len());
-    let mut i = from;
-    // No LF stands from `from` up to i.
-    while i < stop {
-        if buffer[i] == b'\n' {
-            return i;
-        }
-        i += 1;
+    let stop = filled.min(buffer.len());
+    match buffer[from.min(stop)..stop]
+        .iter()
+        .position(|b| *b == b'\n')
+    {
+        Some(n) => from + n,
+        None => from.max(stop),
     }
-    i
 }
 
 // Where the line ends whose LF stands at `end`: one CR before it is dropped.
@@ -70,23 +65,24 @@ fn without_cr(buffer: &[u8], from: usize, end: usize) -> usize {
 
 // Takes the line that begins at i.at, if it has ended.
 fn take_line(i: Input, buffer: &[u8]) -> Input {
+    let start = i.at;
+    let end = line_end(buffer, start, i.filled);
     let mut m = i;
-    let end = line_end(buffer, i.at, i.filled);
-    m.start = i.at;
     if end < i.filled {
-        m.end = without_cr(buffer, i.at, end);
+        m.line = Some(Span {
+            start,
+            end: without_cr(buffer, start, end),
+        });
         m.at = end + 1;
-        m.found = true;
-        return m;
+    } else if i.source != Source::Open {
+        m.line = Some(Span { start, end });
     }
-    m.end = end;
-    m.found = i.ended;
     m
 }
 
 // The input after a read or a write that failed: it has ended, and the line that was broken off is dropped.
 fn broken() -> Input {
-    filled_to(0, true, true)
+    filled_to(0, Source::Failed)
 }
 
 // Reads one block, behind what is left of the last one.
@@ -97,7 +93,7 @@ fn fill<R: Outputs, S: Read>(
     buffer: &mut [u8],
     terminal: bool,
 ) -> Input {
-    let used = lesser(keep_rest(buffer, i.at, i.filled), buffer.len());
+    let used = keep_rest(buffer, i.at, i.filled).min(buffer.len());
     if !answer::prompt(rt, terminal, used) {
         return broken();
     }
@@ -107,10 +103,10 @@ fn fill<R: Outputs, S: Read>(
             answer::end_prompt(rt, terminal);
             broken()
         }
-        Ok(n) if n > 0 => filled_to(used + n, false, false),
+        Ok(n) if n > 0 => filled_to(used + n, Source::Open),
         Ok(_) => {
             if answer::end_prompt(rt, terminal) {
-                filled_to(used, true, false)
+                filled_to(used, Source::Ended)
             } else {
                 broken()
             }
@@ -118,7 +114,7 @@ fn fill<R: Outputs, S: Read>(
     }
 }
 
-// The next line.
+// The input with the next line. Nothing says that the input ends, and no run uses the turns up.
 fn next_line<R: Outputs, S: Read>(
     rt: &R,
     source: &mut S,
@@ -127,36 +123,16 @@ fn next_line<R: Outputs, S: Read>(
     terminal: bool,
 ) -> Input {
     let mut m = i;
-    let mut turns = TURNS;
+    m.line = None;
     // No line ends in the blocks read so far.
-    while turns > 0 {
+    for _ in 0..u64::MAX {
         m = take_line(m, buffer);
-        if m.found {
-            return m;
+        if m.line.is_some() {
+            break;
         }
         m = fill(rt, source, m, buffer, terminal);
-        turns -= 1;
     }
     m
-}
-
-// How many turns are left after one: none where the session is over.
-fn left(turns: u64, ended: bool, over: bool) -> u64
-    requires { 0 < turns }
-    ensures { result < turns }
-{
-    if ended {
-        return 0;
-    }
-    if over {
-        return 0;
-    }
-    turns - 1
-}
-
-// The session's status, once its input was read.
-fn status_after(i: Input, s: State) -> u32 {
-    if i.failed { status::FAILED } else { s.status }
 }
 
 // A session: runs each line of the source, which is standard input, and answers the greatest status.
@@ -165,21 +141,24 @@ pub fn session<R: Outputs, S: Read>(
     source: &mut S,
     begun: State,
     terminal: bool,
-    resources: &mut [u32],
-    statements: &mut [u32],
-    index: &mut [u32],
-    text: &mut [u8],
+    tables: &mut TablesMut,
     buffer: &mut [u8],
-) -> u32 {
+) -> Status {
     let mut s = begun;
-    let mut i = filled_to(0, false, false);
-    let mut turns = TURNS;
+    let mut i = filled_to(0, Source::Open);
     // The lines read so far are run, which left `s`.
-    while turns > 0 {
+    for _ in 0..u64::MAX {
         i = next_line(rt, source, i, buffer, terminal);
-        let line = bytes_of(buffer, i.start, i.end);
-        s = commands::run_line(rt, s, resources, statements, index, text, line);
-        turns = left(turns, i.ended, s.over);
+        let at = i.line.unwrap_or(Span { start: 0, end: 0 });
+        let line = bytes_of(buffer, at.start, at.end);
+        s = commands::run_line(rt, s, tables, line);
+        if i.source != Source::Open || s.over {
+            break;
+        }
     }
-    status_after(i, s)
+    if i.source == Source::Failed {
+        Status::Failed
+    } else {
+        s.status
+    }
 }

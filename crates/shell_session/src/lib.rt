@@ -13,19 +13,21 @@ mod input;
 mod reading;
 
 use commands::State;
+use loader::buffer;
 use loader::load::Load;
-use loader::{buffer, load};
-use shell_print::status;
+use report::status::Status;
 use std::io::Input;
 use std::rt::{Env, Files};
-use streams::{Output, Outputs, Terminal};
+use streams::{Output, Outputs, Terminal, filled};
+use table::lent::TablesMut;
 
 // Where notices go: to standard output with a terminal on standard input, or where all is to go there; otherwise to standard error.
 fn notices_to(terminal: bool, all: bool) -> Output {
-    if terminal {
-        return Output::Standard;
+    if terminal || all {
+        Output::Standard
+    } else {
+        Output::Error
     }
-    if all { Output::Standard } else { Output::Error }
 }
 
 // A session that begins after a load.
@@ -33,49 +35,36 @@ fn begun(l: Load, notices: Output) -> State {
     let c = l.counters;
     State {
         counters: c,
-        missing: load::missing(l),
-        unread: load::unread(l),
-        notices: notices,
-        status: load::status(l),
+        missing: l.report.missing,
+        unread: l.report.unread,
+        notices,
+        status: l.report.status(),
         over: false,
     }
 }
 
 // Loads the files and runs the session, and answers the greatest status.
-pub fn run<R: Outputs + Env + Files + Input + Terminal>(rt: &R, all: bool) -> u32 {
-    let mut resources = buffer::resource_table();
-    let mut statements = buffer::statement_table();
-    let mut index = buffer::resource_list();
-    let mut text = buffer::text_table();
+pub fn run<R: Outputs + Env + Files + Input + Terminal>(rt: &R, all: bool) -> Status {
+    let mut resources = filled::<u32, { buffer::RESOURCE_TABLE }>(0);
+    let mut statements = filled::<u32, { buffer::STATEMENT_TABLE }>(0);
+    let mut index = filled::<u32, { buffer::RESOURCES }>(0);
+    let mut text = filled::<u8, { buffer::TEXT }>(0);
     let mut buffer = [0u8; loader::BUFFER];
-    let fresh = load::start(true);
-    let l = loader::file::load_files(
-        rt,
-        fresh,
-        &mut resources,
-        &mut statements,
-        &mut index,
-        &mut text,
-        &mut buffer,
-    );
-    if !load::written(l) {
-        return status::FAILED;
+    let mut tables = TablesMut {
+        resources: &mut resources,
+        statements: &mut statements,
+        index: &mut index,
+        text: &mut text,
+    };
+    let l = loader::file::load_files(rt, Load::new(true), &mut tables, &mut buffer);
+    if !l.report.written {
+        return Status::Failed;
     }
     let terminal = rt.is_terminal();
     let s = begun(l, notices_to(terminal, all));
     if !answer::greet(rt, terminal, s) {
-        return status::FAILED;
+        return Status::Failed;
     }
     let mut source = rt.reader();
-    input::session(
-        rt,
-        &mut source,
-        s,
-        terminal,
-        &mut resources,
-        &mut statements,
-        &mut index,
-        &mut text,
-        &mut buffer,
-    )
+    input::session(rt, &mut source, s, terminal, &mut tables, &mut buffer)
 }

@@ -1,32 +1,45 @@
 // The commands that only read the store. Each answers its status.
-ghost use Rattle.std.specs.Prelude.{◌≡◌, true, take};
-ghost use Rattle.store.specs.Tables.{lent};
+ghost use Rattle.std.specs.Prelude.{◌≡◌, take};
+ghost use Rattle.table.specs.Lent.{held};
 ghost use Rattle.shell_answer.specs.Claims.{QuestionRead};
-ghost use Rattle.shell_session.specs.Asked.{Asked, Listed};
+ghost use Rattle.shell_answer.specs.Told.{account};
+ghost use Rattle.shell_session.specs.Asked.{none_told, Asked, Listed};
 
 use crate::answer;
 use crate::commands::State;
-use lines::Exported;
 use loader::buffer;
-use ntriples::TermEnd;
 use report::output::put;
+use report::status::Status;
 use report::tally;
-use shell_answer::{Told, list, question, told_refused};
+use shell_answer::{End, Told, list, question};
 use shell_line::command::{Command, CommandRead};
-use shell_line::parts::{MAX_PARTS, Parts};
+use shell_line::parts::{Fault, MAX_PARTS, Parts};
 use shell_line::{part, parts};
 use shell_print::names::name;
-use shell_print::{refusal, status};
+use shell_print::refusal;
+use shell_print::status::told;
 use shell_words::{UNKNOWN, is_name, number_of, words_of};
-use store::{Counters, Prefixed, ResourceId, Triple};
-use streams::{Output, Outputs};
-use table::word::lesser;
+use store::{Counters, Refusal, ResourceId, Triple};
+use streams::{Output, Outputs, filled};
+use table::lent::Tables;
 
 // How a question or a list came out, and the status of one that has ended.
 #[derive(Clone, Copy)]
 struct Replied {
     told: Told,
-    status: u32,
+    status: Status,
+}
+
+// A reading that is refused, with nothing found.
+fn refused(e: Refusal) -> Replied {
+    Replied {
+        told: Told {
+            end: End::Refused(e),
+            found: 0,
+            visits: 0,
+        },
+        status: Status::Refused,
+    }
 }
 
 // Tells each name that the store does not have, of the parts with these words.
@@ -37,16 +50,10 @@ fn tell_unknown(
     p: Parts,
     words: [u32; MAX_PARTS],
 ) -> bool {
-    let mut i = 0;
-    // The first i parts are looked at.
-    while i < MAX_PARTS {
-        if i >= p.count {
-            return true;
-        }
-        if !tell_part(rt, notices, line, p, i, words[i]) {
+    for (i, word) in words[..p.count.min(MAX_PARTS)].iter().enumerate() {
+        if !tell_part(rt, notices, line, p, i, *word) {
             return false;
         }
-        i += 1;
     }
     true
 }
@@ -60,25 +67,19 @@ fn tell_part(
     i: usize,
     word: u32,
 ) -> bool {
-    if word != UNKNOWN {
-        return true;
-    }
-    if !is_name(line, p, i) {
-        return true;
-    }
-    answer::unknown(rt, notices, parts::part_of(line, p, i))
+    word != UNKNOWN
+        || !is_name(line, p, i)
+        || answer::unknown(rt, notices, parts::part_of(line, p, i))
 }
 
 // A reading that finds nothing, since a name of it is unknown; that was told, or could not be written.
 fn nothing(written: bool) -> Told
-    ensures { result ≡ record { refusal = 0; ended = true; found = 0; visits = 0; written = written } }
+    ensures { account result ≡ none_told written }
 {
     Told {
-        refusal: 0,
-        ended: true,
+        end: if written { End::Ended } else { End::Unwritten },
         found: 0,
         visits: 0,
-        written: written,
     }
 }
 
@@ -86,30 +87,16 @@ fn nothing(written: bool) -> Told
 fn solve(
     rt: &impl Outputs,
     c: Counters,
-    resources: &[u32],
-    statements: &[u32],
-    index: &[u32],
-    text: &[u8],
+    tables: Tables,
     words: &[u32],
     count: usize,
     variables: usize,
 ) -> Told
-    ensures { QuestionRead c (lent resources.entry statements.entry index.entry text.entry)
+    ensures { QuestionRead c (held tables.entry)
         (take count words.now) result }
 {
-    if count >= words.len() {
-        return question::read_through(rt, c, resources, statements, index, text, words, variables);
-    }
-    question::read_through(
-        rt,
-        c,
-        resources,
-        statements,
-        index,
-        text,
-        &words[0..count],
-        variables,
-    )
+    let asked = &words[..count.min(words.len())];
+    question::read_through(rt, c, tables, asked, variables)
 }
 
 // Reads the question of these parts through, and writes its solutions, or the names that the store does not have.
@@ -117,36 +104,35 @@ fn ask_parts(
     rt: &impl Outputs,
     notices: Output,
     c: Counters,
-    resources: &[u32],
-    statements: &[u32],
-    index: &[u32],
-    text: &[u8],
+    tables: Tables,
     line: &[u8],
     p: Parts,
 ) -> Replied
-    ensures { Asked c (lent resources.entry statements.entry index.entry text.entry)
+    ensures { Asked c (held tables.entry)
         line.now p result.told }
 {
-    let w = words_of(c, resources, statements, index, text, line, p);
-    if w.refusal != 0 {
-        return Replied {
-            told: told_refused(w.refusal, 0, 0),
-            status: status::REFUSED,
-        };
-    }
+    let w = match words_of(c, tables, line, p) {
+        Ok(w) => w,
+        Err(e) => return refused(e),
+    };
     let words = w.words;
     if w.unknown != 0 {
         return Replied {
             told: nothing(tell_unknown(rt, notices, line, p, words)),
-            status: status::REFUSED,
+            status: Status::Refused,
         };
     }
     let n = p.count;
     let v = p.variables;
     Replied {
-        told: solve(rt, c, resources, statements, index, text, &words, n, v),
-        status: status::DONE,
+        told: solve(rt, c, tables, &words, n, v),
+        status: Status::Done,
     }
+}
+
+// Tells the first fault of a line.
+fn tell_fault(rt: &impl Outputs, notices: Output, line: &[u8], f: Fault) -> Status {
+    refusal::refused_at(rt, notices, line, f.refusal, f.offset)
 }
 
 // Answers the question in the line.
@@ -154,51 +140,43 @@ fn ask(
     rt: &impl Outputs,
     notices: Output,
     c: Counters,
-    resources: &[u32],
-    statements: &[u32],
-    index: &[u32],
-    text: &[u8],
+    tables: Tables,
     line: &[u8],
     from: usize,
-) -> u32 {
-    let p = parts::read_parts(line, from, parts::question());
-    if p.refusal != 0 {
-        return refusal::refused_at(rt, notices, line, p.refusal, p.offset);
-    }
+) -> Status {
+    let p = match parts::read_parts(line, from, parts::question()) {
+        Ok(p) => p,
+        Err(f) => return tell_fault(rt, notices, line, f),
+    };
     if !answer::variables(rt, notices, line, p) {
-        return status::FAILED;
+        return Status::Failed;
     }
-    let r = ask_parts(rt, notices, c, resources, statements, index, text, line, p);
+    let r = ask_parts(rt, notices, c, tables, line, p);
     answer::solutions(rt, notices, r.told, r.status)
 }
 
-// Reads the list of these parts through, and writes the statements, or the names that the store does not have.
+// Reads the list of these parts through, and writes the statements, or the names that the store does not have. Its clause and that of
+// `ask_parts` have nothing in common.
 fn list_parts(
     rt: &impl Outputs,
     notices: Output,
     c: Counters,
-    resources: &[u32],
-    statements: &[u32],
-    index: &[u32],
-    text: &[u8],
+    tables: Tables,
     line: &[u8],
     p: Parts,
 ) -> Replied
-    ensures { Listed c (lent resources.entry statements.entry index.entry text.entry)
+    ensures { Listed c (held tables.entry)
         line.now p result.told }
 {
-    let w = words_of(c, resources, statements, index, text, line, p);
-    if w.refusal != 0 {
-        return Replied {
-            told: told_refused(w.refusal, 0, 0),
-            status: status::REFUSED,
-        };
-    }
+    let w = match words_of(c, tables, line, p) {
+        Ok(w) => w,
+        Err(e) => return refused(e),
+    };
     let words = w.words;
     if w.unknown != 0 {
         return Replied {
             told: nothing(tell_unknown(rt, notices, line, p, words)),
-            status: status::REFUSED,
+            status: Status::Refused,
         };
     }
     let x = Triple {
@@ -207,8 +185,8 @@ fn list_parts(
         object: ResourceId(words[2]),
     };
     Replied {
-        told: list::read_through(rt, c, resources, statements, index, text, x),
-        status: status::DONE,
+        told: list::read_through(rt, c, tables, x),
+        status: Status::Done,
     }
 }
 
@@ -217,49 +195,24 @@ fn list_matches(
     rt: &impl Outputs,
     notices: Output,
     c: Counters,
-    resources: &[u32],
-    statements: &[u32],
-    index: &[u32],
-    text: &[u8],
+    tables: Tables,
     line: &[u8],
     from: usize,
-) -> u32 {
-    let p = parts::read_parts(line, from, parts::list());
-    if p.refusal != 0 {
-        return refusal::refused_at(rt, notices, line, p.refusal, p.offset);
-    }
-    let r = list_parts(rt, notices, c, resources, statements, index, text, line, p);
+) -> Status {
+    let p = match parts::read_parts(line, from, parts::list()) {
+        Ok(p) => p,
+        Err(f) => return tell_fault(rt, notices, line, f),
+    };
+    let r = list_parts(rt, notices, c, tables, line, p);
     answer::listed(rt, notices, r.told, r.status)
 }
 
 // Writes the names with these numbers.
-fn write_names(
-    rt: &impl Outputs,
-    c: Counters,
-    resources: &[u32],
-    statements: &[u32],
-    index: &[u32],
-    text: &[u8],
-    numbers: &[u32],
-) -> bool {
-    let mut i = 0;
-    // The first i names are written.
-    while i < numbers.len() {
-        let n = ResourceId(numbers[i]);
-        if !name(
-            rt,
-            Output::Standard,
-            b"",
-            c,
-            resources,
-            statements,
-            index,
-            text,
-            n,
-        ) {
+fn write_names(rt: &impl Outputs, c: Counters, tables: Tables, numbers: &[u32]) -> bool {
+    for n in numbers {
+        if !name(rt, Output::Standard, b"", c, tables, ResourceId(*n)) {
             return false;
         }
-        i += 1;
     }
     true
 }
@@ -269,19 +222,16 @@ fn list_names(
     rt: &impl Outputs,
     notices: Output,
     c: Counters,
-    resources: &[u32],
-    statements: &[u32],
-    index: &[u32],
-    text: &[u8],
+    tables: Tables,
     beginning: &[u8],
     work: &mut [u32],
-) -> u32 {
-    match prefix::names_with_prefix(c, resources, statements, index, text, beginning, work) {
-        Prefixed::Refused(e) => refusal::refused(rt, notices, store::refusal_number(e)),
-        Prefixed::Total(n) => {
-            let end = lesser(n as usize, work.len());
-            if !write_names(rt, c, resources, statements, index, text, &work[0..end]) {
-                return status::FAILED;
+) -> Status {
+    match prefix::names_with_prefix(c, tables, beginning, work) {
+        Err(e) => refusal::refused(rt, notices, e),
+        Ok(n) => {
+            let end = (n as usize).min(work.len());
+            if !write_names(rt, c, tables, &work[..end]) {
+                return Status::Failed;
             }
             answer::became(rt, notices, b"names", n)
         }
@@ -293,34 +243,23 @@ fn names(
     rt: &impl Outputs,
     notices: Output,
     c: Counters,
-    resources: &[u32],
-    statements: &[u32],
-    index: &[u32],
-    text: &[u8],
+    tables: Tables,
     line: &[u8],
     from: usize,
-) -> u32 {
-    let mut work = buffer::resource_list();
+) -> Status {
+    let mut work = filled::<u32, { buffer::RESOURCES }>(0);
     let beginning = part::bytes_of(line, from, line.len());
-    list_names(
-        rt, notices, c, resources, statements, index, text, beginning, &mut work,
-    )
+    list_names(rt, notices, c, tables, beginning, &mut work)
 }
 
 // A word of a table, 0 past its end.
 fn word_at(words: &[u32], i: usize) -> u32 {
-    if i < words.len() {
-        return words[i];
-    }
-    0
+    words.get(i).copied().unwrap_or(0)
 }
 
 // Where the words of resource n begin.
-fn record_of(n: u32) -> usize {
-    if n == 0 {
-        return 0;
-    }
-    (n - 1) as usize * table::word::RESOURCE_WORDS
+fn record_of(n: ResourceId) -> usize {
+    n.0.saturating_sub(1) as usize * table::word::RESOURCE_WORDS
 }
 
 // Writes three words of the resource table, from `at` on, after a label.
@@ -329,20 +268,19 @@ fn write_three(rt: &impl Outputs, label: &[u8], resources: &[u32], at: usize) ->
         rt,
         label,
         word_at(resources, at),
-        word_at(resources, std::num::wrapping_add_usize(at, 1)),
-        word_at(resources, std::num::wrapping_add_usize(at, 2)),
+        word_at(resources, at.wrapping_add(1)),
+        word_at(resources, at.wrapping_add(2)),
     )
 }
 
 // Writes the counts of resource n.
-fn write_counts(rt: &impl Outputs, resources: &[u32], n: u32) -> u32 {
+fn write_counts(rt: &impl Outputs, resources: &[u32], n: ResourceId) -> Status {
     let at = record_of(n);
-    let live = std::num::wrapping_add_usize(at, table::word::LIVE);
-    let chain = std::num::wrapping_add_usize(at, table::word::COUNT);
-    if !write_three(rt, b"live", resources, live) {
-        return status::FAILED;
-    }
-    status::told(write_three(rt, b"chain", resources, chain), status::DONE)
+    let live = at.wrapping_add(table::word::LIVE);
+    let chain = at.wrapping_add(table::word::COUNT);
+    let written = write_three(rt, b"live", resources, live)
+        && write_three(rt, b"chain", resources, chain);
+    told(written, Status::Done)
 }
 
 // Tells the counts of a name.
@@ -350,20 +288,14 @@ fn counts_of(
     rt: &impl Outputs,
     notices: Output,
     c: Counters,
-    resources: &[u32],
-    statements: &[u32],
-    index: &[u32],
-    text: &[u8],
+    tables: Tables,
     name: &[u8],
-) -> u32 {
-    let f = number_of(c, resources, statements, index, text, name);
-    if f.refusal != 0 {
-        return refusal::refused(rt, notices, f.refusal);
+) -> Status {
+    match number_of(c, tables, name) {
+        Err(e) => refusal::refused(rt, notices, e),
+        Ok(None) => told(answer::unknown(rt, notices, name), Status::Refused),
+        Ok(Some(n)) => write_counts(rt, tables.resources, n),
     }
-    if f.number == UNKNOWN {
-        return status::told(answer::unknown(rt, notices, name), status::REFUSED);
-    }
-    write_counts(rt, resources, f.number)
 }
 
 // Tells the counts of the name in the rest of the line.
@@ -371,22 +303,19 @@ fn counts(
     rt: &impl Outputs,
     notices: Output,
     c: Counters,
-    resources: &[u32],
-    statements: &[u32],
-    index: &[u32],
-    text: &[u8],
+    tables: Tables,
     line: &[u8],
     from: usize,
-) -> u32 {
+) -> Status {
     match part::name_end(line, from) {
-        TermEnd::Broken(k) => refusal::refused_at(rt, notices, line, 10, k),
-        TermEnd::Whole(end) => {
+        Err(k) => refusal::refused_at(rt, notices, line, Refusal::BadLine, k),
+        Ok(end) => {
             let next = part::white_end(line, end);
             if next < line.len() {
-                return refusal::refused_at(rt, notices, line, 10, next);
+                return refusal::refused_at(rt, notices, line, Refusal::BadLine, next);
             }
             let name = part::bytes_of(line, from, end);
-            counts_of(rt, notices, c, resources, statements, index, text, name)
+            counts_of(rt, notices, c, tables, name)
         }
     }
 }
@@ -398,126 +327,83 @@ fn flag_of(i: u32) -> usize {
 
 // How many of the first `total` statements are live.
 fn live(statements: &[u32], total: u32) -> u32 {
-    let mut n: u32 = 0;
-    let mut i: u32 = 0;
+    let mut n = 0;
     // Of the first i statements n are live.
-    while i < total {
+    for i in 0..total {
         if word_at(statements, flag_of(i)) == 0 {
             n += 1;
         }
-        i += 1;
     }
     n
 }
 
 // Tells what is in use, and what of the files is missing.
-fn totals(
-    rt: &impl Outputs,
-    s: State,
-    resources: &[u32],
-    statements: &[u32],
-    index: &[u32],
-    text: &[u8],
-) -> u32 {
+fn totals(rt: &impl Outputs, s: State, tables: Tables) -> Status {
     let c = s.counters;
     answer::totals(
         rt,
         s,
-        lesser(resources.len() / table::word::RESOURCE_WORDS, index.len()),
-        statements.len() / table::word::STATEMENT_WORDS,
-        text.len(),
-        live(statements, c.statements),
+        (tables.resources.len() / table::word::RESOURCE_WORDS).min(tables.index.len()),
+        tables.statements.len() / table::word::STATEMENT_WORDS,
+        tables.text.len(),
+        live(tables.statements, c.statements),
     )
 }
 
 // Writes a file. What it lacks is told before it on standard error, wherever notices go: it is to stand alone on standard output.
-fn write_told(rt: &impl Outputs, s: State, file: &[u8]) -> u32 {
-    if !tally::tell_lacks(rt, s.missing, s.unread) {
-        return status::FAILED;
-    }
-    status::told(put(rt, Output::Standard, file), status::DONE)
+fn write_told(rt: &impl Outputs, s: State, file: &[u8]) -> Status {
+    let written = tally::tell_lacks(rt, s.missing, s.unread) && put(rt, Output::Standard, file);
+    told(written, Status::Done)
 }
 
 // Writes the live statements as a file, by way of room for the file and a word for each statement.
 fn write_file(
     rt: &impl Outputs,
     s: State,
-    resources: &[u32],
-    statements: &[u32],
-    index: &[u32],
-    text: &[u8],
+    tables: Tables,
     file: &mut [u8],
     work: &mut [u32],
-) -> u32 {
+) -> Status {
     let c = s.counters;
-    match exporter::export_file(c, resources, statements, index, text, file, work) {
-        Exported::Length(n) => {
-            let end = lesser(n as usize, file.len());
-            write_told(rt, s, &file[0..end])
+    match exporter::export_file(c, tables, file, work) {
+        Ok(n) => {
+            let end = (n as usize).min(file.len());
+            write_told(rt, s, &file[..end])
         }
-        Exported::Refused(e) => refusal::refused(rt, s.notices, store::refusal_number(e)),
+        Err(e) => refusal::refused(rt, s.notices, e),
     }
 }
 
 // Writes the live statements as a file.
-fn save(
-    rt: &impl Outputs,
-    s: State,
-    resources: &[u32],
-    statements: &[u32],
-    index: &[u32],
-    text: &[u8],
-) -> u32 {
-    let mut file = buffer::file();
-    let mut work = buffer::statement_list();
-    write_file(
-        rt, s, resources, statements, index, text, &mut file, &mut work,
-    )
+fn save(rt: &impl Outputs, s: State, tables: Tables) -> Status {
+    let mut file = filled::<u8, { buffer::FILE }>(0);
+    let mut work = filled::<u32, { buffer::STATEMENTS }>(0);
+    write_file(rt, s, tables, &mut file, &mut work)
 }
 
 // Answers a command that takes no rest.
-fn answer_bare(
-    rt: &impl Outputs,
-    s: State,
-    resources: &[u32],
-    statements: &[u32],
-    index: &[u32],
-    text: &[u8],
-    command: Command,
-) -> u32 {
+fn answer_bare(rt: &impl Outputs, s: State, tables: Tables, command: Command) -> Status {
     let c = s.counters;
     match command {
-        Command::Check => answer::checked(
-            rt,
-            integrity::check(c, resources, statements, index, text),
-        ),
-        Command::Save => save(rt, s, resources, statements, index, text),
-        Command::Totals => totals(rt, s, resources, statements, index, text),
+        Command::Check => answer::checked(rt, integrity::check(c, tables)),
+        Command::Save => save(rt, s, tables),
+        Command::Totals => totals(rt, s, tables),
         Command::Help => answer::help(rt),
-        _ => status::DONE,
+        _ => Status::Done,
     }
 }
 
 // Answers a command that only reads the store.
-pub fn answer(
-    rt: &impl Outputs,
-    s: State,
-    resources: &[u32],
-    statements: &[u32],
-    index: &[u32],
-    text: &[u8],
-    line: &[u8],
-    k: CommandRead,
-) -> u32 {
+pub fn answer(rt: &impl Outputs, s: State, tables: Tables, line: &[u8], k: CommandRead) -> Status {
     let notices = s.notices;
     let c = s.counters;
     let command = k.command;
     let at = k.rest;
     match command {
-        Command::Question => ask(rt, notices, c, resources, statements, index, text, line, at),
-        Command::List => list_matches(rt, notices, c, resources, statements, index, text, line, at),
-        Command::Names => names(rt, notices, c, resources, statements, index, text, line, at),
-        Command::Counts => counts(rt, notices, c, resources, statements, index, text, line, at),
-        _ => answer_bare(rt, s, resources, statements, index, text, command),
+        Command::Question => ask(rt, notices, c, tables, line, at),
+        Command::List => list_matches(rt, notices, c, tables, line, at),
+        Command::Names => names(rt, notices, c, tables, line, at),
+        Command::Counts => counts(rt, notices, c, tables, line, at),
+        _ => answer_bare(rt, s, tables, command),
     }
 }

@@ -14,8 +14,7 @@ use Rattle.store.specs.Shared.{well_formed}
 use Rattle.store.proofs.Form.{form-kind}
 use Rattle.ntriples.specs.Grammar.{span, white}
 use Rattle.ntriples.specs.Productions.{run_end}
-use Rattle.ntriples.specs.declared.TermEnd.{TermEnd}
-use Rattle.ntriples.specs.declared.TermEnd.TheVariants.{Whole, Broken}
+use Rattle.std.specs.Prelude.{Result, Ok, Err}
 use Rattle.graph.specs.Words.{variables as max_variables}
 use Rattle.graph.proofs.Solve.{Every}
 use Rattle.shell_line.specs.Ends.{run_from, white_end, followed, name_to, name_end, word_end}
@@ -53,26 +52,26 @@ name-is w f = kind-first w (form-kind w f)
 -- ---- where parts end
 
 module _ (line : List ℕ) where
-  whole_same : (a b : ℕ) → Whole a ≡ Whole b → a ≡ b
+  whole_same : (a b : ℕ) → ◌≡◌ {A = Result ℕ ℕ} (Ok a) (Ok b) → a ≡ b
   whole_same a b e = ap at e
     where
-      at : TermEnd → ℕ
-      at (Whole e) = e
-      at (Broken e) = 0
+      at : Result ℕ ℕ → ℕ
+      at (Ok e) = e
+      at (Err e) = 0
 
-  not-whole : {C : Type 0} (a b : ℕ) → Broken a ≡ Whole b → C
+  not-whole : {C : Type 0} (a b : ℕ) → ◌≡◌ {A = Result ℕ ℕ} (Err a) (Ok b) → C
   not-whole a b e = absurd (let z : ◌≡◌ {A = ℕ} 0 1 = ap is e in omega (arith, z))
     where
-      is : TermEnd → ℕ
-      is (Whole e) = 1
-      is (Broken e) = 0
+      is : Result ℕ ℕ → ℕ
+      is (Ok e) = 1
+      is (Err e) = 0
 
-  followed-is : (t : TermEnd) (e : ℕ) → followed line t ≡ Whole e → t ≡ Whole e
+  followed-is : (t : Result ℕ ℕ) (e : ℕ) → followed line t ≡ Ok e → t ≡ Ok e
   unfolding followed
-  followed-is (Whole k) e h =
+  followed-is (Ok k) e h =
       decide (ltb k (length line))
       (λ x. decide (white (get_or line k 0)) (λ y. rw (x, y) at h) (λ y. not-whole k e (rw (x, y) at h))) (λ x. rw x at h)
-  followed-is (Broken k) e h = h
+  followed-is (Err k) e h = h
 
   module _ (a e : ℕ) where
     -- a word ends no earlier than it begins
@@ -82,14 +81,14 @@ module _ (line : List ℕ) where
     run-low f (b ∷ l) i =
         decide (f b) (λ x. rw (run_end, x) (omega (arith, run-low f l (i + 1)))) (λ x. rw (run_end, x) (omega arith))
 
-    word_low : word_end line a ≡ Whole e → a ≤ e
+    word_low : word_end line a ≡ Ok e → a ≤ e
     unfolding word_end run_from
     word_low h =
         decide (eqb (run_from first_byte line a) a) (λ x. not-whole a e (rw x at h))
         (λ x. let z = whole_same (run_from first_byte line a) e (rw x at h) in omega (arith, z, run-low first_byte (drop a line) a))
 
     -- what a name's scan leaves is a name
-    name-ends : name_end line a ≡ Whole e
+    name-ends : name_end line a ≡ Ok e
         → (whole_of (halt_of Start a (drop a line)).state ≡ true) × ((halt_of Start a (drop a line)).at ≡ e) × (e ≤ a + name_limit)
     unfolding name_end name_to
     name-ends h =
@@ -108,7 +107,7 @@ module _ (line : List ℕ) where
         let k = (kinds name_limit (first_kind_of w) w p).1 (l, n) in
         lt-ltb 0 (kind_of name_limit w) (omega (arith, k, p))
 
-    pub name-formed : a < length line → name_end line a ≡ Whole e → well_formed (slice a e line) ≡ true
+    pub name-formed : a < length line → name_end line a ≡ Ok e → well_formed (slice a e line) ≡ true
     name-formed k h =
         let x = name-ends h in
         let b = halt-breaks a (drop a line) in
@@ -133,10 +132,10 @@ module _ (P : Standing → Type 0) where
   of-cond true x y f g = f refl
   of-cond false x y f g = g refl
 
-  of-up : (f : ℕ → Reading) (t : TermEnd) → ((e : ℕ) → t ≡ Whole e → Of P (f e)) → Of P (up_to f t)
+  of-up : (f : ℕ → Reading) (t : Result ℕ ℕ) → ((e : ℕ) → t ≡ Ok e → Of P (f e)) → Of P (up_to f t)
   unfolding up_to
-  of-up f (Whole e) h = h e refl
-  of-up f (Broken k) h = tt
+  of-up f (Ok e) h = h e refl
+  of-up f (Err k) h = tt
 
   of-beyond : (b : Bool) (i : ℕ) → Of P (beyond_at b i)
   unfolding beyond_at
@@ -196,7 +195,7 @@ module _ (form : Form) (line : List ℕ) where
         good-any a =
             of-up (Reached form line) (any_read line s) _
             (λ e w.
-            let z = whole_same line (s.at + 1) e (followed-is line (Whole (s.at + 1)) e w) in
+            let z = whole_same line (s.at + 1) e (followed-is line (Ok (s.at + 1)) e w) in
             more e (Any (span s.at e)) s.variables (a, asked line s.at e (omega (arith, z)) k b))
 
         good-variable : form.any ≡ false → Good (asked_at false line s)
@@ -231,7 +230,7 @@ module _ (form : Form) (line : List ℕ) where
     unfolding step_of
     good-step = of-cond (Reached form line) (eqb (get_or line s.at 0) 46) _ _ (λ b. good-dot) (λ b. good-part)
 
--- Whole patterns, one at least and no more than the form has, each part spelled as it must be.
+-- Ok patterns, one at least and no more than the form has, each part spelled as it must be.
 pub record Parted (form : Form) (line : List ℕ) (s : Standing) : Type 0 where
   pub spelled : Every (Spelled form.any line) s.parts
   pub patterns : ℕ

@@ -2,6 +2,8 @@
 use Rattle.std.proofs.Common.{◌≡◌, ℕ, ◌*◌, ◌<◌, true, List, map, length, get_or, sym, refl, ap, ◌∙◌, subst, arith, get_or-take}
 use lib.ListN.{length-map, get_or-map}
 use Rattle.store.specs.declared.Counters.{Counters}
+use Rattle.std.specs.Prelude.{Result, Ok, Err}
+use Rattle.store.specs.declared.Refusal.{Refusal}
 use Rattle.store.specs.declared.Position.{Position}
 use Rattle.store.specs.declared.Position.TheVariants.{Subject, Predicate, Object}
 use Rattle.store.specs.Shared.{at}
@@ -17,22 +19,28 @@ use Rattle.graph.proofs.Solve.{every-member}
 use Rattle.shell_line.specs.Questions.{Part, Any, Standing, Reading, Read, Unreadable, NoQuestion, parts_of, question, list, Holds, TellsReading}
 use Rattle.shell_line.specs.declared.parts.Parts.{Parts}
 use Rattle.shell_words.specs.declared.Words.{Words}
-use Rattle.shell_words.specs.Words.{word_for, Spelled, unknown_in, WordsAre}
+use Rattle.shell_words.specs.Words.{word_for, Spelled, unknown_in, WordsAre, WordedAs}
 use Rattle.shell_words.specs.Claims.{WordsOfWhatIsRead, PartsAreSpelled, NumberIsTheName, QuestionMeans}
 use Rattle.shell_words.specs.Claims.{SolutionsAsTyped, UnknownHasNone, listed, ListMeans}
 use Rattle.shell_words.proofs.Spelling.{parted}
 use Rattle.shell_words.proofs.Meaning.{number-for, words-of, query-is, none-solves, list-within, list-matches, none-listed}
 
--- a reading that the record tells without a refusal
-told-read : (line : List ℕ) (p : Parts) (x : Reading) → TellsReading line p x → p.refusal ≡ 0 → (s : Standing) × (x ≡ Read s) × Holds line p s
-told-read line p (Read s) t z = (s, refl, t)
-told-read line p (Unreadable k) t z = absurd (omega (arith, t.0, z))
-told-read line p (NoQuestion k) t z = absurd (omega (arith, t.0, z))
+-- a reading that the record tells
+told-read : (line : List ℕ) (p : Parts) (x : Reading) → TellsReading line (Ok p) x → (s : Standing) × (x ≡ Read s) × Holds line p s
+told-read line p (Read s) t = (s, refl, t)
+told-read line p (Unreadable k) t = absurd t
+told-read line p (NoQuestion k) t = absurd t
+
+worded-as : (c : Counters) (m : Tables) (line : List ℕ) (ps : List Part) (r : Result Words Refusal) → WordedAs c m line ps r
+    → (w : Words) × (r ≡ Ok w) × WordsAre c m line ps w
+worded-as c m line ps (Ok w) k = (w, refl, k)
+worded-as c m line ps (Err e) k = absurd k
 
 pub words-of-what-is-read : WordsOfWhatIsRead
-words-of-what-is-read c m S form f line from p h z w k =
-    let r = told-read line p (parts_of form line from) (h f) z in
-    record { standing = r.0; read = r.1; count = r.2.count; words = k S form from r.0 r.1 r.2 }
+words-of-what-is-read c m S form f line from p h r k =
+    let t = told-read line p (parts_of form line from) (h f) in
+    let w = worded-as c m line t.0.parts r (k S form from t.0 t.1 t.2) in
+    (w.0, w.1, record { standing = t.0; read = t.1; count = t.2.count; words = w.2 })
 
 pub parts-are-spelled : PartsAreSpelled
 parts-are-spelled form line from s e x k =

@@ -1,9 +1,10 @@
 -- What is claimed of the words of a question or of a list, as types: on a sound store they mean what was typed, as SPARQL reads it.
 -- The claims speak of what was read and of its words; `WordsOfWhatIsRead` leads from the contracts of `read_parts` and `words_of` there.
 -- Assumes nothing.
-use Rattle.std.specs.Prelude.{◌≡◌, ◌≢◌, ◌↔◌, ◌≤◌}
+use Rattle.std.specs.Prelude.{Result, Ok, ◌≡◌, ◌≢◌, ◌↔◌, ◌≤◌}
 use Rattle.store.specs.Prelude.{true, List, map, List-as-Memᴰ, ℕ, length, take, get_or}
 use Rattle.store.specs.declared.Counters.{Counters}
+use Rattle.store.specs.declared.Refusal.{Refusal}
 use Rattle.store.specs.declared.Triple.{Triple}
 use Rattle.store.specs.Shared.{triple, within}
 use Rattle.store.specs.Tables.{Tables}
@@ -25,11 +26,11 @@ pub record ReadWith (c : Counters) (m : Tables) (form : Form) (line : List ℕ) 
   pub count : p.count ≡ length standing.parts
   pub words : WordsAre c m line standing.parts w
 
--- What `read_parts` reads without a refusal is a reading, and `words_of` has its words.
+-- What `read_parts` reads is a reading, and `words_of` has its words.
 abbrev pub WordsOfWhatIsRead : Type 0
 WordsOfWhatIsRead = (c : Counters) (m : Tables) → Sound c m → (form : Form) → form.patterns ≤ max_patterns
-    → (line : List ℕ) (from : ℕ) (p : Parts) → Reads form line from p → p.refusal ≡ 0
-    → (w : Words) → Worded c m line p w → ReadWith c m form line from p w
+    → (line : List ℕ) (from : ℕ) (p : Parts) → Reads form line from (Ok p)
+    → (r : Result Words Refusal) → Worded c m line p r → (w : Words) × (r ≡ Ok w) × ReadWith c m form line from p w
 
 -- Every part that is read is spelled so; a question has no lone `?`, a list no variable.
 abbrev pub PartsAreSpelled : Type 0

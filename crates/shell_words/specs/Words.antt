@@ -1,10 +1,12 @@
 -- What a question means as it is typed (`docs/SHELL.md`, "Questions"), and the words that its parts have on a store. Assumes nothing.
-use Rattle.std.specs.Prelude.{slice_set, ◌≡◌, ◌≢◌, ◌∷◌, ◌+◌, ◌≤◌, ◌<◌}
+use Rattle.std.specs.Prelude.{Option, Some, None, Result, Ok, Err, slice_set, ◌≡◌, ◌≢◌, ◌∷◌, ◌+◌, ◌≤◌, ◌<◌}
 use Rattle.std.proofs.Math.Seq.{slice}
 use Rattle.term.specs.Canonical.{canonical}
-use Rattle.store.specs.Prelude.{Bool, true, false, cond, not, List, [], map, ℕ, length, take, get_or, eqb}
+use Rattle.store.specs.Prelude.{Bool, true, false, cond, not, List, [], map, ℕ, zero, suc, length, take, get_or, eqb}
 use Rattle.store.specs.Prelude.{replicate}
 use Rattle.store.specs.declared.Counters.{Counters}
+use Rattle.store.specs.declared.Refusal.{Refusal}
+use Rattle.store.specs.declared.ResourceId.{ResourceId}
 use Rattle.store.specs.declared.Position.{Position}
 use Rattle.store.specs.Shared.{well_formed, lookup_name}
 use Rattle.store.specs.Tables.{Tables, off}
@@ -16,7 +18,6 @@ use Rattle.graph.specs.Meaning.{RdfTriple, part_at, PatternTerm, term, var, Trip
 use Rattle.shell_line.specs.Questions.{Part, Name, Any, Variable, Standing, Read, span_of, word_of, max_parts, part_bytes, parts_of, Holds}
 use Rattle.shell_line.specs.declared.parts.Form.{Form}
 use Rattle.shell_line.specs.declared.parts.Parts.{Parts}
-use Rattle.shell_words.specs.declared.Found.{Found}
 use Rattle.shell_words.specs.declared.Words.{Words}
 
 -- ---- what is typed
@@ -82,7 +83,6 @@ unknown_in c m line (x ∷ ps) = unknown_at c m line x + unknown_in c m line ps
 
 -- The code's record tells the words of the parts.
 pub record WordsAre (c : Counters) (m : Tables) (line : List ℕ) (ps : List Part) (w : Words) : Type 0 where
-  pub unrefused : w.refusal ≡ 0
   pub unknown : w.unknown ≡ unknown_in c m line ps
   pub words : take (length ps) w.words ≡ map (word_for c m line) ps
 
@@ -108,26 +108,40 @@ pub record PartIs (line : List ℕ) (p : Parts) (i : ℕ) (x : Part) : Type 0 wh
 
 -- ---- what the code's functions answer, on a sound store
 
-abbrev pub NumberTold : Counters → Tables → List ℕ → Found → Type 0
-NumberTold c m w f = Sound c m → well_formed w ≡ true → (f.refusal ≡ 0) × (f.number ≡ number_for c m w)
+-- the resource with the number n, or none for 0
+abbrev pub numbered : ℕ → Option ResourceId
+numbered zero = None
+numbered (suc n) = Some (record { 0 = suc n })
+
+abbrev pub NumberTold : Counters → Tables → List ℕ → Result (Option ResourceId) Refusal → Type 0
+NumberTold c m w r = Sound c m → well_formed w ≡ true → r ≡ Ok (numbered (number_for c m w))
 
 abbrev pub no_words : Words
-no_words = record { refusal = 0; unknown = 0; words = replicate max_parts 0 }
+no_words = record { unknown = 0; words = replicate max_parts 0 }
 
 -- the record with v as the word of part i, and u unknown names more
 abbrev pub with_word : Words → ℕ → ℕ → ℕ → Words
-with_word w i v u = record { refusal = w.refusal; unknown = w.unknown + u; words = slice_set w.words i v }
+with_word w i v u = record { unknown = w.unknown + u; words = slice_set w.words i v }
 
-abbrev pub NumberSet : Words → ℕ → Found → Words → Type 0
-NumberSet w i f r = f.refusal ≡ 0 → w.unknown < max_parts → r ≡ with_word w i f.number (cond (eqb f.number 0) 1 0)
+-- the word of a name that was looked up, and 1 more unknown name where there is none
+abbrev pub with_found : Words → ℕ → Option ResourceId → Words
+with_found w i (Some n) = with_word w i n.0 0
+with_found w i None = with_word w i 0 1
 
-abbrev pub PartSet : Counters → Tables → List ℕ → Parts → ℕ → Words → Words → Type 0
+abbrev pub NumberSet : Words → ℕ → Option ResourceId → Words → Type 0
+NumberSet w i f r = w.unknown < max_parts → r ≡ with_found w i f
+
+abbrev pub PartSet : Counters → Tables → List ℕ → Parts → ℕ → Words → Result Words Refusal → Type 0
 PartSet c m line p i w r =
     Sound c m → (x : Part) → PartIs line p i x → i < max_parts → w.unknown < max_parts
-    → r ≡ with_word w i (word_for c m line x) (unknown_at c m line x)
+    → r ≡ Ok (with_word w i (word_for c m line x) (unknown_at c m line x))
 
 -- the words of the parts that were read
-abbrev pub Worded : Counters → Tables → List ℕ → Parts → Words → Type 0
-Worded c m line p w =
+abbrev pub WordedAs : Counters → Tables → List ℕ → List Part → Result Words Refusal → Type 0
+WordedAs c m line ps (Ok w) = WordsAre c m line ps w
+WordedAs c m line ps (Err e) = ⊥
+
+abbrev pub Worded : Counters → Tables → List ℕ → Parts → Result Words Refusal → Type 0
+Worded c m line p r =
     Sound c m → (form : Form) (from : ℕ) (s : Standing) → parts_of form line from ≡ Read s → Holds line p s
-    → WordsAre c m line s.parts w
+    → WordedAs c m line s.parts r

@@ -3,30 +3,24 @@
 #![tactic(auto)]
 
 ghost use Rattle.std.specs.Prelude.{◌≡◌, ◌<◌};
-ghost use Rattle.store.specs.Tables.{lent};
+ghost use Rattle.table.specs.Lent.{held};
 ghost use Rattle.shell_line.specs.Questions.{max_parts, part_bytes};
 ghost use Rattle.shell_words.specs.Words.{is_name, NumberTold, no_words, with_word, NumberSet, PartSet, Worded};
 
 use shell_line::parts;
 use shell_line::parts::{MAX_PARTS, Parts};
-use store::{Counters, Lookup};
+use store::{Counters, Lookup, Refusal, ResourceId};
+use table::lent::Tables;
 
 // The number of a name that the store does not have.
 pub const UNKNOWN: u32 = 0;
 
-// The refusal's number, or 0; how many parts are names that the store does not have; the words, `UNKNOWN` for each such name.
+// How many parts are names that the store does not have; the words, `UNKNOWN` for each such name: they are a query's words (`words_ok` of
+// crate `graph`), whose form is fixed.
 #[derive(Clone, Copy)]
 pub struct Words {
-    pub refusal: u32,
     pub unknown: u32,
     pub words: [u32; MAX_PARTS],
-}
-
-// A name's number, or `UNKNOWN`, and the refusal's number, or 0.
-#[derive(Clone, Copy)]
-pub struct Found {
-    pub refusal: u32,
-    pub number: u32,
 }
 
 // Whether bytes are a name's: a variable, and a lone `?`, begin with `?`.
@@ -46,30 +40,13 @@ pub fn is_name(line: &[u8], p: Parts, i: usize) -> bool
     begins_name(parts::part_of(line, p, i))
 }
 
-// The number of a name.
-pub fn number_of(
-    c: Counters,
-    resources: &[u32],
-    statements: &[u32],
-    index: &[u32],
-    text: &[u8],
-    name: &[u8],
-) -> Found
-    ensures { NumberTold c (lent resources.entry statements.entry index.entry text.entry) name.now result }
+// The number of a name, if the store has it.
+pub fn number_of(c: Counters, tables: Tables, name: &[u8]) -> Result<Option<ResourceId>, Refusal>
+    ensures { NumberTold c (held tables.entry) name.now result }
 {
-    match dictionary::find(c, resources, statements, index, text, name) {
-        Lookup::Number(n, _) => Found {
-            refusal: 0,
-            number: n.0,
-        },
-        Lookup::Absent(_) => Found {
-            refusal: 0,
-            number: UNKNOWN,
-        },
-        Lookup::Refused(e) => Found {
-            refusal: store::refusal_number(e),
-            number: 0,
-        },
+    match dictionary::find(c, tables, name)? {
+        Lookup::Number(n, _) => Ok(Some(n)),
+        Lookup::Absent(_) => Ok(None),
     }
 }
 
@@ -84,45 +61,41 @@ fn with_word(w: Words, i: usize, v: u32) -> Words
 }
 
 // The words with the number of a name as that of part i.
-fn with_number(w: Words, i: usize, f: Found) -> Words
+fn with_number(w: Words, i: usize, found: Option<ResourceId>) -> Words
     requires { i < max_parts }
-    ensures { NumberSet w i f result }
+    ensures { NumberSet w i found result }
 {
-    let mut r = with_word(w, i, f.number);
-    if f.refusal != 0 {
-        r.refusal = f.refusal;
-        return r;
+    match found {
+        Some(n) => with_word(w, i, n.0),
+        None => {
+            let mut r = with_word(w, i, UNKNOWN);
+            r.unknown = r.unknown.wrapping_add(1);
+            r
+        }
     }
-    if f.number == UNKNOWN {
-        r.unknown = std::num::wrapping_add_u32(r.unknown, 1);
-    }
-    r
 }
 
 // The words with that of part i: as read, or the number of its name.
 fn with_part(
     c: Counters,
-    resources: &[u32],
-    statements: &[u32],
-    index: &[u32],
-    text: &[u8],
+    tables: Tables,
     line: &[u8],
     p: Parts,
     w: Words,
     i: usize,
-) -> Words
-    ensures { PartSet c (lent resources.entry statements.entry index.entry text.entry)
+) -> Result<Words, Refusal>
+    ensures { PartSet c (held tables.entry)
         line.now p i w result }
 {
     if i >= MAX_PARTS {
-        return w;
+        return Ok(w);
     }
     if !is_name(line, p, i) {
-        return with_word(w, i, p.words[i]);
+        return Ok(with_word(w, i, p.words[i]));
     }
     let name = parts::part_of(line, p, i);
-    let f = number_of(c, resources, statements, index, text, name);
-    with_number(w, i, f)
+    let found = number_of(c, tables, name)?;
+    Ok(with_number(w, i, found))
 }
 
 // No words yet.
@@ -130,34 +103,20 @@ fn none() -> Words
     ensures { result ≡ no_words }
 {
     Words {
-        refusal: 0,
         unknown: 0,
         words: [0; MAX_PARTS],
     }
 }
 
 // The words of the parts.
-pub fn words_of(
-    c: Counters,
-    resources: &[u32],
-    statements: &[u32],
-    index: &[u32],
-    text: &[u8],
-    line: &[u8],
-    p: Parts,
-) -> Words
-    ensures { Worded c (lent resources.entry statements.entry index.entry text.entry)
+pub fn words_of(c: Counters, tables: Tables, line: &[u8], p: Parts) -> Result<Words, Refusal>
+    ensures { Worded c (held tables.entry)
         line.now p result }
 {
     let mut w = none();
-    let mut i = 0;
     // The words of the first i parts are known.
-    while i < MAX_PARTS {
-        if i >= p.count {
-            return w;
-        }
-        w = with_part(c, resources, statements, index, text, line, p, w, i);
-        i += 1;
+    for i in 0..p.count.min(MAX_PARTS) {
+        w = with_part(c, tables, line, p, w, i)?;
     }
-    w
+    Ok(w)
 }

@@ -3,7 +3,7 @@
 use mathlib.Core.Path.{◌≡◌, refl, sym, ap, ◌∙◌}
 use mathlib.Core.Bool.{Bool, true, false}
 use mathlib.Core.Option.{Option, none, some}
-use Prim.Native.Nat.{ℕ, ◌*◌, ◌≤◌}
+use Prim.Native.Nat.{ℕ, zero, suc, ◌*◌, ◌≤◌}
 use native.Mathlib.Omega.{arith}
 use lib.ListN.{length}
 use Rattle.store.specs.declared.Counters.{Counters}
@@ -12,17 +12,13 @@ use Rattle.store.specs.declared.StatementId.{StatementId}
 use Rattle.store.specs.declared.Refusal.{Refusal}
 use Rattle.store.specs.declared.Refusal.TheVariants.{Capacity, UnknownNumber, KindNotPermitted, Damaged}
 use Rattle.store.specs.declared.Asserted.{Asserted}
-use Rattle.store.specs.declared.Asserted.TheVariants.{Refused as NotAsserted}
-use Rattle.store.specs.declared.Retracted.{Retracted}
-use Rattle.store.specs.declared.Retracted.TheVariants.{Refused as NotRetracted}
+use Rattle.std.specs.Prelude.{Result, Ok, Err, Option as Optional, Some, None}
 use Rattle.store.specs.Shared.{unless, known, kinds_permitted}
 use Rattle.store.specs.Tables.{Tables, fits, statement_words, kind_at}
 use Rattle.store.specs.Statement.{locate, kinds_ok, asserting, assert_of, retracting, retract_of}
 use Rattle.table.proofs.Capacity.{fits-room}
 use Rattle.statement_record.specs.Records.{Appendable}
-use Rattle.statement_target.specs.declared.target.Located.{Located}
-use Rattle.statement_target.specs.declared.target.Located.TheVariants.{Refused, At}
-use Rattle.statement_target.specs.Targets.{located_as, assert_target, retract_target}
+use Rattle.statement_target.specs.Targets.{sought_as, assert_target, retract_target}
 use Rattle.statement_target.proofs.Locate.{known-held, locate-count, locate-live, locate-within}
 
 -- ---- counters within capacity
@@ -59,75 +55,109 @@ tests refuse a b d f z =
     unless a (refuse Capacity)
     (unless b (refuse UnknownNumber) (unless d (refuse Damaged) (unless f (refuse KindNotPermitted) z)))
 
+-- the number of a record that there is, 0 for none
+abbrev pub number : Optional StatementId → ℕ
+number None = 0
+number (Some n) = n.0
+
+abbrev Target : Type 0
+Target = Result (Optional StatementId) Refusal
+
 module _ {A : Type 0} (refuse : Refusal → A) (go : ℕ → A) where
-  abbrev by-target : Located → A
-  by-target (Refused r) = refuse r
-  by-target (At n) = go n.0
+  abbrev by-target : Target → A
+  by-target (Err r) = refuse r
+  by-target (Ok y) = go (number y)
 
   targeted : (a b d f : Bool) (o : Option ℕ) → tests refuse a b d f (elim o [ none ↦ refuse Damaged | some n ↦ go n ])
-      ≡ by-target (tests Refused a b d f (located_as o))
+      ≡ by-target (tests Err a b d f (sought_as o))
   targeted false b d f o = refl
   targeted true false d f o = refl
   targeted true true false f o = refl
   targeted true true true false o = refl
   targeted true true true true none = refl
-  targeted true true true true (some n) = refl
+  targeted true true true true (some zero) = refl
+  targeted true true true true (some (suc i)) = refl
 
-passes : (a : Bool) (r : Refusal) (z : Located) (n : StatementId) → unless a (Refused r) z ≡ At n
-    → (a ≡ true) × (z ≡ At n)
-passes true r z n e = (refl, e)
-passes false r z n e = let z : ◌≡◌ {A = ℕ} 0 1 = cc in absurd (omega arith)
+passes : (a : Bool) (r : Refusal) (z : Target) (y : Optional StatementId) → unless a (Err r) z ≡ Ok y
+    → (a ≡ true) × (z ≡ Ok y)
+passes true r z y e = (refl, e)
+passes false r z y e = let z : ◌≡◌ {A = ℕ} 0 1 = cc in absurd (omega arith)
 
-located : (o : Option ℕ) (n : StatementId) → located_as o ≡ At n → o ≡ some n.0
-located none n e = let z : ◌≡◌ {A = ℕ} 0 1 = cc in absurd (omega arith)
-located (some k) n e = cc
+told : Target → ℕ
+told (Err r) = 0
+told (Ok y) = number y
 
-found : (a b d f : Bool) (o : Option ℕ) (n : StatementId) → tests Refused a b d f (located_as o) ≡ At n
-    → (a ≡ true) × (b ≡ true) × (o ≡ some n.0)
-found a b d f o n e =
-    let p = passes a _ _ n e in
-    let q = passes b _ _ n p.1 in
-    let k = passes f _ _ n (passes d _ _ n q.1).1 in
-    (p.0, q.0, located o n k.1)
+located : (o : Option ℕ) (y : Optional StatementId) → sought_as o ≡ Ok y → o ≡ some (number y)
+unfolding told
+located none y e = let z : ◌≡◌ {A = ℕ} 0 1 = cc in absurd (omega arith)
+located (some zero) y e = ap (λ (k : ℕ). some k) (ap told e)
+located (some (suc i)) y e = ap (λ (k : ℕ). some k) (ap told e)
+
+-- a record that there is has a number from 1
+from-one : (o : Option ℕ) (n : StatementId) → sought_as o ≡ Ok (Some n) → 1 ≤ n.0
+unfolding told
+from-one none n e = let z : ◌≡◌ {A = ℕ} 0 1 = cc in absurd (omega arith)
+from-one (some zero) n e = let z : ◌≡◌ {A = ℕ} 0 1 = cc in absurd (omega arith)
+from-one (some (suc i)) n e = let k : suc i ≡ n.0 = ap told e in omega arith
+
+found : (a b d f : Bool) (o : Option ℕ) (y : Optional StatementId) → tests Err a b d f (sought_as o) ≡ Ok y
+    → (a ≡ true) × (b ≡ true) × (sought_as o ≡ Ok y)
+found a b d f o y e =
+    let p = passes a _ _ y e in
+    let q = passes b _ _ y p.1 in
+    let k = passes f _ _ y (passes d _ _ y q.1).1 in
+    (p.0, q.0, k.1)
 
 module _ (c : Counters) (m : Tables) (x : Triple) where
   -- what a record located says of the store
-  abbrev pub Found : StatementId → Type 0
-  Found n = (fits c m ≡ true) × (known c.resources x ≡ true) × (locate c m x ≡ some n.0)
+  pub record Found (y : Optional StatementId) : Type 0 where
+    pub fit : fits c m ≡ true
+    pub entered : known c.resources x ≡ true
+    pub at : locate c m x ≡ some (number y)
+    pub one : (n : StatementId) → y ≡ Some n → 1 ≤ n.0
 
-  abbrev assert_by : Located → Tables × Asserted
-  assert_by = by-target (λ r. (m, NotAsserted r)) (asserting c m x)
+  found-as : (y : Optional StatementId) → (fits c m ≡ true) × (known c.resources x ≡ true) × (sought_as (locate c m x) ≡ Ok y)
+      → Found y
+  found-as y (a, b, e) = record {
+    fit = a;
+    entered = b;
+    at = located (locate c m x) y e;
+    one = λ n q. from-one (locate c m x) n (e ∙ ap Ok q);
+  }
+
+  abbrev assert_by : Target → Tables × Result Asserted Refusal
+  assert_by = by-target (λ r. (m, Err r)) (asserting c m x)
 
   assert-by : assert_of c m x ≡ assert_by (assert_target c m x)
   unfolding assert_of assert_target
-  assert-by = targeted (λ r. (m, NotAsserted r)) (asserting c m x) (fits c m) (known c.resources x)
+  assert-by = targeted (λ r. (m, Err r)) (asserting c m x) (fits c m) (known c.resources x)
       (kinds_ok m.resources x) (kinds_permitted (kind_at m.resources) x) (locate c m x)
 
-  pub assert-refused : (r : Refusal) → assert_target c m x ≡ Refused r → (m, NotAsserted r) ≡ assert_of c m x
+  pub assert-refused : (r : Refusal) → assert_target c m x ≡ Err r → (m, Err r) ≡ assert_of c m x
   assert-refused r e = sym (assert-by ∙ ap assert_by e)
 
-  pub assert-at : (n : StatementId) → assert_target c m x ≡ At n → asserting c m x n.0 ≡ assert_of c m x
-  assert-at n e = sym (assert-by ∙ ap assert_by e)
+  pub assert-at : (y : Optional StatementId) → assert_target c m x ≡ Ok y → asserting c m x (number y) ≡ assert_of c m x
+  assert-at y e = sym (assert-by ∙ ap assert_by e)
 
-  pub assert-found : (n : StatementId) → assert_target c m x ≡ At n → Found n
+  pub assert-found : (y : Optional StatementId) → assert_target c m x ≡ Ok y → Found y
   unfolding assert_target
-  assert-found = found (fits c m) (known c.resources x) (kinds_ok m.resources x)
-      (kinds_permitted (kind_at m.resources) x) (locate c m x)
+  assert-found y e = found-as y (found (fits c m) (known c.resources x) (kinds_ok m.resources x)
+      (kinds_permitted (kind_at m.resources) x) (locate c m x) y e)
 
-  abbrev retract_by : Located → Tables × Retracted
-  retract_by = by-target (λ r. (m, NotRetracted r)) (retracting m x)
+  abbrev retract_by : Target → Tables × Target
+  retract_by = by-target (λ r. (m, Err r)) (retracting m x)
 
   retract-by : retract_of c m x ≡ retract_by (retract_target c m x)
   unfolding retract_of retract_target
-  retract-by = targeted (λ r. (m, NotRetracted r)) (retracting m x) (fits c m) (known c.resources x) true true
+  retract-by = targeted (λ r. (m, Err r)) (retracting m x) (fits c m) (known c.resources x) true true
       (locate c m x)
 
-  pub retract-refused : (r : Refusal) → retract_target c m x ≡ Refused r → (m, NotRetracted r) ≡ retract_of c m x
+  pub retract-refused : (r : Refusal) → retract_target c m x ≡ Err r → (m, Err r) ≡ retract_of c m x
   retract-refused r e = sym (retract-by ∙ ap retract_by e)
 
-  pub retract-at : (n : StatementId) → retract_target c m x ≡ At n → retracting m x n.0 ≡ retract_of c m x
-  retract-at n e = sym (retract-by ∙ ap retract_by e)
+  pub retract-at : (y : Optional StatementId) → retract_target c m x ≡ Ok y → retracting m x (number y) ≡ retract_of c m x
+  retract-at y e = sym (retract-by ∙ ap retract_by e)
 
-  pub retract-found : (n : StatementId) → retract_target c m x ≡ At n → Found n
+  pub retract-found : (y : Optional StatementId) → retract_target c m x ≡ Ok y → Found y
   unfolding retract_target
-  retract-found = found (fits c m) (known c.resources x) true true (locate c m x)
+  retract-found y e = found-as y (found (fits c m) (known c.resources x) true true (locate c m x) y e)

@@ -1,28 +1,28 @@
 -- Laws of the stores: linking one position, or moving its live count, leaves what another asks; what assert and retract
 -- come to by the record found. Assumes nothing.
-use mathlib.Core.Path.{◌≡◌, refl, sym, ◌∙◌}
+use mathlib.Core.Path.{◌≡◌, refl}
 use mathlib.Core.List.{List}
 use mathlib.Core.Bool.{Bool, true, false}
-use Prim.Native.Nat.{ℕ, zero, suc, ◌+◌, ◌-◌, ◌*◌, ◌≤◌, ◌<◌, ◌/◌, min}
+use Prim.Native.Nat.{ℕ, zero, suc, ◌-◌, ◌*◌, ◌≤◌, ◌/◌, min}
 use native.Mathlib.Omega.{arith}
 use lib.Dec.{ltb}
 use Rattle.store.specs.Shared.{at, max_statements}
-use borrow.Author.Tests.{ltb-true, ltb-false, lt-ltb, le-ltb, eq-eqb, ne_eqb}
+use borrow.Author.Tests.{ltb-true, eq-eqb, ne_eqb}
 use Rattle.store.specs.declared.Position.{Position}
 use Rattle.store.specs.declared.Position.TheVariants.{Subject, Predicate, Object}
 use Rattle.store.specs.declared.Counters.{Counters}
 use Rattle.store.specs.declared.Triple.{Triple}
 use Rattle.store.specs.declared.Refusal.TheVariants.{Full, Damaged}
-use Rattle.store.specs.declared.Asserted.TheVariants.{New, Already, Revived, Refused as NotAsserted}
-use Rattle.store.specs.declared.Retracted.TheVariants.{Number as WasLive, Absent as NotLive, Refused as NotRetracted}
-use Rattle.store.specs.Tables.{Tables, tables, after, statement_capacity, statement_words, flag_at, off, live_at}
+use Rattle.store.specs.declared.Asserted.TheVariants.{New, Already, Revived}
+use Rattle.store.specs.Tables.{Tables, tables, after, statement_capacity, statement_words, flag_at, off}
 use Rattle.store.specs.Statement.{link_first, link_record, append_record, one_statement_more, asserting}
 use Rattle.store.specs.Statement.{tally_at, tally, counting, retracting}
 use Rattle.store.proofs.LiveCounts.{counting-at}
 use Rattle.store.proofs.Words.{link-length, link-count-other, link-live-other, tally_at-length, tally_at-other}
 use Rattle.table.specs.Held.{TripleHeld}
-use Rattle.statement_record.specs.Records.{flagged, moved, Movable, Linkable, AllLinkable, Appendable}
+use Rattle.statement_record.specs.Records.{flagged, moved, Linkable, AllLinkable, Appendable}
 use Rattle.statement_record.specs.Records.{Tallyable, AllTallyable}
+use Rattle.std.specs.Prelude.{Err, None, Ok, Some}
 
 -- ---- a store at one position leaves what another asks
 
@@ -84,29 +84,6 @@ module _ (up : Bool) where
 
 -- ---- the three live counts
 
-pub moved_up : (up : Bool) (n : ℕ) → up ≡ true → n + 1 ≡ moved up n
-moved_up up n e = rw e (omega arith)
-
-pub moved_down : (up : Bool) (n : ℕ) → up ≡ false → n - 1 ≡ moved up n
-moved_down up n e = rw e
-
-pub movable-up : (up : Bool) (n : ℕ) → up ≡ true → Movable up n → n ≤ max_statements
-movable-up up n e h = rw e at h
-
-pub movable-down : (up : Bool) (n : ℕ) → up ≡ false → Movable up n → 1 ≤ n
-movable-down up n e h = rw e at h
-
--- the last decides where the others are not 0
-pub counting-last : (res : List ℕ) (x : Triple) (n : ℕ) → (live_at res Subject (at Subject x) ≡ 0 → ⊥)
-    → (live_at res Predicate (at Predicate x) ≡ 0 → ⊥) → n ≡ live_at res Object (at Object x) → ltb 0 n ≡ counting res x
-unfolding counting
-counting-last res x n a b e =
-    rw (
-      lt-ltb 0 (live_at res Subject (at Subject x)) (omega arith),
-      lt-ltb 0 (live_at res Predicate (at Predicate x)) (omega arith),
-      e,
-    )
-
 -- where a new record can be linked, they can grow
 pub grows_all : (c : Counters) (res : List ℕ) (x : Triple) → Appendable c res x → AllTallyable true res x
 grows_all c res x a = record {
@@ -117,16 +94,6 @@ grows_all c res x a = record {
 pub falls-all : (res : List ℕ) (x : Triple) → TripleHeld res x → counting res x ≡ true → AllTallyable false res x
 falls-all res x d e =
     record { each = λ p. record { resource-in = d.each p; movable = let q = counting-at res x e p in omega arith } }
-
--- ---- room
-
--- where the limit is not reached, the table's records decide
-pub short : (t k : ℕ) → t < max_statements → ltb t k ≡ ltb t (min k max_statements)
-short t k h = decide (ltb t k) refl
-  where
-    decide : (b : Bool) → ltb t k ≡ b → ltb t k ≡ ltb t (min k max_statements)
-    decide true e = e ∙ sym (lt-ltb t (min k max_statements) (let q = ltb-true t k e in omega arith))
-    decide false e = e ∙ sym (le-ltb t (min k max_statements) (let q = ltb-false t k e in omega arith))
 
 -- ---- by the record found
 
@@ -139,31 +106,31 @@ module _ (res stm index text : List ℕ) where
   reflagged up f x n = tables (tally (moved up) x res) (flagged stm (n - 1) f) index text
 
   pub revived : (c : Counters) (x : Triple) (n : ℕ) → 1 ≤ n → flag_at stm (n - 1) ≡ 1
-      → after (reflagged true 0 x n) (Revived (record { 0 = n }) c) ≡ asserting c m x n
+      → after (reflagged true 0 x n) (Ok (Revived (record { 0 = n }) c)) ≡ asserting c m x n
   unfolding asserting
   revived c x zero h e = absurd (omega arith)
   revived c x (suc i) h e = let d : suc i - 1 ≡ i = omega arith in rw (d, eq-eqb (flag_at stm i) 1 (rw d at e))
 
   pub already : (c : Counters) (x : Triple) (n : ℕ) → 1 ≤ n → (flag_at stm (n - 1) ≡ 1 → ⊥)
-      → after m (Already (record { 0 = n }) c) ≡ asserting c m x n
+      → after m (Ok (Already (record { 0 = n }) c)) ≡ asserting c m x n
   unfolding asserting
   already c x zero h f = absurd (omega arith)
   already c x (suc i) h f = let d : suc i - 1 ≡ i = omega arith in rw (ne_eqb (flag_at stm i) 1 (λ e. f (rw d e)))
 
-  pub retracted-none : (x : Triple) (n : ℕ) → n ≡ 0 → after m NotLive ≡ retracting m x n
+  pub retracted-none : (x : Triple) (n : ℕ) → n ≡ 0 → after m (Ok None) ≡ retracting m x n
   unfolding retracting
   retracted-none x zero e = refl
   retracted-none x (suc i) e = absurd (omega arith)
 
   pub retracted-before : (x : Triple) (n : ℕ) → (n ≡ 0 → ⊥) → flag_at stm (n - 1) ≡ 1
-      → after m NotLive ≡ retracting m x n
+      → after m (Ok None) ≡ retracting m x n
   unfolding retracting
   retracted-before x zero h e = absurd (h refl)
   retracted-before x (suc i) h e = let d : suc i - 1 ≡ i = omega arith in rw (eq-eqb (flag_at stm i) 1 (rw d at e))
 
   -- live, and one of the live counts is 0
   pub retracted-damaged : (x : Triple) (n : ℕ) → (n ≡ 0 → ⊥) → (flag_at stm (n - 1) ≡ 1 → ⊥) → counting res x ≡ false
-      → after m (NotRetracted Damaged) ≡ retracting m x n
+      → after m (Err Damaged) ≡ retracting m x n
   unfolding retracting
   retracted-damaged x zero h f g = absurd (h refl)
   retracted-damaged x (suc i) h f g =
@@ -171,7 +138,7 @@ module _ (res stm index text : List ℕ) where
       rw (ne_eqb (flag_at stm i) 1 (λ e. f (rw d e)), g)
 
   pub retracted-now : (x : Triple) (n : ℕ) → (n ≡ 0 → ⊥) → (flag_at stm (n - 1) ≡ 1 → ⊥) → counting res x ≡ true
-      → after (reflagged false 1 x n) (WasLive (record { 0 = n })) ≡ retracting m x n
+      → after (reflagged false 1 x n) (Ok (Some (record { 0 = n }))) ≡ retracting m x n
   unfolding retracting
   retracted-now x zero h f g = absurd (h refl)
   retracted-now x (suc i) h f g =
@@ -180,13 +147,13 @@ module _ (res stm index text : List ℕ) where
 
   -- no room for one more
   pub full : (c : Counters) (x : Triple) → ltb c.statements (statement_capacity m) ≡ false
-      → after m (NotAsserted Full) ≡ asserting c m x 0
+      → after m (Err Full) ≡ asserting c m x 0
   unfolding asserting
   full c x e = rw e
 
   pub new : (c : Counters) (x : Triple) → ltb c.statements (statement_capacity m) ≡ true
       → after (tables (link_record c.statements x res) (append_record c.statements x res stm) index text)
-      (New (record { 0 = suc c.statements }) (one_statement_more c)) ≡ asserting c m x 0
+      (Ok (New (record { 0 = suc c.statements }) (one_statement_more c))) ≡ asserting c m x 0
   unfolding asserting
   new c x e = rw e
 

@@ -1,14 +1,15 @@
 -- What a new record asks, and what each store comes to. Assumes nothing.
-use Rattle.std.specs.Prelude.{◌≡◌, Bool, true, false, List, ℕ, suc, ◌+◌, ◌-◌, ◌*◌, ◌≤◌, set}
+use Rattle.std.specs.Prelude.{◌≡◌, Bool, true, false, List, ℕ, suc, ◌+◌, ◌-◌, ◌*◌, ◌≤◌, set, Option as Optional, Result}
 use Rattle.store.specs.declared.Counters.{Counters}
 use Rattle.store.specs.declared.Position.{Position}
 use Rattle.store.specs.declared.Triple.{Triple}
-use Rattle.store.specs.declared.Asserted.{Asserted}
-use Rattle.store.specs.declared.Retracted.{Retracted}
 use Rattle.store.specs.Shared.{at, max_statements}
 use Rattle.store.specs.Tables.{tables, after, statement_words, count_at, live_at}
 use Rattle.store.specs.Statement.{asserting, retracting}
 use Rattle.table.specs.Held.{ResourceHeld}
+use Rattle.store.specs.declared.Asserted.{Asserted}
+use Rattle.store.specs.declared.Refusal.{Refusal}
+use Rattle.store.specs.declared.StatementId.{StatementId}
 
 -- the statement table with another flag in entry i
 abbrev pub flagged : List ℕ → ℕ → ℕ → List ℕ
@@ -50,13 +51,13 @@ Appendable c res x = AllLinkable c.statements res x
 -- ---- steps that read or write fewer tables than the operation has: their contracts hold whatever the other tables are
 
 -- a new record, or 3: the index and the text stay
-pub record Appended (c : Counters) (x : Triple) (res res' stm stm' : List ℕ) (r : Asserted) : Type 0 where
+pub record Appended (c : Counters) (x : Triple) (res res' stm stm' : List ℕ) (r : Result Asserted Refusal) : Type 0 where
   pub leaves : (index text : List ℕ) → after (tables res' stm' index text) r ≡ asserting c (tables res stm index text) x 0
 
 -- the triple's own record n, made live: the index and the text stay
-pub record Revived (c : Counters) (x : Triple) (n : ℕ) (res res' stm stm' : List ℕ) (r : Asserted) : Type 0 where
+pub record Revived (c : Counters) (x : Triple) (n : ℕ) (res res' stm stm' : List ℕ) (r : Result Asserted Refusal) : Type 0 where
   pub leaves : (index text : List ℕ) → after (tables res' stm' index text) r ≡ asserting c (tables res stm index text) x n
 
 -- the triple's own record n, retracted, or 9: the index and the text stay
-pub record RecordRetracted (x : Triple) (n : ℕ) (res res' stm stm' : List ℕ) (r : Retracted) : Type 0 where
+pub record RecordRetracted (x : Triple) (n : ℕ) (res res' stm stm' : List ℕ) (r : Result (Optional StatementId) Refusal) : Type 0 where
   pub leaves : (index text : List ℕ) → after (tables res' stm' index text) r ≡ retracting (tables res stm index text) x n

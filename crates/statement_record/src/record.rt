@@ -3,7 +3,7 @@
 //
 // Everything that a store needs is read before it. A new record's nexts are the old firsts; each position is linked,
 // and each live count moved, by the same function.
-ghost use Rattle.std.specs.Prelude.{◌≡◌, true, suc, ◌-◌, ◌*◌, ◌/◌, ◌≤◌, min, length, ltb};
+ghost use Rattle.std.specs.Prelude.{◌≡◌, true, suc, ◌-◌, ◌*◌, ◌/◌, ◌≤◌, min, length, ltb, Ok};
 ghost use Rattle.store.specs.Tables.{statement_words};
 ghost use Rattle.store.specs.Shared.{max_statements};
 ghost use Rattle.store.specs.Statement.{append_record, link_first, link_record, tally_at, tally, counting};
@@ -12,7 +12,7 @@ ghost use Rattle.statement_record.specs.Records.{flagged, moved, Movable, Tallya
 ghost use Rattle.statement_record.specs.Records.{Linkable, AllLinkable, Appendable};
 ghost use Rattle.statement_record.specs.Records.{Appended, Revived, RecordRetracted};
 
-use store::{Asserted, Counters, Position, Refusal, ResourceId, Retracted, StatementId, Triple};
+use store::{Asserted, Counters, Position, Refusal, ResourceId, StatementId, Triple};
 use table::word::{
     COUNT, FLAG, LIVE, NEXT, RESOURCE_WORDS, STATEMENT_WORDS, count_at, first_at, flag_at, live_at,
     offset,
@@ -27,15 +27,13 @@ pub fn set_flag(statements: &mut [u32], n: StatementId, flag: u32)
     statements[i] = flag;
 }
 
-// A live count with one more, or with one less.
+// A live count with one more, or with one less: a Bool, as the definition has it, since a closure that adds or takes one
+// would say it in more words.
 pub fn moved(count: u32, up: bool) -> u32
     requires { Movable up count }
     ensures { result ≡ moved up count }
 {
-    if up {
-        return count + 1;
-    }
-    count - 1
+    if up { count + 1 } else { count - 1 }
 }
 
 // The live count of resource y at a position, one up or one down.
@@ -59,20 +57,14 @@ pub fn tally(resources: &mut [u32], x: Triple, up: bool)
 }
 
 // Whether none of a triple's three live counts is 0, as must be where its record is live.
+#[tactic(auto, unfolding(store::specs::Statement::counting))]
 pub fn counting(resources: &[u32], x: Triple) -> bool
     requires { TripleHeld resources.now x }
     ensures { result ≡ counting resources.now x }
 {
-    let s = live_at(resources, x.subject, Position::Subject);
-    if s == 0 {
-        return false;
-    }
-    let p = live_at(resources, x.predicate, Position::Predicate);
-    if p == 0 {
-        return false;
-    }
-    let o = live_at(resources, x.object, Position::Object);
-    0 < o
+    0 < live_at(resources, x.subject, Position::Subject)
+        && 0 < live_at(resources, x.predicate, Position::Predicate)
+        && 0 < live_at(resources, x.object, Position::Object)
 }
 
 // The seven words of record t + 1.
@@ -120,27 +112,28 @@ pub fn link_record(resources: &mut [u32], t: u32, x: Triple)
 pub fn has_room(statements: &[u32], t: u32) -> bool
     ensures { result ≡ ltb t (min (length statements.now / statement_words) max_statements) }
 {
-    if t >= Counters::MAX_STATEMENTS {
-        return false;
-    }
-    (t as usize) < statements.len() / STATEMENT_WORDS
+    t < Counters::MAX_STATEMENTS && (t as usize) < statements.len() / STATEMENT_WORDS
 }
 
 // A new record, or 3 where there is no room.
-pub fn append(c: Counters, resources: &mut [u32], statements: &mut [u32], x: Triple) -> Asserted
+pub fn append(
+    c: Counters,
+    resources: &mut [u32],
+    statements: &mut [u32],
+    x: Triple,
+) -> Result<Asserted, Refusal>
     requires { Appendable c resources.old x }
     ensures { Appended c x resources.old resources.new
         statements.old statements.new result }
 {
     if !has_room(statements, c.statements) {
-        return Asserted::Refused(Refusal::Full);
+        return Err(Refusal::Full);
     }
     write_record(resources, statements, c.statements, x);
     link_record(resources, c.statements, x);
     let n = c.statements + 1;
-    let mut d = c;
-    d.statements = n;
-    Asserted::New(StatementId(n), d)
+    let d = Counters { statements: n, ..c };
+    Ok(Asserted::New(StatementId(n), d))
 }
 
 // The triple's own record n: live already, or made live and counted as such.
@@ -153,7 +146,7 @@ pub fn revive(
 ) -> Asserted
     requires { StatementHeld statements.old n.0 × AllTallyable true resources.old x }
     ensures { Revived c x n.0 resources.old resources.new
-        statements.old statements.new result }
+        statements.old statements.new (Ok result) }
 {
     if flag_at(statements, n) == 1 {
         set_flag(statements, n, 0);
@@ -163,28 +156,28 @@ pub fn revive(
     Asserted::Already(n, c)
 }
 
-// The triple's own record n is retracted if it is live, and no longer counted as such; 0 stands for no record. 9 where
+// The triple's own record n is retracted if it is live, and no longer counted as such; 0 stands for no record, and is answered as such. 9 where
 // a live count of its resources is 0.
 pub fn retract_record(
     resources: &mut [u32],
     statements: &mut [u32],
     n: StatementId,
     x: Triple,
-) -> Retracted
+) -> Result<Option<StatementId>, Refusal>
     requires { TripleHeld resources.old x × (statement_words * n.0 ≤ length statements.old) }
     ensures { RecordRetracted x n.0 resources.old resources.new
         statements.old statements.new result }
 {
     if n.0 == 0 {
-        return Retracted::Absent;
+        return Ok(None);
     }
     if flag_at(statements, n) == 1 {
-        return Retracted::Absent;
+        return Ok(None);
     }
     if !counting(resources, x) {
-        return Retracted::Refused(Refusal::Damaged);
+        return Err(Refusal::Damaged);
     }
     set_flag(statements, n, 1);
     tally(resources, x, false);
-    Retracted::Number(n)
+    Ok(Some(n))
 }

@@ -23,10 +23,7 @@ use Rattle.chain.specs.Chains.{PatternHeld}
 use Rattle.chain.proofs.Chains.{pick-bound, start-within, count-within}
 use Rattle.chain_walk.specs.declared.walk.Sought.TheVariants.{Same}
 use Rattle.chain.specs.declared.plan.Plan.{Plan}
-use Rattle.chain_walk.specs.declared.walk.Searched.{Searched}
-use Rattle.chain.specs.Plans.{plan_of}
-use Rattle.chain_walk.specs.Walks.{hits, located_in, searched_of}
-use Rattle.chain.proofs.Plans.{plan-chain, plan-pattern}
+use Rattle.chain_walk.specs.Walks.{hits, located_in}
 use Rattle.chain_walk.proofs.Walks.{walk-within, falling, enough}
 
 -- ---- a known triple, where the counters are within capacity
@@ -59,20 +56,17 @@ module _ (c : Counters) (m : Tables) (x : Triple) where
   locate-seek e = rw e (opened (seek c m x))
 
   -- the record that code seeks by a plan, on the chain picked and from its first record: T visits find the same
-  pub locate-searched : (a : Searched) (ch : Chain) (n : ℕ) (p : Plan) → p ≡ plan_of ch x
+  pub locate-searched : (ch : Chain) (n : ℕ) (p : Plan) → (p.chain ≡ ch) × (p.pattern ≡ x)
       → ready c.statements m.resources x ≡ true → ch ≡ pick_chain m.resources x
       → n ≡ start_of c.statements m.resources ch x → n ≤ c.statements
-      → searched_of a ≡ located_in (walk (link_of m.statements p.chain)
+      → locate c m x ≡ located_in (walk (link_of m.statements p.chain)
       (visitable c.resources m.statements p.chain p.pattern) (hits Same m.statements p.pattern) n n)
-      → locate c m x ≡ searched_of a
   unfolding seek hits
-  locate-searched a ch n p q k d e h w =
+  locate-searched ch n p q k d e h =
       let f = enough (link_of m.statements ch) (visitable c.resources m.statements ch x)
       (λ i. same x (triple_at m.statements i)) (falling c.resources m.statements ch x) n c.statements n
       (omega arith) h in
-      let s : searched_of a ≡ located_in (seek c m x) =
-      w ∙ rw (plan-chain p ch x q, plan-pattern p ch x q) (f ∙ rw (e, d)) in
-      locate-seek k ∙ sym s
+      locate-seek k ∙ sym (rw (q.0, q.1) (f ∙ rw (e, d)))
 
   locate-ready : (n : ℕ) → locate c m x ≡ some n → ready c.statements m.resources x ≡ true
   unfolding locate

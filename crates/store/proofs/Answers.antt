@@ -14,10 +14,6 @@ use Rattle.store.specs.declared.ResourceId.{ResourceId}
 use Rattle.store.specs.declared.StatementId.{StatementId}
 use Rattle.store.specs.declared.Triple.{Triple}
 use Rattle.store.specs.declared.Refusal.TheVariants.{Capacity, UnknownNumber, Damaged}
-use Rattle.store.specs.declared.StatementRead.{StatementRead}
-use Rattle.store.specs.declared.StatementRead.TheVariants.{Is, Refused as NotRead}
-use Rattle.store.specs.declared.NameRead.{NameRead}
-use Rattle.store.specs.declared.NameRead.TheVariants.{Refused as NotNamed}
 use Rattle.store.specs.Shared.{known}
 use Rattle.store.specs.Tables.{Tables, fits, triple_at, flag_at, offset_at}
 use Rattle.store.specs.Values.{StatementValues, statement_values, NameValues, name_values}
@@ -29,6 +25,11 @@ use Rattle.store.proofs.Tests.{known_of}
 use Rattle.store.proofs.Words.{triple-at}
 use Rattle.store.proofs.NamesAgree.{name-at}
 use Rattle.store.proofs.RoundTrips.{span_of}
+use Rattle.std.specs.Prelude.{Err, Result}
+use Rattle.store.specs.Replies.{read_as}
+use Rattle.store.specs.declared.NameSpan.{NameSpan}
+use Rattle.store.specs.declared.Refusal.{Refusal}
+use Rattle.store.specs.declared.StatementRead.{StatementRead}
 
 -- ---- numbers out of range
 
@@ -80,10 +81,10 @@ module _ (c : Counters) (m : Tables) (n : StatementId) where
   Whole b = whole c.resources m.statements (n.0 - 1) ≡ b
 
   -- by its tests
-  read-cases : (P : StatementRead → Type 0) → (fits c m ≡ false → P (NotRead Capacity))
-      → (fits c m ≡ true → Known false → P (NotRead UnknownNumber))
-      → (fits c m ≡ true → Known true → Whole false → P (NotRead Damaged))
-      → ((x : Triple) (f : ℕ) → P (Is x f)) → P (statement_of c m n)
+  read-cases : (P : Result StatementRead Refusal → Type 0) → (fits c m ≡ false → P (Err Capacity))
+      → (fits c m ≡ true → Known false → P (Err UnknownNumber))
+      → (fits c m ≡ true → Known true → Whole false → P (Err Damaged))
+      → ((x : Triple) (f : ℕ) → P (read_as x f)) → P (statement_of c m n)
   unfolding statement_of
   read-cases P one four nine is =
       decide (fits c m)
@@ -94,7 +95,7 @@ module _ (c : Counters) (m : Tables) (n : StatementId) where
       (λ b. rw b (four a b))))
       (λ a. rw a (one a))
 
-  abbrev Says : ℕ → StatementRead → Type 0
+  abbrev Says : ℕ → Result StatementRead Refusal → Type 0
   Says i r = (statement_values r).refusal ≡ i
 
   read_one : Says 1 (statement_of c m n) → fits c m ≡ false
@@ -157,8 +158,8 @@ span-not i a b o (some e) h = a (sym h)
 
 module _ (c : Counters) (m : Tables) (y : ResourceId) where
   -- by its tests
-  name-cases : (P : NameRead → Type 0) → (fits c m ≡ false → P (NotNamed Capacity))
-      → (fits c m ≡ true → in_range c.resources y.0 ≡ false → P (NotNamed UnknownNumber))
+  name-cases : (P : Result NameSpan Refusal → Type 0) → (fits c m ≡ false → P (Err Capacity))
+      → (fits c m ≡ true → in_range c.resources y.0 ≡ false → P (Err UnknownNumber))
       → ((z : Option ℕ) → P (span_to (offset_at m.resources y.0) z)) → P (name_span_of c m y)
   unfolding name_span_of
   name-cases P one four ends =
@@ -168,7 +169,7 @@ module _ (c : Counters) (m : Tables) (y : ResourceId) where
       (λ b. rw b (four a b))))
       (λ a. rw a (one a))
 
-  abbrev Tells : ℕ → NameRead → Type 0
+  abbrev Tells : ℕ → Result NameSpan Refusal → Type 0
   Tells i r = (name_values r).refusal ≡ i
 
   name-one : Tells 1 (name_span_of c m y) → fits c m ≡ false

@@ -10,22 +10,19 @@ use Rattle.store.specs.declared.Triple.{Triple}
 use Rattle.store.specs.declared.Refusal.{Refusal}
 use Rattle.store.specs.declared.Refusal.TheVariants.{Capacity, UnknownNumber, KindNotPermitted, Damaged}
 use Rattle.store.specs.declared.Refusal.TheVariants.{ReclaimLimit}
-use Rattle.store.specs.declared.Asserted.{Asserted}
-use Rattle.store.specs.declared.Asserted.TheVariants.{Refused as NotAsserted}
-use Rattle.store.specs.declared.Retracted.{Retracted}
-use Rattle.store.specs.declared.Retracted.TheVariants.{Refused as NotRetracted}
-use Rattle.store.specs.declared.Reclaimed.{Reclaimed}
-use Rattle.store.specs.declared.Reclaimed.TheVariants.{Done, Refused as NotReclaimed}
 use Rattle.store.specs.Shared.{known, kinds_permitted, max_reclaims}
 use Rattle.store.specs.Tables.{Tables, fits, statement_capacity, flag_at, kind_at}
 use Rattle.store.specs.Statement.{locate, kinds_ok, asserting, assert_of, counting, retracting, retract_of}
 use Rattle.store.specs.Reclaim.{swept_of, reclaimed_tables, reclaimed_counters, reclaim_of}
 use Rattle.store.proofs.Tests.{decide, cond-all}
+use Rattle.std.specs.Prelude.{Err, Ok, Option as Optional, Result}
+use Rattle.store.specs.declared.Asserted.{Asserted}
+use Rattle.store.specs.declared.StatementId.{StatementId}
 
 -- ---- past the tests
 
 module _ (c : Counters) (m : Tables) (x : Triple) (a : fits c m ≡ true) (b : known c.resources x ≡ true) where
-  pub retract-damaged : locate c m x ≡ none → retract_of c m x ≡ (m, NotRetracted Damaged)
+  pub retract-damaged : locate c m x ≡ none → retract_of c m x ≡ (m, Err Damaged)
   unfolding retract_of
   retract-damaged f = rw (retract_of, a, b, f)
 
@@ -35,14 +32,14 @@ module _ (c : Counters) (m : Tables) (x : Triple) (a : fits c m ≡ true) (b : k
 
   pub assert-damaged : kinds_ok m.resources x ≡ true → kinds_permitted (kind_at m.resources) x ≡ true
       → locate c m x ≡ none
-      → assert_of c m x ≡ (m, NotAsserted Damaged)
+      → assert_of c m x ≡ (m, Err Damaged)
   unfolding assert_of
   assert-damaged d e f = rw (assert_of, a, b, d, e, f)
 
 -- ---- what holds of a refusal that leaves the tables, and by the record found, holds of the call
 
 module _ (c : Counters) (m : Tables) (x : Triple) where
-  pub assert-all : (P : Tables × Asserted → Type 0) → ((q : Refusal) → P (m, NotAsserted q))
+  pub assert-all : (P : Tables × Result Asserted Refusal → Type 0) → ((q : Refusal) → P (m, Err q))
       → ((n : ℕ) → P (asserting c m x n)) → P (assert_of c m x)
   unfolding assert_of
   assert-all P refused by =
@@ -53,11 +50,11 @@ module _ (c : Counters) (m : Tables) (x : Triple) where
       (refused Damaged)) (refused UnknownNumber))
       (refused Capacity)
     where
-      walked : (o : Option ℕ) → P (elim o [ none ↦ (m, NotAsserted Damaged) | some n ↦ asserting c m x n ])
+      walked : (o : Option ℕ) → P (elim o [ none ↦ (m, Err Damaged) | some n ↦ asserting c m x n ])
       walked none = refused Damaged
       walked (some n) = by n
 
-  pub retract-all : (P : Tables × Retracted → Type 0) → ((q : Refusal) → P (m, NotRetracted q))
+  pub retract-all : (P : Tables × Result (Optional StatementId) Refusal → Type 0) → ((q : Refusal) → P (m, Err q))
       → ((n : ℕ) → P (retracting m x n)) → P (retract_of c m x)
   unfolding retract_of
   retract-all P refused by =
@@ -65,24 +62,24 @@ module _ (c : Counters) (m : Tables) (x : Triple) where
       (cond-all P (known c.resources x) _ _ (walked (locate c m x)) (refused UnknownNumber))
       (refused Capacity)
     where
-      walked : (o : Option ℕ) → P (elim o [ none ↦ (m, NotRetracted Damaged) | some n ↦ retracting m x n ])
+      walked : (o : Option ℕ) → P (elim o [ none ↦ (m, Err Damaged) | some n ↦ retracting m x n ])
       walked none = refused Damaged
       walked (some n) = by n
 
-pub reclaim-all : (c : Counters) (m : Tables) (P : Tables × Reclaimed → Type 0) → P (m, NotReclaimed Capacity)
-    → P (m, NotReclaimed ReclaimLimit)
-    → P (reclaimed_tables c m (swept_of c m), Done (reclaimed_counters c (swept_of c m))) → P (reclaim_of c m)
+pub reclaim-all : (c : Counters) (m : Tables) (P : Tables × Result Counters Refusal → Type 0) → P (m, Err Capacity)
+    → P (m, Err ReclaimLimit)
+    → P (reclaimed_tables c m (swept_of c m), Ok (reclaimed_counters c (swept_of c m))) → P (reclaim_of c m)
 unfolding reclaim_of
 reclaim-all c m P one fourteen done =
     cond-all P (fits c m) _ _ (cond-all P (ltb c.generation max_reclaims) _ _ done fourteen) one
 
 -- ---- a refused one writes nothing
 
-abbrev QuietAssert : Tables → Tables × Asserted → Type 0
-QuietAssert m z = (q : Refusal) → z.1 ≡ NotAsserted q → z.0 ≡ m
+abbrev QuietAssert : Tables → Tables × Result Asserted Refusal → Type 0
+QuietAssert m z = (q : Refusal) → z.1 ≡ Err q → z.0 ≡ m
 
-abbrev QuietRetract : Tables → Tables × Retracted → Type 0
-QuietRetract m z = (q : Refusal) → z.1 ≡ NotRetracted q → z.0 ≡ m
+abbrev QuietRetract : Tables → Tables × Result (Optional StatementId) Refusal → Type 0
+QuietRetract m z = (q : Refusal) → z.1 ≡ Err q → z.0 ≡ m
 
 asserting-quiet : (c : Counters) (m : Tables) (x : Triple) (n : ℕ) → QuietAssert m (asserting c m x n)
 unfolding asserting
@@ -99,15 +96,15 @@ retracting-quiet m x (suc i) q =
     (λ e. rw e (λ h. refl))
     (λ e. rw e (decide (counting m.resources x) (λ d. rw d (λ h. cc)) (λ d. rw d (λ h. refl))))
 
-pub assert-refused : (c : Counters) (m : Tables) (x : Triple) (q : Refusal) → (assert_of c m x).1 ≡ NotAsserted q
+pub assert-refused : (c : Counters) (m : Tables) (x : Triple) (q : Refusal) → (assert_of c m x).1 ≡ Err q
     → (assert_of c m x).0 ≡ m
 assert-refused c m x = assert-all c m x (QuietAssert m) (λ r q h. refl) (asserting-quiet c m x)
 
-pub retract-refused : (c : Counters) (m : Tables) (x : Triple) (q : Refusal) → (retract_of c m x).1 ≡ NotRetracted q
+pub retract-refused : (c : Counters) (m : Tables) (x : Triple) (q : Refusal) → (retract_of c m x).1 ≡ Err q
     → (retract_of c m x).0 ≡ m
 retract-refused c m x = retract-all c m x (QuietRetract m) (λ r q h. refl) (retracting-quiet m x)
 
-pub reclaim-refused : (c : Counters) (m : Tables) (q : Refusal) → (reclaim_of c m).1 ≡ NotReclaimed q
+pub reclaim-refused : (c : Counters) (m : Tables) (q : Refusal) → (reclaim_of c m).1 ≡ Err q
     → (reclaim_of c m).0 ≡ m
 reclaim-refused c m q =
-    reclaim-all c m (λ (z : Tables × Reclaimed). z.1 ≡ NotReclaimed q → z.0 ≡ m) (λ h. refl) (λ h. refl) (λ h. cc)
+    reclaim-all c m (λ (z : Tables × Result Counters Refusal). z.1 ≡ Err q → z.0 ≡ m) (λ h. refl) (λ h. refl) (λ h. cc)

@@ -6,12 +6,6 @@ use native.Mathlib.Omega.{arith}
 use lib.Dec.{ltb}
 use borrow.Author.Tests.{ltb-true, ltb-false}
 use Rattle.store.specs.declared.Counters.{Counters}
-use Rattle.store.specs.declared.Interned.{Interned}
-use Rattle.store.specs.declared.Asserted.{Asserted}
-use Rattle.store.specs.declared.Retracted.{Retracted}
-use Rattle.store.specs.declared.Reclaimed.{Reclaimed}
-use Rattle.store.specs.declared.ScanOpened.{ScanOpened}
-use Rattle.store.specs.declared.Scanned.{Scanned}
 use Rattle.store.specs.Shared.{max_reclaims}
 use Rattle.store.specs.Tables.{Tables, after}
 use Rattle.store.specs.Values.{Values, interned_values, asserted_values, retracted_values, opened_values}
@@ -30,9 +24,16 @@ use Rattle.store.proofs.Represented.{Agreeing}
 use Rattle.store.proofs.Histories.{call-agrees, history-agrees, fresh-agrees}
 use Rattle.store.proofs.Kept.{Tidy, tidy-call, tidy-history, tidy-fresh, agreeing-sound}
 use Rattle.store.proofs.Held.{agreeing-holds}
+use Rattle.std.specs.Prelude.{Option as Optional, Result}
+use Rattle.store.specs.declared.Asserted.{Asserted}
+use Rattle.store.specs.declared.Interned.{Interned}
+use Rattle.store.specs.declared.Refusal.{Refusal}
+use Rattle.store.specs.declared.ScanCursor.{ScanCursor}
+use Rattle.store.specs.declared.Scanned.{Scanned}
+use Rattle.store.specs.declared.StatementId.{StatementId}
 
 -- on a sound store reclaim has one answer
-reclaim-is : (c : Counters) (m m' : Tables) (a : Reclaimed) → Sound c m → ReclaimAnswer c m m' a
+reclaim-is : (c : Counters) (m m' : Tables) (a : Result Counters Refusal) → Sound c m → ReclaimAnswer c m m' a
     → after m' a ≡ reclaim_of c m
 unfolding reclaim_of
 reclaim-is c m m' a S A =
@@ -50,37 +51,37 @@ module _ (k : Capacities) (s : Store) (l : Model) (R : Agreeing k s l) (D : Tidy
   unfolding call_store
   ran-is (intern w) t v h =
       let e = h.1.exact l.names R.named in (
-        h.2 ∙ ap (λ (z : Tables × Interned). store (interned_counters c z.1) z.0 s.cursors) e,
-        h.3 ∙ ap (λ (z : Tables × Interned). interned_values z.1) e,
+        h.2 ∙ ap (λ (z : Tables × Result Interned Refusal). store (interned_counters c z.1) z.0 s.cursors) e,
+        h.3 ∙ ap (λ (z : Tables × Result Interned Refusal). interned_values z.1) e,
       )
   ran-is (assert by_value x) t v h = (
-    h.2 ∙ ap (λ (z : Tables × Asserted). store (counters_after c z.1) z.0 s.cursors) h.1,
-    h.3 ∙ ap (λ (z : Tables × Asserted). asserted_values z.1) h.1,
+    h.2 ∙ ap (λ (z : Tables × Result Asserted Refusal). store (counters_after c z.1) z.0 s.cursors) h.1,
+    h.3 ∙ ap (λ (z : Tables × Result Asserted Refusal). asserted_values z.1) h.1,
   )
   ran-is (assert updating x) t v h = (
-    h.2 ∙ ap (λ (z : Updated Asserted). store z.counters z.tables s.cursors) h.1,
-    h.3 ∙ ap (λ (z : Updated Asserted). asserted_values z.reply) h.1,
+    h.2 ∙ ap (λ (z : Updated (Result Asserted Refusal)). store z.counters z.tables s.cursors) h.1,
+    h.3 ∙ ap (λ (z : Updated (Result Asserted Refusal)). asserted_values z.reply) h.1,
   )
   ran-is (retract by_value x) t v h = (
-    h.2 ∙ ap (λ (z : Tables × Retracted). store c z.0 s.cursors) h.1,
-    h.3 ∙ ap (λ (z : Tables × Retracted). retracted_values z.1) h.1,
+    h.2 ∙ ap (λ (z : Tables × Result (Optional StatementId) Refusal). store c z.0 s.cursors) h.1,
+    h.3 ∙ ap (λ (z : Tables × Result (Optional StatementId) Refusal). retracted_values z.1) h.1,
   )
   ran-is (retract updating x) t v h = (
-    h.2 ∙ ap (λ (z : Updated Retracted). store z.counters z.tables s.cursors) h.1,
-    h.3 ∙ ap (λ (z : Updated Retracted). retracted_values z.reply) h.1,
+    h.2 ∙ ap (λ (z : Updated (Result (Optional StatementId) Refusal)). store z.counters z.tables s.cursors) h.1,
+    h.3 ∙ ap (λ (z : Updated (Result (Optional StatementId) Refusal)). retracted_values z.reply) h.1,
   )
   ran-is (open' x) t v h = (
-    h.2 ∙ ap (λ (z : ScanOpened). store c s.tables (opened_cursors s.cursors z)) h.1,
+    h.2 ∙ ap (λ (z : Result ScanCursor Refusal). store c s.tables (opened_cursors s.cursors z)) h.1,
     h.3 ∙ ap opened_values h.1,
   )
   ran-is (next j b) t v h = (
-    h.2 ∙ ap (λ (z : Scanned). store c s.tables (moved_cursors s.cursors j z)) h.1,
+    h.2 ∙ ap (λ (z : Result Scanned Refusal). store c s.tables (moved_cursors s.cursors j z)) h.1,
     h.3 ∙ ap scanned_values h.1,
   )
   ran-is reclaim t v h =
       let e = reclaim-is c s.tables t.tables h.0 (agreeing-sound k s l R D) h.1 in (
-        h.2 ∙ ap (λ (z : Tables × Reclaimed). store (after_reclaim c z.1) z.0 s.cursors) e,
-        h.3 ∙ ap (λ (z : Tables × Reclaimed). reclaimed_values z.1) e,
+        h.2 ∙ ap (λ (z : Tables × Result Counters Refusal). store (after_reclaim c z.1) z.0 s.cursors) e,
+        h.3 ∙ ap (λ (z : Tables × Result Counters Refusal). reclaimed_values z.1) e,
       )
 
 run_is : (k : Capacities) (s : Store) (l : Model) → Agreeing k s l → Tidy l

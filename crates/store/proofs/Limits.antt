@@ -17,10 +17,6 @@ use Rattle.store.specs.declared.ScanCursor.{ScanCursor}
 use Rattle.store.specs.declared.Refusal.{Refusal}
 use Rattle.store.specs.declared.Refusal.TheVariants.{Capacity, Damaged, ReclaimLimit, BadCursor, NoBudget}
 use Rattle.store.specs.declared.Refusal.TheVariants.{StaleCursor}
-use Rattle.store.specs.declared.Scanned.{Scanned}
-use Rattle.store.specs.declared.Scanned.TheVariants.{Refused as NotScanned}
-use Rattle.store.specs.declared.Reclaimed.{Reclaimed}
-use Rattle.store.specs.declared.Reclaimed.TheVariants.{Refused as NotReclaimed}
 use Rattle.store.specs.Tables.{Tables, after, fits, term_at}
 use Rattle.store.specs.Shared.{max_reclaims, Entry, at, within}
 use Rattle.store.specs.Values.{Values, refusal_number, scanned_values, reclaimed_values}
@@ -38,6 +34,8 @@ use Rattle.store.specs.ReclaimClaims.{NumberCounts, UnretractedMeans}
 use Rattle.store.proofs.Tests.{decide, cond-all, and_l, and_r, and-of, all3-at, all3-of, within-high, within_of}
 use Rattle.store.proofs.Tests.{fits-parts, fits-of}
 use Rattle.store.proofs.Onward.{calls-onward}
+use Rattle.std.specs.Prelude.{Err, Result}
+use Rattle.store.specs.declared.Scanned.{Scanned}
 
 -- ---- refusal 1
 
@@ -81,11 +79,11 @@ step-not i a b q (some (ended v)) h = a (sym h)
 step-not i a b q (some (spent v r)) h = a (sym h)
 
 -- by its tests
-next-cases : (c : Counters) (m : Tables) (q : ScanCursor) (b : ℕ) (P : Scanned → Type 0)
-    → (fits c m ≡ false → P (NotScanned Capacity))
-    → (fits c m ≡ true → q.generation ≢ c.generation → P (NotScanned StaleCursor))
-    → (fits c m ≡ true → q.generation ≡ c.generation → cursor_ok c m q ≡ false → P (NotScanned BadCursor))
-    → P (NotScanned NoBudget) → ((z : Option Step) → P (scanned_as q z)) → P (next_of c m q b)
+next-cases : (c : Counters) (m : Tables) (q : ScanCursor) (b : ℕ) (P : Result Scanned Refusal → Type 0)
+    → (fits c m ≡ false → P (Err Capacity))
+    → (fits c m ≡ true → q.generation ≢ c.generation → P (Err StaleCursor))
+    → (fits c m ≡ true → q.generation ≡ c.generation → cursor_ok c m q ≡ false → P (Err BadCursor))
+    → P (Err NoBudget) → ((z : Option Step) → P (scanned_as q z)) → P (next_of c m q b)
 unfolding next_of
 next-cases c m q b P one thirteen six seven walked =
     decide (fits c m)
@@ -96,7 +94,7 @@ next-cases c m q b P one thirteen six seven walked =
     (λ d. rw d (thirteen a (eqb-false q.generation c.generation d)))))
     (λ a. rw a (one a))
 
-abbrev Says : ℕ → Scanned → Type 0
+abbrev Says : ℕ → Result Scanned Refusal → Type 0
 Says i r = (scanned_values r).refusal ≡ i
 
 -- by the paper's number
@@ -207,15 +205,15 @@ reclaim-refuses c m m' a A = record {
   kept = kept;
 }
   where
-    told : (r : Refusal) → after m' a ≡ after m (NotReclaimed r) → (reclaimed_values a).refusal ≡ refusal_number r
-    told r h = ap (λ (z : Tables × Reclaimed). (reclaimed_values z.1).refusal) h
+    told : (r : Refusal) → after m' a ≡ after m (Err r) → (reclaimed_values a).refusal ≡ refusal_number r
+    told r h = ap (λ (z : Tables × Result Counters Refusal). (reclaimed_values z.1).refusal) h
 
-    same : (r : Refusal) → after m' a ≡ after m (NotReclaimed r) → m' ≡ m
-    same r h = ap (λ (z : Tables × Reclaimed). z.0) h
+    same : (r : Refusal) → after m' a ≡ after m (Err r) → m' ≡ m
+    same r h = ap (λ (z : Tables × Result Counters Refusal). z.0) h
 
     done : Sound c m → c.generation < 65535 → (reclaimed_values a).refusal ≡ 0
     done S g =
-        ap (λ (z : Tables × Reclaimed). (reclaimed_values z.1).refusal) (A.exact S g)
+        ap (λ (z : Tables × Result Counters Refusal). (reclaimed_values z.1).refusal) (A.exact S g)
         ∙ reclaim-done c m S.capacity g
 
     done-not : Sound c m → c.generation < 65535 → (reclaimed_values a).refusal ≡ 9 → ⊥

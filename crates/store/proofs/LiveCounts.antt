@@ -17,9 +17,6 @@ use Rattle.store.specs.declared.Chain.{Chain}
 use Rattle.store.specs.declared.Chain.TheVariants.{All, By}
 use Rattle.store.specs.declared.Triple.{Triple}
 use Rattle.store.specs.declared.Refusal.TheVariants.{Damaged}
-use Rattle.store.specs.declared.Asserted.{Asserted}
-use Rattle.store.specs.declared.Retracted.{Retracted}
-use Rattle.store.specs.declared.Retracted.TheVariants.{Refused as NotRetracted}
 use Rattle.store.specs.Shared.{at, below, Entry}
 use Rattle.store.specs.Tables.{Tables, after, off, fits, flag_at, first_at, count_at, live_at}
 use Rattle.store.specs.Walk.{entry_at, pick_chain, pickable, start_of}
@@ -36,6 +33,10 @@ use Rattle.store.proofs.Falling.{length-suc}
 use Rattle.store.proofs.Words.{triple-at}
 use Rattle.store.proofs.Picking.{pick-cong}
 use Rattle.store.proofs.Cases.{retract-damaged, retract-located, assert-damaged}
+use Rattle.std.specs.Prelude.{Err, Option as Optional, Result}
+use Rattle.store.specs.declared.Asserted.{Asserted}
+use Rattle.store.specs.declared.Refusal.{Refusal}
+use Rattle.store.specs.declared.StatementId.{StatementId}
 
 -- ---- on a sound store
 
@@ -111,21 +112,21 @@ damaged c m x p h =
 pub live-above-count : LiveAboveCount
 live-above-count c m x p a b h =
     let r = retract-damaged c m x a b (damaged c m x p h) in (
-      ap (λ (z : Tables × Retracted). retracted_values z.1) r,
-      ap (λ (z : Tables × Retracted). z.0) r,
+      ap (λ (z : Tables × Result (Optional StatementId) Refusal). retracted_values z.1) r,
+      ap (λ (z : Tables × Result (Optional StatementId) Refusal). z.0) r,
       λ d f.
           let s = assert-damaged c m x a b d f (damaged c m x p h) in
-          (ap (λ (z : Tables × Asserted). asserted_values z.1) s, ap (λ (z : Tables × Asserted). z.0) s),
+          (ap (λ (z : Tables × Result Asserted Refusal). asserted_values z.1) s, ap (λ (z : Tables × Result Asserted Refusal). z.0) s),
     )
 
 pub live-count-of-zero : LiveCountOfZero
 unfolding retracting
 live-count-of-zero c m x p i a b f e z =
     let n : flag_at m.statements i ≢ 1 = omega arith in
-    let r : retract_of c m x ≡ after m (NotRetracted Damaged) =
+    let r : retract_of c m x ≡ after m (Err Damaged) =
     retract-located c m x a b (suc i) f
     ∙ rw (ne_eqb (flag_at m.statements i) 1 n, counting-none m.resources x p z) in
-    (ap (λ (z : Tables × Retracted). retracted_values z.1) r, ap (λ (z : Tables × Retracted). z.0) r)
+    (ap (λ (z : Tables × Result (Optional StatementId) Refusal). retracted_values z.1) r, ap (λ (z : Tables × Result (Optional StatementId) Refusal). z.0) r)
 
 -- ---- on any tables: a listing
 

@@ -15,8 +15,6 @@ use Rattle.term.specs.Scanner.{first_kind_of}
 use Rattle.term.specs.Canonical.{canonical}
 use Rattle.term.proofs.Booleans.{eq_bytes-is, eq_bytes-refl}
 use Rattle.store.specs.declared.Counters.{Counters}
-use Rattle.store.specs.declared.Interned.{Interned}
-use Rattle.store.specs.declared.IndexPlace.TheVariants.{At, Before}
 use Rattle.store.specs.Shared.{well_formed, name_of, text_bytes, lookup_name}
 use Rattle.store.specs.Tables.{Tables, word, resource_words, resource_capacity, text_capacity, offset_at, kind_at}
 use Rattle.store.specs.Values.{Values, counted, interned_values}
@@ -35,6 +33,10 @@ use Rattle.store.proofs.Form.{form-clean, storable-formed, canonical-storable}
 use Rattle.store.proofs.Text.{bytes-snoc, name-read, text-grows, name-old, name_new, length-snoc, snoc-all}
 use Rattle.store.proofs.Index.{insert-length, at-rank-is, index-grows}
 use Rattle.store.proofs.Represented.{Agreeing, Same, same_cond, fits-agrees, totals-agree, standing-grow}
+use Rattle.std.specs.Prelude.{Ok, Result}
+use Rattle.store.specs.declared.Interned.{Interned}
+use Rattle.store.specs.declared.Lookup.TheVariants.{Absent, Number}
+use Rattle.store.specs.declared.Refusal.{Refusal}
 
 -- ---- a sound dictionary's names, read from the text
 
@@ -96,11 +98,11 @@ module _ (ns : List (List ℕ)) (c : Counters) (m : Tables) (N : Named ns c m) w
         (λ d. rw d)
 
     -- where a name stands, by the list
-    pub place-listed : (i : ℕ) → lookup_name w ns ≡ suc i → index_place_of c m w ≡ At (record { 0 = suc i }) kk
+    pub place-listed : (i : ℕ) → lookup_name w ns ≡ suc i → index_place_of c m w ≡ Ok (Number (record { 0 = suc i }) kk)
     unfolding index_place_of place_at
     place-listed i e = rw (rank-at w, hit-test i e, (listed_at i e).1)
 
-    pub place-unlisted : lookup_name w ns ≡ 0 → index_place_of c m w ≡ Before kk
+    pub place-unlisted : lookup_name w ns ≡ 0 → index_place_of c m w ≡ Ok (Absent kk)
     unfolding index_place_of place_at
     place-unlisted e = rw (rank-at w, miss-test e)
 
@@ -139,7 +141,7 @@ module _ (ns : List (List ℕ)) (c : Counters) (m : Tables) (N : Named ns c m) (
 
 -- ---- the call
 
-abbrev pub interned : Store → Tables × Interned → Store × Values
+abbrev pub interned : Store → Tables × Result Interned Refusal → Store × Values
 interned c a = (store (interned_counters c.counters a.1) a.0 c.cursors, interned_values a.1)
 
 module _ (k : Capacities) (c : Store) (s : Model) (R : Agreeing k c s) (w : List ℕ) (wf : storable w ≡ true) where

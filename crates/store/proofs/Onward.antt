@@ -9,12 +9,6 @@ use Rattle.term.specs.Canonical.{canonical}
 use Rattle.store.specs.declared.Position.{Position}
 use Rattle.store.specs.declared.Counters.{Counters}
 use Rattle.store.specs.declared.Triple.{Triple}
-use Rattle.store.specs.declared.IndexPlace.{IndexPlace}
-use Rattle.store.specs.declared.IndexPlace.TheVariants.{At, Before, OutOfRange}
-use Rattle.store.specs.declared.Interned.{Interned}
-use Rattle.store.specs.declared.Asserted.{Asserted}
-use Rattle.store.specs.declared.Retracted.{Retracted}
-use Rattle.store.specs.declared.Reclaimed.{Reclaimed}
 use Rattle.store.specs.Tables.{Tables, term_at, flag_at, statement_capacity}
 use Rattle.store.specs.Values.{reclaimed_values}
 use Rattle.store.specs.Model.{Call, intern, assert, retract, open', next, reclaim, by_value, updating}
@@ -28,6 +22,13 @@ use Rattle.store.proofs.Tests.{cond-all}
 use Rattle.store.proofs.Words.{append-term-old, flag-term}
 use Rattle.store.proofs.Interning.{intern-all}
 use Rattle.store.proofs.Cases.{assert-all, retract-all, reclaim-all}
+use Rattle.std.specs.Prelude.{Err, Ok, Option as Optional, Result}
+use Rattle.store.specs.declared.Asserted.{Asserted}
+use Rattle.store.specs.declared.Interned.{Interned}
+use Rattle.store.specs.declared.Lookup.{Lookup}
+use Rattle.store.specs.declared.Lookup.TheVariants.{Absent, Number}
+use Rattle.store.specs.declared.Refusal.{Refusal}
+use Rattle.store.specs.declared.StatementId.{StatementId}
 
 -- no record fewer, and each with its triple
 pub record RecordsKept (r t : ℕ) (stm : List ℕ) (r' t' : ℕ) (stm' : List ℕ) : Type 0 where
@@ -50,7 +51,7 @@ flag-keeps f v c m x i =
     (record { resources = omega arith; records = omega arith; terms = λ p j h. flags p j }, refl)
 
 module _ (c : Counters) (m : Tables) where
-  abbrev AssertKeeps : Tables × Asserted → Type 0
+  abbrev AssertKeeps : Tables × Result Asserted Refusal → Type 0
   AssertKeeps a = Keeps c m (counters_after c a.1) a.0
 
   asserting-keeps : (x : Triple) (n : ℕ) → AssertKeeps (asserting c m x n)
@@ -71,7 +72,7 @@ module _ (c : Counters) (m : Tables) where
   assert-keeps : (x : Triple) → AssertKeeps (assert_of c m x)
   assert-keeps x = assert-all c m x AssertKeeps (λ q. keeps_same c m) (asserting-keeps x)
 
-  abbrev RetractKeeps : Tables × Retracted → Type 0
+  abbrev RetractKeeps : Tables × Result (Optional StatementId) Refusal → Type 0
   RetractKeeps a = Keeps c m c a.0
 
   retracting-keeps : (x : Triple) (n : ℕ) → RetractKeeps (retracting m x n)
@@ -84,32 +85,32 @@ module _ (c : Counters) (m : Tables) where
   retract-keeps : (x : Triple) → RetractKeeps (retract_of c m x)
   retract-keeps x = retract-all c m x RetractKeeps (λ q. keeps_same c m) (retracting-keeps x)
 
-  abbrev InternKeeps : Tables × Interned → Type 0
+  abbrev InternKeeps : Tables × Result Interned Refusal → Type 0
   InternKeeps a = Keeps c m (interned_counters c a.1) a.0
 
-  interned-keeps : (w : List ℕ) (x : IndexPlace) → InternKeeps (intern_as c m w x)
+  interned-keeps : (w : List ℕ) (x : Result Lookup Refusal) → InternKeeps (intern_as c m w x)
   unfolding intern_as
-  interned-keeps w (At n k) = keeps_same c m
-  interned-keeps w (Before k) =
+  interned-keeps w (Ok (Number n k)) = keeps_same c m
+  interned-keeps w (Ok (Absent k)) =
       cond-all InternKeeps (room_for c m w) _ _
       (record { resources = omega arith; records = omega arith; terms = λ p i h. refl }, refl) (keeps_same c m)
-  interned-keeps w OutOfRange = keeps_same c m
+  interned-keeps w (Err e) = keeps_same c m
 
   intern-keeps : (w : List ℕ) → InternKeeps (intern_of c m w)
   intern-keeps w = intern-all c m w InternKeeps (λ q. keeps_same c m) (interned-keeps (canonical w))
 
   -- a reclaim that is refused leaves all; one that is answered is one more
-  abbrev reclaim_answered : Tables × Reclaimed → ℕ
+  abbrev reclaim_answered : Tables × Result Counters Refusal → ℕ
   reclaim_answered a = reclaims reclaim (reclaimed_values a.1)
 
-  abbrev ReclaimKeeps : Tables × Reclaimed → Type 0
+  abbrev ReclaimKeeps : Tables × Result Counters Refusal → Type 0
   ReclaimKeeps a = reclaim_answered a ≡ 0 → Keeps c m (after_reclaim c a.1) a.0
 
   reclaim-keeps : ReclaimKeeps (reclaim_of c m)
   reclaim-keeps =
       reclaim-all c m ReclaimKeeps (λ n. keeps_same c m) (λ n. keeps_same c m) (λ n. absurd (omega (arith, n)))
 
-  abbrev Numbered : Tables × Reclaimed → Type 0
+  abbrev Numbered : Tables × Result Counters Refusal → Type 0
   Numbered a =
       ((after_reclaim c a.1).generation ≡ c.generation + reclaim_answered a)
       × (c.resources ≤ (after_reclaim c a.1).resources)

@@ -13,13 +13,9 @@ use lib.Dec.{eqb, leb}
 use borrow.Author.Tests.{eqb-true, eq-eqb, ltb-true, leb-true, leb-false, le-leb, lt-leb}
 use Rattle.term.specs.Canonical.{canonical}
 use Rattle.store.specs.declared.Counters.{Counters}
-use Rattle.store.specs.declared.Interned.{Interned}
 use Rattle.store.specs.declared.Refusal.{Refusal}
 use Rattle.store.specs.declared.Refusal.TheVariants.{Capacity, Malformed, Damaged}
-use Rattle.store.specs.declared.Lookup.{Lookup}
-use Rattle.store.specs.declared.Lookup.TheVariants.{Number, Absent, Refused as NotFound}
-use Rattle.store.specs.declared.Prefixed.{Prefixed}
-use Rattle.store.specs.declared.Prefixed.TheVariants.{Refused as NotListed}
+use Rattle.store.specs.declared.Lookup.TheVariants.{Number, Absent}
 use Rattle.store.specs.Shared.{well_formed, name_of, lookup_name}
 use Rattle.store.specs.Lists.{keep}
 use Rattle.store.specs.Tables.{Tables, word, fits, resource_capacity}
@@ -35,6 +31,9 @@ use Rattle.store.proofs.Pins.{mem-at, at_mem}
 use Rattle.store.proofs.Index.{index-complete, rank-le, rank-before, rank-not-before, insert-here}
 use Rattle.store.proofs.NamesAgree.{name-indexed, rank-at, listed_at, place-listed, place-unlisted}
 use Rattle.store.proofs.RoundTrips.{find-listed, find-unlisted, found-values}
+use Rattle.std.specs.Prelude.{Err, Ok, Result}
+use Rattle.store.specs.declared.Interned.{Interned}
+use Rattle.store.specs.declared.Lookup.{Lookup}
 
 -- ---- where a name stands
 
@@ -64,7 +63,7 @@ module _ (c : Counters) (m : Tables) (S : Sound c m) (w : List ℕ) (f : well_fo
   before-it i h = ap (λ (z : List ℕ). is_less (compare_bytes z n)) (name-indexed ns c m N i h)
 
   -- what holds of the position after enter
-  abbrev EnteredAt : Tables × Interned → Type 0
+  abbrev EnteredAt : Tables × Result Interned Refusal → Type 0
   EnteredAt z = (interned_values z.1).refusal ≡ 0 → word z.0.index kk ≡ (interned_values z.1).number
 
   intern-is : intern_of c m w ≡ intern_as c m n (index_place_of c m n)
@@ -300,32 +299,32 @@ find-refuses c m w a F = record {
     found-position zero k = refl
     found-position (suc n) k = refl
 
-    bare : (b : Lookup) → (lookup_values b).refusal ≢ 0 → lookup_position b ≡ 0
-    bare (Number y k) h = absurd (h refl)
-    bare (Absent k) h = absurd (h refl)
-    bare (NotFound r) h = refl
+    bare : (b : Result Lookup Refusal) → (lookup_values b).refusal ≢ 0 → lookup_position b ≡ 0
+    bare (Ok (Number y k)) h = absurd (h refl)
+    bare (Ok (Absent k)) h = absurd (h refl)
+    bare (Err r) h = refl
 
 -- by what was told, the lent words have their length, and a refusal leaves them
-module _ (out out' : List ℕ) (a : Prefixed) where
+module _ (out out' : List ℕ) (a : Result ℕ Refusal) where
   abbrev Leaves : Type 0
   Leaves = (length out' ≡ length out) × ((prefixed_values a).refusal ≢ 0 → out' ≡ out)
 
-  words_are : {z : List ℕ × Prefixed} → told out' a ≡ z → out' ≡ z.0
-  words_are e = ap (λ (z : List ℕ × Prefixed). z.0) e
+  words_are : {z : List ℕ × Result ℕ Refusal} → told out' a ≡ z → out' ≡ z.0
+  words_are e = ap (λ (z : List ℕ × Result ℕ Refusal). z.0) e
 
-  answer-is : {z : List ℕ × Prefixed} → told out' a ≡ z → a ≡ z.1
-  answer-is e = ap (λ (z : List ℕ × Prefixed). z.1) e
+  answer-is : {z : List ℕ × Result ℕ Refusal} → told out' a ≡ z → a ≡ z.1
+  answer-is e = ap (λ (z : List ℕ × Result ℕ Refusal). z.1) e
 
-  left : (r : Refusal) → told out' a ≡ told out (NotListed r) → Leaves
+  left : (r : Refusal) → told out' a ≡ told out (Err r) → Leaves
   left r e = (ap length (words_are e), λ h. words_are e)
 
   filled_in : (l : List ℕ) → told out' a ≡ listed out l → Leaves
   filled_in l e = (
     ap length (words_are e) ∙ filled-length out l,
-    λ h. absurd (h (ap (λ (b : Prefixed). (prefixed_values b).refusal) (answer-is e))),
+    λ h. absurd (h (ap (λ (b : Result ℕ Refusal). (prefixed_values b).refusal) (answer-is e))),
   )
 
-leaves : (c : Counters) (m : Tables) (w out out' : List ℕ) (a : Prefixed) → PrefixAnswer c m w out out' a
+leaves : (c : Counters) (m : Tables) (w out out' : List ℕ) (a : Result ℕ Refusal) → PrefixAnswer c m w out out' a
     → Leaves out out' a
 leaves c m w out out' a P =
     decide (fits c m)

@@ -11,7 +11,6 @@ use borrow.Author.Tests.{eqb-true, eqb-false, ltb-true}
 use Rattle.store.specs.declared.Counters.{Counters}
 use Rattle.store.specs.declared.Position.{Position}
 use Rattle.store.specs.declared.Triple.{Triple}
-use Rattle.store.specs.declared.Reclaimed.{Reclaimed}
 use Rattle.store.specs.Shared.{at, max_reclaims, Entry}
 use Rattle.store.specs.Tables.{Tables, word, statement_words, resource_words, term_at, flag_at, triple_at, offset_at}
 use Rattle.store.specs.Tables.{kind_at}
@@ -34,6 +33,8 @@ use Rattle.store.proofs.Unretracted.{unretracted-snoc}
 use Rattle.store.proofs.Swept.{unlinked-length, unlinked-past, unlinked-offset, unlinked-kind, unlinked-linked}
 use Rattle.store.proofs.Swept.{blanked-length, blanked-before, same-entry, same-linked}
 use Rattle.store.proofs.Held.{entries-length, entries_at, agreeing-statements}
+use Rattle.std.specs.Prelude.{Result}
+use Rattle.store.specs.declared.Refusal.{Refusal}
 
 -- the same entries, the same list
 entries-cong : (a b : List ℕ) (n : ℕ) → ((i : ℕ) → i < n → entry_at a i ≡ entry_at b i)
@@ -177,7 +178,7 @@ module _ (r t : ℕ) (res stm : List ℕ) (L : Linked r t res stm) where
 -- ---- reclaim
 
 -- the state and the values after a reply
-abbrev pub reclaimed_as : Store → Tables × Reclaimed → Store × Values
+abbrev pub reclaimed_as : Store → Tables × Result Counters Refusal → Store × Values
 reclaimed_as c a = (store (after_reclaim c.counters a.1) a.0 c.cursors, reclaimed_values a.1)
 
 module _ (k : Capacities) (c : Store) (s : Model) (R : Agreeing k c s) where

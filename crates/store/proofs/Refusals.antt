@@ -6,19 +6,8 @@ use Prim.Native.Nat.{ℕ}
 use lib.ListN.{get_or}
 use Rattle.store.specs.declared.Counters.{Counters}
 use Rattle.store.specs.declared.Refusal.{Refusal}
-use Rattle.store.specs.declared.Interned.{Interned}
-use Rattle.store.specs.declared.Interned.TheVariants.{Number as Id, Refused as NotInterned}
-use Rattle.store.specs.declared.Asserted.{Asserted}
-use Rattle.store.specs.declared.Asserted.TheVariants.{New, Already, Revived, Refused as NotAsserted}
-use Rattle.store.specs.declared.Retracted.{Retracted}
-use Rattle.store.specs.declared.Retracted.TheVariants.{Number as WasLive, Absent as NotLive}
-use Rattle.store.specs.declared.Retracted.TheVariants.{Refused as NotRetracted}
-use Rattle.store.specs.declared.ScanOpened.{ScanOpened}
-use Rattle.store.specs.declared.ScanOpened.TheVariants.{Cursor, Refused as NotOpened}
-use Rattle.store.specs.declared.Reclaimed.{Reclaimed}
-use Rattle.store.specs.declared.Reclaimed.TheVariants.{Done, Refused as NotReclaimed}
-use Rattle.store.specs.declared.Scanned.{Scanned}
-use Rattle.store.specs.declared.Scanned.TheVariants.{Found, Ended, Spent, Refused as NotScanned}
+use Rattle.store.specs.declared.Asserted.TheVariants.{New, Already, Revived}
+use Rattle.store.specs.declared.Scanned.TheVariants.{Found, Ended, Spent}
 use Rattle.store.specs.Tables.{Tables}
 use Rattle.store.specs.Values.{no_cursor, refused_with, interned_values, asserted_values, retracted_values}
 use Rattle.store.specs.Values.{opened_values, scanned_values, reclaimed_values}
@@ -32,6 +21,12 @@ use Rattle.store.specs.History.{call_store}
 use Rattle.store.specs.RefusalClaims.{RefusalsChangeNothing, RefusalsAreBare}
 use Rattle.store.proofs.Interning.{intern-refused}
 use Rattle.store.proofs.Cases.{assert-refused, retract-refused, reclaim-refused}
+use Rattle.std.specs.Prelude.{Err, None, Ok, Option as Optional, Result, Some}
+use Rattle.store.specs.declared.Asserted.{Asserted}
+use Rattle.store.specs.declared.Interned.{Interned}
+use Rattle.store.specs.declared.ScanCursor.{ScanCursor}
+use Rattle.store.specs.declared.Scanned.{Scanned}
+use Rattle.store.specs.declared.StatementId.{StatementId}
 
 module _ (s : Store) where
   abbrev c : Counters
@@ -42,79 +37,79 @@ module _ (s : Store) where
 
   -- ---- the store, by the reply
 
-  interned-stays : (m' : Tables) (a : Interned) → ((q : Refusal) → a ≡ NotInterned q → m' ≡ m)
+  interned-stays : (m' : Tables) (a : Result Interned Refusal) → ((q : Refusal) → a ≡ Err q → m' ≡ m)
       → (interned_values a).refusal ≢ 0
       → store (interned_counters c a) m' s.cursors ≡ s
-  interned-stays m' (Id n d) quiet h = absurd (h refl)
-  interned-stays m' (NotInterned q) quiet h = ap (λ (z : Tables). store c z s.cursors) (quiet q refl)
+  interned-stays m' (Ok i) quiet h = absurd (h refl)
+  interned-stays m' (Err q) quiet h = ap (λ (z : Tables). store c z s.cursors) (quiet q refl)
 
-  asserted-stays : (m' : Tables) (a : Asserted) → ((q : Refusal) → a ≡ NotAsserted q → m' ≡ m)
+  asserted-stays : (m' : Tables) (a : Result Asserted Refusal) → ((q : Refusal) → a ≡ Err q → m' ≡ m)
       → (asserted_values a).refusal ≢ 0
       → store (counters_after c a) m' s.cursors ≡ s
-  asserted-stays m' (New n d) quiet h = absurd (h refl)
-  asserted-stays m' (Already n d) quiet h = absurd (h refl)
-  asserted-stays m' (Revived n d) quiet h = absurd (h refl)
-  asserted-stays m' (NotAsserted q) quiet h = ap (λ (z : Tables). store c z s.cursors) (quiet q refl)
+  asserted-stays m' (Ok (New n d)) quiet h = absurd (h refl)
+  asserted-stays m' (Ok (Already n d)) quiet h = absurd (h refl)
+  asserted-stays m' (Ok (Revived n d)) quiet h = absurd (h refl)
+  asserted-stays m' (Err q) quiet h = ap (λ (z : Tables). store c z s.cursors) (quiet q refl)
 
-  retracted-stays : (m' : Tables) (a : Retracted) → ((q : Refusal) → a ≡ NotRetracted q → m' ≡ m)
+  retracted-stays : (m' : Tables) (a : Result (Optional StatementId) Refusal) → ((q : Refusal) → a ≡ Err q → m' ≡ m)
       → (retracted_values a).refusal ≢ 0
       → store c m' s.cursors ≡ s
-  retracted-stays m' (WasLive n) quiet h = absurd (h refl)
-  retracted-stays m' NotLive quiet h = absurd (h refl)
-  retracted-stays m' (NotRetracted q) quiet h = ap (λ (z : Tables). store c z s.cursors) (quiet q refl)
+  retracted-stays m' (Ok (Some n)) quiet h = absurd (h refl)
+  retracted-stays m' (Ok None) quiet h = absurd (h refl)
+  retracted-stays m' (Err q) quiet h = ap (λ (z : Tables). store c z s.cursors) (quiet q refl)
 
-  reclaimed-stays : (m' : Tables) (a : Reclaimed) → ((q : Refusal) → a ≡ NotReclaimed q → m' ≡ m)
+  reclaimed-stays : (m' : Tables) (a : Result Counters Refusal) → ((q : Refusal) → a ≡ Err q → m' ≡ m)
       → (reclaimed_values a).refusal ≢ 0
       → store (after_reclaim c a) m' s.cursors ≡ s
-  reclaimed-stays m' (Done d) quiet h = absurd (h refl)
-  reclaimed-stays m' (NotReclaimed q) quiet h = ap (λ (z : Tables). store c z s.cursors) (quiet q refl)
+  reclaimed-stays m' (Ok d) quiet h = absurd (h refl)
+  reclaimed-stays m' (Err q) quiet h = ap (λ (z : Tables). store c z s.cursors) (quiet q refl)
 
-  opened-stays : (a : ScanOpened) → (opened_values a).refusal ≢ 0 → store c m (opened_cursors s.cursors a) ≡ s
-  opened-stays (Cursor q) h = absurd (h refl)
-  opened-stays (NotOpened q) h = refl
+  opened-stays : (a : Result ScanCursor Refusal) → (opened_values a).refusal ≢ 0 → store c m (opened_cursors s.cursors a) ≡ s
+  opened-stays (Ok q) h = absurd (h refl)
+  opened-stays (Err q) h = refl
 
-  scanned-stays : (j : ℕ) (a : Scanned) → (scanned_values a).refusal ≢ 0 → store c m (moved_cursors s.cursors j a) ≡ s
-  scanned-stays j (Found n v q) h = absurd (h refl)
-  scanned-stays j (Ended v q) h = absurd (h refl)
-  scanned-stays j (Spent v q) h = absurd (h refl)
-  scanned-stays j (NotScanned q) h = refl
+  scanned-stays : (j : ℕ) (a : Result Scanned Refusal) → (scanned_values a).refusal ≢ 0 → store c m (moved_cursors s.cursors j a) ≡ s
+  scanned-stays j (Ok (Found n v q)) h = absurd (h refl)
+  scanned-stays j (Ok (Ended v q)) h = absurd (h refl)
+  scanned-stays j (Ok (Spent v q)) h = absurd (h refl)
+  scanned-stays j (Err q) h = refl
 
 -- ---- the reply
 
-interned-bare : (a : Interned) → (interned_values a).refusal ≢ 0
+interned-bare : (a : Result Interned Refusal) → (interned_values a).refusal ≢ 0
     → interned_values a ≡ refused_with (interned_values a).refusal
-interned-bare (Id n d) h = absurd (h refl)
-interned-bare (NotInterned q) h = refl
+interned-bare (Ok i) h = absurd (h refl)
+interned-bare (Err q) h = refl
 
-asserted-bare : (a : Asserted) → (asserted_values a).refusal ≢ 0
+asserted-bare : (a : Result Asserted Refusal) → (asserted_values a).refusal ≢ 0
     → asserted_values a ≡ refused_with (asserted_values a).refusal
-asserted-bare (New n d) h = absurd (h refl)
-asserted-bare (Already n d) h = absurd (h refl)
-asserted-bare (Revived n d) h = absurd (h refl)
-asserted-bare (NotAsserted q) h = refl
+asserted-bare (Ok (New n d)) h = absurd (h refl)
+asserted-bare (Ok (Already n d)) h = absurd (h refl)
+asserted-bare (Ok (Revived n d)) h = absurd (h refl)
+asserted-bare (Err q) h = refl
 
-retracted-bare : (a : Retracted) → (retracted_values a).refusal ≢ 0
+retracted-bare : (a : Result (Optional StatementId) Refusal) → (retracted_values a).refusal ≢ 0
     → retracted_values a ≡ refused_with (retracted_values a).refusal
-retracted-bare (WasLive n) h = absurd (h refl)
-retracted-bare NotLive h = absurd (h refl)
-retracted-bare (NotRetracted q) h = refl
+retracted-bare (Ok (Some n)) h = absurd (h refl)
+retracted-bare (Ok None) h = absurd (h refl)
+retracted-bare (Err q) h = refl
 
-reclaimed-bare : (a : Reclaimed) → (reclaimed_values a).refusal ≢ 0
+reclaimed-bare : (a : Result Counters Refusal) → (reclaimed_values a).refusal ≢ 0
     → reclaimed_values a ≡ refused_with (reclaimed_values a).refusal
-reclaimed-bare (Done d) h = absurd (h refl)
-reclaimed-bare (NotReclaimed q) h = refl
+reclaimed-bare (Ok d) h = absurd (h refl)
+reclaimed-bare (Err q) h = refl
 
-opened-bare : (a : ScanOpened) → (opened_values a).refusal ≢ 0
+opened-bare : (a : Result ScanCursor Refusal) → (opened_values a).refusal ≢ 0
     → opened_values a ≡ refused_with (opened_values a).refusal
-opened-bare (Cursor q) h = absurd (h refl)
-opened-bare (NotOpened q) h = refl
+opened-bare (Ok q) h = absurd (h refl)
+opened-bare (Err q) h = refl
 
-scanned-bare : (a : Scanned) → (scanned_values a).refusal ≢ 0
+scanned-bare : (a : Result Scanned Refusal) → (scanned_values a).refusal ≢ 0
     → scanned_values a ≡ refused_with (scanned_values a).refusal
-scanned-bare (Found n v q) h = absurd (h refl)
-scanned-bare (Ended v q) h = absurd (h refl)
-scanned-bare (Spent v q) h = absurd (h refl)
-scanned-bare (NotScanned q) h = refl
+scanned-bare (Ok (Found n v q)) h = absurd (h refl)
+scanned-bare (Ok (Ended v q)) h = absurd (h refl)
+scanned-bare (Ok (Spent v q)) h = absurd (h refl)
+scanned-bare (Err q) h = refl
 
 -- ---- the claims
 

@@ -17,15 +17,14 @@ use Rattle.term.proofs.Booleans.{eq_bytes-refl, eq_bytes-not}
 use Rattle.store.specs.declared.Counters.{Counters}
 use Rattle.store.specs.declared.ResourceId.{ResourceId}
 use Rattle.store.specs.declared.Refusal.TheVariants.{Malformed, UnknownNumber}
-use Rattle.store.specs.declared.NameRead.TheVariants.{Span, Refused as NotNamed}
-use Rattle.store.specs.declared.Lookup.TheVariants.{Number, Absent, Refused as NotFound}
+use Rattle.store.specs.declared.Lookup.TheVariants.{Number, Absent}
 use Rattle.store.specs.Shared.{well_formed, name_of, lookup_name}
 use Rattle.store.specs.Tables.{Tables, word, offset_at}
 use Rattle.store.specs.Model.{intern_model}
 use Rattle.store.specs.Reading.{in_range, zero_from, name_span_of}
 use Rattle.store.specs.Dictionary.{position_of, found_at, find_of, intern_of}
 use Rattle.store.specs.Names.{storable, Named, joined, names_up_to}
-use Rattle.store.specs.Values.{numbered, lookup_values}
+use Rattle.store.specs.Values.{numbered, lookup_values, name_values}
 use Rattle.store.specs.Soundness.{Sound}
 use Rattle.store.specs.NameClaims.{NamedAs, FoundAs, RoundTrips, FindMeans, SpellingsAgree}
 use Rattle.store.proofs.Tests.{decide, range-of, range-in}
@@ -36,6 +35,10 @@ use Rattle.store.proofs.Index.{names-distinct}
 use Rattle.store.proofs.Pins.{listed}
 use Rattle.store.proofs.NamesAgree.{name-at}
 use Rattle.store.proofs.Held.{named-names}
+use Rattle.std.specs.Prelude.{Result, Ok, Err}
+use Rattle.store.specs.declared.Lookup.{Lookup}
+use Rattle.store.specs.declared.Refusal.{Refusal}
+use Rattle.store.specs.Replies.{span_as}
 
 -- ---- the zero byte that closes a name
 
@@ -102,7 +105,7 @@ module _ (c : Counters) (m : Tables) (S : Sound c m) where
 
   -- name of a number answers its span
   pub span_of : (y : ResourceId) → 0 < y.0 → y.0 ≤ c.resources
-      → name_span_of c m y ≡ Span (offset_at m.resources y.0) (length (name_of ns y.0))
+      → name_span_of c m y ≡ span_as (offset_at m.resources y.0) (length (name_of ns y.0))
   unfolding name_span_of
   span_of y a b =
       let o = offset_at m.resources y.0 in
@@ -144,16 +147,16 @@ module _ (c : Counters) (m : Tables) (S : Sound c m) where
 
   -- find, by the list
   pub find-listed : (w : List ℕ) (i : ℕ) → well_formed w ≡ true → lookup_name (canonical w) ns ≡ suc i
-      → find_of c m w ≡ Number (record { 0 = suc i }) (position_of c m (canonical w))
+      → find_of c m w ≡ Ok (Number (record { 0 = suc i }) (position_of c m (canonical w)))
   unfolding find_of
   find-listed w i f e = rw (S.capacity, f, named-names ns c m N, e)
 
   pub find-unlisted : (w : List ℕ) → well_formed w ≡ true → lookup_name (canonical w) ns ≡ 0
-      → find_of c m w ≡ Absent (position_of c m (canonical w))
+      → find_of c m w ≡ Ok (Absent (position_of c m (canonical w)))
   unfolding find_of
   find-unlisted w f e = rw (S.capacity, f, named-names ns c m N, e)
 
-  find-malformed : (w : List ℕ) → well_formed w ≡ false → find_of c m w ≡ NotFound Malformed
+  find-malformed : (w : List ℕ) → well_formed w ≡ false → find_of c m w ≡ Err Malformed
   unfolding find_of
   find-malformed w f = rw (S.capacity, f)
 
@@ -165,14 +168,14 @@ module _ (c : Counters) (m : Tables) (S : Sound c m) where
       let k = position_of c m (canonical w) in (
         k,
         find-listed w (y.0 - 1) f (rw (← e) (lookup-name y.0 a b) ∙ sym s)
-            ∙ ap (λ (n : ℕ). Number (record { 0 = n }) k) s,
+            ∙ ap (λ (n : ℕ). Ok (Number (record { 0 = n }) k)) s,
       )
 
   pub find-name : (y : ResourceId) → 0 < y.0 → y.0 ≤ c.resources → FoundAs c m (name_of ns y.0) y
   find-name y a b = find-canonical (name_of ns y.0) y (name-formed y.0 a b) a b (sym (name-kept y.0 a b))
 
   -- what find answers is the number of that name
-  pub number_is : (y z : ResourceId) (j k : ℕ) → Number y j ≡ Number z k → y ≡ z
+  pub number_is : (y z : ResourceId) (j k : ℕ) → ◌≡◌ {A = Result Lookup Refusal} (Ok (Number y j)) (Ok (Number z k)) → y ≡ z
   number_is y z j k e = cc
 
   found-formed : (w : List ℕ) (y : ResourceId) → FoundAs c m w y → well_formed w ≡ true
@@ -196,14 +199,14 @@ module _ (c : Counters) (m : Tables) (S : Sound c m) where
           rw d (omega arith, omega (arith, l.0, N.size), name-of i ∙ l.1)
 
   -- a number with a name is in range
-  out_of_range : (y : ResourceId) → in_range c.resources y.0 ≡ false → name_span_of c m y ≡ NotNamed UnknownNumber
+  out_of_range : (y : ResourceId) → in_range c.resources y.0 ≡ false → name_span_of c m y ≡ Err UnknownNumber
   unfolding name_span_of
   out_of_range y e = rw (S.capacity, e)
 
-  span-start : (a b d e : ℕ) → Span a b ≡ Span d e → (a ≡ d) × (b ≡ e)
-  span-start a b d e h = (cc, cc)
+  span-start : (a b d e : ℕ) → span_as a b ≡ span_as d e → (a ≡ d) × (b ≡ e)
+  span-start a b d e h = (ap (λ r. (name_values r).start) h, ap (λ r. (name_values r).size) h)
 
-  in-range : (y : ResourceId) (a n : ℕ) → name_span_of c m y ≡ Span a n → (0 < y.0) × (y.0 ≤ c.resources)
+  in-range : (y : ResourceId) (a n : ℕ) → name_span_of c m y ≡ span_as a n → (0 < y.0) × (y.0 ≤ c.resources)
   in-range y a n e =
       decide (in_range c.resources y.0)
       (range-in c.resources y.0)

@@ -12,7 +12,7 @@ use Rattle.store.specs.declared.Position.TheVariants.{Subject, Predicate, Object
 use Rattle.store.specs.declared.Counters.{Counters}
 use Rattle.store.specs.declared.ScanCursor.{ScanCursor}
 use Rattle.store.specs.declared.Refusal.TheVariants.{Malformed}
-use Rattle.store.specs.declared.Lookup.TheVariants.{Number as Found, Absent, Refused as NotFound}
+use Rattle.store.specs.declared.Lookup.TheVariants.{Number as Found, Absent}
 use Rattle.store.specs.Shared.{triple}
 use Rattle.store.specs.Tables.{Tables, tables, next_at, resource_words}
 use Rattle.store.specs.Values.{Values, refused_with, numbered, counted, placed, stepped}
@@ -22,6 +22,7 @@ use Rattle.store.specs.Scan.{cursor_in}
 use Rattle.store.specs.Dictionary.{find_of}
 use Rattle.store.specs.History.{Store, store, fresh_store, capacities_of, store_replies, store_after}
 use Rattle.store.proofs.Opened.{list-definitions, table-definitions}
+use Rattle.std.specs.Prelude.{Err, Ok}
 
 -- ---- histories: each call beside its answer
 
@@ -298,7 +299,7 @@ abbrev held : Store
 held = store_after (fresh_store scant) (calls_in label)
 
 finds-run : map (find_of held.counters held.tables) (lit_a ∷ long_a ∷ empty ∷ string_ending ∷ [])
-    ≡ Found (record { 0 = 1 }) 0 ∷ Found (record { 0 = 1 }) 0 ∷ Absent 0 ∷ NotFound Malformed ∷ []
+    ≡ Ok (Found (record { 0 = 1 }) 0) ∷ Ok (Found (record { 0 = 1 }) 0) ∷ Ok (Absent 0) ∷ Err Malformed ∷ []
 unfolding lit_a long_a empty label table-definitions
 finds-run = refl
 

@@ -13,8 +13,6 @@ use Rattle.store.specs.declared.Counters.{Counters}
 use Rattle.store.specs.declared.Position.{Position}
 use Rattle.store.specs.declared.Triple.{Triple}
 use Rattle.store.specs.declared.ScanCursor.{ScanCursor}
-use Rattle.store.specs.declared.ScanOpened.{ScanOpened}
-use Rattle.store.specs.declared.Scanned.{Scanned}
 use Rattle.store.specs.Shared.{at, within, below, head0, matches}
 use Rattle.store.specs.Tables.{Tables}
 use Rattle.store.specs.Values.{Values, no_cursor, placed, opened_values, scanned_values}
@@ -32,6 +30,9 @@ use Rattle.store.proofs.Chains.{on_words, pick_chain-bound, chain-holds-resource
 use Rattle.store.proofs.Chains.{pickable-linked}
 use Rattle.store.proofs.Represented.{on_list, Good, Agreeing, Same, same_cond, fits-agrees, chain-agrees}
 use Rattle.store.proofs.Represented.{holders-agree, pick-agrees, Standing, standing-none}
+use Rattle.std.specs.Prelude.{Result}
+use Rattle.store.specs.declared.Refusal.{Refusal}
+use Rattle.store.specs.declared.Scanned.{Scanned}
 
 -- ---- lists of openings
 
@@ -61,10 +62,10 @@ map-set f (x ∷ l) (suc i) g = rw (map-set f l i g)
 
 -- ---- the state and the values after a reply
 
-abbrev pub opened : Store → ScanOpened → Store × Values
+abbrev pub opened : Store → Result ScanCursor Refusal → Store × Values
 opened c a = (store c.counters c.tables (opened_cursors c.cursors a), opened_values a)
 
-abbrev pub scanned : Store → ℕ → Scanned → Store × Values
+abbrev pub scanned : Store → ℕ → Result Scanned Refusal → Store × Values
 scanned c j a = (store c.counters c.tables (moved_cursors c.cursors j a), scanned_values a)
 
 -- what a walk answers, as taking positions off the rest tells it

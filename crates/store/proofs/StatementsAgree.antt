@@ -13,10 +13,7 @@ use Rattle.store.specs.declared.Counters.{Counters}
 use Rattle.store.specs.declared.Position.{Position}
 use Rattle.store.specs.declared.Position.TheVariants.{Subject, Predicate}
 use Rattle.store.specs.declared.Triple.{Triple}
-use Rattle.store.specs.declared.Asserted.{Asserted}
 use Rattle.store.specs.declared.Refusal.TheVariants.{Damaged}
-use Rattle.store.specs.declared.Retracted.{Retracted}
-use Rattle.store.specs.declared.Retracted.TheVariants.{Number as WasLive, Refused as NotRetracted}
 use Rattle.store.specs.Shared.{at, known, kinds_permitted, name_of}
 use Rattle.store.specs.Tables.{Tables, statement_capacity, statement_words, resource_words, term_at, flag_at}
 use Rattle.store.specs.Tables.{kind_at, live_at}
@@ -37,6 +34,10 @@ use Rattle.store.proofs.Form.{form-kind, form-kind-high, storable-formed}
 use Rattle.store.proofs.Represented.{Agreeing, Same, same_cond, fits-agrees, totals-agree, mark-agrees}
 use Rattle.store.proofs.Represented.{lookup-le, locate-agrees, mark-length, mark-same, mark-other, mark-spo}
 use Rattle.store.proofs.Represented.{standing-grow, found-holds, named-stays}
+use Rattle.std.specs.Prelude.{Err, Ok, Option as Optional, Result, Some}
+use Rattle.store.specs.declared.Asserted.{Asserted}
+use Rattle.store.specs.declared.Refusal.{Refusal}
+use Rattle.store.specs.declared.StatementId.{StatementId}
 
 -- an entry by its words
 pub entry_of : (stm : List ℕ) (i : ℕ) (x : Triple) (b : Bool) → ((p : Position) → term_at stm p i ≡ at p x)
@@ -57,10 +58,10 @@ unfolding entry_at
 entry-term stm p i = triple-at stm p i
 
 -- the state and the values after a reply
-abbrev pub asserted : Store → Tables × Asserted → Store × Values
+abbrev pub asserted : Store → Tables × Result Asserted Refusal → Store × Values
 asserted c a = (store (counters_after c.counters a.1) a.0 c.cursors, asserted_values a.1)
 
-abbrev pub retracted' : Store → Tables × Retracted → Store × Values
+abbrev pub retracted' : Store → Tables × Result (Optional StatementId) Refusal → Store × Values
 retracted' c a = (store c.counters a.0 c.cursors, retracted_values a.1)
 
 module _ (k : Capacities) (c : Store) (s : Model) (R : Agreeing k c s) where
@@ -204,8 +205,8 @@ module _ (k : Capacities) (c : Store) (s : Model) (R : Agreeing k c s) where
         (omega arith)))
 
     retract-entry-live : Same k
-        (retracted' c (cond (counting m.resources x) (made_retracted m x i, WasLive (record { 0 = suc i }))
-        (m, NotRetracted Damaged)))
+        (retracted' c (cond (counting m.resources x) (made_retracted m x i, Ok (Some (record { 0 = suc i })))
+        (m, Err Damaged)))
         (with_entries s (mark s.entries i true), numbered (suc i))
     retract-entry-live =
         rw counting-agrees (

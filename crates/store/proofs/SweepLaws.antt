@@ -10,7 +10,6 @@ use borrow.Author.Tests.{lt-ltb}
 use Rattle.store.specs.declared.Counters.{Counters}
 use Rattle.store.specs.declared.Position.{Position}
 use Rattle.store.specs.declared.Refusal.TheVariants.{Capacity, Damaged, ReclaimLimit}
-use Rattle.store.specs.declared.Reclaimed.TheVariants.{Done, Refused as NotReclaimed}
 use Rattle.store.specs.Shared.{at, known, max_reclaims}
 use Rattle.store.specs.Tables.{Tables, fits, statement_words, resource_words, triple_at, count_at, live_at}
 use Rattle.store.specs.Soundness.{Linked, Sound}
@@ -19,6 +18,7 @@ use Rattle.store.specs.Reclaim.{reclaimed_counters, reclaim_of, ReclaimAnswer}
 use Rattle.store.proofs.Tests.{known_of}
 use Rattle.store.proofs.Falling.{length-le}
 use Rattle.store.proofs.ReclaimAgrees.{Sweeping, sweeping, x-low, x-high}
+use Rattle.std.specs.Prelude.{Err, Ok}
 
 pub sweep-none : (z : Swept) → sweep 0 z ≡ z
 unfolding sweep
@@ -61,7 +61,7 @@ module _ (r t : ℕ) (res stm : List ℕ) (L : Linked r t res stm) (n : ℕ) (h 
 -- ---- each way out
 
 module _ (c : Counters) (m : Tables) where
-  pub answer-capacity : fits c m ≡ false → ReclaimAnswer c m m (NotReclaimed Capacity)
+  pub answer-capacity : fits c m ≡ false → ReclaimAnswer c m m (Err Capacity)
   answer-capacity a = record {
     capacity = λ e. refl;
     limit = λ e g. absurd (true≢false (sym e ∙ a));
@@ -70,7 +70,7 @@ module _ (c : Counters) (m : Tables) where
   }
 
   module _ (a : fits c m ≡ true) where
-    pub answer-limit : max_reclaims ≤ c.generation → ReclaimAnswer c m m (NotReclaimed ReclaimLimit)
+    pub answer-limit : max_reclaims ≤ c.generation → ReclaimAnswer c m m (Err ReclaimLimit)
     answer-limit b = record {
       capacity = λ e. absurd (true≢false (sym a ∙ e));
       limit = λ e g. refl;
@@ -79,7 +79,7 @@ module _ (c : Counters) (m : Tables) where
     }
 
     module _ (b : c.generation < max_reclaims) where
-      pub answer-unsound : (Sound c m → ⊥) → ReclaimAnswer c m m (NotReclaimed Damaged)
+      pub answer-unsound : (Sound c m → ⊥) → ReclaimAnswer c m m (Err Damaged)
       answer-unsound n = record {
         capacity = λ e. absurd (true≢false (sym a ∙ e));
         limit = λ e g. absurd (omega arith);
@@ -88,7 +88,7 @@ module _ (c : Counters) (m : Tables) where
       }
 
       pub answer-done : Sound c m
-          → ReclaimAnswer c m (reclaimed_tables c m (swept_of c m)) (Done (reclaimed_counters c (swept_of c m)))
+          → ReclaimAnswer c m (reclaimed_tables c m (swept_of c m)) (Ok (reclaimed_counters c (swept_of c m)))
       answer-done S = record {
         capacity = λ e. absurd (true≢false (sym a ∙ e));
         limit = λ e g. absurd (omega arith);
@@ -96,5 +96,5 @@ module _ (c : Counters) (m : Tables) where
         exact = λ S g. done;
       }
         where
-          done : (reclaimed_tables c m (swept_of c m), Done (reclaimed_counters c (swept_of c m))) ≡ reclaim_of c m
+          done : (reclaimed_tables c m (swept_of c m), Ok (reclaimed_counters c (swept_of c m))) ≡ reclaim_of c m
           done = unfold reclaim_of in (rw (a, lt-ltb c.generation max_reclaims b))

@@ -3,7 +3,7 @@
 -- `retract_updating`, `scan::scan_open`, `scan_next` and `compaction::reclaim`; the updating forms have the same
 -- equation inside a record. Assumes nothing.
 use Rattle.std.specs.Prelude.{◌≡◌, ◌∷◌}
-use Rattle.store.specs.Prelude.{List, [], get_or, Interned, Asserted, Retracted, Reclaimed, ScanOpened, Scanned}
+use Rattle.store.specs.Prelude.{List, [], get_or, Asserted, Counters, Interned, Optional, Refusal, Result, ScanCursor, Scanned, StatementId}
 use Rattle.store.specs.Tables.{Tables, after}
 use Rattle.store.specs.Values.{Values, no_cursor, interned_values, asserted_values, retracted_values, opened_values, scanned_values}
 use Rattle.store.specs.Values.{reclaimed_values}
@@ -19,21 +19,21 @@ use Rattle.store.specs.Claims.{Holds}
 -- The call leaves the store t and replies v: some answer a meets the contract, the counters and cursors kept from it
 -- are those of t, and v is its values.
 abbrev pub Ran : Store → Call → Store → Values → Type 0
-Ran s (intern w) t v = (a : Interned) × InternAnswer s.counters s.tables t.tables w a
+Ran s (intern w) t v = (a : Result Interned Refusal) × InternAnswer s.counters s.tables t.tables w a
     × (t ≡ store (interned_counters s.counters a) t.tables s.cursors) × (v ≡ interned_values a)
-Ran s (assert by_value x) t v = (a : Asserted) × (after t.tables a ≡ assert_of s.counters s.tables x)
+Ran s (assert by_value x) t v = (a : Result Asserted Refusal) × (after t.tables a ≡ assert_of s.counters s.tables x)
     × (t ≡ store (counters_after s.counters a) t.tables s.cursors) × (v ≡ asserted_values a)
-Ran s (assert updating x) t v = (a : Updated Asserted) × (a ≡ assert_updating_of s.counters s.tables x)
+Ran s (assert updating x) t v = (a : Updated (Result Asserted Refusal)) × (a ≡ assert_updating_of s.counters s.tables x)
     × (t ≡ store a.counters a.tables s.cursors) × (v ≡ asserted_values a.reply)
-Ran s (retract by_value x) t v = (a : Retracted) × (after t.tables a ≡ retract_of s.counters s.tables x)
+Ran s (retract by_value x) t v = (a : Result (Optional StatementId) Refusal) × (after t.tables a ≡ retract_of s.counters s.tables x)
     × (t ≡ store s.counters t.tables s.cursors) × (v ≡ retracted_values a)
-Ran s (retract updating x) t v = (a : Updated Retracted) × (a ≡ retract_updating_of s.counters s.tables x)
+Ran s (retract updating x) t v = (a : Updated (Result (Optional StatementId) Refusal)) × (a ≡ retract_updating_of s.counters s.tables x)
     × (t ≡ store a.counters a.tables s.cursors) × (v ≡ retracted_values a.reply)
-Ran s (open' x) t v = (a : ScanOpened) × (a ≡ open_of s.counters s.tables x)
+Ran s (open' x) t v = (a : Result ScanCursor Refusal) × (a ≡ open_of s.counters s.tables x)
     × (t ≡ store s.counters s.tables (opened_cursors s.cursors a)) × (v ≡ opened_values a)
-Ran s (next j b) t v = (a : Scanned) × (a ≡ next_of s.counters s.tables (get_or s.cursors j no_cursor) b)
+Ran s (next j b) t v = (a : Result Scanned Refusal) × (a ≡ next_of s.counters s.tables (get_or s.cursors j no_cursor) b)
     × (t ≡ store s.counters s.tables (moved_cursors s.cursors j a)) × (v ≡ scanned_values a)
-Ran s reclaim t v = (a : Reclaimed) × ReclaimAnswer s.counters s.tables t.tables a
+Ran s reclaim t v = (a : Result Counters Refusal) × ReclaimAnswer s.counters s.tables t.tables a
     × (t ≡ store (after_reclaim s.counters a) t.tables s.cursors) × (v ≡ reclaimed_values a)
 
 -- A list of calls leaves the store t, with the replies vs.

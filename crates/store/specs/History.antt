@@ -2,8 +2,8 @@
 -- anything, each call on the counters last answered and the tables the last call left, each next from its opening's
 -- last cursor. Assumes nothing.
 use Rattle.std.specs.Prelude.{◌∷◌, ◌++◌}
-use Rattle.store.specs.Prelude.{List, [], ℕ, get_or, set, Counters, ScanCursor, Interned, Id, NotInterned, Reclaimed, Done}
-use Rattle.store.specs.Prelude.{NotReclaimed, ScanOpened, Cursor, NotOpened, Scanned, Found, Ended, Spent, NotScanned}
+use Rattle.store.specs.Prelude.{List, [], ℕ, get_or, set, Counters, ScanCursor, Err, Interned, Ok, Refusal, Result, Scanned}
+use Rattle.store.specs.Prelude.{Found, Ended, Spent}
 use Rattle.store.specs.Tables.{Tables, resource_capacity, statement_capacity, text_capacity}
 use Rattle.store.specs.Shared.{fresh_counters}
 use Rattle.store.specs.Values.{Values, no_cursor, interned_values, asserted_values, retracted_values, opened_values, scanned_values}
@@ -30,25 +30,25 @@ fresh_store m = store fresh_counters m []
 abbrev pub capacities_of : Tables → Capacities
 capacities_of m = record { resources = resource_capacity m; statements = statement_capacity m; text = text_capacity m }
 
-abbrev pub interned_counters : Counters → Interned → Counters
-interned_counters c (Id n d) = d
-interned_counters c (NotInterned r) = c
+abbrev pub interned_counters : Counters → Result Interned Refusal → Counters
+interned_counters c (Ok i) = i.counters
+interned_counters c (Err r) = c
 
-abbrev pub after_reclaim : Counters → Reclaimed → Counters
-after_reclaim c (Done d) = d
-after_reclaim c (NotReclaimed r) = c
+abbrev pub after_reclaim : Counters → Result Counters Refusal → Counters
+after_reclaim c (Ok d) = d
+after_reclaim c (Err r) = c
 
 -- a refused opening is not kept
-abbrev pub opened_cursors : List ScanCursor → ScanOpened → List ScanCursor
-opened_cursors qs (Cursor q) = qs ++ q ∷ []
-opened_cursors qs (NotOpened r) = qs
+abbrev pub opened_cursors : List ScanCursor → Result ScanCursor Refusal → List ScanCursor
+opened_cursors qs (Ok q) = qs ++ q ∷ []
+opened_cursors qs (Err r) = qs
 
 -- opening j goes on from the cursor answered; a refusal leaves it
-abbrev pub moved_cursors : List ScanCursor → ℕ → Scanned → List ScanCursor
-moved_cursors qs j (Found n v q) = set qs j q
-moved_cursors qs j (Ended v q) = set qs j q
-moved_cursors qs j (Spent v q) = set qs j q
-moved_cursors qs j (NotScanned r) = qs
+abbrev pub moved_cursors : List ScanCursor → ℕ → Result Scanned Refusal → List ScanCursor
+moved_cursors qs j (Ok (Found n v q)) = set qs j q
+moved_cursors qs j (Ok (Ended v q)) = set qs j q
+moved_cursors qs j (Ok (Spent v q)) = set qs j q
+moved_cursors qs j (Err r) = qs
 
 unfoldable pub call_store : Store → Call → Store × Values
 call_store s (intern w) =

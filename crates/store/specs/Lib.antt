@@ -1,4 +1,5 @@
 pub mod Prelude
+pub mod Replies
 pub mod Shared
 pub mod Lists
 pub mod Tables

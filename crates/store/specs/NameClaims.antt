@@ -1,7 +1,7 @@
 -- What is claimed of numbers and names (paper 01, demand 2; 02, notes 4 and 7), as types. Assumes nothing.
 use Rattle.std.specs.Prelude.{◌≡◌, ◌≢◌, ◌↔◌, ◌++◌, ◌≤◌, ◌<◌}
-use Rattle.store.specs.Prelude.{true, false, List, List-as-Memᴰ, ℕ, length, take, drop, Counters}
-use Rattle.store.specs.Prelude.{ResourceId, Span, Number, Prefixed}
+use Rattle.store.specs.Prelude.{true, false, List, List-as-Memᴰ, ℕ, length, take, drop, Counters, Ok, Refusal, Result}
+use Rattle.store.specs.Prelude.{ResourceId, Number}
 use Rattle.term.specs.Canonical.{writes_string, canonical}
 use Rattle.store.specs.Tables.{Tables, word}
 use Rattle.store.specs.Model.{Model, Capacities, intern_model}
@@ -12,17 +12,18 @@ use Rattle.store.specs.Dictionary.{find_of, intern_of}
 use Rattle.store.specs.Prefix.{prefix_of}
 use Rattle.store.specs.Names.{less, compare_bytes, name_at, names_up_to}
 use Rattle.store.specs.Soundness.{Sound}
+use Rattle.store.specs.Replies.{span_as}
 
 -- name of a number answers a span of the text, and its bytes are w
 pub record NamedAs (c : Counters) (m : Tables) (y : ResourceId) (w : List ℕ) : Type 0 where
   pub start : ℕ
   pub size : ℕ
-  pub answer : name_span_of c m y ≡ Span start size
+  pub answer : name_span_of c m y ≡ span_as start size
   pub bytes : take size (drop start m.text) ≡ w
 
 -- find answers y, at some position of the index
 abbrev pub FoundAs : Counters → Tables → List ℕ → ResourceId → Type 0
-FoundAs c m w y = (k : ℕ) × (find_of c m w ≡ Number y k)
+FoundAs c m w y = (k : ℕ) × (find_of c m w ≡ Ok (Number y k))
 
 pub record BothWays (c : Counters) (m : Tables) : Type 0 where
   -- number to name to number; the name is the one that stands in the text
@@ -70,7 +71,7 @@ pub record AllWithPrefix (c : Counters) (m : Tables) (w l : List ℕ) : Type 0 w
   pub rising : (i j : ℕ) → i < j → j < length l → compare_bytes (name_at m (word l i)) (name_at m (word l j)) ≡ less
 
 -- a listing of l: its total; as many of its first numbers as there are words; words past the list keep their values
-pub record ListsInto (l out : List ℕ) (z : List ℕ × Prefixed) : Type 0 where
+pub record ListsInto (l out : List ℕ) (z : List ℕ × Result ℕ Refusal) : Type 0 where
   pub total : prefixed_values z.1 ≡ numbered (length l)
   pub size : length z.0 ≡ length out
   pub first : (i : ℕ) → i < length l → i < length out → word z.0 i ≡ word l i

@@ -2,8 +2,8 @@
 -- counts are built anew, the words of the records given up are 0, names stay. Right on a sound store; on any tables
 -- `ReclaimAnswer` says what holds. Assumes nothing.
 use Rattle.std.specs.Prelude.{◌≡◌, ◌∷◌, ◌+◌, ◌*◌, ◌-◌, ◌<◌}
-use Rattle.store.specs.Prelude.{true, false, cond, List, [], ℕ, zero, suc, replicate, sets, eqb, ltb}
-use Rattle.store.specs.Prelude.{Counters, Triple, Capacity, Damaged, ReclaimLimit, Reclaimed, Done, NotReclaimed}
+use Rattle.store.specs.Prelude.{true, false, cond, List, [], ℕ, zero, suc, replicate, sets, eqb, ltb, Err, Ok, Refusal, Result}
+use Rattle.store.specs.Prelude.{Counters, Triple, Capacity, Damaged, ReclaimLimit}
 use Rattle.store.specs.Tables.{Tables, tables, after, fits, statement_words, resource_words, flag_at, triple_at}
 use Rattle.store.specs.Shared.{unless, max_reclaims}
 use Rattle.store.specs.Statement.{append_record, link_record}
@@ -64,15 +64,15 @@ reclaimed_counters c z = record {
 }
 
 -- Reclaim on a sound store: 1; 14 past the maximum; done
-unfoldable pub reclaim_of : Counters → Tables → Tables × Reclaimed
+unfoldable pub reclaim_of : Counters → Tables → Tables × Result Counters Refusal
 reclaim_of c m =
-    unless (fits c m) (m, NotReclaimed Capacity)
-    (unless (ltb c.generation max_reclaims) (m, NotReclaimed ReclaimLimit)
-    (reclaimed_tables c m (swept_of c m), Done (reclaimed_counters c (swept_of c m))))
+    unless (fits c m) (m, Err Capacity)
+    (unless (ltb c.generation max_reclaims) (m, Err ReclaimLimit)
+    (reclaimed_tables c m (swept_of c m), Ok (reclaimed_counters c (swept_of c m))))
 
 -- what holds of reclaim's answer and the tables after it, on any tables
-pub record ReclaimAnswer (c : Counters) (m m' : Tables) (a : Reclaimed) : Type 0 where
-  pub capacity : fits c m ≡ false → after m' a ≡ after m (NotReclaimed Capacity)
-  pub limit : fits c m ≡ true → c.generation ≡ max_reclaims → after m' a ≡ after m (NotReclaimed ReclaimLimit)
-  pub unsound : fits c m ≡ true → c.generation < max_reclaims → (Sound c m → ⊥) → after m' a ≡ after m (NotReclaimed Damaged)
+pub record ReclaimAnswer (c : Counters) (m m' : Tables) (a : Result Counters Refusal) : Type 0 where
+  pub capacity : fits c m ≡ false → after m' a ≡ after m (Err Capacity)
+  pub limit : fits c m ≡ true → c.generation ≡ max_reclaims → after m' a ≡ after m (Err ReclaimLimit)
+  pub unsound : fits c m ≡ true → c.generation < max_reclaims → (Sound c m → ⊥) → after m' a ≡ after m (Err Damaged)
   pub exact : Sound c m → c.generation < max_reclaims → after m' a ≡ reclaim_of c m

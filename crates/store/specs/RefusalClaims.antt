@@ -2,8 +2,8 @@
 -- refusal, 6 and 13 of a listing, 9 for live counts, 1, 4 and 9 of a statement read, 1 and 4 of a name read, 1 and 2
 -- of find and of a listing by prefix and the bound after them, 1, 14 and 9 of a reclaim. Assumes nothing.
 use Rattle.std.specs.Prelude.{◌≡◌, ◌≢◌, ◌↔◌, ◌≤◌, ◌<◌, ◌⊎◌, ◌-◌}
-use Rattle.store.specs.Prelude.{true, false, some, ℕ, suc, Counters, Position, Chain, All, By, Triple}
-use Rattle.store.specs.Prelude.{List, length, ResourceId, StatementId, ScanCursor, Reclaimed, Lookup, Prefixed}
+use Rattle.store.specs.Prelude.{true, false, some, ℕ, suc, Counters, Position, Chain, All, By, Triple, Lookup, Refusal, Result}
+use Rattle.store.specs.Prelude.{List, length, ResourceId, StatementId, ScanCursor}
 use Rattle.store.specs.Shared.{at, known, kinds_permitted, well_formed}
 use Rattle.store.specs.Tables.{Tables, fits, triple_at, offset_at, flag_at, count_at, kind_at, live_at, resource_capacity, statement_capacity}
 use Rattle.store.specs.Tables.{text_capacity, term_at, word}
@@ -117,7 +117,7 @@ NameRefuses = (c : Counters) (m : Tables) (y : ResourceId) → NamedInOrder c m 
 
 -- Find, on any tables: 1; 2; then 9, or a number and a position of at most R, below R where the number is not 0. The
 -- position is 0 beside a refusal.
-pub record FoundInOrder (c : Counters) (m : Tables) (w : List ℕ) (a : Lookup) : Type 0 where
+pub record FoundInOrder (c : Counters) (m : Tables) (w : List ℕ) (a : Result Lookup Refusal) : Type 0 where
   pub one : fits c m ≡ false → lookup_values a ≡ refused_with 1
   pub two : fits c m ≡ true → well_formed w ≡ false → lookup_values a ≡ refused_with 2
   pub other : fits c m ≡ true → well_formed w ≡ true → (lookup_values a ≡ refused_with 9)
@@ -126,11 +126,11 @@ pub record FoundInOrder (c : Counters) (m : Tables) (w : List ℕ) (a : Lookup) 
   pub bare : (lookup_values a).refusal ≢ 0 → lookup_position a ≡ 0
 
 abbrev pub FindRefuses : Type 0
-FindRefuses = (c : Counters) (m : Tables) (w : List ℕ) (a : Lookup) → FindAnswer c m w a → FoundInOrder c m w a
+FindRefuses = (c : Counters) (m : Tables) (w : List ℕ) (a : Result Lookup Refusal) → FindAnswer c m w a → FoundInOrder c m w a
 
 -- A listing by prefix, on any tables: 1; 2; then 9, or a total of at most R, the words past the list kept. Nothing is
 -- written beside a refusal.
-pub record ListedInOrder (c : Counters) (m : Tables) (w out out' : List ℕ) (a : Prefixed) : Type 0 where
+pub record ListedInOrder (c : Counters) (m : Tables) (w out out' : List ℕ) (a : Result ℕ Refusal) : Type 0 where
   pub one : fits c m ≡ false → prefixed_values a ≡ refused_with 1
   pub two : fits c m ≡ true → 255 < length w → prefixed_values a ≡ refused_with 2
   pub other : fits c m ≡ true → length w ≤ 255 → (prefixed_values a ≡ refused_with 9)
@@ -139,11 +139,11 @@ pub record ListedInOrder (c : Counters) (m : Tables) (w out out' : List ℕ) (a 
   pub kept : (prefixed_values a).refusal ≢ 0 → out' ≡ out
 
 abbrev pub PrefixRefuses : Type 0
-PrefixRefuses = (c : Counters) (m : Tables) (w out out' : List ℕ) (a : Prefixed) → PrefixAnswer c m w out out' a
+PrefixRefuses = (c : Counters) (m : Tables) (w out out' : List ℕ) (a : Result ℕ Refusal) → PrefixAnswer c m w out out' a
     → ListedInOrder c m w out out' a
 
 -- What is refused, on any tables, by the paper's numbers and in its order: 1, 14, 9; nothing is written then.
-pub record RefusedInOrder (c : Counters) (m m' : Tables) (a : Reclaimed) : Type 0 where
+pub record RefusedInOrder (c : Counters) (m m' : Tables) (a : Result Counters Refusal) : Type 0 where
   pub one : fits c m ≡ false → (reclaimed_values a).refusal ≡ 1
   pub fourteen : fits c m ≡ true → c.generation ≡ 65535 → (reclaimed_values a).refusal ≡ 14
   pub nine : fits c m ≡ true → c.generation < 65535 → (reclaimed_values a).refusal ≡ 9 ↔ (Sound c m → ⊥)
@@ -151,4 +151,4 @@ pub record RefusedInOrder (c : Counters) (m m' : Tables) (a : Reclaimed) : Type 
   pub kept : (reclaimed_values a).refusal ≢ 0 → m' ≡ m
 
 abbrev pub ReclaimRefuses : Type 0
-ReclaimRefuses = (c : Counters) (m m' : Tables) (a : Reclaimed) → ReclaimAnswer c m m' a → RefusedInOrder c m m' a
+ReclaimRefuses = (c : Counters) (m m' : Tables) (a : Result Counters Refusal) → ReclaimAnswer c m m' a → RefusedInOrder c m m' a

@@ -3,7 +3,7 @@
 use Rattle.std.specs.Prelude.{◌&&◌}
 use Rattle.store.specs.Prelude.{Bool, true, cond, List, Option, none, some, ℕ, zero, suc, eqb, leb, ltb, Counters, Chain, All}
 use Rattle.store.specs.Prelude.{By, Triple, ScanCursor, Capacity, UnknownNumber, BadCursor, NoBudget, Damaged, StaleCursor}
-use Rattle.store.specs.Prelude.{ScanOpened, Cursor, NotOpened, Scanned, Found, Ended, Spent, NotScanned}
+use Rattle.store.specs.Prelude.{Found, Ended, Spent, Err, Ok, Refusal, Result, Scanned}
 use Rattle.store.specs.Shared.{unless, at, all3, within, matches}
 use Rattle.store.specs.Tables.{Tables, fits}
 use Rattle.store.specs.Walk.{entry_at, pick_chain, pickable, start_of, link_of, holds_resource, visitable, walk, Step, found, ended, spent}
@@ -15,12 +15,12 @@ abbrev pub cursor_in : ℕ → Triple → Chain → ℕ → ScanCursor
 cursor_in g x ch n = record { pattern = x; chain = ch; next = record { 0 = n }; generation = g }
 
 -- Open: 1; 4 if a number exceeds R; 9 at the pick; else the pattern, the chain picked, its first record and the number of reclaims
-unfoldable pub open_of : Counters → Tables → Triple → ScanOpened
+unfoldable pub open_of : Counters → Tables → Triple → Result ScanCursor Refusal
 open_of c m x =
-    unless (fits c m) (NotOpened Capacity)
-    (unless (within c.resources x) (NotOpened UnknownNumber)
-    (unless (pickable c.statements m.resources x) (NotOpened Damaged)
-    (Cursor (cursor_in c.generation x (pick_chain m.resources x)
+    unless (fits c m) (Err Capacity)
+    (unless (within c.resources x) (Err UnknownNumber)
+    (unless (pickable c.statements m.resources x) (Err Damaged)
+    (Ok (cursor_in c.generation x (pick_chain m.resources x)
     (start_of c.statements m.resources (pick_chain m.resources x) x)))))
 
 -- ---- next
@@ -48,17 +48,17 @@ walk_from c m q b =
     walk (link_of m.statements q.chain) (visitable c.resources m.statements q.chain q.pattern)
     (λ i. matches q.pattern (entry_at m.statements i)) b q.next.0
 
-abbrev pub scanned_as : ScanCursor → Option Step → Scanned
-scanned_as q none = NotScanned Damaged
-scanned_as q (some (found n v r)) = Found (record { 0 = n }) v (cursor_in q.generation q.pattern q.chain r)
-scanned_as q (some (ended v)) = Ended v (cursor_in q.generation q.pattern q.chain 0)
-scanned_as q (some (spent v r)) = Spent v (cursor_in q.generation q.pattern q.chain r)
+abbrev pub scanned_as : ScanCursor → Option Step → Result Scanned Refusal
+scanned_as q none = Err Damaged
+scanned_as q (some (found n v r)) = Ok (Found (record { 0 = n }) v (cursor_in q.generation q.pattern q.chain r))
+scanned_as q (some (ended v)) = Ok (Ended v (cursor_in q.generation q.pattern q.chain 0))
+scanned_as q (some (spent v r)) = Ok (Spent v (cursor_in q.generation q.pattern q.chain r))
 
 -- Next: 1; 13 if the cursor has another number of reclaims; 6; 7; 9; else found, ended or spent
-unfoldable pub next_of : Counters → Tables → ScanCursor → ℕ → Scanned
+unfoldable pub next_of : Counters → Tables → ScanCursor → ℕ → Result Scanned Refusal
 next_of c m q b =
-    unless (fits c m) (NotScanned Capacity)
-    (unless (eqb q.generation c.generation) (NotScanned StaleCursor)
-    (unless (cursor_ok c m q) (NotScanned BadCursor)
-    (cond (eqb b 0) (NotScanned NoBudget)
+    unless (fits c m) (Err Capacity)
+    (unless (eqb q.generation c.generation) (Err StaleCursor)
+    (unless (cursor_ok c m q) (Err BadCursor)
+    (cond (eqb b 0) (Err NoBudget)
     (scanned_as q (walk_from c m q b)))))

@@ -3,12 +3,12 @@
 use Rattle.std.specs.Prelude.{◌&&◌, ◌∷◌, ◌+◌, ◌*◌, ◌-◌}
 use Rattle.store.specs.Prelude.{Bool, cond, List, [], Option, none, some, ℕ, zero, suc, set, sets, eqb, leb}
 use Rattle.store.specs.Prelude.{ltb, Counters, Position, Subject, Predicate, Object, Triple, Capacity, Full, UnknownNumber}
-use Rattle.store.specs.Prelude.{KindNotPermitted, Damaged, Asserted, New, Already, Revived, NotAsserted, Retracted, WasLive, NotLive}
-use Rattle.store.specs.Prelude.{NotRetracted}
+use Rattle.store.specs.Prelude.{KindNotPermitted, Damaged, New, Already, Revived}
 use Rattle.store.specs.Shared.{unless, at, all3, known, same, kinds_permitted}
 use Rattle.store.specs.Tables.{Tables, fits, statement_capacity, statement_words, resource_words, off, triple_at, flag_at, first_at}
 use Rattle.store.specs.Tables.{count_at, kind_at, live_at}
 use Rattle.store.specs.Walk.{pick_chain, pickable, start_of, link_of, visitable, walk, Step, found_in}
+use Rattle.store.specs.Prelude.{Asserted, Err, None, Ok, Optional, Refusal, Result, Some, StatementId}
 
 -- ---- the record with the triple, by the chain that a scan would take
 
@@ -97,21 +97,21 @@ one_statement_more c = record {
 }
 
 -- by the record found, or 0: "already", "revived", 3 or "new"
-unfoldable pub asserting : Counters → Tables → Triple → ℕ → Tables × Asserted
+unfoldable pub asserting : Counters → Tables → Triple → ℕ → Tables × Result Asserted Refusal
 asserting c m x zero =
-    unless (ltb c.statements (statement_capacity m)) (m, NotAsserted Full)
-    (appended c.statements m x, New (record { 0 = suc c.statements }) (one_statement_more c))
+    unless (ltb c.statements (statement_capacity m)) (m, Err Full)
+    (appended c.statements m x, Ok (New (record { 0 = suc c.statements }) (one_statement_more c)))
 asserting c m x (suc i) =
-    cond (eqb (flag_at m.statements i) 1) (made_live m x i, Revived (record { 0 = suc i }) c) (m, Already (record { 0 = suc i }) c)
+    cond (eqb (flag_at m.statements i) 1) (made_live m x i, Ok (Revived (record { 0 = suc i }) c)) (m, Ok (Already (record { 0 = suc i }) c))
 
 -- Assert: 1; 4; 9 if a kind is outside 1..3; 5; 9; then by the record found
-unfoldable pub assert_of : Counters → Tables → Triple → Tables × Asserted
+unfoldable pub assert_of : Counters → Tables → Triple → Tables × Result Asserted Refusal
 assert_of c m x =
-    unless (fits c m) (m, NotAsserted Capacity)
-    (unless (known c.resources x) (m, NotAsserted UnknownNumber)
-    (unless (kinds_ok m.resources x) (m, NotAsserted Damaged)
-    (unless (kinds_permitted (kind_at m.resources) x) (m, NotAsserted KindNotPermitted)
-    (elim (locate c m x) [ none ↦ (m, NotAsserted Damaged) | some n ↦ asserting c m x n ]))))
+    unless (fits c m) (m, Err Capacity)
+    (unless (known c.resources x) (m, Err UnknownNumber)
+    (unless (kinds_ok m.resources x) (m, Err Damaged)
+    (unless (kinds_permitted (kind_at m.resources) x) (m, Err KindNotPermitted)
+    (elim (locate c m x) [ none ↦ (m, Err Damaged) | some n ↦ asserting c m x n ]))))
 
 -- ---- retract
 
@@ -120,28 +120,28 @@ unfoldable pub counting : List ℕ → Triple → Bool
 counting res x = all3 (λ p. ltb 0 (live_at res p (at p x)))
 
 -- by the record found, or 0; 9 where it is live and a live count of its resources is 0
-unfoldable pub retracting : Tables → Triple → ℕ → Tables × Retracted
-retracting m x zero = (m, NotLive)
+unfoldable pub retracting : Tables → Triple → ℕ → Tables × Result (Optional StatementId) Refusal
+retracting m x zero = (m, (Ok None))
 retracting m x (suc i) =
     cond (eqb (flag_at m.statements i) 1)
-    (m, NotLive)
-    (cond (counting m.resources x) (made_retracted m x i, WasLive (record { 0 = suc i })) (m, NotRetracted Damaged))
+    (m, (Ok None))
+    (cond (counting m.resources x) (made_retracted m x i, Ok (Some (record { 0 = suc i }))) (m, Err Damaged))
 
 -- Retract: 1; 4; 9; then by the record found
-unfoldable pub retract_of : Counters → Tables → Triple → Tables × Retracted
+unfoldable pub retract_of : Counters → Tables → Triple → Tables × Result (Optional StatementId) Refusal
 retract_of c m x =
-    unless (fits c m) (m, NotRetracted Capacity)
-    (unless (known c.resources x) (m, NotRetracted UnknownNumber)
-    (elim (locate c m x) [ none ↦ (m, NotRetracted Damaged) | some n ↦ retracting m x n ]))
+    unless (fits c m) (m, Err Capacity)
+    (unless (known c.resources x) (m, Err UnknownNumber)
+    (elim (locate c m x) [ none ↦ (m, Err Damaged) | some n ↦ retracting m x n ]))
 
 -- ---- on lent counters
 
 -- the counters from now on: as answered, and unchanged beside a refusal
-abbrev pub counters_after : Counters → Asserted → Counters
-counters_after c (New n d) = d
-counters_after c (Already n d) = d
-counters_after c (Revived n d) = d
-counters_after c (NotAsserted r) = c
+abbrev pub counters_after : Counters → Result Asserted Refusal → Counters
+counters_after c (Ok (New n d)) = d
+counters_after c (Ok (Already n d)) = d
+counters_after c (Ok (Revived n d)) = d
+counters_after c (Err r) = c
 
 -- counters, tables and reply
 pub record Updated (A : Type 0) : Type 0 where
@@ -149,12 +149,12 @@ pub record Updated (A : Type 0) : Type 0 where
   pub tables : Tables
   pub reply : A
 
-unfoldable pub assert_updating_of : Counters → Tables → Triple → Updated Asserted
+unfoldable pub assert_updating_of : Counters → Tables → Triple → Updated (Result Asserted Refusal)
 assert_updating_of c m x = record {
   counters = counters_after c (assert_of c m x).1;
   tables = (assert_of c m x).0;
   reply = (assert_of c m x).1;
 }
 
-unfoldable pub retract_updating_of : Counters → Tables → Triple → Updated Retracted
+unfoldable pub retract_updating_of : Counters → Tables → Triple → Updated (Result (Optional StatementId) Refusal)
 retract_updating_of c m x = record { counters = c; tables = (retract_of c m x).0; reply = (retract_of c m x).1 }

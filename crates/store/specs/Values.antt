@@ -2,11 +2,11 @@
 -- promise compares. Every field that a case does not name is 0, and beside a refusal's number all are. Assumes nothing.
 use Rattle.store.specs.Prelude.{ℕ, Counters, Triple, All, ScanCursor, Refusal, Capacity, Malformed, Full, UnknownNumber}
 use Rattle.store.specs.Prelude.{KindNotPermitted, BadCursor, NoBudget, BadQuery, Damaged, BadLine, ExportSpace, NoTimes, StaleCursor}
-use Rattle.store.specs.Prelude.{ReclaimLimit, BadPath, PathSpace, BadGroup, StatementRead, Is, NotRead, NameRead, Span, NotNamed}
-use Rattle.store.specs.Prelude.{Lookup, Number, Absent, NotFound, Interned, Id, NotInterned, Asserted, New, Already, Revived}
-use Rattle.store.specs.Prelude.{NotAsserted, Retracted, WasLive, NotLive, NotRetracted, Reclaimed, Done, NotReclaimed, ScanOpened}
-use Rattle.store.specs.Prelude.{Cursor, NotOpened, Scanned, Found, Ended, Spent, NotScanned, Prefixed, Total, NotListed}
+use Rattle.store.specs.Prelude.{ReclaimLimit, BadPath, PathSpace, BadGroup}
+use Rattle.store.specs.Prelude.{Number, Absent, New, Already, Revived}
+use Rattle.store.specs.Prelude.{Found, Ended, Spent}
 use Rattle.store.specs.Shared.{triple, fresh_counters}
+use Rattle.store.specs.Prelude.{Asserted, Err, Interned, Lookup, NameSpan, None, Ok, Optional, Result, Scanned, Some, StatementId, StatementRead}
 
 abbrev pub refusal_number : Refusal → ℕ
 refusal_number Capacity = 1
@@ -58,50 +58,50 @@ placed q = record { refusal = 0; status = 0; number = 0; visits = 0; counters = 
 abbrev pub stepped : ℕ → ℕ → ℕ → ScanCursor → Values
 stepped s n v q = record { refusal = 0; status = s; number = n; visits = v; counters = fresh_counters; cursor = q }
 
-abbrev pub lookup_values : Lookup → Values
-lookup_values (Number n k) = numbered n.0
-lookup_values (Absent k) = numbered 0
-lookup_values (NotFound r) = refused_with (refusal_number r)
+abbrev pub lookup_values : Result Lookup Refusal → Values
+lookup_values (Ok (Number n k)) = numbered n.0
+lookup_values (Ok (Absent k)) = numbered 0
+lookup_values (Err r) = refused_with (refusal_number r)
 
 -- beside the number, the position in the index, from 0; 0 beside a refusal
-abbrev pub lookup_position : Lookup → ℕ
-lookup_position (Number n k) = k
-lookup_position (Absent k) = k
-lookup_position (NotFound r) = 0
+abbrev pub lookup_position : Result Lookup Refusal → ℕ
+lookup_position (Ok (Number n k)) = k
+lookup_position (Ok (Absent k)) = k
+lookup_position (Err r) = 0
 
 -- a listing by prefix: the total
-abbrev pub prefixed_values : Prefixed → Values
-prefixed_values (Total n) = numbered n
-prefixed_values (NotListed r) = refused_with (refusal_number r)
+abbrev pub prefixed_values : Result ℕ Refusal → Values
+prefixed_values (Ok n) = numbered n
+prefixed_values (Err r) = refused_with (refusal_number r)
 
-abbrev pub interned_values : Interned → Values
-interned_values (Id n c) = counted 0 n.0 c
-interned_values (NotInterned r) = refused_with (refusal_number r)
+abbrev pub interned_values : Result Interned Refusal → Values
+interned_values (Ok i) = counted 0 i.number.0 i.counters
+interned_values (Err r) = refused_with (refusal_number r)
 
-abbrev pub asserted_values : Asserted → Values
-asserted_values (New n c) = counted 1 n.0 c
-asserted_values (Already n c) = counted 2 n.0 c
-asserted_values (Revived n c) = counted 3 n.0 c
-asserted_values (NotAsserted r) = refused_with (refusal_number r)
+abbrev pub asserted_values : Result Asserted Refusal → Values
+asserted_values (Ok (New n c)) = counted 1 n.0 c
+asserted_values (Ok (Already n c)) = counted 2 n.0 c
+asserted_values (Ok (Revived n c)) = counted 3 n.0 c
+asserted_values (Err r) = refused_with (refusal_number r)
 
-abbrev pub retracted_values : Retracted → Values
-retracted_values (WasLive n) = numbered n.0
-retracted_values NotLive = numbered 0
-retracted_values (NotRetracted r) = refused_with (refusal_number r)
+abbrev pub retracted_values : Result (Optional StatementId) Refusal → Values
+retracted_values (Ok (Some n)) = numbered n.0
+retracted_values (Ok None) = numbered 0
+retracted_values (Err r) = refused_with (refusal_number r)
 
-abbrev pub reclaimed_values : Reclaimed → Values
-reclaimed_values (Done c) = counted 0 0 c
-reclaimed_values (NotReclaimed r) = refused_with (refusal_number r)
+abbrev pub reclaimed_values : Result Counters Refusal → Values
+reclaimed_values (Ok c) = counted 0 0 c
+reclaimed_values (Err r) = refused_with (refusal_number r)
 
-abbrev pub opened_values : ScanOpened → Values
-opened_values (Cursor q) = placed q
-opened_values (NotOpened r) = refused_with (refusal_number r)
+abbrev pub opened_values : Result ScanCursor Refusal → Values
+opened_values (Ok q) = placed q
+opened_values (Err r) = refused_with (refusal_number r)
 
-abbrev pub scanned_values : Scanned → Values
-scanned_values (Found n v q) = stepped 1 n.0 v q
-scanned_values (Ended v q) = stepped 2 0 v q
-scanned_values (Spent v q) = stepped 3 0 v q
-scanned_values (NotScanned r) = refused_with (refusal_number r)
+abbrev pub scanned_values : Result Scanned Refusal → Values
+scanned_values (Ok (Found n v q)) = stepped 1 n.0 v q
+scanned_values (Ok (Ended v q)) = stepped 2 0 v q
+scanned_values (Ok (Spent v q)) = stepped 3 0 v q
+scanned_values (Err r) = refused_with (refusal_number r)
 
 -- a statement read: refusal, subject, predicate, object, flag; a name read: refusal, start, length
 pub record StatementValues : Type 0 where
@@ -109,15 +109,15 @@ pub record StatementValues : Type 0 where
   pub spo : Triple
   pub flag : ℕ
 
-abbrev pub statement_values : StatementRead → StatementValues
-statement_values (Is x f) = record { refusal = 0; spo = x; flag = f }
-statement_values (NotRead r) = record { refusal = refusal_number r; spo = no_triple; flag = 0 }
+abbrev pub statement_values : Result StatementRead Refusal → StatementValues
+statement_values (Ok s) = record { refusal = 0; spo = s.triple; flag = s.flag }
+statement_values (Err r) = record { refusal = refusal_number r; spo = no_triple; flag = 0 }
 
 pub record NameValues : Type 0 where
   pub refusal : ℕ
   pub start : ℕ
   pub size : ℕ
 
-abbrev pub name_values : NameRead → NameValues
-name_values (Span a n) = record { refusal = 0; start = a; size = n }
-name_values (NotNamed r) = record { refusal = refusal_number r; start = 0; size = 0 }
+abbrev pub name_values : Result NameSpan Refusal → NameValues
+name_values (Ok s) = record { refusal = 0; start = s.start; size = s.size }
+name_values (Err r) = record { refusal = refusal_number r; start = 0; size = 0 }

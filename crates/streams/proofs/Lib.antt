@@ -1,3 +1,2 @@
 pub mod Counting
-mod Powers
 mod Digits

@@ -32,17 +32,13 @@ const MISSING: i32 = 22;
 const NO_TEXT: i32 = 84;
 
 // Room for an argument or a file's name.
-pub fn buffer() -> [u8; 4096]
-    ensures { 4096 ≡ length result }
-{
-    [0; 4096]
-}
+pub const ARGUMENT: usize = 4096;
 
-// Room for a whole script.
-pub fn large_buffer() -> [u8; 65536]
-    ensures { 65536 ≡ length result }
+// So many times x. The length is told by a contract: a long array that is written out would be counted item by item.
+pub fn filled<T: Copy, const N: usize>(x: T) -> [T; N]
+    ensures { N ≡ length result }
 {
-    [0; 65536]
+    [x; N]
 }
 
 // How many arguments the program was started with, its own name among them.
@@ -67,14 +63,11 @@ pub fn argument(rt: &impl Env, i: usize, out: &mut [u8]) -> io::Result<usize>
     }
 }
 
-// Likewise, and 0 where there is an error.
+// Likewise, and 0 where there is an error, for a caller to whom that is as an empty argument.
 pub fn argument_or_nothing(rt: &impl Env, i: usize, out: &mut [u8]) -> usize
     ensures { IsPrefixLen result out.new }
 {
-    match argument(rt, i, out) {
-        Ok(n) => n,
-        Err(_) => 0,
-    }
+    argument(rt, i, out).unwrap_or(0)
 }
 
 // Opens a file to be read. It is closed where it is dropped.
@@ -91,7 +84,7 @@ pub fn read_full<S: Read>(source: &mut S, buffer: &mut [u8]) -> usize
     ensures { IsPrefixLen result buffer.new }
 {
     let mut done = 0;
-    // The first `done` bytes are read.
+    // The first `done` bytes are read. A while: a read moves the end by as many bytes as it brought.
     while done < buffer.len() {
         match source.read(&mut buffer[done..]) {
             Ok(n) if n > 0 => done += n,

@@ -17,16 +17,10 @@ pub fn decimal(n: u64, out: &mut [u8; 20]) -> usize
 
 // How many decimal digits n takes.
 fn digit_count(n: u64) -> usize
-    ensures { IsDigitCount n result }
+    ensures fewest { IsDigitCount n result }
+    ensures bound { result ≤ 20 }
 {
-    let mut k = 1;
-    let mut rest = n / 10;
-    // Without its last k digits n is `rest`.
-    while rest > 0 {
-        rest /= 10;
-        k += 1;
-    }
-    k
+    n.checked_ilog10().map_or(1, |power| power as usize + 1)
 }
 
 // Puts the last k digits of n at the front of `out`.
@@ -35,11 +29,9 @@ fn write_digits(n: u64, k: usize, out: &mut [u8])
     ensures digits { take k out.new ≡ last_digits k n }
     ensures rest { drop k out.new ≡ drop k out.old }
 {
-    let mut i = k;
     let mut rest = n;
     // From i up to k stand the digits of n behind `rest`.
-    while i > 0 {
-        i -= 1;
+    for i in (0..k).rev() {
         out[i] = b'0' + (rest % 10) as u8;
         rest /= 10;
     }

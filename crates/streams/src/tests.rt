@@ -9,7 +9,7 @@ use std::io::{Error, ErrorKind, Read};
 
 const ROOM: usize = 64;
 
-// What was written to standard error; standard output takes nothing.
+// What was written to standard error, without a heap; standard output takes nothing.
 #[derive(Drop)]
 struct Heard {
     text: Cell<[u8; ROOM]>,

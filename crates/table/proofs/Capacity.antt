@@ -1,51 +1,16 @@
--- Refusal 1, test by test: a counter over its capacity, or all within; and what counters within capacity say of the
--- tables' lengths. Assumes nothing.
+-- What counters within capacity say of the tables' lengths. Assumes nothing.
 use mathlib.Core.Path.{◌≡◌}
-use mathlib.Core.Bool.{true, false}
-use Prim.Native.Nat.{◌*◌, ◌≤◌, ◌<◌}
+use mathlib.Core.Bool.{true}
+use Prim.Native.Nat.{◌*◌, ◌≤◌}
 use native.Mathlib.Omega.{arith}
 use lib.ListN.{length}
-use lib.Dec.{leb}
-use borrow.Author.Tests.{le-leb, lt-leb}
 use Rattle.store.specs.declared.Counters.{Counters}
 use Rattle.store.proofs.Tests.{fits-parts}
-use Rattle.store.specs.Tables.{Tables, fits, resource_capacity, statement_capacity, text_capacity}
+use Rattle.store.specs.Tables.{Tables, fits}
 use Rattle.store.specs.Tables.{resource_words, statement_words}
 use Rattle.store.specs.Shared.{max_resources, max_statements, max_text, max_reclaims}
 
--- ---- refusal 1
-
 module _ (c : Counters) (m : Tables) where
-  pub over-resources : resource_capacity m < c.resources → fits c m ≡ false
-  unfolding fits
-  over-resources h = rw (lt-leb c.resources (resource_capacity m) h)
-
-  pub over-statements : c.resources ≤ resource_capacity m → statement_capacity m < c.statements → fits c m ≡ false
-  unfolding fits
-  over-statements a h =
-      rw (le-leb c.resources (resource_capacity m) a, lt-leb c.statements (statement_capacity m) h)
-
-  pub over-text : c.resources ≤ resource_capacity m → c.statements ≤ statement_capacity m → text_capacity m < c.text
-      → fits c m ≡ false
-  unfolding fits
-  over-text a b h =
-      rw (
-        le-leb c.resources (resource_capacity m) a,
-        le-leb c.statements (statement_capacity m) b,
-        lt-leb c.text (text_capacity m) h,
-      )
-
-  -- where the tables have room, the number of reclaims decides
-  pub reclaims-decide : c.resources ≤ resource_capacity m → c.statements ≤ statement_capacity m
-      → c.text ≤ text_capacity m → leb c.generation max_reclaims ≡ fits c m
-  unfolding fits
-  reclaims-decide a b d =
-      rw (
-        le-leb c.resources (resource_capacity m) a,
-        le-leb c.statements (statement_capacity m) b,
-        le-leb c.text (text_capacity m) d,
-      )
-
   -- counters within capacity: the records and bytes in use lie in the tables
   pub record Room : Type 0 where
     pub few-resources : c.resources ≤ max_resources

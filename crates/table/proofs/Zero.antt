@@ -1,6 +1,6 @@
 -- The search for a name's zero byte, one law for each way out of the loop and one for a turn; and that a name found
 -- lies in the text. Assumes nothing.
-use mathlib.Core.Path.{◌≡◌, refl}
+use mathlib.Core.Path.{◌≡◌, refl, ap}
 use mathlib.Core.Bool.{Bool, true, false}
 use mathlib.Core.List.{List}
 use mathlib.Core.Option.{Option, none, some}
@@ -12,10 +12,12 @@ use borrow.Author.Tests.{eq-eqb, ne_eqb, lt-ltb, le-ltb, ltb-true, ltb-false}
 use Rattle.store.specs.declared.Counters.{Counters}
 use Rattle.store.specs.declared.ResourceId.{ResourceId}
 use Rattle.store.specs.declared.Refusal.{Refusal}
-use Rattle.store.specs.declared.NameRead.TheVariants.{Span, Refused}
 use Rattle.store.specs.Tables.{Tables, fits, offset_at, word}
 use Rattle.store.specs.Reading.{in_range, name_window, zero_from, span_to, name_span_of}
 use Rattle.table.proofs.Capacity.{fits-room}
+use Rattle.std.specs.Prelude.{Err}
+use Rattle.store.specs.Replies.{span_as}
+use Rattle.store.specs.Values.{name_values}
 
 module _ (t : List ℕ) (e : ℕ) where
   pub zero-here : (left o : ℕ) → 0 < left → o < e → word t o ≡ 0 → zero_from t e left o ≡ some o
@@ -71,15 +73,19 @@ module _ (t : List ℕ) (e : ℕ) where
 
 -- ---- a name's span
 
-refused-span : (r : Refusal) (a k : ℕ) → Refused r ≡ Span a k → ⊥
+refused-span : (r : Refusal) (a k : ℕ) → Err r ≡ span_as a k → ⊥
 refused-span r a k q = let x : ◌≡◌ {A = ℕ} 0 1 = cc in omega arith
 
-span-in : (o e a k : ℕ) (z : Option ℕ) → ((y : ℕ) → z ≡ some y → (o ≤ y) × (y < e)) → span_to o z ≡ Span a k → a + k < e
+span-in : (o e a k : ℕ) (z : Option ℕ) → ((y : ℕ) → z ≡ some y → (o ≤ y) × (y < e)) → span_to o z ≡ span_as a k → a + k < e
 span-in o e a k none h q = absurd (refused-span _ a k q)
-span-in o e a k (some y) h q = let b : o ≡ a = cc in let d : y - o ≡ k = cc in let i = h y refl in omega arith
+span-in o e a k (some y) h q =
+    let b : o ≡ a = ap (λ r. (name_values r).start) q in
+    let d : y - o ≡ k = ap (λ r. (name_values r).size) q in
+    let i = h y refl in
+    omega arith
 
 -- a span told lies in the text, its zero byte too
-pub name_in : (c : Counters) (m : Tables) (n : ResourceId) (a k : ℕ) → name_span_of c m n ≡ Span a k
+pub name_in : (c : Counters) (m : Tables) (n : ResourceId) (a k : ℕ) → name_span_of c m n ≡ span_as a k
     → a + k < length m.text
 unfolding name_span_of
 name_in c m n a k = capacity (fits c m) refl
@@ -87,7 +93,7 @@ name_in c m n a k = capacity (fits c m) refl
     o : ℕ
     o = offset_at m.resources n.0
 
-    range : fits c m ≡ true → (b : Bool) → in_range c.resources n.0 ≡ b → name_span_of c m n ≡ Span a k
+    range : fits c m ≡ true → (b : Bool) → in_range c.resources n.0 ≡ b → name_span_of c m n ≡ span_as a k
         → a + k < length m.text
     range f true q = rw (f, q) (λ p.
         let r = fits-room c m f in
@@ -96,6 +102,6 @@ name_in c m n a k = capacity (fits c m) refl
         omega arith)
     range f false q = rw (f, q) (λ p. absurd (refused-span _ a k p))
 
-    capacity : (b : Bool) → fits c m ≡ b → name_span_of c m n ≡ Span a k → a + k < length m.text
+    capacity : (b : Bool) → fits c m ≡ b → name_span_of c m n ≡ span_as a k → a + k < length m.text
     capacity true f = range f (in_range c.resources n.0) refl
     capacity false f = rw f (λ p. absurd (refused-span _ a k p))

@@ -20,47 +20,30 @@ pub fn at(p: Position, x: Triple) -> ResourceId
 pub fn admits(y: ResourceId, z: ResourceId) -> bool
     ensures { result ≡ (eqb y.0 0 || eqb z.0 y.0) }
 {
-    if y.0 == 0 {
-        return true;
-    }
-    z.0 == y.0
+    y.0 == 0 || z == y
 }
 
 // Whether no number exceeds n.
+#[tactic(auto, unfolding(store::specs::Shared::within))]
 pub fn within(n: u32, x: Triple) -> bool
     ensures { result ≡ within n x }
 {
-    if x.subject.0 > n {
-        return false;
-    }
-    if x.predicate.0 > n {
-        return false;
-    }
-    x.object.0 <= n
+    x.subject.0 <= n && x.predicate.0 <= n && x.object.0 <= n
 }
 
-// Whether t has the same three numbers as x.
+// Whether t has the same three numbers as x. A function beside `==`, since its clause has the word of the definitions of
+// chains and walks.
+#[tactic(auto, unfolding(store::specs::Shared::same))]
 pub fn same(x: Triple, t: Triple) -> bool
     ensures { result ≡ same x t }
 {
-    if t.subject.0 != x.subject.0 {
-        return false;
-    }
-    if t.predicate.0 != x.predicate.0 {
-        return false;
-    }
-    t.object.0 == x.object.0
+    t == x
 }
 
 // Whether t has the number of the pattern x at each position that x binds.
+#[tactic(auto, unfolding(store::specs::Shared::agrees))]
 pub fn agrees(x: Triple, t: Triple) -> bool
     ensures { result ≡ agrees x t }
 {
-    if !admits(x.subject, t.subject) {
-        return false;
-    }
-    if !admits(x.predicate, t.predicate) {
-        return false;
-    }
-    admits(x.object, t.object)
+    admits(x.subject, t.subject) && admits(x.predicate, t.predicate) && admits(x.object, t.object)
 }

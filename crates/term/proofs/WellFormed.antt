@@ -13,7 +13,8 @@ use Rattle.term.specs.Theorems.{KindIsWellFormed, RefusedIsMalformed}
 use Rattle.term.specs.Halting.{KindAtMostThree, clean, NameIsClean, NameHasTwoBytes}
 use Rattle.term.specs.declared.production.Scan.{Scan}
 use Rattle.term.specs.declared.production.Scan.TheVariants.{Start, IriOpen, Under, Text}
-use Rattle.term.specs.declared.NameKind.TheVariants.{Iri, Blank, Literal, Malformed}
+use Rattle.term.specs.declared.NameKind.TheVariants.{Iri, Blank, Literal}
+use Rattle.std.specs.Prelude.{Some, None}
 use Rattle.term.proofs.Names.{Accepts, never, bad, case, case-or-bad, name-forth, kinds}
 use Rattle.term.proofs.Turn.{no_zero}
 
@@ -44,10 +45,10 @@ found k s h e f = f ((well-formed s).0 (λ w. omega arith))
 
 pub refused : RefusedIsMalformed
 unfolding number_of refusal_of
-refused Iri s e = (λ w. absurd (omega arith), λ f. absurd (found 1 s (omega arith) e f))
-refused Blank s e = (λ w. absurd (omega arith), λ f. absurd (found 2 s (omega arith) e f))
-refused Literal s e = (λ w. absurd (omega arith), λ f. absurd (found 3 s (omega arith) e f))
-refused Malformed s e = (λ w n. (well-formed s).1 n (sym e), λ f. refl)
+refused (Some Iri) s e = (λ w. absurd (omega arith), λ f. absurd (found 1 s (omega arith) e f))
+refused (Some Blank) s e = (λ w. absurd (omega arith), λ f. absurd (found 2 s (omega arith) e f))
+refused (Some Literal) s e = (λ w. absurd (omega arith), λ f. absurd (found 3 s (omega arith) e f))
+refused None s e = (λ w n. (well-formed s).1 n (sym e), λ f. refl)
 
 cond-most : (t : Bool) (a b : ℕ) → a ≤ 3 → b ≤ 3 → cond t a b ≤ 3
 cond-most true a b p q = p

@@ -6,6 +6,7 @@ use Rattle.term.specs.Grammar.{Name, WellFormed, name_limit}
 use Rattle.term.specs.Scanner.{first_kind_of, kind_of, number_of, refusal_of}
 use Rattle.term.specs.Canonical.{string_ending, writes_string, canonical}
 use Rattle.term.specs.declared.NameKind.{NameKind}
+use Rattle.std.specs.declared.option.Option.{Option}
 
 -- The first byte gives the kind, so a name has one kind.
 abbrev pub KindIsFirstByte : Type 0
@@ -22,7 +23,7 @@ KindIsWellFormed = (s : List ℕ) → (kind_of name_limit s ≡ 0 → ⊥) ↔ W
 -- The answer of `kind_of_name` is refusal 2 exactly where the name is not well formed.
 abbrev pub RefusedIsMalformed : Type 0
 RefusedIsMalformed =
-    (r : NameKind) (s : List ℕ) → number_of r ≡ kind_of name_limit s → (refusal_of r ≡ 2) ↔ (WellFormed s → ⊥)
+    (r : Option NameKind) (s : List ℕ) → number_of r ≡ kind_of name_limit s → (refusal_of r ≡ 2) ↔ (WellFormed s → ⊥)
 
 -- The step to one spelling takes the string ending off, and does nothing to bytes that do not end so.
 abbrev pub CanonicalDrops : Type 0

@@ -1,6 +1,7 @@
 // The classes of bytes in a name (paper 01, "Names"), each a match on byte ranges. No class has the byte 0, which
 // `byte_at` gives past the end, so that a run of one class ends at the end of the bytes too.
-ghost use Rattle.std.specs.Prelude.{◌<◌, ◌≡◌, ◌⊎◌, get_or};
+ghost use Rattle.std.specs.Prelude.{ℕ, Bool, ◌+◌, ◌<◌, ◌≤◌, ◌≡◌, ◌⊎◌, drop, get_or};
+ghost use Rattle.std.specs.List.{prefix_len};
 ghost use Rattle.term.specs.Bytes.{iri_byte, text_byte, pair_byte, first_byte, letter, alnum};
 ghost use Rattle.term.specs.Spelling.{label_or_dot};
 
@@ -58,10 +59,7 @@ fn is_iri_high(b: u8) -> bool
     requires { (91 < b) × ((b < 97) ⊎ (122 < b)) }
     ensures { result ≡ iri_byte b }
 {
-    match b {
-        b']' | b'_' | b'~' => true,
-        _ => false,
-    }
+    matches!(b, b']' | b'_' | b'~')
 }
 
 // Of a literal's text by itself: 32..126 except " and \.
@@ -81,10 +79,7 @@ pub fn is_text_byte(b: u8) -> bool
 pub fn is_pair_byte(b: u8) -> bool
     ensures { result ≡ pair_byte b }
 {
-    match b {
-        b'"' | b'\\' | b'n' | b'r' => true,
-        _ => false,
-    }
+    matches!(b, b'"' | b'\\' | b'n' | b'r')
 }
 
 // The first of a blank node's label: a letter, a digit or _.
@@ -92,10 +87,7 @@ pub fn is_pair_byte(b: u8) -> bool
 pub fn is_label_first(b: u8) -> bool
     ensures { result ≡ first_byte b }
 {
-    match b {
-        b'a'..=b'z' | b'A'..=b'Z' | b'0'..=b'9' | b'_' => true,
-        _ => false,
-    }
+    matches!(b, b'a'..=b'z' | b'A'..=b'Z' | b'0'..=b'9' | b'_')
 }
 
 // A later one: a letter, a digit, _, - or a dot.
@@ -103,10 +95,7 @@ pub fn is_label_first(b: u8) -> bool
 pub fn is_label_byte(b: u8) -> bool
     ensures { result ≡ label_or_dot b }
 {
-    match b {
-        b'a'..=b'z' | b'A'..=b'Z' | b'0'..=b'9' | b'_' | b'-' | b'.' => true,
-        _ => false,
-    }
+    matches!(b, b'a'..=b'z' | b'A'..=b'Z' | b'0'..=b'9' | b'_' | b'-' | b'.')
 }
 
 // Of a language tag's first group.
@@ -114,10 +103,7 @@ pub fn is_label_byte(b: u8) -> bool
 pub fn is_letter(b: u8) -> bool
     ensures { result ≡ letter b }
 {
-    match b {
-        b'a'..=b'z' | b'A'..=b'Z' => true,
-        _ => false,
-    }
+    matches!(b, b'a'..=b'z' | b'A'..=b'Z')
 }
 
 // Of a language tag's later groups: a letter or a digit.
@@ -125,8 +111,17 @@ pub fn is_letter(b: u8) -> bool
 pub fn is_alnum(b: u8) -> bool
     ensures { result ≡ alnum b }
 {
-    match b {
-        b'a'..=b'z' | b'A'..=b'Z' | b'0'..=b'9' => true,
-        _ => false,
+    matches!(b, b'a'..=b'z' | b'A'..=b'Z' | b'0'..=b'9')
+}
+
+// Where the bytes of one class end that stand from `at` on: before the first byte that fails the test, or at the end.
+pub fn run_end<F: Fn(u8) -> bool>(bytes: &[u8], at: usize, test: F) -> usize
+    requires { F.IsAlwaysCallable test }
+    ensures begun { at ≤ result }
+    ensures end { (p : ℕ → Bool) → ((b : ℕ) (r : Bool) → F.post test b r → r ≡ p b) → result ≡ at + prefix_len p (drop at bytes.now) }
+{
+    match bytes.get(at..) {
+        Some(rest) => at + rest.iter().position(|b| !test(*b)).unwrap_or(rest.len()),
+        None => at,
     }
 }

@@ -37,7 +37,7 @@ pub struct Halt {
 
 use crate::class::{
     byte_at, is_alnum, is_iri_byte, is_label_byte, is_label_first, is_letter, is_pair_byte,
-    is_text_byte,
+    is_text_byte, run_end,
 };
 
 // A term: the first byte decides its kind.
@@ -60,11 +60,7 @@ pub fn term(bytes: &[u8], at: usize) -> Halt
 pub fn iri(bytes: &[u8], at: usize) -> Halt
     ensures { result ≡ halt_of IriOpen at (drop at bytes.now) }
 {
-    // From `at` up to `i` there are bytes of an IRI.
-    let mut i = at;
-    while is_iri_byte(byte_at(bytes, i)) {
-        i += 1;
-    }
+    let i = run_end(bytes, at, is_iri_byte);
     if i == at {
         return Halt {
             state: Scan::IriOpen,
@@ -101,10 +97,7 @@ pub fn blank_node_label(bytes: &[u8], at: usize) -> Halt
         };
     }
     // From `at + 1` up to `i` there are bytes of a label, dots among them.
-    let mut i = at + 2;
-    while is_label_byte(byte_at(bytes, i)) {
-        i += 1;
-    }
+    let i = run_end(bytes, at + 2, is_label_byte);
     Halt {
         state: label_place(byte_at(bytes, i - 1), byte_at(bytes, i - 2)),
         at: i,
@@ -128,14 +121,11 @@ fn label_place(last: u8, before: u8) -> Scan
 pub fn string_literal(bytes: &[u8], at: usize) -> Halt
     ensures { result ≡ halt_of Text at (drop at bytes.now) }
 {
-    // From `at` up to `i` there are bytes of text and pairs.
-    let mut i = at;
-    loop {
+    // Before `from` there are bytes of text and pairs. A loop: a turn takes a run of bytes and a pair, and no iterator over bytes is plainer.
+    let mut from = at;
+    'pairs: loop {
+        let i = run_end(bytes, from, is_text_byte);
         let b = byte_at(bytes, i);
-        if is_text_byte(b) {
-            i += 1;
-            continue;
-        }
         if b == b'"' {
             return literal_suffix(bytes, i + 1);
         }
@@ -151,7 +141,7 @@ pub fn string_literal(bytes: &[u8], at: usize) -> Halt
                 at: i + 1,
             };
         }
-        i += 2;
+        from = i + 2;
     }
 }
 
@@ -180,10 +170,7 @@ pub fn language_tag(bytes: &[u8], at: usize) -> Halt
         };
     }
     // From `at` up to `i` there are letters.
-    let mut i = at + 1;
-    while is_letter(byte_at(bytes, i)) {
-        i += 1;
-    }
+    let i = run_end(bytes, at + 1, is_letter);
     if byte_at(bytes, i) == b'-' {
         return subtags(bytes, i + 1);
     }
@@ -197,33 +184,23 @@ pub fn language_tag(bytes: &[u8], at: usize) -> Halt
 pub fn subtags(bytes: &[u8], at: usize) -> Halt
     ensures { result ≡ halt_of Hyphen at (drop at bytes.now) }
 {
-    if !is_alnum(byte_at(bytes, at)) {
-        return Halt {
-            state: Scan::Hyphen,
-            at: at,
-        };
-    }
-    // From `at` up to `i` there are letters, digits, and single `-` between them.
-    let mut i = at + 1;
-    loop {
-        let b = byte_at(bytes, i);
-        if is_alnum(b) {
-            i += 1;
-            continue;
+    // A group is to begin at `from`. A loop: a turn takes a group and its hyphen, and no iterator over bytes is plainer.
+    let mut from = at;
+    'groups: loop {
+        let i = run_end(bytes, from, is_alnum);
+        if i == from {
+            return Halt {
+                state: Scan::Hyphen,
+                at: from,
+            };
         }
-        if b != b'-' {
+        if byte_at(bytes, i) != b'-' {
             return Halt {
                 state: Scan::Group,
                 at: i,
             };
         }
-        if !is_alnum(byte_at(bytes, i + 1)) {
-            return Halt {
-                state: Scan::Hyphen,
-                at: i + 1,
-            };
-        }
-        i += 2;
+        from = i + 1;
     }
 }
 

@@ -10,24 +10,17 @@ use find_byte::find;
 use store::{Refusal, refusal_number};
 use streams::{Output, Outputs, print_decimal, write_all};
 use term::NameKind;
-use term::class::byte_at;
 
 fn main(rt: HostRuntime) {
-    let mut text = streams::large_buffer();
+    let mut text = [0u8; 65536];
     let n = streams::read_full(&mut rt.stdin(), &mut text);
     run(&rt, &text[..n]);
 }
 
 // Every line of the text.
 fn run(rt: &impl Outputs, text: &[u8]) {
-    // The lines before `at` are run, and `number` is the next one's.
-    let mut number: u64 = 1;
-    let mut at = 0;
-    while at < text.len() {
-        let end = find(text, at, text.len(), b'\n');
-        run_case(rt, number, &text[at..end]);
-        number += 1;
-        at = end + 1;
+    for (i, line) in text.split_inclusive(|b| *b == b'\n').enumerate() {
+        run_case(rt, i as u64 + 1, line.strip_suffix(b"\n").unwrap_or(line));
     }
 }
 
@@ -37,7 +30,7 @@ fn run_case(rt: &impl Outputs, number: u64, line: &[u8]) {
     print_decimal(rt, Output::Standard, number);
     write_all(rt, Output::Standard, b" ");
     write_all(rt, Output::Standard, &line[0..gap]);
-    let mut name = streams::buffer();
+    let mut name = [0u8; streams::ARGUMENT];
     if gap < line.len() {
         let n = decode(&line[gap + 1..], &mut name);
         answer(rt, &name[..n]);
@@ -55,10 +48,10 @@ fn refused(rt: &impl Outputs) -> bool {
 
 fn answer(rt: &impl Outputs, name: &[u8]) {
     match term::kind_of_name(name) {
-        NameKind::Iri => write_all(rt, Output::Standard, b" kind 1"),
-        NameKind::Blank => write_all(rt, Output::Standard, b" kind 2"),
-        NameKind::Literal => write_all(rt, Output::Standard, b" kind 3"),
-        NameKind::Malformed => refused(rt),
+        Some(NameKind::Iri) => write_all(rt, Output::Standard, b" kind 1"),
+        Some(NameKind::Blank) => write_all(rt, Output::Standard, b" kind 2"),
+        Some(NameKind::Literal) => write_all(rt, Output::Standard, b" kind 3"),
+        None => refused(rt),
     };
     let halt = term::scan_term(name, 0, name.len());
     write_all(rt, Output::Standard, b" at ");
@@ -70,24 +63,19 @@ fn answer(rt: &impl Outputs, name: &[u8]) {
 fn decode(spelling: &[u8], out: &mut [u8]) -> usize
     ensures { IsPrefixLen result out.new }
 {
-    // The first `n` bytes of `out` are what the first `i` of the spelling stand for.
-    let mut i = 0;
-    let mut n = 0;
-    while i < spelling.len() {
-        if n >= out.len() {
-            return n;
+    let mut bytes = spelling.iter().copied();
+    for (n, place) in out.iter_mut().enumerate() {
+        match bytes.next() {
+            None => return n,
+            Some(b'%') => {
+                let high = hex(bytes.next().unwrap_or(0));
+                let low = hex(bytes.next().unwrap_or(0));
+                *place = high * 16 + low;
+            }
+            Some(b) => *place = b,
         }
-        if spelling[i] != b'%' {
-            out[n] = spelling[i];
-            n += 1;
-            i += 1;
-            continue;
-        }
-        out[n] = hex(byte_at(spelling, i + 1)) * 16 + hex(byte_at(spelling, i + 2));
-        n += 1;
-        i += 3;
     }
-    n
+    out.len()
 }
 
 // The value of a hexadecimal digit.

@@ -17,20 +17,15 @@ use streams::{Output, Outputs, print_decimal, write_all};
 // Room for a file. The longest of the tests has 4,080 bytes.
 const ROOM: usize = 8192;
 
-// A part of a line that was read lies in the text, so neither test is ever true.
+// A part of a line that was read lies in the text.
 fn print_part(rt: &impl Outputs, text: &[u8], part: ntriples::Span) {
-    let start = part.start;
-    let end = part.end;
-    if end > text.len() {
-        return;
+    if let Some(bytes) = text.get(part.start..part.end) {
+        write_all(rt, Output::Standard, b" ");
+        write_all(rt, Output::Standard, bytes);
     }
-    if start > end {
-        return;
-    }
-    write_all(rt, Output::Standard, b" ");
-    write_all(rt, Output::Standard, &text[start..end]);
 }
 
+// Each program of cases writes its own form of an answer: a crate for it would be longer.
 fn print_answer(rt: &impl Outputs, text: &[u8], line: ntriples::Line) {
     match line {
         ntriples::Line::End => {
@@ -69,19 +64,15 @@ fn report_line(rt: &impl Outputs, name: &[u8], n: usize, text: &[u8], at: usize)
     read.next
 }
 
-// Reads every line of a text. Before the text's end a line takes a byte or more, so the position moves on and the test
-// in the loop is never true.
+// Reads every line of a text. Before the text's end a line takes a byte or more, so there are no more lines than bytes, and one of an empty
+// text.
 fn report_lines(rt: &impl Outputs, name: &[u8], text: &[u8]) {
-    let mut at = report_line(rt, name, 1, text, 0);
-    let mut n = 1;
-    // The `n` lines before `at` are reported.
-    while at < text.len() {
-        n += 1;
-        let next = report_line(rt, name, n, text, at);
-        if next <= at {
+    let mut at = 0;
+    for n in 1..text.len() + 2 {
+        at = report_line(rt, name, n, text, at);
+        if at >= text.len() {
             return;
         }
-        at = next;
     }
 }
 
@@ -102,7 +93,7 @@ fn report_open<S: Read>(rt: &impl Outputs, name: &[u8], source: &mut S) {
 
 // Reads the file that argument `i` names.
 fn report_file<R: Outputs + Env + Files>(rt: &R, i: usize) {
-    let mut path = streams::buffer();
+    let mut path = [0u8; streams::ARGUMENT];
     match streams::argument(rt, i, &mut path) {
         Err(e) => streams::fail(rt, b"argument", e),
         Ok(length) => report_path(rt, &path[..length]),
@@ -119,10 +110,7 @@ fn report_path<R: Outputs + Files>(rt: &R, path: &[u8]) {
 
 fn main(rt: HostRuntime) {
     let count = streams::argument_count(&rt);
-    // The files of the arguments before `i` are reported.
-    let mut i = 1;
-    while i < count {
+    for i in 1..count {
         report_file(&rt, i);
-        i += 1;
     }
 }

@@ -38,8 +38,7 @@ use Rattle.graph.proofs.Solve.{triple-ext}
 use Rattle.graph.proofs.Listed.{listed_at}
 use Rattle.graph.proofs.Names.{named-at, term-low, term-high}
 use Rattle.lines.specs.Claims.{names_in}
-use Rattle.loader.specs.declared.line.Outcome.{Outcome}
-use Rattle.loader.specs.Lines.{load_line_of, refusal_in}
+use Rattle.loader.specs.Lines.{Came, came, load_line_of, refusal_in}
 use Rattle.whole_line.specs.Whole.{whole_line_of}
 use Rattle.whole_line.specs.Room.{with_new, Storable}
 use Rattle.whole_line.specs.Claims.{Unrecorded, WantsRoom, TripleAnswered, RefusedForRoom}
@@ -195,9 +194,9 @@ refused-for-room c m m' text x y z r S e L =
     let w = names_in text x y z in
     let K = (first-loads text x y z e s S).1 in
     let Y = parts_held text x y z e in
-    let a : refusal_in r.outcome ≡ (load_of s w).1.refusal =
-    ap (λ (t : Store × Outcome). refusal_in t.1) (L.sound S []) ∙ same_outcome s text x y z in
+    let a : refusal_in (came r.outcome) ≡ (load_of s w).1.refusal =
+    ap (λ (t : Store × Came). refusal_in t.1) (L.sound S []) ∙ same_outcome s text x y z in
     let b : (load_of s w).1.refusal ≡ (load_model (capacities_of m) (lists_of s) w).1.refusal =
     ap (λ (v : Values). v.refusal) K.listed in
-    answered c m w (load_model (capacities_of m) (lists_of s) w).1.refusal (refusal_in r.outcome) (a ∙ b)
+    answered c m w (load_model (capacities_of m) (lists_of s) w).1.refusal (refusal_in (came r.outcome)) (a ∙ b)
     (rw b at K.room) (three-when c m S w Y) (then-refused c m S w Y)

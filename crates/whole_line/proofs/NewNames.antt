@@ -16,8 +16,7 @@ use Rattle.term.proofs.Booleans.{eq_bytes-is, eq_bytes-refl, eq_bytes-not}
 use Rattle.store.specs.declared.Counters.{Counters}
 use Rattle.store.specs.declared.ResourceId.{ResourceId}
 use Rattle.store.specs.declared.Refusal.{Refusal}
-use Rattle.store.specs.declared.Lookup.{Lookup}
-use Rattle.store.specs.declared.Lookup.TheVariants.{Number, Absent, Refused as NotFound}
+use Rattle.store.specs.declared.Lookup.TheVariants.{Number, Absent}
 use Rattle.term.specs.Grammar.{name_limit}
 use Rattle.store.specs.Shared.{max_resources, max_text, text_bytes, lookup_name, below}
 use Rattle.store.specs.Tables.{Tables, fits}
@@ -31,6 +30,8 @@ use Rattle.store.proofs.Form.{form-short, storable-formed, storable-kept}
 use Rattle.store.proofs.Held.{named-names}
 use Rattle.whole_line.specs.Room.{with_new, names_with, three_names, is_new, counters_with, room_with, Storable}
 use Rattle.whole_line.specs.Room.{NewAnswer, NamesAnswer, RoomAnswer}
+use Rattle.std.specs.Prelude.{Err, Ok, Result}
+use Rattle.store.specs.declared.Lookup.{Lookup}
 
 -- ---- the same bytes
 
@@ -61,10 +62,10 @@ module _ {a b : List ℕ} where
 
 -- ---- a name that is new
 
-abbrev is_absent : Lookup → Bool
-is_absent (Number n k) = false
-is_absent (Absent k) = true
-is_absent (NotFound e) = false
+abbrev is_absent : Result Lookup Refusal → Bool
+is_absent (Ok (Number n k)) = false
+is_absent (Ok (Absent k)) = true
+is_absent (Err e) = false
 
 absent-zero : (n k : ℕ) → is_absent (found_at n k) ≡ eqb n 0
 absent-zero zero k = refl
@@ -77,20 +78,20 @@ find-tells ns c m w N f s =
     rw (f, storable-formed w s, storable-kept w s, named-names ns c m N) (absent-zero (lookup_name w ns) _)
 
 module _ {c : Counters} {m : Tables} {w : List ℕ} where
-  found-new : {a : Lookup} {r : Bool} → FindAnswer c m w a → storable w ≡ true → r ≡ is_absent a → NewAnswer c m [] w r
+  found-new : {a : Result Lookup Refusal} {r : Bool} → FindAnswer c m w a → storable w ≡ true → r ≡ is_absent a → NewAnswer c m [] w r
   unfolding is_new
   found-new F s e = record {
     exact = λ ns N f. e ∙ (ap is_absent (F.exact ns N) ∙ find-tells ns c m w N f s);
   }
 
-  pub new-absent : {a : Lookup} {k : ℕ} → FindAnswer c m w a → storable w ≡ true → a ≡ Absent k → NewAnswer c m [] w true
+  pub new-absent : {a : Result Lookup Refusal} {k : ℕ} → FindAnswer c m w a → storable w ≡ true → a ≡ Ok (Absent k) → NewAnswer c m [] w true
   new-absent F s e = found-new F s (ap is_absent (sym e))
 
-  pub new-number : {a : Lookup} {n : ResourceId} {k : ℕ} → FindAnswer c m w a → storable w ≡ true → a ≡ Number n k
+  pub new-number : {a : Result Lookup Refusal} {n : ResourceId} {k : ℕ} → FindAnswer c m w a → storable w ≡ true → a ≡ Ok (Number n k)
       → NewAnswer c m [] w false
   new-number F s e = found-new F s (ap is_absent (sym e))
 
-  pub new-refused : {a : Lookup} {q : Refusal} → FindAnswer c m w a → storable w ≡ true → a ≡ NotFound q
+  pub new-refused : {a : Result Lookup Refusal} {q : Refusal} → FindAnswer c m w a → storable w ≡ true → a ≡ Err q
       → NewAnswer c m [] w false
   new-refused F s e = found-new F s (ap is_absent (sym e))
 

@@ -9,8 +9,7 @@ use Rattle.store.specs.declared.ScanCursor.{ScanCursor}
 use Rattle.store.specs.History.{Store, store}
 use Rattle.store.proofs.Tests.{decide}
 use Rattle.ntriples.specs.declared.Line.{Line}
-use Rattle.loader.specs.declared.line.Outcome.{Outcome}
-use Rattle.loader.specs.Lines.{load_line_of, refusal_in, Exact}
+use Rattle.loader.specs.Lines.{Came, came, load_line_of, refusal_in, Exact}
 use Rattle.whole_line.specs.Whole.{whole_line_of}
 use Rattle.whole_line.specs.Claims.{RefusedChangesNothing, RefusedForRoom}
 use Rattle.whole_line.proofs.Exactly as exactly
@@ -35,12 +34,12 @@ loaded-is s text line =
 pub refused-changes-nothing : RefusedChangesNothing
 refused-changes-nothing c m m' text line r S L =
     let e = L.sound S in
-    let outcome : (qs : List ScanCursor) → refusal_in (whole_line_of (store c m qs) text line).1 ≡ refusal_in r.outcome =
-    λ qs. ap (λ (a : Store × Outcome). refusal_in a.1) (sym (e qs)) in
+    let outcome : (qs : List ScanCursor) → refusal_in (whole_line_of (store c m qs) text line).1 ≡ refusal_in (came r.outcome) =
+    λ qs. ap (λ (a : Store × Came). refusal_in a.1) (sym (e qs)) in
     record {
       refused = λ h.
           let k : store r.counters m' [] ≡ store c m [] =
-          ap (λ (a : Store × Outcome). a.0) (e []) ∙ refused-kept (store c m []) text line (λ z. h (sym (outcome []) ∙ z)) in
+          ap (λ (a : Store × Came). a.0) (e []) ∙ refused-kept (store c m []) text line (λ z. h (sym (outcome []) ∙ z)) in
           (ap (λ (s : Store). s.tables) k, ap (λ (s : Store). s.counters) k);
       loaded = λ h.
           let f : Exact c m m' text line r = λ qs. e qs ∙ loaded-is (store c m qs) text line (outcome qs ∙ h) in

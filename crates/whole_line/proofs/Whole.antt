@@ -37,10 +37,10 @@ use Rattle.ntriples.specs.Reader.{read_of}
 use Rattle.graph.specs.Meaning.{RdfTriple}
 use Rattle.graph.specs.Claims.{loading, load_of, load_model}
 use Rattle.lines.specs.Claims.{names_in}
-use Rattle.loader.specs.declared.line.Outcome.{Outcome}
-use Rattle.loader.specs.declared.line.Outcome.TheVariants.{Refused}
+use Rattle.std.specs.Prelude.{Err}
+use Rattle.store.specs.declared.Refusal.TheVariants.{Full}
 use Rattle.loader.specs.declared.line.LineLoaded.{LineLoaded}
-use Rattle.loader.specs.Lines.{ended, outcome_of, load_line_of, refusal_in, Loads}
+use Rattle.loader.specs.Lines.{Came, ended, outcome_of, load_line_of, refusal_in, Loads}
 use Rattle.whole_line.specs.Whole.{whole_line_of, LoadsWhole}
 use Rattle.whole_line.specs.Room.{with_new, names_with, names_last_first, counters_with, room_with, room_for_line, Storable, LineAnswer}
 use Rattle.whole_line.proofs.LineParts.{first-loads, parts_held}
@@ -175,7 +175,7 @@ module _ (c : Counters) (m : Tables) (S : Sound c m) (qs : List ScanCursor) (y :
 
 -- ---- a line
 
-status-only : (b : Bool) (o q : Outcome) → refusal_in o ≡ 0 → refusal_in q ≡ 0 → refusal_in (cond b o q) ≡ 0
+status-only : (b : Bool) (o q : Came) → refusal_in o ≡ 0 → refusal_in q ≡ 0 → refusal_in (cond b o q) ≡ 0
 status-only true o q e f = e
 status-only false o q e f = f
 
@@ -185,7 +185,7 @@ refusal_is v =
     (λ e. rw e (status-only (eqb v.status 1) _ _ refl (status-only (eqb v.status 2) _ _ refl refl) ∙ sym (eqb-true v.refusal 0 e)))
     (λ e. rw e)
 
-refused-three : (v : Values) → v.refusal ≡ 3 → outcome_of v ≡ Refused 3
+refused-three : (v : Values) → v.refusal ≡ 3 → outcome_of v ≡ Came.Refused 3
 refused-three v e = rw (ne_eqb v.refusal 0 (λ z. omega arith), e)
 
 -- a refused load that leaves the store is the whole line's
@@ -198,8 +198,8 @@ whole-kept s text line h =
     (λ e. rw e)
     (λ e. rw e (ap (λ (t : Store). ended t a.1) (h (eqb-false _ 0 e))))
 
-whole-three : (s : Store) (text : List ℕ) (line : Line) → (load_line_of s text line).1 ≡ Refused 3
-    → ended s (Refused 3) ≡ whole_line_of s text line
+whole-three : (s : Store) (text : List ℕ) (line : Line) → (load_line_of s text line).1 ≡ Came.Refused 3
+    → ended s (Came.Refused 3) ≡ whole_line_of s text line
 unfolding whole_line_of
 whole-three s text line e = rw e
 
@@ -250,7 +250,7 @@ module _ (c : Counters) (m : Tables) (text : List ℕ) (qs : List ScanCursor) wh
         triple-kept x y z (with-room c m S qs (names_in text x y z) (parts_held text x y z e) L.listed L.room h)
 
     sound-three : (line : Line) → Read text line → room_for_line ns c m text line ≡ false
-        → ended here (Refused 3) ≡ whole_line_of here text line
+        → ended here (Came.Refused 3) ≡ whole_line_of here text line
     unfolding load_line_of
     sound-three answer.End e h = absurd (false≢true (sym h))
     sound-three answer.Nothing e h = absurd (false≢true (sym h))
@@ -281,9 +281,9 @@ module _ {c : Counters} {m : Tables} {text : List ℕ} {line : Line} {b : Bool} 
     unread = λ h qs. L.unread h qs ∙ none_kept c m text qs first h;
   }
 
-  pub refuses-whole : {n : ℕ} → b ≡ false → n ≡ 3 → LoadsWhole c m m text first (record { counters = c; outcome = Refused n })
-  refuses-whole t q = rw q (record {
+  pub refuses-whole : b ≡ false → LoadsWhole c m m text first (record { counters = c; outcome = Err Full })
+  refuses-whole t = record {
     sound = λ S qs. sound-three c m text qs S first refl (sym (told S qs) ∙ t);
     capacity = λ f. absurd (false≢true (sym t ∙ A'.capacity f));
     unread = λ h. absurd (false≢true (sym t ∙ A'.unread h));
-  })
+  }

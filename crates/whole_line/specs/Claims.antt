@@ -15,13 +15,13 @@ use Rattle.graph.specs.Meaning.{RdfTriple}
 use Rattle.graph.specs.Graph.{named}
 use Rattle.lines.specs.Claims.{names_in}
 use Rattle.loader.specs.declared.line.LineLoaded.{LineLoaded}
-use Rattle.loader.specs.Lines.{refusal_in, Loads}
+use Rattle.loader.specs.Lines.{came, refusal_in, Loads}
 use Rattle.whole_line.specs.Whole.{LoadsWhole}
 use Rattle.whole_line.specs.Room.{names_with, names_last_first}
 
 pub record WholeOrNothing (c : Counters) (m m' : Tables) (text : List ℕ) (line : Line) (r : LineLoaded) : Type 0 where
-  pub refused : refusal_in r.outcome ≢ 0 → (m' ≡ m) × (r.counters ≡ c)
-  pub loaded : refusal_in r.outcome ≡ 0 → Loads c m m' text line r
+  pub refused : refusal_in (came r.outcome) ≢ 0 → (m' ≡ m) × (r.counters ≡ c)
+  pub loaded : refusal_in (came r.outcome) ≡ 0 → Loads c m m' text line r
 
 abbrev pub RefusedChangesNothing : Type 0
 RefusedChangesNothing = (c : Counters) (m m' : Tables) (text : List ℕ) (line : Line) (r : LineLoaded) → Sound c m
@@ -49,4 +49,4 @@ pub record TripleAnswered (c : Counters) (m : Tables) (y : RdfTriple) (refusal :
 abbrev pub RefusedForRoom : Type 0
 RefusedForRoom = (c : Counters) (m m' : Tables) (text : List ℕ) (x y z : Span) (r : LineLoaded) → Sound c m
     → (read_of name_limit text 0).line ≡ answer.Triple x y z → LoadsWhole c m m' text (answer.Triple x y z) r
-    → TripleAnswered c m (names_in text x y z) (refusal_in r.outcome)
+    → TripleAnswered c m (names_in text x y z) (refusal_in (came r.outcome))

@@ -4,35 +4,29 @@
 #![tactic(auto)]
 
 ghost use Rattle.term.specs.Grammar.{name_limit};
-ghost use Rattle.store.specs.Tables.{tables};
+ghost use Rattle.table.specs.Lent.{held_mut, SameSlices};
 ghost use Rattle.ntriples.specs.Reader.{read_of};
 ghost use Rattle.whole_line.specs.Whole.{LoadsWhole};
 
-use loader::line::{LineLoaded, Outcome};
+use loader::line::LineLoaded;
 use store::{Counters, Refusal};
+use table::lent::TablesMut;
 
 mod room;
 
 // Loads the first line of the source, of any length: all of it, or nothing where it is refused.
-pub fn load_whole(
-    c: Counters,
-    resources: &mut [u32],
-    statements: &mut [u32],
-    index: &mut [u32],
-    text: &mut [u8],
-    source: &[u8],
-) -> LineLoaded
-    ensures { LoadsWhole c (tables resources.old statements.old index.old text.old)
-        (tables resources.new statements.new index.new text.new)
+pub fn load_whole(c: Counters, tables: &mut TablesMut, source: &[u8]) -> LineLoaded
+    ensures same { SameSlices tables.new tables.old }
+    ensures loads { LoadsWhole c (held_mut tables.old) (held_mut tables.new)
         source.now (read_of name_limit source.now 0).line result }
 {
     let read = ntriples::read_line(source, 0);
     let line = read.line;
-    if !room::for_line(c, resources, statements, index, text, source, line) {
+    if !room::for_line(c, tables.read(), source, line) {
         return LineLoaded {
             counters: c,
-            outcome: Outcome::Refused(store::refusal_number(Refusal::Full)),
+            outcome: Err(Refusal::Full),
         };
     }
-    loader::line::load_first(c, resources, statements, index, text, source)
+    loader::line::load_first(c, tables, source)
 }

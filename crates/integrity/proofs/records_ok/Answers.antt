@@ -1,7 +1,5 @@
-use Rattle.table.proofs.Branches.{passed}
 use Rattle.integrity.proofs.Ranges.{stops, goes_on}
 use Rattle.integrity.specs.Records.{records_ok}
-use borrow.Author.Rules.{rules}
 use Rattle.integrity.proofs.records_ok.Goals as goal
 
 pub returns-then-not-each_ok : goal.returns-then-not-each_ok
@@ -13,10 +11,6 @@ unfolding records_ok
 returns-then-not-all_chains_sound c =
     goes_on c.each_ok.ensures c.if-not-each_ok.false
     (stops _ c.all_chains_sound.ensures c.if-not-all_chains_sound.true)
-
-pub all_stand_once-requires : goal.all_stand_once-requires
-all_stand_once-requires c = let each = passed c.each_ok.ensures c.if-not-each_ok.false in
-    search rules
 
 pub returns : goal.returns
 unfolding records_ok

@@ -1,18 +1,14 @@
 -- `lemontiller::lt_retract` meets its contract. Assumes nothing.
 use Rattle.lemontiller.proofs.Writes.{retract-done}
 use Rattle.capi_calls.specs.Calls.{retract_call}
-use Rattle.lemontiller.proofs.Lengths.{short-counters, short-reply}
+use Rattle.lemontiller.proofs.Lengths.{short}
 use Rattle.lemontiller.proofs.lt_retract.Goals as goal
 
-pub returns-then-counters-lt-COUNTER_WORDS : goal.returns-then-counters-lt-COUNTER_WORDS
+pub returns-in_default : goal.returns-in_default
 unfolding retract_call
-returns-then-counters-lt-COUNTER_WORDS c = short-counters _ _ _ _ _ c.if-counters-lt-COUNTER_WORDS.true
-
-pub returns-then-reply-lt-NUMBER_REPLY_WORDS : goal.returns-then-reply-lt-NUMBER_REPLY_WORDS
-unfolding retract_call
-returns-then-reply-lt-NUMBER_REPLY_WORDS c = short-reply _ _ _ _ _ c.if-counters-lt-COUNTER_WORDS.false c.if-reply-lt-NUMBER_REPLY_WORDS.true
+returns-in_default c = short _ _ _ _ _ c.in_default.ensures
 
 pub returns : goal.returns
 returns c =
-    retract-done _ _ _ c.counters_of-c.ensures c.triple_of-x.ensures
-    c.retract.ensures c.retract_answer-a.ensures c.if-counters-lt-COUNTER_WORDS.false c.if-reply-lt-NUMBER_REPLY_WORDS.false
+    retract-done _ _ _ c.in-Some.ensures.0 c.triple_of-x.ensures
+    c.retract.ensures c.retract_answer-a.ensures c.in-Some.ensures.1 c.in-Some.ensures.2

@@ -2,23 +2,19 @@
 use mathlib.Core.Path.{refl}
 use Rattle.lemontiller.proofs.Writes.{open-refused, open-opened}
 use Rattle.capi_calls.specs.Calls.{open_call}
-use Rattle.lemontiller.proofs.Lengths.{short-counters, short-reply}
+use Rattle.lemontiller.proofs.Lengths.{short}
 use Rattle.lemontiller.proofs.lt_scan_open.Goals as goal
 
-pub returns-then-counters-lt-COUNTER_WORDS : goal.returns-then-counters-lt-COUNTER_WORDS
+pub returns-in_default : goal.returns-in_default
 unfolding open_call
-returns-then-counters-lt-COUNTER_WORDS c = short-counters _ _ _ _ _ c.if-counters-lt-COUNTER_WORDS.true
+returns-in_default c = short _ _ _ _ _ c.in_default.ensures
 
-pub returns-then-cursor-lt-CURSOR_WORDS : goal.returns-then-cursor-lt-CURSOR_WORDS
-unfolding open_call
-returns-then-cursor-lt-CURSOR_WORDS c = short-reply _ _ _ _ _ c.if-counters-lt-COUNTER_WORDS.false c.if-cursor-lt-CURSOR_WORDS.true
+pub returns-in-Err : goal.returns-in-Err
+returns-in-Err c =
+    open-refused _ _ _ c.in-Some.ensures.0 c.triple_of-x.ensures
+    c.in-Err.ensures refl c.refusal_number.ensures c.in-Some.ensures.1 c.in-Some.ensures.2
 
-pub returns-in-Refused : goal.returns-in-Refused
-returns-in-Refused c =
-    open-refused _ _ _ c.counters_of-c.ensures c.triple_of-x.ensures
-    c.in-Refused.ensures refl c.refusal_number.ensures c.if-counters-lt-COUNTER_WORDS.false c.if-cursor-lt-CURSOR_WORDS.false
-
-pub returns-in-Cursor : goal.returns-in-Cursor
-returns-in-Cursor c =
-    open-opened _ _ _ c.counters_of-c.ensures c.triple_of-x.ensures
-    c.in-Cursor.ensures refl c.put_cursor.ensures c.if-counters-lt-COUNTER_WORDS.false c.if-cursor-lt-CURSOR_WORDS.false
+pub returns-in-Ok : goal.returns-in-Ok
+returns-in-Ok c =
+    open-opened _ _ _ c.in-Some.ensures.0 c.triple_of-x.ensures
+    c.in-Ok.ensures refl c.put_cursor.ensures c.in-Some.ensures.1 c.in-Some.ensures.2

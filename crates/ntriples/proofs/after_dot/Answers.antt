@@ -2,32 +2,22 @@
 use Prim.Native.Nat.{◌+◌}
 use mathlib.Core.Path.{sym, ◌∙◌, ap}
 use mathlib.Core.List.{List, [], ◌∷◌}
-use native.Mathlib.Omega.{arith}
 use Rattle.ntriples.specs.declared.Span.{Span}
 use Rattle.ntriples.specs.Reader.{answer_of}
 use Rattle.ntriples.specs.Productions.{OnLine}
 use Rattle.ntriples.proofs.Sequence.{line-of, line-next, run-reached, after-end, after-odd, after-note}
 use Rattle.ntriples.proofs.Sequence.{comment-after-dot-end, comment-after-dot-odd}
-use borrow.Author.Rules.{rules}
 use Rattle.ntriples.proofs.after_dot.Goals as goal
 use Rattle.ntriples.proofs.after_dot.Goals.{After-white_space-a, Else-text-a-ne35, Start}
 
 abbrev parts : Start → List Span
 parts d = d.args.s ∷ (d.args.p ∷ (d.args.o ∷ []))
 
--- where the white space ends
-reached : (c : After-white_space-a)
-    → (OnLine c.args.text.now c.args.at c.white_space-a.result c.args.stop)
-reached c = run-reached c.requires c.white_space-a.ensures
-
 -- the comment begins after its `#`
 noted : (c : Else-text-a-ne35)
     → (
     OnLine c.args.text.now c.args.at (c.white_space-a.result + 1) c.args.stop)
-noted c = line-next (reached (goal.at.overflow_add-a c).After-white_space-a) c.if-a-stop.false
-
-pub white_space-a-requires : goal.white_space-a-requires
-white_space-a-requires c = line-of c.requires
+noted c = line-next (run-reached c.requires c.white_space-a.ensures) c.if-a-stop.false
 
 pub returns-then-a-stop : goal.returns-then-a-stop
 unfolding answer_of
@@ -35,26 +25,11 @@ returns-then-a-stop c = let d = (goal.at.returns-then-a-stop c).Start in
     sym (ap (answer_of d.args.at) (after-end (line-of d.requires) c.white_space-a.ensures (parts d)
     c.if-a-stop.true))
 
-pub bounds-text-a : goal.bounds-text-a
-bounds-text-a c = let w = reached (goal.at.bounds-text-a c).After-white_space-a in omega arith
-
-pub overflow_sub-result : goal.overflow_sub-result
-overflow_sub-result c = let w = reached (goal.at.overflow_sub-result c).After-white_space-a in omega arith
-
 pub returns-then-text-a-ne35 : goal.returns-then-text-a-ne35
 unfolding answer_of
 returns-then-text-a-ne35 c = let d = (goal.at.returns-then-text-a-ne35 c).Start in
     sym (ap (answer_of d.args.at) (after-odd (line-of d.requires) c.white_space-a.ensures
     (parts d) c.if-a-stop.false c.if-text-a-ne35.true))
-
-pub overflow_add-a : goal.overflow_add-a
-overflow_add-a c = let w = noted c in search rules
-
-pub comment-end-requires : goal.comment-end-requires
-comment-end-requires c = line-of (noted c)
-
-pub overflow_sub-result-then-end-stop : goal.overflow_sub-result-then-end-stop
-overflow_sub-result-then-end-stop c = let w = run-reached (noted (goal.at.overflow_sub-result-then-end-stop c).Else-text-a-ne35) c.comment-end.ensures in omega arith
 
 pub returns-then-end-stop : goal.returns-then-end-stop
 unfolding answer_of

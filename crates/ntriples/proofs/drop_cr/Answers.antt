@@ -1,5 +1,4 @@
 -- The three ways in which a line ends before its LF. Assumes nothing.
-use native.Mathlib.Omega.{arith}
 use borrow.Author.Tests.{eq-eqb, ne_eqb}
 use Rattle.ntriples.specs.Productions.{cr_dropped}
 use Rattle.ntriples.proofs.drop_cr.Goals as goal
@@ -7,19 +6,6 @@ use Rattle.ntriples.proofs.drop_cr.Goals as goal
 pub returns-then-lf-at : goal.returns-then-lf-at
 unfolding cr_dropped
 returns-then-lf-at c = rw (eq-eqb c.args.lf c.args.at c.if-lf-at.true)
-
-pub overflow_sub-lf : goal.overflow_sub-lf
-overflow_sub-lf c = let h = c.requires.before in let n = c.if-lf-at.false in omega arith
-
-pub bounds-text-lf : goal.bounds-text-lf
-bounds-text-lf c = let h = c.requires.in_text in let k = c.requires.before in let n =
-    c.if-lf-at.false in omega arith
-
-pub overflow_sub-result : goal.overflow_sub-result
-overflow_sub-result c =
-    let k = c.requires.before in
-    let n = c.if-lf-at.false in
-    omega arith
 
 pub returns-then-text-lf-eq13 : goal.returns-then-text-lf-eq13
 unfolding cr_dropped

@@ -2,7 +2,6 @@
 use mathlib.Core.Path.{◌≡◌, sym, ◌∙◌}
 use mathlib.Core.Bool.{Bool}
 use lib.ListN.{get_or}
-use native.Mathlib.Omega.{arith}
 use Rattle.ntriples.specs.Reader.{opens}
 use Rattle.ntriples.proofs.Sequence.{term-none, term-closed, term-opened}
 use Rattle.ntriples.proofs.earlier_term.Goals as goal
@@ -16,13 +15,6 @@ tested c e = sym c.opens_term.ensures ∙ e
 pub returns-then-a-stop : goal.returns-then-a-stop
 returns-then-a-stop c = let a = c.args in term-none a.text.now a.stop a.a a.more c.if-a-stop.true
 
-pub bounds-text-a : goal.bounds-text-a
-bounds-text-a c = let p = c.requires.not_white in
-    let h = p.before in
-    let k = p.in_text in
-    let n = c.if-a-stop.false in
-    omega arith
-
 pub returns-then-not-opens_term : goal.returns-then-not-opens_term
 returns-then-not-opens_term c =
     let a = c.args in
@@ -34,8 +26,3 @@ term_end-requires c =
     let a = c.args in
     term-opened a.text.now a.stop a.a a.more c.requires.not_white c.if-a-stop.false
     (tested (goal.at.term_end-requires c).After-opens_term c.if-not-opens_term.false)
-
-pub returns : goal.returns
-returns c =
-    c.term_end.ensures c.args.more c.requires.le_more
-    (tested (goal.at.returns c).After-opens_term c.if-not-opens_term.false)

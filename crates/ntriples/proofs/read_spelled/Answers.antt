@@ -5,24 +5,12 @@ use borrow.Author.Tests.{le-leb}
 use Rattle.ntriples.specs.Reader.{read_spelled}
 use mathlib.Core.Logic.{inl, inr}
 use Rattle.ntriples.proofs.Sequence.{stops-inline, read-stops}
-use borrow.Author.Rules.{rules}
 use Rattle.ntriples.proofs.read_spelled.Goals as goal
 use Rattle.ntriples.proofs.read_spelled.Goals.{then-eol-text, else-eol-text}
 
 pub returns-then-at-text : goal.returns-then-at-text
 unfolding read_spelled
 returns-then-at-text c = let a = c.args in rw (le-leb _ a.at c.if-at-text.true)
-
-pub end_of_line-eol-requires : goal.end_of_line-eol-requires
-end_of_line-eol-requires c = let n = c.if-at-text.false in omega arith
-
-pub drop_cr-stop-requires : goal.drop_cr-stop-requires
-drop_cr-stop-requires c = let e = c.end_of_line-eol.ensures in record { before = e.after; in_text = e.before }
-
-pub overflow_add-next : goal.overflow_add-next
-overflow_add-next c = let e = c.end_of_line-eol.ensures.before in
-    let n = c.if-eol-text.true in
-    search rules
 
 pub whole_line-line-requires : goal.whole_line-line-requires
 whole_line-line-requires c = let a = c.args in

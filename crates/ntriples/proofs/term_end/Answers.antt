@@ -12,9 +12,6 @@ scanned c =
     term-scanned c.args.text.now c.args.stop c.args.a c.cut.result c.scan_term-h.result
     c.requires c.cut.ensures c.scan_term-h.ensures
 
-pub cut-requires : goal.cut-requires
-cut-requires c = let h = c.requires.before in omega arith
-
 pub overflow_sub-i : goal.overflow_sub-i
 overflow_sub-i c = let l = (scanned c).low in omega arith
 

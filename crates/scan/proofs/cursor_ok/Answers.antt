@@ -2,7 +2,6 @@ use Rattle.table.proofs.Branches.{failed, passed}
 use borrow.Author.Tests.{le-leb}
 use Rattle.store.specs.Tables.{tables}
 use Rattle.store.specs.Scan.{cursor_ok}
-use Rattle.chain.proofs.Plans.{planned}
 use Rattle.scan.proofs.Cursors.{past-last, chain_by, record-told}
 use Rattle.scan.proofs.cursor_ok.Goals as goal
 
@@ -17,10 +16,6 @@ returns-then-q-c c =
       tells = λ r i t. past-last a.c (tables r a.statements.now i t) a.q
           (passed c.within.ensures c.if-not-within.false) c.if-q-c.true;
     }
-
-pub chain_fits-requires : goal.chain_fits-requires
-chain_fits-requires c =
-    planned c.args.plan c.args.q.chain c.args.q.pattern c.requires.1
 
 pub returns-then-not-chain_fits : goal.returns-then-not-chain_fits
 unfolding cursor_ok

@@ -1,17 +1,12 @@
 -- The words with a name's number. Assumes nothing.
-use Rattle.shell_words.proofs.WordLaws.{number-unknown, number-known}
+use Rattle.std.proofs.Common.{refl}
+use Rattle.shell_words.proofs.WordLaws.{number-unknown}
 use Rattle.shell_words.proofs.with_number.Goals as goal
 
-pub returns-then-f-ne0 : goal.returns-then-f-ne0
-returns-then-f-ne0 c z l = absurd (c.if-f-ne0.true z)
+pub returns-in-Some : goal.returns-in-Some
+returns-in-Some c l = rw c.in-Some.is c.with_word.ensures
 
-pub returns-then-f-eq-UNKNOWN : goal.returns-then-f-eq-UNKNOWN
-returns-then-f-eq-UNKNOWN c =
+pub returns-in-None : goal.returns-in-None
+returns-in-None c l =
     let a = c.args in
-    number-unknown a.w a.i a.f c.with_word-r.result c.with_word-r.ensures c.wrapping_add_u32.result
-    c.if-f-eq-UNKNOWN.true c.wrapping_add_u32.ensures.value
-
-pub returns-else-f-eq-UNKNOWN : goal.returns-else-f-eq-UNKNOWN
-returns-else-f-eq-UNKNOWN c =
-    let a = c.args in
-    number-known a.w a.i a.f c.with_word-r.result c.with_word-r.ensures c.if-f-eq-UNKNOWN.false
+    rw c.in-None.is (number-unknown a.w a.i c.with_word-r.result c.with_word-r.ensures _ refl l)

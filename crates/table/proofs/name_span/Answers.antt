@@ -1,17 +1,15 @@
+use Rattle.table.specs.Lent.{held}
 use Rattle.store.specs.Reading.{in_range, name_span_of}
-use Rattle.store.specs.Tables.{Tables, lent, fits}
+use Rattle.store.specs.Tables.{fits}
 use Rattle.table.proofs.Branches.{passed, first-refuses, second-refuses}
 use Rattle.table.proofs.Capacity.{fits-room}
 use Rattle.table.proofs.Held.{resource-held}
 use mathlib.Core.Path.{◌≡◌}
 use mathlib.Core.Bool.{true}
 use Rattle.table.proofs.name_span.Goals as goal
-use Rattle.table.proofs.name_span.Goals.{Else-not-in_range, Start}
+use Rattle.table.proofs.name_span.Goals.{Else-not-in_range}
 
-abbrev tables_of : Start → Tables
-tables_of s = let a = s.args in lent a.resources a.statements a.index a.text
-
-fit : (c : Else-not-in_range) → fits c.args.c (tables_of (goal.at.offset_at-from-requires c).Start) ≡ true
+fit : (c : Else-not-in_range) → fits c.args.c (held c.args.tables) ≡ true
 fit c = passed c.fits.ensures c.if-not-fits.false
 
 numbered : (c : Else-not-in_range) → in_range c.args.c.resources c.args.n.0 ≡ true
@@ -29,10 +27,11 @@ returns-then-not-in_range c =
 
 pub offset_at-from-requires : goal.offset_at-from-requires
 offset_at-from-requires c =
-    resource-held c.args.c (tables_of (goal.at.offset_at-from-requires c).Start) (fit c) c.args.n.0 (numbered c)
+    let d = (goal.at.offset_at-from-requires c).Else-not-in_range in
+    resource-held c.args.c (held c.args.tables) (fit d) c.args.n.0 (numbered d)
 
 pub span_at-requires : goal.span_at-requires
-span_at-requires c = let s = (goal.at.span_at-requires c).Start in (fits-room s.args.c (tables_of s) (fit (goal.at.span_at-requires c).Else-not-in_range)).in-text
+span_at-requires c = (fits-room c.args.c (held c.args.tables) (fit (goal.at.span_at-requires c).Else-not-in_range)).in-text
 
 pub returns : goal.returns
 unfolding name_span_of

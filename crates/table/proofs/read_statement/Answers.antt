@@ -1,8 +1,10 @@
+use Rattle.std.specs.Prelude.{Err}
+use Rattle.store.specs.Replies.{read_as}
+use Rattle.table.specs.Lent.{held}
 use Rattle.store.specs.Reading.{in_range, statement_of}
-use Rattle.store.specs.declared.StatementRead.TheVariants.{Is, Refused}
 use Rattle.store.specs.declared.Refusal.TheVariants.{Damaged}
 use Rattle.store.specs.Shared.{unless}
-use Rattle.store.specs.Tables.{Tables, lent, fits}
+use Rattle.store.specs.Tables.{fits}
 use Rattle.table.specs.Held.{StatementHeld}
 use Rattle.table.proofs.Branches.{passed, failed, first-refuses, second-refuses}
 use Rattle.table.proofs.Held.{statement-held}
@@ -11,25 +13,22 @@ use mathlib.Core.Path.{◌≡◌, sym, ◌∙◌}
 use mathlib.Core.Bool.{true}
 use borrow.Author.Tests.{le-leb, lt-leb}
 use Rattle.table.proofs.read_statement.Goals as goal
-use Rattle.table.proofs.read_statement.Goals.{After-flag_at-flag, Else-not-in_range, Start}
+use Rattle.table.proofs.read_statement.Goals.{After-flag_at-flag, Else-not-in_range}
 
-abbrev tables_of : Start → Tables
-tables_of s = let a = s.args in lent a.resources a.statements a.index a.text
-
-fit : (c : Else-not-in_range) → fits c.args.c (tables_of (goal.at.triple_at-spo-requires c).Start) ≡ true
+fit : (c : Else-not-in_range) → fits c.args.c (held c.args.tables) ≡ true
 fit c = passed c.fits.ensures c.if-not-fits.false
 
 numbered : (c : Else-not-in_range) → in_range c.args.c.statements c.args.n.0 ≡ true
 numbered c = passed c.in_range.ensures c.if-not-in_range.false
 
-held : (c : Else-not-in_range) → StatementHeld c.args.statements.now c.args.n.0
-held c = statement-held c.args.c (tables_of (goal.at.triple_at-spo-requires c).Start) (fit c) c.args.n.0 (numbered c)
+record-held : (c : Else-not-in_range) → StatementHeld c.args.tables.statements.now c.args.n.0
+record-held c = statement-held c.args.c (held c.args.tables) (fit c) c.args.n.0 (numbered c)
 
 -- the answer by the record's words
 told : (c : After-flag_at-flag)
-    → (let a = c.args in statement_of a.c (lent a.resources a.statements a.index a.text) a.n
-    ≡ unless (leb c.flag_at-flag.result 1) (Refused Damaged)
-    (Is c.triple_at-spo.result c.flag_at-flag.result))
+    → (let a = c.args in statement_of a.c (held a.tables) a.n
+    ≡ unless (leb c.flag_at-flag.result 1) (Err Damaged)
+    (read_as c.triple_at-spo.result c.flag_at-flag.result))
 unfolding statement_of
 told c =
     rw (
@@ -51,7 +50,7 @@ returns-then-not-in_range c =
     c.in_range.ensures c.if-not-in_range.true
 
 pub triple_at-spo-requires : goal.triple_at-spo-requires
-triple_at-spo-requires c = held c
+triple_at-spo-requires c = record-held (goal.at.triple_at-spo-requires c).Else-not-in_range
 
 pub returns-then-not-known : goal.returns-then-not-known
 unfolding statement_of
@@ -59,7 +58,7 @@ returns-then-not-known c = let d = (goal.at.returns-then-not-known c).Else-not-i
     rw (fit d, numbered d, ← c.triple_at-spo.ensures, failed c.known.ensures c.if-not-known.true)
 
 pub flag_at-flag-requires : goal.flag_at-flag-requires
-flag_at-flag-requires c = held (goal.at.flag_at-flag-requires c).Else-not-in_range
+flag_at-flag-requires c = record-held (goal.at.flag_at-flag-requires c).Else-not-in_range
 
 pub returns-then-flag-gt1 : goal.returns-then-flag-gt1
 returns-then-flag-gt1 c = sym (told (goal.at.returns-then-flag-gt1 c).After-flag_at-flag ∙ rw (lt-leb _ _ c.if-flag-gt1.true))

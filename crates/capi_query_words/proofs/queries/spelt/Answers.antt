@@ -22,6 +22,6 @@ returns-then-words-ne1 c = let if1 = c.if-words-gt2 in
 pub returns : goal.returns
 returns c = let a = c.args in
     let if2 = c.if-words-ne1 in
-    let slots = c.slots-d in
+    let slots = c.slots in
     let chains-spelt = c.chains_spelt in
     spelt-within a.words.now if2.false slots.ensures.0 chains-spelt.ensures

@@ -1,9 +1,9 @@
-use mathlib.Core.Path.{◌≡◌}
+use mathlib.Core.Path.{◌≡◌, sym, ◌∙◌}
 use mathlib.Core.Bool.{true}
 use Prim.Native.Nat.{◌-◌}
 use lib.Dec.{eqb}
 use native.Mathlib.Omega.{arith}
-use borrow.Author.Tests.{eq-eqb, ne_eqb}
+use borrow.Author.Tests.{not-true, not-false}
 use Rattle.store.specs.Tables.{term_at}
 use Rattle.chain_walk.proofs.Walks.{follow-all, follow-other, follow-climbs, follow-falls}
 use Rattle.chain_walk.proofs.walk.follow.Goals as goal
@@ -17,14 +17,14 @@ same-resource : (f : After-next_at-next)
 same-resource f =
     let d = f in
     let a = d.args in
-    rw (← d.term_at-z.ensures) (eq-eqb d.term_at-z.result.0 a.y.0 (omega arith))
+    rw (← d.term_at-z.ensures) (not-false _ (sym d.ne.ensures ∙ d.if-ne.false))
 
-pub returns-then-z-y : goal.returns-then-z-y
-returns-then-z-y c =
+pub returns-then-ne : goal.returns-then-ne
+returns-then-ne c =
     let a = c.args in
     rw c.in-By.is
     (follow-other a.statements.now a.y.0 (a.n.0 - 1) c.in-By.p
-    (rw (← c.term_at-z.ensures) (ne_eqb c.term_at-z.result.0 a.y.0 c.if-z-y.true)))
+    (rw (← c.term_at-z.ensures) (not-true _ (sym c.ne.ensures ∙ c.if-ne.true))))
 
 pub returns-then-next-n : goal.returns-then-next-n
 returns-then-next-n c = let f = (goal.at.returns-then-next-n c).After-next_at-next in

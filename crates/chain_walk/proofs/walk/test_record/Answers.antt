@@ -2,6 +2,7 @@ use mathlib.Core.Path.{◌≡◌, sym, ap, ◌∙◌}
 use mathlib.Core.Bool.{true}
 use Prim.Native.Nat.{◌-◌}
 use native.Mathlib.Omega.{arith}
+use Rattle.std.proofs.lemmas.Result.{err_from_is_err_and}
 use Rattle.table.proofs.Branches.{passed, failed}
 use Rattle.store.specs.Shared.{known}
 use Rattle.store.specs.Tables.{triple_at}
@@ -26,20 +27,20 @@ pub returns-then-flag-gt1 : goal.returns-then-flag-gt1
 returns-then-flag-gt1 c =
     let d = (goal.at.returns-then-flag-gt1 c).Else-not-known in
     let a = d.args in
-    test-flag a.r a.statements.now a.chain a.y.0 (a.n.0 - 1) (is_known d) c.in-To.next
-    (sym c.in-To.ensures) (rw (← c.flag_at-flag.ensures) (omega arith))
+    test-flag a.r a.statements.now a.chain a.y.0 (a.n.0 - 1) (is_known d) _
+    (sym c.in_ok-next.ensures) (rw (← c.flag_at-flag.ensures) (omega arith))
 
-pub returns-in-Broken : goal.returns-in-Broken
-returns-in-Broken c = let d = (goal.at.returns-in-Broken c).Else-not-known in
+pub returns-in_err-next : goal.returns-in_err-next
+returns-in_err-next c = let d = (goal.at.returns-in_err-next c).Else-not-known in
     let a = d.args in
-    test-broken a.r a.statements.now a.chain a.y.0 (a.n.0 - 1) (is_known d)
-    (sym c.in-Broken.ensures)
+    let p = err_from_is_err_and c.from_residual.result c.from_residual.ensures.1 in
+    rw (p.1, p.2)
+    (test-broken a.r a.statements.now a.chain a.y.0 (a.n.0 - 1) (is_known d) _ (sym c.in_err-next.ensures))
 
-pub returns-else-flag-gt1 : goal.returns-else-flag-gt1
-returns-else-flag-gt1 c =
-    let d = (goal.at.returns-else-flag-gt1 c).Else-not-known in
+pub returns : goal.returns
+returns c =
+    let d = (goal.at.returns c).Else-not-known in
     let a = d.args in
     rw (d.triple_at-t.ensures, c.flag_at-flag.ensures)
-    (test-is a.r a.statements.now a.chain a.y.0 (a.n.0 - 1) (is_known d) c.in-To.next
-    (sym c.in-To.ensures)
+    (test-is a.r a.statements.now a.chain a.y.0 (a.n.0 - 1) (is_known d) _ (sym c.in_ok-next.ensures)
     (rw (← c.flag_at-flag.ensures) (omega arith)))

@@ -6,23 +6,17 @@ use mathlib.Core.Path.{◌≡◌, refl, sym}
 use Rattle.compaction.proofs.sweep.sweep.Goals as goal
 
 pub loop-done-init : goal.loop-done-init
-loop-done-init c = let a = c.args in
-    (omega arith, refl, refl, sym (sweep-none (swept 0 a.resources.now a.statements.now)))
+loop-done-init c = let a = c.args in (refl, refl, sym (sweep-none (swept 0 a.resources.now a.statements.now)))
 
 pub sweep_one-live-requires : goal.sweep_one-live-requires
 sweep_one-live-requires c = let loop = c.loop-done in
-    let pre = c.requires in
-    turn-asks loop.done _ _ loop.invariant.3 _ pre c.loop-done-test.true
+    turn-asks loop.done _ _ loop.invariant.2 _ c.requires c.loop-done-test.true
 
 pub loop-done-preserved : goal.loop-done-preserved
-loop-done-preserved c = let loop = c.loop-done in (
-  omega arith,
-  omega arith,
-  omega arith,
-  turn-makes loop.done _ _ loop.invariant.3 _ c.sweep_one-live.ensures,
-)
+loop-done-preserved c = let loop = c.loop-done in
+    (omega arith, omega arith, turn-makes loop.done _ _ loop.invariant.2 _ c.sweep_one-live.ensures)
 
 pub returns : goal.returns
 returns c = let loop = c.loop-done in
     let e : loop.done ≡ c.args.t = omega arith in
-    rw e at loop.invariant.3
+    rw e at loop.invariant.2

@@ -1,13 +1,9 @@
 use Rattle.store.specs.Reclaim.{swept, sweep}
 use lib.ListN.{length}
 use mathlib.Core.Path.{◌≡◌}
-use Prim.Native.Nat.{◌-◌, ◌≤◌}
 use Rattle.compaction.proofs.sweep.sweep.Given as goal
 
 abbrev pub invariant-loop-done : goal.invariant-loop-done
 invariant-loop-done l =
-    (l.done ≤ l.t) × (length l.resources ≡ length l.initial.resources) × (length l.statements ≡ length l.initial.statements)
+    (length l.resources ≡ length l.initial.resources) × (length l.statements ≡ length l.initial.statements)
     × (swept l.live l.resources l.statements ≡ sweep l.done (swept 0 l.initial.resources l.initial.statements))
-
-abbrev pub decreases-loop-done : goal.decreases-loop-done
-decreases-loop-done l = l.t - l.done

@@ -1,3 +1,4 @@
+use Rattle.std.proofs.lemmas.Result.{err_from_is_err_and}
 use Rattle.exporter.proofs.Measuring.{counted-on, line-unknown, subject-none, predicate-none, object-last}
 use Rattle.store.specs.declared.Position.TheVariants.{Subject, Predicate, Object}
 use Rattle.store.specs.Shared.{known}
@@ -19,9 +20,6 @@ held : (c : Else-not-known)
     → TripleHeld c.args.resources.now c.triple_at-x.result
 held c = triple-held _ _ _ c.requires.readable.in-resources (is_known c)
 
-pub triple_at-x-requires : goal.triple_at-x-requires
-triple_at-x-requires c = let pre = c.requires in record { from_one = omega arith; whole = omega arith }
-
 pub returns-then-not-known : goal.returns-then-not-known
 returns-then-not-known c =
     line-unknown _ _ _ _ _ _ c.triple_at-x.ensures
@@ -33,37 +31,38 @@ add_name-requires c = record {
   end_in_bounds = (c.requires.readable.in-text, omega arith);
 }
 
-pub add_name-requires-in-Bytes : goal.add_name-requires-in-Bytes
-add_name-requires-in-Bytes c =
+pub add_name-requires-2 : goal.add_name-requires-2
+add_name-requires-2 c =
     let room = c.requires.readable.in-text in
-    let a = counted-on _ _ room _ _ _ c.in-Bytes.ensures in
+    let a = counted-on _ _ room _ _ _ c.in_ok-a.ensures in
     record {
-      resource_held = (held (goal.at.add_name-requires-in-Bytes c).Else-not-known).each Predicate;
+      resource_held = (held (goal.at.add_name-requires-2 c).Else-not-known).each Predicate;
       end_in_bounds = (room, omega (arith, a));
     }
 
-pub add_name-requires-in-Bytes-add_name : goal.add_name-requires-in-Bytes-add_name
-add_name-requires-in-Bytes-add_name c =
+pub add_name-requires-3 : goal.add_name-requires-3
+add_name-requires-3 c =
     let room = c.requires.readable.in-text in
-    let a = counted-on _ _ room _ _ _ c.in-Bytes.ensures in
-    let b = counted-on _ _ room _ _ _ c.in-Bytes-add_name.ensures in
+    let a = counted-on _ _ room _ _ _ c.in_ok-a.ensures in
+    let b = counted-on _ _ room _ _ _ c.in_ok-b.ensures in
     record {
-      resource_held = (held (goal.at.add_name-requires-in-Bytes-add_name c).Else-not-known).each Object;
+      resource_held = (held (goal.at.add_name-requires-3 c).Else-not-known).each Object;
       end_in_bounds = (room, omega (arith, a, b));
     }
 
-pub returns-in-Unreadable : goal.returns-in-Unreadable
-returns-in-Unreadable c = let e = (goal.at.returns-in-Unreadable c).Else-not-known in
-    subject-none _ _ _ _ _ _ c.triple_at-x.ensures (is_known e) c.in-Unreadable.ensures
+pub returns-in_err-a : goal.returns-in_err-a
+returns-in_err-a c =
+    let e = (goal.at.returns-in_err-a c).Else-not-known in
+    let p = err_from_is_err_and c.from_residual.result c.from_residual.ensures.1 in rw (p.1, p.2)
+    (subject-none _ _ _ _ _ _ c.triple_at-x.ensures (is_known e) _ c.in_err-a.ensures)
 
-pub returns-in-Unreadable-add_name : goal.returns-in-Unreadable-add_name
-returns-in-Unreadable-add_name c =
-    let e = (goal.at.returns-in-Unreadable-add_name c).Else-not-known in
-    predicate-none _ _ _ _ _ _ c.triple_at-x.ensures (is_known e) _ c.in-Bytes.ensures
-    c.in-Unreadable-add_name.ensures
+pub returns-in_err-b : goal.returns-in_err-b
+returns-in_err-b c =
+    let e = (goal.at.returns-in_err-b c).Else-not-known in
+    let p = err_from_is_err_and c.from_residual-in_err-b.result c.from_residual-in_err-b.ensures.1 in rw (p.1, p.2)
+    (predicate-none _ _ _ _ _ _ c.triple_at-x.ensures (is_known e) _ c.in_ok-a.ensures _ c.in_err-b.ensures)
 
-pub returns-in-Bytes-add_name : goal.returns-in-Bytes-add_name
-returns-in-Bytes-add_name c =
-    let e = (goal.at.returns-in-Bytes-add_name c).Else-not-known in
-    object-last _ _ _ _ _ _ c.triple_at-x.ensures (is_known e) _ c.in-Bytes.ensures _ _
-    c.in-Bytes-add_name.ensures c.add_name-in-Bytes-add_name.ensures
+pub returns : goal.returns
+returns c = let e = (goal.at.returns c).Else-not-known in
+    object-last _ _ _ _ _ _ c.triple_at-x.ensures (is_known e) _ c.in_ok-a.ensures _ _
+    c.in_ok-b.ensures c.add_name-3.ensures

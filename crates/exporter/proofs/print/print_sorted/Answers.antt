@@ -1,5 +1,4 @@
-use Rattle.exporter.proofs.SortedLines.{fill-size, fill-few, fill-room, part-ready, all-printed}
-use native.Mathlib.Omega.{arith}
+use Rattle.exporter.proofs.SortedLines.{fill-room, part-ready, all-printed}
 use Rattle.exporter.proofs.print.print_sorted.Goals as goal
 
 pub slice_bounds-put_sorted-end : goal.slice_bounds-put_sorted-end
@@ -10,13 +9,6 @@ put_sorted-requires c =
     let pre = c.requires in
     let p = part-ready _ _ c.fill-live.ensures pre.t_in_bounds.1 _ _ _ pre.ready pre.t_in_bounds.0 in
     record { all = p.0; numbers_in_bounds = p.1 }
-
--- there is room for as many words as are filled, and for t
-pub zero-requires : goal.zero-requires
-zero-requires c =
-    let pre = c.requires in
-    let filled = c.fill-live.ensures in
-    omega (arith, fill-size _ _ filled, fill-few _ _ filled, pre.t_in_bounds.1)
 
 pub returns : goal.returns
 returns c =

@@ -7,7 +7,7 @@ use Rattle.integrity.proofs.chains.chain_counts.Goals as goal
 
 pub loop-n-init : goal.loop-n-init
 loop-n-init c = let a = c.args in
-    (omega arith, omega arith, along-begin a.t a.statements.now a.p a.y.0 a.first.0 (omega arith))
+    (omega arith, omega arith, along-begin a.statements.count a.statements.words.now a.p a.y.0 a.first.0 (omega arith))
 
 pub returns-then-term_at-y : goal.returns-then-term_at-y
 returns-then-term_at-y c = let l = c.loop-n in
@@ -27,14 +27,6 @@ returns-then-m-n c = let l = c.loop-n in
     (along-climbs _ _ _ _ _ l.met l.alive l.n.0 l.invariant.2 _ _ test.true
     (sym the-term-at.ensures ∙ if2.false) (omega arith))
 
-pub overflow_cast-alive : goal.overflow_cast-alive
-overflow_cast-alive c = tt
-
-pub overflow_add-alive : goal.overflow_add-alive
-overflow_add-alive c = let l = c.loop-n in
-    let the-flag-at = c.flag_at in
-    omega (arith, byte_le (eqb the-flag-at.result 0))
-
 pub loop-n-preserved : goal.loop-n-preserved
 loop-n-preserved c = let the-flag-at = c.flag_at in
     let the-next-at = c.next_at-m in
@@ -46,7 +38,7 @@ loop-n-preserved c = let the-flag-at = c.flag_at in
       omega arith,
       omega (arith, byte_le (eqb the-flag-at.result 0)),
       rw (the-next-at.ensures, the-flag-at.ensures)
-          (along-turn a.t a.statements.now a.p a.y.0 a.first.0 l.met l.alive l.n.0 l.invariant.2
+          (along-turn a.statements.count a.statements.words.now a.p a.y.0 a.first.0 l.met l.alive l.n.0 l.invariant.2
           test.true (sym the-term-at.ensures ∙ if2.false) (omega arith)),
     )
 

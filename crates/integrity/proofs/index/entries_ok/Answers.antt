@@ -1,7 +1,7 @@
 use mathlib.Core.Path.{refl}
 use native.Mathlib.Omega.{arith}
 use Rattle.integrity.specs.Index.{entry_ok}
-use Rattle.integrity.proofs.Ranges.{loop-begins, loop-fails, loop-turns, loop-ends}
+use Rattle.integrity.proofs.Ranges.{loop-begins, loop-fails, loop-turns}
 use Rattle.integrity.proofs.index.entries_ok.Goals as goal
 
 pub loop-i-init : goal.loop-i-init
@@ -17,6 +17,3 @@ pub loop-i-preserved : goal.loop-i-preserved
 unfolding entry_ok
 loop-i-preserved c = let l = c.loop-i in
     loop-turns _ _ l.i {k = l.i} l.invariant (omega arith) c.in_range.ensures refl c.if-not-in_range.false
-
-pub returns : goal.returns
-returns c = loop-ends _ _ c.loop-i.i c.loop-i.invariant (omega arith)

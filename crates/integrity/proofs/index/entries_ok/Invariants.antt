@@ -1,10 +1,6 @@
-use Prim.Native.Nat.{◌-◌}
 use Rattle.integrity.specs.Index.{entry_ok}
 use Rattle.integrity.proofs.Ranges.{PassSoFar}
 use Rattle.integrity.proofs.index.entries_ok.Given as goal
 
 abbrev pub invariant-loop-i : goal.invariant-loop-i
 invariant-loop-i l = PassSoFar (entry_ok l.r l.index) l.r l.i
-
-abbrev pub decreases-loop-i : goal.decreases-loop-i
-decreases-loop-i l = l.r - l.i

@@ -4,7 +4,4 @@ use Rattle.integrity.proofs.Ranges.{PassSoFar}
 use Rattle.integrity.proofs.index.entries_rise.Given as goal
 
 abbrev pub invariant-loop-i : goal.invariant-loop-i
-invariant-loop-i l = PassSoFar (neighbours_rise l.resources l.index l.used) (l.r - 1) l.i
-
-abbrev pub decreases-loop-i : goal.decreases-loop-i
-decreases-loop-i l = l.r - l.i
+invariant-loop-i l = PassSoFar (neighbours_rise l.resources.words.now l.index l.used) (l.resources.count - 1) l.i

@@ -1,16 +1,10 @@
-use Rattle.table.proofs.Branches.{passed}
 use Rattle.integrity.proofs.Ranges.{stops, goes_on}
 use Rattle.integrity.specs.Index.{index_ok}
-use borrow.Author.Rules.{rules}
 use Rattle.integrity.proofs.index.index_ok.Goals as goal
 
 pub returns-then-not-entries_ok : goal.returns-then-not-entries_ok
 unfolding index_ok
 returns-then-not-entries_ok c = stops _ c.entries_ok.ensures c.if-not-entries_ok.true
-
-pub entries_rise-requires : goal.entries_rise-requires
-entries_rise-requires c = let known = passed c.entries_ok.ensures c.if-not-entries_ok.false in
-    search rules
 
 pub returns : goal.returns
 unfolding index_ok

@@ -11,16 +11,15 @@ returns-then-end-used c = let a = c.args in
     let res = a.resources.now in
     sym (name-open res used a.y.0 a.from (omega arith))
 
-pub returns-then-wide-from : goal.returns-then-wide-from
-returns-then-wide-from c = let a = c.args in
+pub returns-then-offset_at-from : goal.returns-then-offset_at-from
+returns-then-offset_at-from c = let a = c.args in
     let used = a.used.now in
     let res = a.resources.now in
-    let if2 = c.if-wide-from in
-    let the-wide = c.wide in
+    let if2 = c.if-offset_at-from in
     let the-offset-at = c.offset_at in
     sym
     (name-moved res used a.y.0 a.from (omega arith)
-    (λ e. if2.true (the-wide.ensures.0 ∙ the-offset-at.ensures ∙ e)))
+    (λ e. if2.true (the-offset-at.ensures ∙ e)))
 
 pub returns-then-kind-eq0 : goal.returns-then-kind-eq0
 returns-then-kind-eq0 c = let a = c.args in

@@ -9,8 +9,7 @@ returns-then-not-known c = let triple = c.triple_at-x.ensures in
     rw (← triple, failed c.known.ensures c.if-not-known.true)
 
 pub kinds_permitted-requires : goal.kinds_permitted-requires
-kinds_permitted-requires c = let pre = c.requires in
-    triple-held _ _ _ pre.resources_held.in-resources (passed c.known.ensures c.if-not-known.false)
+kinds_permitted-requires c = triple-held _ _ _ c.args.resources.held.in-resources (passed c.known.ensures c.if-not-known.false)
 
 pub returns-then-not-kinds_permitted : goal.returns-then-not-kinds_permitted
 unfolding record_ok

@@ -7,15 +7,15 @@ use Rattle.integrity.proofs.unique.shortest.Goals as goal
 
 pub count_at-s-requires : goal.count_at-s-requires
 count_at-s-requires c = let pre = c.requires in
-    (triple-held _ _ _ pre.resources_held.in-resources pre.x_value).each Subject
+    (triple-held _ _ _ c.args.resources.held.in-resources pre.x_value).each Subject
 
 pub count_at-p-requires : goal.count_at-p-requires
 count_at-p-requires c = let pre = c.requires in
-    (triple-held _ _ _ pre.resources_held.in-resources pre.x_value).each Predicate
+    (triple-held _ _ _ c.args.resources.held.in-resources pre.x_value).each Predicate
 
 pub count_at-o-requires : goal.count_at-o-requires
 count_at-o-requires c = let pre = c.requires in
-    (triple-held _ _ _ pre.resources_held.in-resources pre.x_value).each Object
+    (triple-held _ _ _ c.args.resources.held.in-resources pre.x_value).each Object
 
 pub returns-then-o-p : goal.returns-then-o-p
 returns-then-o-p c = sym (short-po _ _ (omega arith) (omega arith))

@@ -2,27 +2,18 @@ use Prim.Native.Nat.{◌-◌}
 use mathlib.Core.Path.{sym, ◌∙◌}
 use native.Mathlib.Omega.{arith}
 use Rattle.integrity.specs.Records.{stands_once_on}
-use Rattle.integrity.proofs.Walking.{below-begin, below-climbs, below_end, below-met, below-turn}
+use Rattle.integrity.proofs.Walking.{below-begin, below_end, below-met, below-turn}
 use Rattle.integrity.proofs.unique.stands_once_on.Goals as goal
 
 pub loop-above-init : goal.loop-above-init
 loop-above-init c = let the-triple-at = c.triple_at-x in
     let a = c.args in
-    let stm = a.statements.now in
+    let stm = a.statements.words.now in
     (omega arith, omega arith, rw the-triple-at.ensures (below-begin stm a.p a.n.0))
-
-pub returns-then-m-above : goal.returns-then-m-above
-returns-then-m-above c = let a = c.args in
-    let stm = a.statements.now in
-    let the-triple-at = c.triple_at-x in
-    let l = c.loop-above in
-    sym
-    (below-climbs stm a.p the-triple-at.result (stands_once_on stm a.p (a.n.0 - 1)) l.above.0 (omega arith)
-    l.invariant.2 (omega arith))
 
 pub returns-then-m-eq0 : goal.returns-then-m-eq0
 returns-then-m-eq0 c = let a = c.args in
-    let stm = a.statements.now in
+    let stm = a.statements.words.now in
     let the-triple-at = c.triple_at-x in
     let l = c.loop-above in
     sym
@@ -31,7 +22,7 @@ returns-then-m-eq0 c = let a = c.args in
 
 pub returns-then-same : goal.returns-then-same
 returns-then-same c = let a = c.args in
-    let stm = a.statements.now in
+    let stm = a.statements.words.now in
     let the-triple-at = c.triple_at-x in
     let l = c.loop-above in
     let the-triple-at2 = c.triple_at in
@@ -46,7 +37,7 @@ returns-then-same c = let a = c.args in
 pub loop-above-preserved : goal.loop-above-preserved
 loop-above-preserved c = let the-next-at = c.next_at-m in
     let a = c.args in
-    let stm = a.statements.now in
+    let stm = a.statements.words.now in
     let the-triple-at = c.triple_at-x in
     let l = c.loop-above in
     let the-triple-at2 = c.triple_at in

@@ -1,24 +1,17 @@
 -- `lemontiller::queries::lt_query_open` meets its contract. Assumes nothing.
 use Rattle.lemontiller.proofs.QueryWrites.{open-refused, open-opened}
 use Rattle.capi_calls.specs.QueryCalls.{query_open_call}
-use Rattle.lemontiller.proofs.Lengths.{short-counters, short-reply}
+use Rattle.lemontiller.proofs.Lengths.{short}
 use Rattle.lemontiller.proofs.queries.lt_query_open.Goals as goal
 
-pub returns-then-counters-lt-COUNTER_WORDS : goal.returns-then-counters-lt-COUNTER_WORDS
+pub returns-in_default : goal.returns-in_default
 unfolding query_open_call
-returns-then-counters-lt-COUNTER_WORDS c = short-counters _ _ _ _ _ c.if-counters-lt-COUNTER_WORDS.true
+returns-in_default c = short _ _ _ _ _ c.in_default.ensures
 
-pub returns-then-cursor-lt-QUERY_CURSOR_WORDS : goal.returns-then-cursor-lt-QUERY_CURSOR_WORDS
-unfolding query_open_call
-returns-then-cursor-lt-QUERY_CURSOR_WORDS c = short-reply _ _ _ _ _ c.if-counters-lt-COUNTER_WORDS.false c.if-cursor-lt-QUERY_CURSOR_WORDS.true
+pub returns-in-Err : goal.returns-in-Err
+returns-in-Err c =
+    open-refused _ _ _ _ c.in-Some.ensures.0 c.in-Err.ensures c.refusal_number.ensures c.in-Some.ensures.1 c.in-Some.ensures.2
 
-pub returns-then-r-ne0 : goal.returns-then-r-ne0
-returns-then-r-ne0 c =
-    open-refused _ _ _ _ c.counters_of-c.ensures c.query_open-o.ensures
-    c.opening_refusal-r.ensures c.if-r-ne0.true c.if-counters-lt-COUNTER_WORDS.false c.if-cursor-lt-QUERY_CURSOR_WORDS.false
-
-pub returns : goal.returns
-returns c =
-    open-opened _ _ _ _ c.counters_of-c.ensures c.query_open-o.ensures
-    c.opening_refusal-r.ensures c.if-r-ne0.false c.put_query_cursor.ensures
-    c.if-counters-lt-COUNTER_WORDS.false c.if-cursor-lt-QUERY_CURSOR_WORDS.false
+pub returns-in-Ok : goal.returns-in-Ok
+returns-in-Ok c =
+    open-opened _ _ _ _ c.in-Some.ensures.0 c.in-Ok.ensures c.put_query_cursor.ensures c.in-Some.ensures.1 c.in-Some.ensures.2

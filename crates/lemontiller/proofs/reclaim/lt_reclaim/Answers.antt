@@ -7,12 +7,12 @@ pub returns-then-counters-lt-COUNTER_WORDS : goal.returns-then-counters-lt-COUNT
 returns-then-counters-lt-COUNTER_WORDS c =
     reclaim-no-counters _ c.if-counters-lt-COUNTER_WORDS.true
 
-pub returns-in-Refused : goal.returns-in-Refused
-returns-in-Refused c =
-    reclaim-refused _ c.counters_of-c.ensures c.in-Refused.ensures refl
+pub returns-in-Err : goal.returns-in-Err
+returns-in-Err c =
+    reclaim-refused _ c.counters_of-c.ensures c.in-Err.ensures refl
     c.refusal_number.ensures c.if-counters-lt-COUNTER_WORDS.false
 
-pub returns-in-Done : goal.returns-in-Done
-returns-in-Done c =
-    reclaim-done _ c.counters_of-c.ensures c.in-Done.ensures refl
+pub returns-in-Ok : goal.returns-in-Ok
+returns-in-Ok c =
+    reclaim-done _ c.counters_of-c.ensures c.in-Ok.ensures refl
     c.put_counters.ensures c.if-counters-lt-COUNTER_WORDS.false

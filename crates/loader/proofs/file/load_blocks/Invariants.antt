@@ -1,5 +1,6 @@
--- Each turn uses one up. Assumes nothing.
+-- The tables stay those that were lent. Assumes nothing.
+use Rattle.table.specs.Lent.{SameSlices}
 use Rattle.loader.proofs.file.load_blocks.Given as goal
 
-abbrev pub decreases-loop-turns : goal.decreases-loop-turns
-decreases-loop-turns g l = l.turns
+abbrev pub invariant-loop : goal.invariant-loop
+invariant-loop g l = SameSlices l.tables l.initial.tables

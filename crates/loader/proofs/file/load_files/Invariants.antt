@@ -1,6 +1,6 @@
--- Each turn uses one up. Assumes nothing.
-use Prim.Native.Nat.{◌-◌}
+-- The tables stay those that were lent. Assumes nothing.
+use Rattle.table.specs.Lent.{SameSlices}
 use Rattle.loader.proofs.file.load_files.Given as goal
 
-abbrev pub decreases-loop-i : goal.decreases-loop-i
-decreases-loop-i g l = l.count - l.i
+abbrev pub invariant-loop-i : goal.invariant-loop-i
+invariant-loop-i g l = SameSlices l.tables l.initial.tables

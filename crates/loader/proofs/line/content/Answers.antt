@@ -1,45 +1,32 @@
--- The bytes before the position after a line say which ending it has. Assumes nothing.
+-- By what the line ends in. Assumes nothing.
+use mathlib.Core.List.{[], ◌∷◌}
 use native.Mathlib.Omega.{arith}
+use Rattle.std.specs.Prelude.{None, Some}
+use Rattle.std.proofs.lemmas.Bool.Decides.{Decides-eqb}
+use Rattle.std.proofs.lemmas.Slice.Eq.{strip_suffix_is}
+use Rattle.loader.proofs.Endings.{line-ended}
 use Rattle.loader.proofs.Inside.{read-moves}
-use Rattle.loader.proofs.Endings.{content-plain, content-empty, content-cr, content-lf}
 use Rattle.loader.proofs.line.content.Goals as goal
 
-pub overflow_sub-last : goal.overflow_sub-last
-overflow_sub-last c = let m = read-moves c.requires in omega (arith, m.0, m.1)
+pub slice_bounds-line-count : goal.slice_bounds-line-count
+slice_bounds-line-count c = omega (arith, (read-moves c.requires).0)
 
-pub bounds-source-last : goal.bounds-source-last
-bounds-source-last c = let m = read-moves c.requires in omega (arith, m.0, m.1)
+pub slice_bounds-line-start : goal.slice_bounds-line-start
+slice_bounds-line-start c = omega (arith, (read-moves c.requires).0)
 
-pub overflow_sub-result : goal.overflow_sub-result
-overflow_sub-result c = let m = read-moves c.requires in omega (arith, m.0, m.1)
+pub slice_bounds-line-end : goal.slice_bounds-line-end
+slice_bounds-line-end c = (read-moves c.requires).1
 
-pub returns-then-source-last-ne10 : goal.returns-then-source-last-ne10
-returns-then-source-last-ne10 c = content-plain c.requires c.if-source-last-ne10.true
+pub returns-in-None : goal.returns-in-None
+returns-in-None c =
+    (line-ended c.requires).plain (strip_suffix_is Decides-eqb _ (10 ∷ []) None c.in-None.ensures.cases)
 
-pub returns-then-last-from : goal.returns-then-last-from
-returns-then-last-from c = content-empty c.requires c.if-source-last-ne10.false c.if-last-from.true
+pub returns-in-None-strip_suffix : goal.returns-in-None-strip_suffix
+returns-in-None-strip_suffix c =
+    (line-ended c.requires).lf _ (strip_suffix_is Decides-eqb _ (10 ∷ []) (Some c.in-Some.ended) c.in-Some.ensures.cases)
+    (strip_suffix_is Decides-eqb _ (13 ∷ []) None c.in-None-strip_suffix.ensures.cases)
 
-pub overflow_sub-last-2 : goal.overflow_sub-last-2
-overflow_sub-last-2 c = let m = read-moves c.requires in omega (arith, m.0, m.1)
-
-pub bounds-source-last-2 : goal.bounds-source-last-2
-bounds-source-last-2 c = let m = read-moves c.requires in omega (arith, m.0, m.1)
-
-pub overflow_sub-result-then-source-last-eq13 : goal.overflow_sub-result-then-source-last-eq13
-overflow_sub-result-then-source-last-eq13 c = let m = read-moves c.requires in omega (arith, m.0, m.1)
-
-pub overflow_sub-result-then-source-last-eq13-2 : goal.overflow_sub-result-then-source-last-eq13-2
-overflow_sub-result-then-source-last-eq13-2 c = let m = read-moves c.requires in omega (arith, m.0, m.1)
-
-pub returns-then-source-last-eq13 : goal.returns-then-source-last-eq13
-returns-then-source-last-eq13 c =
-    content-cr c.requires c.if-source-last-ne10.false
-    c.if-last-from.false c.if-source-last-eq13.true
-
-pub overflow_sub-result-2 : goal.overflow_sub-result-2
-overflow_sub-result-2 c = let m = read-moves c.requires in omega (arith, m.0, m.1)
-
-pub returns : goal.returns
-returns c =
-    content-lf c.requires c.if-source-last-ne10.false
-    c.if-last-from.false c.if-source-last-eq13.false
+pub returns-in-Some-strip_suffix : goal.returns-in-Some-strip_suffix
+returns-in-Some-strip_suffix c =
+    (line-ended c.requires).crlf _ _ (strip_suffix_is Decides-eqb _ (10 ∷ []) (Some c.in-Some.ended) c.in-Some.ensures.cases)
+    (strip_suffix_is Decides-eqb _ (13 ∷ []) (Some c.in-Some-strip_suffix.shorter) c.in-Some-strip_suffix.ensures.cases)

@@ -6,8 +6,3 @@ use Rattle.loader.proofs.line.load_first.Goals as goal
 
 pub load_read-requires : goal.load_read-requires
 load_read-requires c = line-inside _ 0 _ (sym (ap (λ (r : LineRead). r.line) c.read_line-read.ensures))
-
-pub returns : goal.returns
-returns c =
-    let e = ap (λ (r : LineRead). r.line) c.read_line-read.ensures in
-    rw e at c.load_read.ensures

@@ -1,32 +1,28 @@
-use mathlib.Core.Path.{◌≡◌, sym, ◌∙◌}
-use native.Mathlib.Omega.{arith}
-use Rattle.pattern_level.proofs.LevelLaws.{intact-none, intact-miss, intact-hit}
+use mathlib.Core.Path.{◌≡◌, sym, ap, ◌∙◌}
+use lib.ListN.{get_or}
+use Rattle.graph.specs.Place.{no_level}
+use Rattle.pattern_level.specs.Levels.{level_intact}
+use Rattle.pattern_level.proofs.LevelLaws.{first_of, intact-none, intact-miss, intact-hit}
 use Rattle.pattern_level.proofs.level.intact.Goals as goal
+use Rattle.pattern_level.proofs.level.intact.Goals.{After-level_intact}
 
-pub loop-i-init : goal.loop-i-init
-loop-i-init c = let a = c.args in (omega arith, intact-none a.statements.now a.levels)
+tested : (d : After-level_intact) → (let a = d.args in
+    d.level_intact.result ≡ level_intact a.statements.now (get_or a.levels d.loop-l.l-index no_level))
+tested d = d.level_intact.ensures ∙ ap (level_intact d.args.statements.now) (first_of d.args.levels d.args.d d.loop-l.l-index _ no_level d.loop-l-test.true).1
 
-pub bounds-levels-i : goal.bounds-levels-i
-bounds-levels-i c = let q = c.requires.few in omega arith
-
-pub level_intact-requires : goal.level_intact-requires
-level_intact-requires c = c.requires.each c.loop-i.i
-    c.loop-i-test.true
+pub loop-l-init : goal.loop-l-init
+loop-l-init c = intact-none c.args.statements.now c.args.levels
 
 pub returns-then-not-level_intact : goal.returns-then-not-level_intact
-returns-then-not-level_intact c = let a = c.args in
-    sym (intact-miss a.statements.now a.levels c.loop-i.i a.d
-    c.loop-i-test.true (sym c.level_intact.ensures
-    ∙ c.if-not-level_intact.true))
+returns-then-not-level_intact c =
+    let d = (goal.at.returns-then-not-level_intact c).After-level_intact in
+    let a = d.args in
+    sym (intact-miss a.statements.now a.levels d.loop-l.l-index a.d (first_of a.levels a.d d.loop-l.l-index no_level no_level d.loop-l-test.true).0
+    (sym (tested d) ∙ c.if-not-level_intact.true))
 
-pub loop-i-preserved : goal.loop-i-preserved
-loop-i-preserved c = let a = c.args in (
-  omega arith,
-  intact-hit a.statements.now a.levels c.loop-i.i
-      (sym c.level_intact.ensures ∙ c.if-not-level_intact.false)
-      c.loop-i.invariant.1,
-)
-
-pub returns : goal.returns
-returns c = let a = c.args in let l = c.loop-i in
-    let q : l.i ≡ a.d = omega arith in rw (← q) (sym l.invariant.1)
+pub loop-l-preserved : goal.loop-l-preserved
+loop-l-preserved c =
+    let d = (goal.at.loop-l-preserved c).After-level_intact in
+    let a = d.args in
+    intact-hit a.statements.now a.levels d.loop-l.l-index (sym (tested d) ∙ c.if-not-level_intact.false)
+    d.loop-l.invariant

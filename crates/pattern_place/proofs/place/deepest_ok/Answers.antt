@@ -1,4 +1,6 @@
 use borrow.Author.Tests.{le-leb, lt-leb}
+use mathlib.Core.Path.{◌∙◌}
+use Rattle.chain_walk.proofs.Walks.{record-by}
 use Rattle.pattern_place.specs.Tested.{deepest_ok}
 use Rattle.pattern_place.proofs.place.deepest_ok.Goals as goal
 
@@ -20,5 +22,5 @@ returns c = rw (
   le-leb _ _ c.if-n-c.false,
   ← c.chain_ok.ensures,
   c.if-not-chain_ok.false,
-  ← c.record_ok.ensures,
 )
+    (c.record_has.ensures ∙ rw c.resource_of.ensures (record-by c.args.statements.now c.args.l.chain c.args.x c.args.l.statement.0))

@@ -1,16 +1,15 @@
-use mathlib.Core.Path.{sym, ap, ◌∙◌}
+use mathlib.Core.Path.{◌≡◌, sym, ap, ◌∙◌}
 use Prim.Native.Nat.{◌-◌}
-use native.Mathlib.Omega.{arith}
-use mathlib.Core.Bool.{false≢true}
-use borrow.Author.Tests.{not-true, not-false}
 use lib.ListN.{get_or}
 use Rattle.store.specs.declared.Triple.{Triple}
-use Rattle.graph.specs.Place.{no_level}
+use Rattle.graph.specs.Place.{no_level, inside_of}
+use Rattle.graph.specs.Query.{place_ok}
 use Rattle.graph.specs.Words.{patterns_of}
 use Rattle.pattern_place.specs.Tested.{deepest_ok}
 use Rattle.pattern_place.proofs.PlaceLaws.{place_none, place-above, place-entered, place-deepest}
 use Rattle.pattern_level.proofs.LevelLaws.{asked_is}
 use Rattle.pattern_place.proofs.place.inside_ok.Goals as goal
+use Rattle.pattern_place.proofs.place.inside_ok.Goals.{After-deepest_ok}
 
 pub returns-then-d-eq0 : goal.returns-then-d-eq0
 returns-then-d-eq0 c = let a = c.args in
@@ -18,11 +17,8 @@ returns-then-d-eq0 c = let a = c.args in
       told =
           sym (place_none a.c.resources a.c.statements a.statements.now (patterns_of a.words.now) a.levels
           a.d c.if-d-eq0.true);
-      binds-inside = λ h z. absurd (z c.if-d-eq0.true);
+      binds-inside = λ z. absurd (z c.if-d-eq0.true);
     }
-
-pub patterns-requires : goal.patterns-requires
-patterns-requires c = c.requires.0.few
 
 pub returns-then-d-patterns : goal.returns-then-d-patterns
 returns-then-d-patterns c = let a = c.args in
@@ -31,46 +27,43 @@ returns-then-d-patterns c = let a = c.args in
           sym (place-above a.c.resources a.c.statements a.statements.now (patterns_of a.words.now)
           a.levels
           a.d (rw c.patterns.ensures at c.if-d-patterns.true));
-      binds-inside = λ h z. absurd (false≢true h);
+      binds-inside = tt;
     }
 
-pub returns-then-not-m : goal.returns-then-not-m
-returns-then-not-m c = let a = c.args in
+pub returns-in_err-bound : goal.returns-in_err-bound
+returns-in_err-bound c = let a = c.args in
     let n = rw c.patterns.ensures at c.if-d-patterns.false in
-    let f = not-true c.levels_ok-m.result.hit c.if-not-m.true in
-    let e = sym c.levels_ok-m.ensures.told ∙ f in
-    record {
+    rw c.from_residual.ensures
+    (record {
       told =
-          f ∙ sym (place-entered a.c.resources a.c.statements a.statements.now (patterns_of a.words.now)
-          a.levels a.d c.if-d-eq0.false n e);
-      binds-inside = λ h z. absurd (false≢true (sym f ∙ h));
-    }
+          sym (place-entered a.c.resources a.c.statements a.statements.now (patterns_of a.words.now)
+          a.levels a.d c.if-d-eq0.false n (sym c.in_err-bound.ensures.told));
+      binds-inside = tt;
+    })
 
-pub under-x-requires : goal.under-x-requires
-under-x-requires c = rw c.pattern_at.ensures
-    (c.requires.0.each
-    (c.args.d - 1)
-    (omega (arith, c.patterns.ensures)))
-
-pub bounds-levels-top : goal.bounds-levels-top
-bounds-levels-top c = let q = c.requires.0.few in omega (arith, c.patterns.ensures)
-
-pub returns : goal.returns
-returns c = let a = c.args in let n = rw c.patterns.ensures at c.if-d-patterns.false in
-    let h = not-false c.levels_ok-m.result.hit
-    c.if-not-m.false in
-    let e = sym c.levels_ok-m.ensures.told ∙ h in
+-- the deepest level's test is that of the place
+deepest : (c : After-deepest_ok) → (let a = c.args in
+    c.deepest_ok.result ≡ place_ok a.statements.now (patterns_of a.words.now) a.c.resources a.c.statements
+    (inside_of a.levels a.d))
+deepest c = let a = c.args in let n = rw c.patterns.ensures at c.if-d-patterns.false in
     let x = asked_is a.c.resources a.c.statements a.statements.now (patterns_of a.words.now) a.levels
     (a.d - 1) c.under-x.result c.pattern_at.result
-    c.levels_ok-m.result.bound.values
+    c.in_ok-bound.bound.values
     c.under-x.ensures c.pattern_at.ensures
-    (c.levels_ok-m.ensures.binds-all h) in
+    c.in_ok-bound.ensures.binds-all in
+    c.deepest_ok.ensures
+    ∙ ap (λ (z : Triple). deepest_ok a.c.statements a.statements.now z (get_or a.levels (a.d - 1) no_level))
+    x ∙ sym (place-deepest a.c.resources a.c.statements a.statements.now
+    (patterns_of a.words.now) a.levels a.d
+    c.if-d-eq0.false n (sym c.in_ok-bound.ensures.told))
+
+pub returns-then-not-deepest_ok : goal.returns-then-not-deepest_ok
+returns-then-not-deepest_ok c =
+    record { told = sym c.if-not-deepest_ok.true ∙ deepest (goal.at.returns-then-not-deepest_ok c).After-deepest_ok; binds-inside = tt }
+
+pub returns : goal.returns
+returns c =
     record {
-      told =
-          c.deepest_ok.ensures
-          ∙ ap (λ (z : Triple). deepest_ok a.c.statements a.statements.now z (get_or a.levels (a.d - 1) no_level))
-          x ∙ sym (place-deepest a.c.resources a.c.statements a.statements.now
-          (patterns_of a.words.now) a.levels a.d
-          c.if-d-eq0.false n e);
-      binds-inside = λ y z. c.levels_ok-m.ensures.binds-all h;
+      told = sym c.if-not-deepest_ok.false ∙ deepest (goal.at.returns c).After-deepest_ok;
+      binds-inside = λ z. c.in_ok-bound.ensures.binds-all;
     }

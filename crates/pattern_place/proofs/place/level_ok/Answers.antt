@@ -1,6 +1,7 @@
 use mathlib.Core.Path.{◌≡◌, ap, ◌∙◌}
 use mathlib.Core.Bool.{false}
 use Prim.Native.Nat.{◌-◌}
+use Rattle.std.specs.Prelude.{None}
 use Rattle.store.specs.Scan.{chain_ok}
 use Rattle.store.specs.Shared.{known}
 use Rattle.store.specs.Tables.{triple_at}
@@ -15,7 +16,7 @@ use Rattle.pattern_place.proofs.place.level_ok.Goals.{After-chain_ok, After-know
 missed : (s : Start) → (let a = s.args in
     level_ok a.c.resources a.c.statements a.statements.now a.x a.bound.values a.l ≡ false
     → LevelTested a.c.resources a.c.statements a.statements.now a.x a.bound a.l
-    (record { hit = false; bound = a.bound }))
+    None)
 missed s =
     let a = s.args in
     tested-miss a.c.resources a.c.statements a.statements.now a.x a.bound a.l

@@ -1,26 +1,26 @@
 use Rattle.prefix.proofs.Steps.{edge-end, edge-turn}
-use Rattle.prefix.specs.declared.boundary.Side.TheVariants.{Below, Alike, Above, Unreadable}
+use Rattle.std.proofs.Common.{Some, None, Less, Equal, Greater}
 use native.Mathlib.Omega.{arith}
-use mathlib.Core.Path.{refl, sym}
+use mathlib.Core.Path.{refl, sym, ap, ◌∙◌}
 use Rattle.prefix.proofs.boundary.boundary.Goals as goal
 
 pub loop-lo-init : goal.loop-lo-init
 loop-lo-init c = (omega arith, omega arith, (16, omega arith, refl))
 
-pub loop-lo-preserved-in-Below : goal.loop-lo-preserved-in-Below
-loop-lo-preserved-in-Below c = (omega arith, omega arith, edge-turn _ _ _ _ _ _ _ _ _ _ c.loop-lo.invariant.2 c.loop-lo-test.true Below (sym c.in-Below.ensures))
+pub loop-lo-preserved-in-Some-Less : goal.loop-lo-preserved-in-Some-Less
+loop-lo-preserved-in-Some-Less c = (omega arith, omega arith, edge-turn _ _ _ _ _ _ _ _ _ _ c.loop-lo.invariant.2 c.loop-lo-test.true (Some Less) (sym c.in-Some-Less.ensures ∙ ap Some c.in-Some-Less.field-0-is))
 
-pub loop-lo-preserved-in-Alike : goal.loop-lo-preserved-in-Alike
-loop-lo-preserved-in-Alike c = (omega arith, omega arith, edge-turn _ _ _ _ _ _ _ _ _ _ c.loop-lo.invariant.2 c.loop-lo-test.true Alike (sym c.in-Alike.ensures))
+pub loop-lo-preserved-in-Some-Equal : goal.loop-lo-preserved-in-Some-Equal
+loop-lo-preserved-in-Some-Equal c = (omega arith, omega arith, edge-turn _ _ _ _ _ _ _ _ _ _ c.loop-lo.invariant.2 c.loop-lo-test.true (Some Equal) (sym c.in-Some-Equal.ensures ∙ ap Some c.in-Some-Equal.field-0-is))
 
 pub loop-lo-preserved : goal.loop-lo-preserved
-loop-lo-preserved c = (omega arith, omega arith, edge-turn _ _ _ _ _ _ _ _ _ _ c.loop-lo.invariant.2 c.loop-lo-test.true Above (sym c.in-Above.ensures))
+loop-lo-preserved c = (omega arith, omega arith, edge-turn _ _ _ _ _ _ _ _ _ _ c.loop-lo.invariant.2 c.loop-lo-test.true (Some Greater) (sym c.in-Some-Greater.ensures ∙ ap Some c.in-Some-Greater.field-0-is))
 
-pub returns-in-Unreadable : goal.returns-in-Unreadable
-returns-in-Unreadable c = cc (edge-turn _ _ _ _ _ _ _ _ _ _ c.loop-lo.invariant.2 c.loop-lo-test.true Unreadable (sym c.in-Unreadable.ensures))
+pub returns-in-None : goal.returns-in-None
+returns-in-None c = cc (edge-turn _ _ _ _ _ _ _ _ _ _ c.loop-lo.invariant.2 c.loop-lo-test.true None (sym c.in-None.ensures))
 
 pub returns : goal.returns
 returns c = let a = c.args in
     let loop = c.loop-lo in
-    cc (edge-end a.c a.resources.now a.index.now a.text.now a.prefix.now a.after _ loop.lo
+    cc (edge-end a.c a.tables.resources.now a.tables.index.now a.tables.text.now a.prefix.now a.after _ loop.lo
     loop.hi loop.top loop.invariant.2 c.loop-lo-test.false)

@@ -41,7 +41,7 @@ intact-requires c = held (goal.at.intact-requires c).Start
 pub returns-then-not-intact : goal.returns-then-not-intact
 unfolding packed
 returns-then-not-intact c = let a = c.args in
-    c.refused.ensures ∙ ap (packed a.c.generation) (sym (resume-damaged a.c.resources a.c.statements
+    ap (packed a.c.generation) (sym (resume-damaged a.c.resources a.c.statements
     a.resources.now a.statements.now (patterns_of a.words.now) (get_or a.levels a.top no_level)
     (levels_of a.levels a.top) a.budget (failed c.intact.ensures c.if-not-intact.true)))
 

@@ -1,6 +1,5 @@
 -- The least of three counts. Assumes nothing.
 use Rattle.store.specs.declared.Position.TheVariants.{Subject, Predicate, Object}
-use Rattle.graph.specs.Arranging.{key_of}
 use Rattle.query_arrange.proofs.least.key_of.Goals as goal
 
 pub count_or-s-requires : goal.count_or-s-requires
@@ -11,7 +10,3 @@ count_or-p-requires c = c.requires.each Predicate
 
 pub count_or-o-requires : goal.count_or-o-requires
 count_or-o-requires c = c.requires.each Object
-
-pub returns : goal.returns
-unfolding key_of
-returns c = cc

@@ -8,26 +8,10 @@ use Rattle.query_stack.proofs.stack.enter.Goals.{After-under-x}
 held : (c : After-under-x) → PatternHeld c.args.resources.now c.under-x.result
 held c = rw (c.under-x.ensures, c.pattern_at.ensures) c.requires.2
 
-pub under-x-requires : goal.under-x-requires
-under-x-requires c =
-    rw c.pattern_at.ensures (c.requires.0.each c.args.top c.requires.1)
-
-pub pickable-requires : goal.pickable-requires
-pickable-requires c = held c
-
 pub returns-then-not-pickable : goal.returns-then-not-pickable
 unfolding entered_as
 returns-then-not-pickable c =
-    rw (
-      ← c.pattern_at.ensures,
-      ← c.under-x.ensures,
-      ← c.pickable.ensures,
-      c.if-not-pickable.true,
-      c.level.ensures,
-    )
-
-pub pick_chain-chain-requires : goal.pick_chain-chain-requires
-pick_chain-chain-requires c = held (goal.at.pick_chain-chain-requires c).After-under-x
+    rw (← c.pattern_at.ensures, ← c.under-x.ensures, ← c.pickable.ensures, c.if-not-pickable.true)
 
 pub start_of-requires : goal.start_of-requires
 start_of-requires c = let d = (goal.at.start_of-requires c).After-under-x in
@@ -44,5 +28,5 @@ returns c =
       c.if-not-pickable.false,
       ← c.pick_chain-chain.ensures,
       ← c.start_of.ensures,
-      c.level-2.ensures,
+      c.level.ensures,
     )

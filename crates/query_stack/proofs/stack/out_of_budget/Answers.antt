@@ -1,4 +1,5 @@
 use mathlib.Core.Path.{ap, ◌∙◌}
+use Rattle.std.specs.Prelude.{Ok}
 use Rattle.graph.specs.Query.{packed, answered}
 use Rattle.graph.specs.Place.{cursor_at, inside}
 use Rattle.graph.specs.Words.{Bindings}
@@ -10,10 +11,7 @@ pub returns-then-remains : goal.returns-then-remains
 unfolding packed
 returns-then-remains c = let a = c.args in
     rw (← c.remains.ensures, c.if-remains.true)
-    (c.standing.ensures
+    (ap Ok (c.standing.ensures
     ∙ ap (λ (z : Bindings). answered Spent a.visits z
     (cursor_at a.generation (inside (deepest a.q) (entered a.q))))
-    c.none_bound.ensures)
-
-pub returns : goal.returns
-returns c = rw (← c.remains.ensures, c.if-remains.false) c.ended.ensures
+    c.none_bound.ensures))

@@ -3,10 +3,6 @@ use Rattle.pattern_level.proofs.LevelLaws.{asked_is}
 use Rattle.query_stack.proofs.Stacks.{stack_is}
 use Rattle.query_stack.proofs.stack.stand.Goals as goal
 
-pub under-asked-requires : goal.under-asked-requires
-under-asked-requires c = rw c.pattern_at.ensures (c.requires.0.each
-    c.args.top c.requires.1)
-
 pub returns : goal.returns
 returns c = let a = c.args in let s = a.statements.now in
     let ps = patterns_of a.words.now in

@@ -1,16 +1,21 @@
-use Rattle.query_walk.proofs.Turns.{walks-here, walks-on, Here, top_small, stack-held, slot-here}
+use Rattle.query_walk.proofs.Turns.{walks-on, Here, Tried, top_small, stack-held, slot-here}
 use Rattle.query_walk.proofs.Turns.{runs-out, pop-needs, pops, visit-needs, sees-damaged, sees-miss, try-needs}
-use Rattle.query_walk.proofs.Turns.{Tried, tried-top, tried-damaged, tried-onward, tried-whole}
+use Rattle.query_walk.proofs.Turns.{tried-refused, onward-slot, tried-onward, whole-slot, tried-whole}
+use Rattle.std.specs.Prelude.{Ok}
+use Rattle.store.specs.declared.StatementId.{StatementId}
+use Rattle.chain_walk.specs.declared.walk.Sought.TheVariants.{LiveMatch}
+use Rattle.chain_walk.specs.declared.walk.Visited.TheVariants.{Hit}
+use Rattle.chain_walk.specs.Walks.{visit_of}
+use Rattle.std.proofs.lemmas.Result.{err_from_is_err_and}
 use Rattle.graph.proofs.Laws.{walk-over}
 use Rattle.query_stack.specs.Stack.{deepest, entered}
-use Rattle.query_stack.specs.declared.stack.Turned.{Turned}
 use Rattle.graph.specs.Query.{Answer, walk, packed}
-use Rattle.graph.specs.Words.{patterns_of, max_patterns}
+use Rattle.graph.specs.Words.{patterns_of}
 use native.Mathlib.Omega.{arith}
-use Prim.Native.Nat.{ℕ, ◌+◌, ◌-◌, ◌≤◌, ◌<◌}
+use Prim.Native.Nat.{ℕ, ◌-◌}
 use mathlib.Core.Path.{◌≡◌, sym, ap, ◌∙◌}
 use Rattle.query_walk.proofs.walk.walk.Goals as goal
-use Rattle.query_walk.proofs.walk.walk.Goals.{After-popped-m, After-tried-m, At-loop-visits, Else-visits-budget}
+use Rattle.query_walk.proofs.walk.walk.Goals.{At-loop-visits, Else-visits-budget}
 
 -- an answer of the walk from here is that of the walk asked for
 answers : (c : At-loop-visits) (z : Answer)
@@ -42,76 +47,17 @@ here c =
       stands = c.loop-visits.invariant.stands;
     }
 
--- and once its record is put to the pattern
-abbrev here-tried : After-tried-m → Here
-here-tried c =
-    record {
-      r = c.args.c.resources;
-      t = c.args.c.statements;
-      res = c.args.resources.now;
-      stm = c.args.statements.now;
-      ws = c.args.words.now;
-      budget = c.args.budget;
-      v = c.loop-visits.visits;
-      q = c.loop-visits.q;
-      ready = c.requires.0;
-      left = let n = c.loop-visits.invariant.within in let m = c.if-visits-budget.false in omega arith;
-      stands = c.loop-visits.invariant.stands;
-    }
-
--- and once its level is left
-abbrev here-popped : After-popped-m → Here
-here-popped c =
-    record {
-      r = c.args.c.resources;
-      t = c.args.c.statements;
-      res = c.args.resources.now;
-      stm = c.args.statements.now;
-      ws = c.args.words.now;
-      budget = c.args.budget;
-      v = c.loop-visits.visits;
-      q = c.loop-visits.q;
-      ready = c.requires.0;
-      left = let n = c.loop-visits.invariant.within in let m = c.if-visits-budget.false in omega arith;
-      stands = c.loop-visits.invariant.stands;
-    }
-
-abbrev tried : After-tried-m → Tried
-tried c =
-    record {
-      at = here-tried c;
-      some-record = c.if-l-eq0.false;
-      n = c.in-Hit.n;
-      hit = sym c.in-Hit.ensures;
-      m = c.tried-m.result;
-      made = c.tried-m.ensures;
-    }
-
-popped-top : (c : After-popped-m)
-    → (let n = c.loop-visits.q.top in
-    (1 ≤ n) × (c.popped-m.result.top + 1 ≡ n) × (n < max_patterns))
-popped-top c =
-    let n = c.if-q-eq0.false in
-    let e = ap (λ (z : Turned). z.top) c.popped-m.ensures in
-    (omega arith, omega arith, slot-here (here-popped c))
-
--- ---- the needs
-
-pub walk-init : goal.walk-init
-walk-init c = walks-here c.args.c.resources c.args.c.statements c.args.resources.now c.args.statements.now c.args.words.now c.args.budget c.args.from 0 (omega arith) c.requires.1
-
-pub loop-visits-init : goal.loop-visits-init
-loop-visits-init c = let w = c.walk in
-    walks-here c.args.c.resources c.args.c.statements c.args.resources.now c.args.statements.now c.args.words.now c.args.budget w.q w.visits w.invariant.within w.invariant.stands
+-- and its record put to the pattern
+abbrev tried : (h : Here) → ((deepest h.q).statement.0 ≡ 0 → ⊥) → (n : StatementId)
+    → visit_of LiveMatch h.r h.stm (deepest h.q).chain h.q.asked ((deepest h.q).statement.0 - 1) ≡ Ok (Hit n) → Tried
+tried h z n e = record { at = h; some-record = z; n = n; hit = e }
 
 pub out_of_budget-requires : goal.out_of_budget-requires
 out_of_budget-requires c = let a = c.args in
     let k = c.requires.0 in
     let p = c.loop-visits in (
-      top_small a.c.resources a.c.statements a.resources.now a.statements.now a.words.now k p.q
-          p.invariant.stands,
-      stack-held a.c.resources a.c.statements a.resources.now a.statements.now a.words.now k p.q
-          p.invariant.stands,
+      top_small a.c.resources a.c.statements a.resources.now a.statements.now a.words.now k p.q p.invariant.stands,
+      stack-held a.c.resources a.c.statements a.resources.now a.statements.now a.words.now k p.q p.invariant.stands,
     )
 
 pub returns-then-visits-budget : goal.returns-then-visits-budget
@@ -122,73 +68,49 @@ returns-then-visits-budget c = let a = c.args in
     a.resources.now a.statements.now (patterns_of a.words.now) (deepest p.q) (entered p.q) p.visits
     (a.budget - p.visits) (omega arith))
 
-pub overflow_cast-l : goal.overflow_cast-l
-overflow_cast-l c = let n = slot-here (here c) in omega arith
-
-pub offset_bounds-q-q : goal.offset_bounds-q-q
-offset_bounds-q-q c = let n = slot-here (here c) in omega arith
-
 pub bounds-q-q : goal.bounds-q-q
-bounds-q-q c = let n = slot-here (here c) in omega arith
+bounds-q-q c = slot-here (here (goal.at.bounds-q-q c).Else-visits-budget)
 
-pub seen-requires : goal.seen-requires
-seen-requires c = let n = visit-needs (here (goal.at.seen-requires c).Else-visits-budget) c.if-l-eq0.false in
-    record { from_one = n.0; whole = n.1 }
-
-pub returns-in-Damaged : goal.returns-in-Damaged
+pub returns-in_err-visited : goal.returns-in_err-visited
 unfolding packed
-returns-in-Damaged c =
-    c.refused.ensures ∙ answers (goal.at.returns-in-Damaged c).At-loop-visits _ (sees-damaged (here (goal.at.returns-in-Damaged c).Else-visits-budget)
-    c.if-l-eq0.false (sym c.in-Damaged.ensures))
-
-pub overflow_cast-after : goal.overflow_cast-after
-overflow_cast-after c = let n = slot-here (here (goal.at.overflow_cast-after c).Else-visits-budget) in omega arith
-
-pub offset_bounds-q-q-in-Miss : goal.offset_bounds-q-q-in-Miss
-offset_bounds-q-q-in-Miss c = let n = slot-here (here (goal.at.offset_bounds-q-q-in-Miss c).Else-visits-budget) in omega arith
-
-pub bounds-q-q-in-Miss : goal.bounds-q-q-in-Miss
-bounds-q-q-in-Miss c = let n = slot-here (here (goal.at.bounds-q-q-in-Miss c).Else-visits-budget) in omega arith
-
-pub loop-visits-smaller-in-Miss : goal.loop-visits-smaller-in-Miss
-loop-visits-smaller-in-Miss c = let n = (here (goal.at.loop-visits-smaller-in-Miss c).Else-visits-budget).left in omega arith
+returns-in_err-visited c = let g = goal.at.returns-in_err-visited c in
+    let p = err_from_is_err_and c.from_residual.result c.from_residual.ensures.1 in
+    rw (p.1, p.2) (answers g.At-loop-visits _ (sees-damaged (here g.Else-visits-budget)
+    c.if-l-eq0.false _ (sym c.in_err-visited.ensures)))
 
 pub loop-visits-preserved-in-Miss : goal.loop-visits-preserved-in-Miss
 loop-visits-preserved-in-Miss c =
     walks-on c.args.c.resources c.args.c.statements c.args.resources.now c.args.statements.now c.args.words.now c.args.budget c.walk.q c.walk.visits c.loop-visits.q c.loop-visits.visits _ _ c.loop-visits.invariant
     (sees-miss (here (goal.at.loop-visits-preserved-in-Miss c).Else-visits-budget) c.if-l-eq0.false c.in-Miss.n c.moved-after.result
-    (sym c.in-Miss.ensures) c.moved-after.ensures)
+    (sym c.in_ok-visited.ensures ∙ ap Ok c.in-Miss.is) c.moved-after.ensures)
 
-pub tried-m-requires : goal.tried-m-requires
-tried-m-requires c =
-    let h = here (goal.at.tried-m-requires c).Else-visits-budget in
+pub tried-requires : goal.tried-requires
+tried-requires c =
+    let h = here (goal.at.tried-requires c).Else-visits-budget in
     let z = c.if-l-eq0.false in
     let i = visit-needs h z in
-    let k = try-needs h z c.in-Hit.n (sym c.in-Hit.ensures) in
+    let k = try-needs h z c.in-Hit.n (sym c.in_ok-visited.ensures ∙ ap Ok c.in-Hit.is) in
     (k.0, k.1, record { from_one = i.0; whole = i.1 }, k.2)
 
-pub overflow_cast-e : goal.overflow_cast-e
-overflow_cast-e c = let n = tried-top (tried (goal.at.overflow_cast-e c).After-tried-m) in omega arith
-
-pub offset_bounds-q-m : goal.offset_bounds-q-m
-offset_bounds-q-m c = let n = tried-top (tried (goal.at.offset_bounds-q-m c).After-tried-m) in omega arith
-
-pub bounds-q-m : goal.bounds-q-m
-bounds-q-m c = let n = tried-top (tried (goal.at.bounds-q-m c).After-tried-m) in omega arith
-
-pub returns-in-Damaged-outcome : goal.returns-in-Damaged-outcome
+pub returns-in_err-outcome-in-Hit : goal.returns-in_err-outcome-in-Hit
 unfolding packed
-returns-in-Damaged-outcome c = let g = goal.at.returns-in-Damaged-outcome c in
-    c.refused-in-Damaged-outcome.ensures
-    ∙ answers g.At-loop-visits _ (tried-damaged (tried g.After-tried-m) c.in-Damaged-outcome.is)
+returns-in_err-outcome-in-Hit c = let g = goal.at.returns-in_err-outcome-in-Hit c in
+    let p = err_from_is_err_and c.from_residual-in_err-outcome-in-Hit.result c.from_residual-in_err-outcome-in-Hit.ensures.1 in
+    rw (p.1, p.2) (answers g.At-loop-visits _
+    (tried-refused (tried (here g.Else-visits-budget) c.if-l-eq0.false c.in-Hit.n (sym c.in_ok-visited.ensures ∙ ap Ok c.in-Hit.is))
+    _ c.in_err-outcome-in-Hit.ensures))
 
-pub loop-visits-smaller : goal.loop-visits-smaller
-loop-visits-smaller c = let n = (here (goal.at.loop-visits-smaller c).Else-visits-budget).left in omega arith
+pub write-requires : goal.write-requires
+write-requires c = onward-slot (tried (here (goal.at.write-requires c).Else-visits-budget) c.if-l-eq0.false c.in-Hit.n (sym c.in_ok-visited.ensures ∙ ap Ok c.in-Hit.is)) c.in-Onward.m (ap Ok (sym c.in-Onward.is) ∙ c.in_ok-outcome-in-Hit.ensures)
 
 pub loop-visits-preserved : goal.loop-visits-preserved
 loop-visits-preserved c = let g = goal.at.loop-visits-preserved c in
-    walks-on c.args.c.resources c.args.c.statements c.args.resources.now c.args.statements.now c.args.words.now c.args.budget c.walk.q c.walk.visits c.loop-visits.q c.loop-visits.visits _ _ c.loop-visits.invariant
-    (tried-onward (tried g.After-tried-m) c.in-Onward.is)
+    rw c.write.ensures
+    (walks-on c.args.c.resources c.args.c.statements c.args.resources.now c.args.statements.now c.args.words.now c.args.budget c.walk.q c.walk.visits c.loop-visits.q c.loop-visits.visits _ _ c.loop-visits.invariant
+    (tried-onward (tried (here g.Else-visits-budget) c.if-l-eq0.false c.in-Hit.n (sym c.in_ok-visited.ensures ∙ ap Ok c.in-Hit.is)) c.in-Onward.m (ap Ok (sym c.in-Onward.is) ∙ c.in_ok-outcome-in-Hit.ensures)))
+
+pub write-requires-in-Whole : goal.write-requires-in-Whole
+write-requires-in-Whole c = whole-slot (tried (here (goal.at.write-requires-in-Whole c).Else-visits-budget) c.if-l-eq0.false c.in-Hit.n (sym c.in_ok-visited.ensures ∙ ap Ok c.in-Hit.is)) c.in-Whole.m (ap Ok (sym c.in-Whole.is) ∙ c.in_ok-outcome-in-Hit.ensures)
 
 pub returns-then-q-eq0 : goal.returns-then-q-eq0
 returns-then-q-eq0 c = let g = goal.at.returns-then-q-eq0 c in
@@ -197,28 +119,17 @@ returns-then-q-eq0 c = let g = goal.at.returns-then-q-eq0 c in
 pub popped-m-requires : goal.popped-m-requires
 popped-m-requires c = pop-needs (here (goal.at.popped-m-requires c).Else-visits-budget) (let n = c.if-q-eq0.false in omega arith)
 
-pub overflow_cast-e-in-walk : goal.overflow_cast-e-in-walk
-overflow_cast-e-in-walk c = let n = popped-top (goal.at.overflow_cast-e-in-walk c).After-popped-m in omega arith
-
-pub offset_bounds-q-m-in-walk : goal.offset_bounds-q-m-in-walk
-offset_bounds-q-m-in-walk c = let n = popped-top (goal.at.offset_bounds-q-m-in-walk c).After-popped-m in omega arith
-
-pub bounds-q-m-in-walk : goal.bounds-q-m-in-walk
-bounds-q-m-in-walk c = let n = popped-top (goal.at.bounds-q-m-in-walk c).After-popped-m in omega arith
-
-pub walk-smaller : goal.walk-smaller
-walk-smaller c = let d = (goal.at.walk-smaller c).After-popped-m in
-    let n = popped-top d in let e = c.loop-visits.invariant.less in omega arith
-
 pub walk-preserved : goal.walk-preserved
-walk-preserved c = let d = (goal.at.walk-preserved c).After-popped-m in
-    walks-on c.args.c.resources c.args.c.statements c.args.resources.now c.args.statements.now c.args.words.now c.args.budget c.args.from 0 c.walk.q c.walk.visits _ _ c.walk.invariant (walks-on c.args.c.resources c.args.c.statements c.args.resources.now c.args.statements.now c.args.words.now c.args.budget c.walk.q c.walk.visits
-    c.loop-visits.q c.loop-visits.visits _ _ c.loop-visits.invariant (pops (here-popped d) d.popped-m.result
-    d.popped-m.ensures (popped-top d).0 d.if-l-eq0.true))
+walk-preserved c = let g = goal.at.walk-preserved c in
+    rw c.write-in-walk.ensures
+    (walks-on c.args.c.resources c.args.c.statements c.args.resources.now c.args.statements.now c.args.words.now c.args.budget c.args.from 0 c.walk.q c.walk.visits _ _ c.walk.invariant
+    (walks-on c.args.c.resources c.args.c.statements c.args.resources.now c.args.statements.now c.args.words.now c.args.budget c.walk.q c.walk.visits c.loop-visits.q c.loop-visits.visits _ _ c.loop-visits.invariant
+    (pops (here g.Else-visits-budget) c.popped-m.result c.popped-m.ensures (let n = c.if-q-eq0.false in omega arith) c.if-l-eq0.true)))
 
 pub whole-requires : goal.whole-requires
-whole-requires c = tried-top (tried (goal.at.whole-requires c).After-tried-m)
+whole-requires c = rw c.write-in-Whole.ensures (whole-slot (tried (here (goal.at.whole-requires c).Else-visits-budget) c.if-l-eq0.false c.in-Hit.n (sym c.in_ok-visited.ensures ∙ ap Ok c.in-Hit.is)) c.in-Whole.m (ap Ok (sym c.in-Whole.is) ∙ c.in_ok-outcome-in-Hit.ensures))
 
 pub returns : goal.returns
 returns c = let g = goal.at.returns c in
-    c.whole.ensures ∙ answers g.At-loop-visits _ (tried-whole (tried g.After-tried-m) c.in-Whole.is)
+    c.whole.ensures ∙ rw c.write-in-Whole.ensures
+    (answers g.At-loop-visits _ (tried-whole (tried (here g.Else-visits-budget) c.if-l-eq0.false c.in-Hit.n (sym c.in_ok-visited.ensures ∙ ap Ok c.in-Hit.is)) c.in-Whole.m (ap Ok (sym c.in-Whole.is) ∙ c.in_ok-outcome-in-Hit.ensures)))

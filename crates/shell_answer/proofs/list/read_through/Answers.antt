@@ -3,9 +3,8 @@ use mathlib.Core.Path.{sym}
 use Rattle.shell_answer.proofs.Opening.{list-refused, list-opened}
 use Rattle.shell_answer.proofs.list.read_through.Goals as goal
 
-pub returns-in-Refused : goal.returns-in-Refused
-returns-in-Refused g c =
-    rw c.told_refused.ensures (list-refused _ _ _ c.in-Refused.e (sym c.in-Refused.ensures) c.refusal_number.ensures)
+pub returns-in-Err : goal.returns-in-Err
+returns-in-Err g c = list-refused _ _ _ c.in-Err.e (sym c.in-Err.ensures)
 
-pub returns-in-Cursor : goal.returns-in-Cursor
-returns-in-Cursor g c = list-opened _ _ _ (sym c.in-Cursor.ensures) c.read_on.ensures
+pub returns-in-Ok : goal.returns-in-Ok
+returns-in-Ok g c = list-opened _ _ _ _ (sym c.in-Ok.ensures) c.read_on.ensures

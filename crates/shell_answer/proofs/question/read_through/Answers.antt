@@ -3,10 +3,8 @@ use mathlib.Core.Path.{sym}
 use Rattle.shell_answer.proofs.Opening.{question-refused, question-opened}
 use Rattle.shell_answer.proofs.question.read_through.Goals as goal
 
-pub returns-in-Refused : goal.returns-in-Refused
-returns-in-Refused g c =
-    rw c.told_refused.ensures
-    (question-refused _ _ _ (sym c.query_open-o.ensures) c.in-Refused.e c.in-Refused.is c.refusal_number.ensures)
+pub returns-in-Err : goal.returns-in-Err
+returns-in-Err g c = question-refused _ _ _ c.in-Err.e (sym c.in-Err.ensures)
 
-pub returns-in-Opened : goal.returns-in-Opened
-returns-in-Opened g c = question-opened _ _ _ (sym c.query_open-o.ensures) c.in-Opened.is c.read_on.ensures
+pub returns-in-Ok : goal.returns-in-Ok
+returns-in-Ok g c = question-opened _ _ _ _ (sym c.in-Ok.ensures) c.read_on.ensures

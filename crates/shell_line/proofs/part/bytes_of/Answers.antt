@@ -4,5 +4,5 @@ use Rattle.shell_line.proofs.part.bytes_of.Goals as goal
 
 pub returns : goal.returns
 returns c = let a = c.args in
-    part-within a.line.now a.start a.end c.lesser-from.result c.lesser-stop.result
-    c.lesser-stop.ensures c.lesser-from.ensures
+    part-within a.line.now a.start a.end c.min-from.result c.min-stop.result
+    c.min-stop.ensures c.min-from.ensures

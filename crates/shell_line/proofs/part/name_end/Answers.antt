@@ -1,11 +1,11 @@
--- A name's end with what follows it. Assumes nothing.
-use mathlib.Core.Path.{◌∙◌, ap}
+-- An end with what follows it. Assumes nothing.
+use mathlib.Core.Path.{ap}
+use Rattle.std.proofs.lemmas.Result.{err_from_is_err_and}
 use Rattle.shell_line.specs.Ends.{followed}
 use Rattle.shell_line.proofs.part.name_end.Goals as goal
 
-pub returns-in-Whole : goal.returns-in-Whole
-returns-in-Whole c = c.followed.ensures ∙ ap (followed c.args.line.now) c.in-Whole.ensures
-
-pub returns-in-Broken : goal.returns-in-Broken
+pub returns-in_err-name : goal.returns-in_err-name
 unfolding followed
-returns-in-Broken c = ap (followed c.args.line.now) c.in-Broken.ensures
+returns-in_err-name c =
+    let r = err_from_is_err_and c.from_residual.result c.from_residual.ensures.1 in
+    rw (r.1, r.2) (ap (followed c.args.line.now) c.in_err-name.ensures)

@@ -7,21 +7,27 @@ use Rattle.shell_line.proofs.parts.add_variable.Goals as goal
 
 pub returns-then-v-ge-VARIABLES : goal.returns-then-v-ge-VARIABLES
 returns-then-v-ge-VARIABLES c s h k = let n = c.variable_number-v in
-    variable-beyond h c.args.end n.result (n.ensures s h) c.fault.result
-    c.if-v-ge-VARIABLES.true c.fault.ensures
+    variable-beyond h c.args.end n.result (n.ensures s h) c.no_question.result
+    c.if-v-ge-VARIABLES.true c.no_question.ensures
 
 pub returns-then-v-p : goal.returns-then-v-p
 unfolding span_of word_of
 returns-then-v-p c s h k = let e = c.args.end in
     let n = c.variable_number-v in
-    let a = c.add-r in
-    variable-new h e n.result (n.ensures s h) a.result c.if-v-ge-VARIABLES.false c.if-v-p.true
+    let a = c.in_ok-r in
+    variable-new h e n.result (n.ensures s h) a.r c.if-v-ge-VARIABLES.false c.if-v-p.true
     (a.ensures s (Variable n.result (span s.at e)) h k (ap (λ i. span i e) (sym h.at)) refl)
 
 pub returns-else-v-p : goal.returns-else-v-p
 unfolding span_of word_of
 returns-else-v-p c s h k = let e = c.args.end in
     let n = c.variable_number-v in
-    let a = c.add-r in
-    variable-known h e n.result (n.ensures s h) a.result c.if-v-ge-VARIABLES.false c.if-v-p.false
+    let a = c.in_ok-r in
+    variable-known h e n.result (n.ensures s h) a.r c.if-v-ge-VARIABLES.false c.if-v-p.false
     (a.ensures s (Variable n.result (span s.at e)) h k (ap (λ i. span i e) (sym h.at)) refl)
+
+pub returns-in_err-r : goal.returns-in_err-r
+unfolding span_of word_of
+returns-in_err-r c s h k = let e = c.args.end in
+    let n = c.variable_number-v in
+    absurd (c.in_err-r.ensures s (Variable n.result (span s.at e)) h k (ap (λ i. span i e) (sym h.at)) refl)

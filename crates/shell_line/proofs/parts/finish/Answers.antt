@@ -1,28 +1,13 @@
 -- The end of the line, test by test. Assumes nothing.
-use mathlib.Core.Path.{refl}
 use Rattle.shell_line.proofs.QuestionLaws.{end-first, end-within, end_whole}
 use Rattle.shell_line.proofs.parts.finish.Goals as goal
 
-pub returns-then-p-ne0 : goal.returns-then-p-ne0
-returns-then-p-ne0 c = record { refused = λ n. refl; ended = λ s h. absurd (c.if-p-ne0.true h.unrefused) }
-
 pub returns-then-p-eq0 : goal.returns-then-p-eq0
-returns-then-p-eq0 c =
-    record {
-      refused = λ n. absurd (n c.if-p-ne0.false);
-      ended = λ s h. end-first h c.fault.result c.if-p-eq0.true c.fault.ensures;
-    }
+returns-then-p-eq0 c s h = end-first h c.unreadable.result c.if-p-eq0.true c.unreadable.ensures
 
-pub returns-then-p-ne0-2 : goal.returns-then-p-ne0-2
-returns-then-p-ne0-2 c =
-    record {
-      refused = λ n. absurd (n c.if-p-ne0.false);
-      ended = λ s h. end-within h c.fault-then-p-ne0-2.result c.if-p-eq0.false c.if-p-ne0-2.true c.fault-then-p-ne0-2.ensures;
-    }
+pub returns-then-p-ne0 : goal.returns-then-p-ne0
+returns-then-p-ne0 c s h = let u = c.unreadable-then-p-ne0 in
+    end-within h u.result c.if-p-eq0.false c.if-p-ne0.true u.ensures
 
 pub returns : goal.returns
-returns c =
-    record {
-      refused = λ n. refl;
-      ended = λ s h. end_whole h c.if-p-eq0.false c.if-p-ne0-2.false;
-    }
+returns c s h = end_whole h c.if-p-eq0.false c.if-p-ne0.false

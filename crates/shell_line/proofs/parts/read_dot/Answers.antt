@@ -5,16 +5,16 @@ use Rattle.shell_line.proofs.parts.read_dot.Goals as goal
 
 pub returns-then-not-dot_due : goal.returns-then-not-dot_due
 returns-then-not-dot_due c s h = let d = c.dot_due in
-    dot-early h c.fault.result (sym d.ensures ∙ c.if-not-dot_due.true) c.fault.ensures
+    dot-early h c.unreadable.result (sym d.ensures ∙ c.if-not-dot_due.true) c.unreadable.ensures
 
-pub returns-in-Broken : goal.returns-in-Broken
-returns-in-Broken c s h = let d = c.dot_due in
-    dot-broken h c.fault-in-Broken.result c.in-Broken.k
+pub returns-in-Err : goal.returns-in-Err
+returns-in-Err c s h = let d = c.dot_due in
+    dot-broken h c.unreadable-in-Err.result c.in-Err.k
     (sym d.ensures ∙ c.if-not-dot_due.false)
-    c.in-Broken.ensures c.fault-in-Broken.ensures
+    c.in-Err.ensures c.unreadable-in-Err.ensures
 
-pub returns-in-Whole : goal.returns-in-Whole
-returns-in-Whole c s h = let d = c.dot_due in
-    dot-whole h c.in-Whole.end c.white_end.result
+pub returns-in-Ok : goal.returns-in-Ok
+returns-in-Ok c s h = let d = c.dot_due in
+    dot-whole h c.in-Ok.end c.white_end.result
     (sym d.ensures ∙ c.if-not-dot_due.false)
-    c.in-Whole.ensures c.white_end.ensures
+    c.in-Ok.ensures c.white_end.ensures

@@ -1,31 +1,36 @@
 -- Reads the parts by one loop: the whole is what is read on from here. Assumes nothing.
-use Prim.Native.Nat.{◌-◌}
+use Prim.Native.Nat.{◌+◌, ◌-◌}
 use mathlib.Core.Logic.{inl, inr}
+use lib.ListN.{length}
 use native.Mathlib.Omega.{arith}
+use Rattle.std.proofs.lemmas.Result.{err_from_is_err_and}
 use Rattle.shell_line.proofs.QuestionLaws.{begins, told-fault, told-end, goes_on}
 use Rattle.shell_line.proofs.parts.read_parts.Goals as goal
 
-pub loop-turns-init : goal.loop-turns-init
-loop-turns-init c =
-    λ f. let a = c.args in
-    begins a.form a.line.now a.from c.white_end.result c.none-p.result c.white_end.ensures
-    c.none-p.ensures
-
-pub returns-then-p-ne0 : goal.returns-then-p-ne0
-returns-then-p-ne0 c f =
-    told-fault (c.loop-turns.invariant f) c.if-p-ne0.true
+pub loop-init : goal.loop-init
+loop-init c f = let a = c.args in
+    begins a.form a.line.now a.from (length a.line.now - 0) c.white_end.result c.none-p.result (omega arith) c.white_end.ensures c.none-p.ensures
 
 pub returns-then-p-line : goal.returns-then-p-line
 returns-then-p-line c f =
-    told-end c.finish.result (c.loop-turns.invariant f) (inl c.if-p-line.true)
-    c.finish.ensures
+    told-end (c.loop.invariant f) c.finish.result (inl c.if-p-line.true) c.finish.ensures
 
-pub loop-turns-preserved : goal.loop-turns-preserved
-loop-turns-preserved c f = let l = c.loop-turns in
-    let t = c.loop-turns-test.true in
-    goes_on l.turns (l.turns - 1) l.p c.step-p.result (omega arith) (l.invariant f) c.if-p-ne0.false
-    c.if-p-line.false (λ s h. c.step-p.ensures s h f c.if-p-line.false)
+pub returns-in_err-p : goal.returns-in_err-p
+returns-in_err-p c f = let l = c.loop in
+    let g = l.invariant f in
+    let t = c.loop-test.true in
+    let r = err_from_is_err_and c.from_residual.result c.from_residual.ensures.1 in
+    rw (r.1, r.2)
+    (told-fault g (length c.args.line.now - (l.counter + 1)) (omega arith) c.if-p-line.false _
+    (c.in_err-p.ensures g.standing g.holds f c.if-p-line.false))
+
+pub loop-preserved : goal.loop-preserved
+loop-preserved c f = let l = c.loop in
+    let g = l.invariant f in
+    let t = c.loop-test.true in
+    goes_on g (length c.args.line.now - (l.counter + 1)) (omega arith) c.if-p-line.false c.in_ok-p.p
+    (c.in_ok-p.ensures g.standing g.holds f c.if-p-line.false)
 
 pub returns : goal.returns
-returns c f = let t = c.loop-turns-test.false in
-    told-end c.finish-2.result (c.loop-turns.invariant f) (inr (omega arith)) c.finish-2.ensures
+returns c f = let t = c.loop-test.false in
+    told-end (c.loop.invariant f) c.finish-2.result (inr (omega arith)) c.finish-2.ensures

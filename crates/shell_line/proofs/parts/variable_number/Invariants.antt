@@ -1,11 +1,7 @@
 -- The number of a variable, by one loop over the variables so far. Assumes nothing.
-use Prim.Native.Nat.{◌-◌}
 use lib.Seq.{slice}
 use Rattle.shell_line.proofs.QuestionLaws.{Looking}
 use Rattle.shell_line.proofs.parts.variable_number.Given as goal
 
 abbrev pub invariant-loop-v : goal.invariant-loop-v
 invariant-loop-v l = Looking l.line l.p (slice l.at l.end l.line) l.v
-
-abbrev pub decreases-loop-v : goal.decreases-loop-v
-decreases-loop-v l = 16 - l.v

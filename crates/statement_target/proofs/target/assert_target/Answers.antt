@@ -1,7 +1,8 @@
 use mathlib.Core.Path.{◌≡◌}
 use mathlib.Core.Bool.{true}
 use Rattle.store.specs.Shared.{known}
-use Rattle.store.specs.Tables.{lent, fits}
+use Rattle.store.specs.Tables.{fits}
+use Rattle.table.specs.Lent.{held}
 use Rattle.table.specs.Held.{TripleHeld}
 use Rattle.table.proofs.Branches.{passed, failed, first-refuses, second-refuses}
 use Rattle.table.proofs.Capacity.{fits-room}
@@ -10,14 +11,14 @@ use Rattle.statement_target.specs.Targets.{assert_target}
 use Rattle.statement_target.proofs.target.assert_target.Goals as goal
 use Rattle.statement_target.proofs.target.assert_target.Goals.{Else-not-known}
 
-fit : (c : Else-not-known) → fits c.args.c (let a = c.args in lent a.resources a.statements a.index a.text) ≡ true
+fit : (c : Else-not-known) → fits c.args.c (held c.args.tables) ≡ true
 fit c = passed c.fits.ensures c.if-not-fits.false
 
 entered : (c : Else-not-known) → known c.args.c.resources c.args.x ≡ true
 entered c = passed c.known.ensures c.if-not-known.false
 
-held : (c : Else-not-known) → TripleHeld c.args.resources.now c.args.x
-held c = known-held c.args.c (let a = c.args in lent a.resources a.statements a.index a.text) (fit c) c.args.x (entered c)
+triple-held : (c : Else-not-known) → TripleHeld c.args.tables.resources.now c.args.x
+triple-held c = known-held c.args.c (held c.args.tables) (fit c) c.args.x (entered c)
 
 pub returns-then-not-fits : goal.returns-then-not-fits
 unfolding assert_target
@@ -30,7 +31,7 @@ returns-then-not-known c =
     c.known.ensures c.if-not-known.true
 
 pub kinds_ok-requires : goal.kinds_ok-requires
-kinds_ok-requires c = held c
+kinds_ok-requires c = triple-held (goal.at.kinds_ok-requires c).Else-not-known
 
 pub returns-then-not-kinds_ok : goal.returns-then-not-kinds_ok
 unfolding assert_target
@@ -38,7 +39,7 @@ returns-then-not-kinds_ok c = let d = (goal.at.returns-then-not-kinds_ok c).Else
     simp (fit d, entered d, failed c.kinds_ok.ensures c.if-not-kinds_ok.true)
 
 pub kinds_permitted-requires : goal.kinds_permitted-requires
-kinds_permitted-requires c = held (goal.at.kinds_permitted-requires c).Else-not-known
+kinds_permitted-requires c = triple-held (goal.at.kinds_permitted-requires c).Else-not-known
 
 pub returns-then-not-kinds_permitted : goal.returns-then-not-kinds_permitted
 unfolding assert_target
@@ -52,7 +53,7 @@ returns-then-not-kinds_permitted c = let d = (goal.at.returns-then-not-kinds_per
 
 pub locate-requires : goal.locate-requires
 locate-requires c = let d = (goal.at.locate-requires c).Else-not-known in
-    (held d, (fits-room d.args.c (let a = d.args in lent a.resources a.statements a.index a.text) (fit d)).in-statements)
+    (triple-held d, (fits-room d.args.c (held d.args.tables) (fit d)).in-statements)
 
 pub returns : goal.returns
 unfolding assert_target

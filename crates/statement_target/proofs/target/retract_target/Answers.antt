@@ -1,4 +1,4 @@
-use Rattle.store.specs.Tables.{lent}
+use Rattle.table.specs.Lent.{held}
 use Rattle.table.proofs.Branches.{passed, first-refuses, second-refuses}
 use Rattle.table.proofs.Capacity.{fits-room}
 use Rattle.statement_target.proofs.Locate.{known-held, locate-any}
@@ -17,7 +17,7 @@ returns-then-not-known c =
 
 pub locate-requires : goal.locate-requires
 locate-requires c = let a = c.args in
-    let m = lent a.resources a.statements a.index a.text in
+    let m = held a.tables in
     let f = passed c.fits.ensures c.if-not-fits.false in (
       known-held a.c m f a.x (passed c.known.ensures c.if-not-known.false),
       (fits-room a.c m f).in-statements,

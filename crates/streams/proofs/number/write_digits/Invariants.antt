@@ -1,11 +1,8 @@
 -- The digits still to write, and then those written, are the digits of n.
-use Rattle.std.proofs.Common.{◌≡◌, ◌++◌, ◌≤◌, length, drop}
+use Rattle.std.proofs.Common.{◌≡◌, ◌++◌, drop}
 use lib.Seq.{slice}
 use Rattle.streams.specs.Digits.{last_digits}
 use Rattle.streams.proofs.number.write_digits.Given as goal
 
 abbrev pub invariant-loop-i : goal.invariant-loop-i
-invariant-loop-i l = (length l.out ≡ length l.initial.out) × (l.i ≤ l.k) × (last_digits l.i l.rest ++ slice l.i l.k l.out ≡ last_digits l.k l.n) × (drop l.k l.out ≡ drop l.k l.initial.out)
-
-abbrev pub decreases-loop-i : goal.decreases-loop-i
-decreases-loop-i l = l.i
+invariant-loop-i l = (last_digits l.i l.rest ++ slice l.i l.k l.out ≡ last_digits l.k l.n) × (drop l.k l.out ≡ drop l.k l.initial.out)

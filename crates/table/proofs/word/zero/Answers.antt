@@ -1,21 +1,15 @@
-use Rattle.table.proofs.Stores.{zero_turn}
-use lib.ListN.{length-set}
-use native.Mathlib.Omega.{arith}
-use mathlib.Core.Path.{◌≡◌, refl}
+use Rattle.std.proofs.Common.{◌≡◌, ℕ, ◌+◌, ◌-◌, arith, refl, length, take, drop, replicate}
+use Rattle.std.proofs.lemmas.List.{length-drop, length-take-le, length-replicate, drop-drop, append_assoc}
+use Rattle.std.proofs.lemmas.List.Edits.{sets-eq}
 use Rattle.table.proofs.word.zero.Goals as goal
 
-pub loop-i-init : goal.loop-i-init
-loop-i-init c = (omega arith, refl, refl)
-
-pub loop-i-preserved : goal.loop-i-preserved
-loop-i-preserved c = let a = c.args in
-    let loop = c.loop-i in (
-      omega arith,
-      simp length-set loop.invariant.1,
-      zero_turn loop.words a.words.now a.start loop.i loop.invariant.2,
-    )
-
 pub returns : goal.returns
-returns c = let loop = c.loop-i in
-    let e : loop.i ≡ c.args.size = omega arith in
-    rw e at loop.invariant.2
+returns c =
+    let s = c.args.start in
+    let n = c.args.size in
+    let w = c.args.words.now in
+    let k : s + n - s ≡ n = omega arith in
+    let e : length (take n (drop s w)) ≡ n = length-take-le n (drop s w) (rw (length-drop s w) (omega arith)) in
+    let v = (rw (k, e) at c.fill.ensures.after (λ y p. p)) in
+    let z = sets-eq (replicate n 0) w s (rw (length-replicate {A = ℕ} n 0) (omega arith)) in
+    rw (k, v, z, length-replicate {A = ℕ} n 0, drop-drop n s w, append_assoc) refl

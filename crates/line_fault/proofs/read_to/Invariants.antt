@@ -1,9 +1,0 @@
--- A byte more at each turn. Assumes nothing.
-use Rattle.std.proofs.Common.{◌-◌, length}
-use Rattle.line_fault.proofs.read_to.Given as goal
-
-abbrev pub invariant-loop-i : goal.invariant-loop-i
-invariant-loop-i l = Unit {0}
-
-abbrev pub decreases-loop-i : goal.decreases-loop-i
-decreases-loop-i l = length l.line - l.i

@@ -1,8 +1,0 @@
--- `loader::buffer::text_table` meets its contract, by the law on a repeated value: computing the length would count to it. Assumes nothing.
-use Prim.Native.Nat.{ℕ}
-use mathlib.Core.Path.{sym}
-use lib.ListN.{length-replicate}
-use Rattle.loader.proofs.buffer.text_table.Goals as goal
-
-pub returns : goal.returns
-returns c = sym (length-replicate {A = ℕ} 524288 0)

@@ -1,8 +1,0 @@
-use Rattle.graph.specs.Query.{packed}
-use Rattle.query_stack.proofs.Stacks.{answer-is}
-use Rattle.query_stack.proofs.stack.refused.Goals as goal
-
-pub returns : goal.returns
-unfolding packed
-returns c = answer-is _ _ c.none_bound.result _ c.no_levels.result _
-    c.none_bound.ensures c.no_levels.ensures

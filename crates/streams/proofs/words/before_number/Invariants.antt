@@ -1,9 +1,0 @@
--- What is looked at lies in the bytes.
-use Rattle.std.proofs.Common.{length, ◌≤◌}
-use Rattle.streams.proofs.words.before_number.Given as goal
-
-abbrev pub invariant-loop-n : goal.invariant-loop-n
-invariant-loop-n l = l.n ≤ length l.bytes
-
-abbrev pub decreases-loop-n : goal.decreases-loop-n
-decreases-loop-n l = l.n
