@@ -1,7 +1,7 @@
 // Each operation's reply as numbers: the refusal's number or 0, and the words that the reply names, 0 beside a refusal.
 // Functions, and no `From`: the replies are another crate's and the results the library's, so that no impl may stand here.
-ghost use Rattle.std.specs.Prelude.{◌≡◌, Ok};
-ghost use Rattle.store.specs.Values.{scanned_values, asserted_values};
+ghost use Rattle.std.specs.Prelude.{◌≡◌};
+ghost use Rattle.store.specs.Values.{scanned_values, asserted_values, no_cursor};
 ghost use Rattle.capi_calls.specs.Words.{numbered, kind_answer, check_answer, looked_up, lookup_answer, prefix_answer};
 ghost use Rattle.capi_calls.specs.Words.{export_answer, retract_answer, enter_answer};
 ghost use Rattle.capi_calls.specs.Words.{name_answer, statement_answer, assert_answer, scanned_answer, asserted_with};
@@ -13,8 +13,8 @@ use capi_calls::{
 };
 use ntriples::{Line, Span};
 use store::{
-    Asserted, Counters, Interned, Lookup, NameSpan, Refusal, ScanCursor, Scanned, StatementId,
-    StatementRead, refusal_number,
+    Asserted, Chain, Counters, Interned, Lookup, NameSpan, Refusal, ResourceId, ScanCursor,
+    Scanned, StatementId, StatementRead, Triple, refusal_number,
 };
 
 // A result and a number.
@@ -153,12 +153,13 @@ pub fn assert_answer(a: Result<Asserted, Refusal>) -> AssertReply
     }
 }
 
-// The counters from now on.
-pub fn asserted_counters(a: Asserted) -> Counters
-    ensures { result ≡ (asserted_values (Ok a)).counters }
+// The counters from now on; of a refusal those of a store that holds nothing.
+pub fn asserted_counters(a: Result<Asserted, Refusal>) -> Counters
+    ensures { result ≡ (asserted_values a).counters }
 {
     match a {
-        Asserted::New(_, c) | Asserted::Already(_, c) | Asserted::Revived(_, c) => c,
+        Ok(Asserted::New(_, c) | Asserted::Already(_, c) | Asserted::Revived(_, c)) => c,
+        Err(_) => Counters::fresh(),
     }
 }
 
@@ -185,12 +186,30 @@ pub fn scanned_answer(a: Result<Scanned, Refusal>) -> ScanReply
     }
 }
 
-// The cursor from now on.
-pub fn scanned_cursor(a: Scanned) -> ScanCursor
-    ensures { result ≡ (scanned_values (Ok a)).cursor }
+// No cursor.
+fn no_cursor() -> ScanCursor
+    ensures { result ≡ no_cursor }
+{
+    let none = Triple {
+        subject: ResourceId(0),
+        predicate: ResourceId(0),
+        object: ResourceId(0),
+    };
+    ScanCursor {
+        pattern: none,
+        chain: Chain::All,
+        next: StatementId(0),
+        generation: 0,
+    }
+}
+
+// The cursor from now on; of a refusal none.
+pub fn scanned_cursor(a: Result<Scanned, Refusal>) -> ScanCursor
+    ensures { result ≡ (scanned_values a).cursor }
 {
     match a {
-        Scanned::Found(_, _, q) | Scanned::Ended(_, q) | Scanned::Spent(_, q) => q,
+        Ok(Scanned::Found(_, _, q) | Scanned::Ended(_, q) | Scanned::Spent(_, q)) => q,
+        Err(_) => no_cursor(),
     }
 }
 

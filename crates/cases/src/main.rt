@@ -51,6 +51,8 @@
 // | show index, show text              | the words or bytes that are lent                                         |
 #![tactic(auto)]
 
+ghost use Rattle.table.specs.Lent.{SameSlices};
+
 use cases_script::script::Verb;
 use cases_script::state::State;
 use cases_script::{print, setup, state};
@@ -134,7 +136,9 @@ fn step(
 }
 
 // A set-up of the state, a set-up of the tables, or a case.
-fn act(rt: &impl Outputs, state: &mut State, verb: Verb, line: &[u8], tables: &mut TablesMut) {
+fn act(rt: &impl Outputs, state: &mut State, verb: Verb, line: &[u8], tables: &mut TablesMut)
+    ensures same { SameSlices tables.new tables.old }
+{
     match verb {
         Verb::Nothing
         | Verb::Lend

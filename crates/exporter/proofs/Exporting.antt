@@ -1,6 +1,6 @@
 -- The contract of the export: the pass tells what the definition asks, what it lets through can be sorted and written, and
 -- what is then printed is the file; a law for each way out of the code. Assumes nothing.
-use mathlib.Core.Path.{◌≡◌, refl}
+use mathlib.Core.Path.{◌≡◌, refl, sym, ◌∙◌}
 use mathlib.Core.Bool.{Bool, true, false, not, ◌&&◌, and-true, and-false}
 use mathlib.Core.List.{List}
 use mathlib.Core.Option.{Option, none, some}
@@ -23,11 +23,11 @@ use Rattle.store.specs.Values.{statement_values, name_values}
 use Rattle.store.proofs.Tests.{decide, and_r, range-of, known-low, known-high}
 use Rattle.table.proofs.Capacity.{fits-room}
 use Rattle.table.proofs.Held.{triple-held}
-use Rattle.integrity.proofs.Ranges.{all-at}
+use Rattle.integrity.proofs.Ranges.{all-at, all_of}
 use Rattle.graph.specs.Graph.{named}
 use Rattle.lines.specs.Export.{line_at, file_of, readable, nameable, legible, all_legible, space_for, export_of, Written, written}
 use Rattle.line_sort.specs.Sorted.{All, Sortable}
-use Rattle.std.proofs.Common.{Ok, Err}
+use Rattle.std.proofs.Common.{Result, Ok, Err}
 use Rattle.store.specs.declared.Refusal.{Refusal}
 use Rattle.exporter.specs.Legible.{Readable, name_legible, names_legible, line_legible, statement_legible}
 use Rattle.exporter.specs.Legible.{legible_up_to, live_bytes}
@@ -59,6 +59,10 @@ tests true true r n h = h refl
 tests true false r n h = refl
 tests false true r n h = refl
 tests false false r n h = refl
+
+-- the counters with n statements
+abbrev pub counted : Counters → ℕ → Counters
+counted c n = record { resources = c.resources; statements = n; text = c.text; generation = c.generation }
 
 module _ (c : Counters) (m : Tables) (fit : fits c m ≡ true) where
   abbrev spo : ℕ → Triple
@@ -100,6 +104,41 @@ module _ (c : Counters) (m : Tables) (fit : fits c m ≡ true) where
         in-text = r.in-text;
         few = r.few-statements;
       }
+
+  -- the same of the first n statements
+  pub counted-readable : (n : ℕ) → n ≤ c.statements → Readable (counted c n) m.resources m.statements m.text
+  counted-readable n h =
+      let r = fits-readable in
+      record {
+        in-resources = r.in-resources;
+        in-statements = omega (arith, r.in-statements);
+        in-text = r.in-text;
+        few = omega (arith, r.few);
+      }
+
+-- a test that fails among n fails among more
+more-fails : (f : ℕ → Bool) (n k : ℕ) → all_below f n ≡ false → n ≤ k → all_below f k ≡ false
+more-fails f n k e h =
+    decide (all_below f k)
+    (λ a. absurd (clash (sym (all_of f n (λ i q. all-at f k a i (omega arith))) ∙ e)))
+    (λ a. a)
+  where
+    clash : true ≡ false → ⊥
+    clash z = let q : ◌≡◌ {A = ℕ} 0 1 = cc in omega arith
+
+module _ (c : Counters) (res stm text : List ℕ) {n : ℕ} where
+  -- damage among the first n statements is damage among all
+  pub damage-counted : {r : Refusal} → Err r ≡ measured (counted c n) res stm text → n ≤ c.statements
+      → Err r ≡ measured c res stm text
+  unfolding legible_up_to statement_legible line_legible
+  damage-counted e h =
+      let d = count_none _ _ _ e in
+      rw (more-fails (λ i. statement_legible c res stm text (suc i)) n c.statements d.0 h, d.1)
+
+  -- what is measured of n statements is measured of all, if these are as many
+  pub all-counted : {y : Result ℕ Refusal} → y ≡ measured (counted c n) res stm text → n ≡ c.statements
+      → y ≡ measured c res stm text
+  all-counted p e = rw e at p
 
 -- ---- a statement that can be read can be sorted and written
 

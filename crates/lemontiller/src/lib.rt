@@ -281,7 +281,7 @@ pub fn lt_scan_next(
         Ok(scanned) => {
             // One word is enough: an answered next moves the cursor's record, word 4, and leaves its pattern, chain and
             // number of reclaims as they were read.
-            let q = scanned_cursor(scanned);
+            let q = scanned_cursor(Ok(scanned));
             cursor[4] = q.next.0;
             0
         }
@@ -316,7 +316,7 @@ pub fn lt_assert(
     reply[1] = a.number;
     match done {
         Ok(asserted) => {
-            put_counters(counters, asserted_counters(asserted));
+            put_counters(counters, asserted_counters(Ok(asserted)));
             0
         }
         Err(_) => a.result,

@@ -34,7 +34,9 @@ fn from_left(
     line_order::not_more(resources, statements, text, a, b)
 }
 
-// Merges two sorted runs, the first `mid` words and the others, into the high halves.
+// Merges two sorted runs, the first `mid` words and the others, into the high halves. Never inlined: `sort` calls itself up to 17 deep, and
+// each frame would hold what a merge needs.
+#[inline(never)]
 fn merge(resources: &[u32], statements: &[u32], text: &[u8], work: &mut [u32], mid: usize)
     requires all { All (Sortable resources.now statements.now text.now) work.old }
     requires mid_in_bounds { mid ≤ length work.old }

@@ -2,6 +2,8 @@
 // file before left them. A line `== NAME` stands before each file's output.
 #![tactic(auto)]
 
+ghost use Rattle.table.specs.Lent.{SameSlices};
+
 use loader::load::Load;
 use std::rt::{Env, Files};
 use streams::{Output, Outputs, write_all};
@@ -17,12 +19,9 @@ fn heading(rt: &(impl Outputs + Env), i: usize) {
 }
 
 // Loads the file that argument i names into a fresh store, and writes its totals.
-fn load_case<R: Outputs + Env + Files>(
-    rt: &R,
-    tables: &mut TablesMut,
-    buffer: &mut [u8],
-    i: usize,
-) {
+fn load_case<R: Outputs + Env + Files>(rt: &R, tables: &mut TablesMut, buffer: &mut [u8], i: usize)
+    ensures same { SameSlices tables.new tables.old }
+{
     heading(rt, i);
     let fresh = Load::new(false);
     let l = loader::file::load_argument(rt, fresh, tables, buffer, i);
@@ -30,7 +29,9 @@ fn load_case<R: Outputs + Env + Files>(
 }
 
 // Loads every file.
-fn load_all<R: Outputs + Env + Files>(rt: &R, tables: &mut TablesMut, buffer: &mut [u8]) {
+fn load_all<R: Outputs + Env + Files>(rt: &R, tables: &mut TablesMut, buffer: &mut [u8])
+    ensures same { SameSlices tables.new tables.old }
+{
     let count = streams::argument_count(rt);
     // The arguments before i are loaded, each into a store of its own.
     for i in 1..count {

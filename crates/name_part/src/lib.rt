@@ -16,6 +16,7 @@ use table::lent::Tables;
 // The bytes are lent as long as the text is, and no longer bound to the other tables: while they are in use nothing can
 // be written to the text, so an intern may follow only once they are no longer needed. So the tables are four slices: a
 // struct of them would lend all four for as long.
+#[tactic(auto, unfolding(store::specs::Reading::name_span_of))]
 pub fn name<'t>(
     c: Counters,
     resources: &[u32],

@@ -7,7 +7,7 @@ use mathlib.Core.Bool.{Bool, true, false}
 use mathlib.Core.Logic.{◌⊎◌, inl, inr}
 use lib.Dec.{eqb}
 use lib.ListN.{length, get_or, take, drop, take-append-drop}
-use lib.Seq.{slice, slice_empty, length-slice, length-take-le, take_all, take-suc, drop-cons, drop-append-le}
+use lib.Seq.{slice, slice_empty, length-slice, length-take-le, take_all, take-suc, take-take, drop-cons, drop-append-le}
 use native.Mathlib.Omega.{arith}
 use native.Mathlib.Numerals.{add-one}
 use borrow.Author.Tests.{eqb-true, eqb-false, eq-eqb, ne_eqb}
@@ -323,6 +323,24 @@ eol-none text at h f =
       before = omega arith;
       unbroken = rw e at (rest-unbroken text at (length text - at) (omega arith) (λ k l. f k (omega arith)));
       lf = λ k. absurd (omega arith);
+    }
+
+slice-split : (text : List ℕ) (at m r : ℕ) → at ≤ m → m ≤ r → r ≤ length text
+    → slice at r text ≡ slice at m text ++ slice m r text
+slice-split text at m r h k t =
+    let n = length-take-le r text t in
+    let j : m ≤ length (take r text) = omega arith in
+    rw (← take-take m r text k) (slice-append (take r text) at m h j)
+
+-- no LF up to a place, and the line's end from there on
+pub eol-after : {text : List ℕ} {at m r : ℕ} → at ≤ m → Unbroken (slice at m text) → EolAt text m r → EolAt text at r
+eol-after {text} {at} {m} {r} h u t =
+    let a = t.after in
+    record {
+      after = omega arith;
+      before = t.before;
+      unbroken = rw (slice-split text at m r h a t.before) (unbroken-append _ _ u t.unbroken);
+      lf = t.lf;
     }
 
 -- the line ends at the end of the text

@@ -23,6 +23,9 @@ use memchr::memchr;
 use term::class::run_end;
 use term::production::Scan;
 
+// How many bytes of a line are looked at one by one before the search for its LF.
+const NEAR: usize = 5;
+
 // A part of the text: the position of its first byte, and the position after its last.
 #[derive(Clone, Copy)]
 pub struct Span {
@@ -318,13 +321,20 @@ fn whole_line(text: &[u8], at: usize, stop: usize) -> Line
     triple(text, at, a, stop)
 }
 
-// The position of the first LF from `at` on, or the text's end.
+// The position of the first LF from `at` on, or the text's end. The next bytes are looked at one by one: a blank line
+// ends there, and to set up a search of the rest costs more than that.
 fn end_of_line(text: &[u8], at: usize) -> usize
     requires { at ≤ length text.now }
     ensures { EolAt text.now at result }
 {
-    match memchr(b'\n', &text[at..]) {
-        Some(i) => at + i,
+    let near = at + NEAR.min(text.len() - at);
+    for i in at..near {
+        if text[i] == b'\n' {
+            return i;
+        }
+    }
+    match memchr(b'\n', &text[near..]) {
+        Some(i) => near + i,
         None => text.len(),
     }
 }

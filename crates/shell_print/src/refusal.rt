@@ -91,22 +91,21 @@ fn under(b: u8) -> u8 {
 // Writes the line as it is shown.
 fn copy_of(rt: &impl Outputs, to: Output, line: &[u8]) -> bool {
     let mut out = [0u8; LINE];
-    let mut at = 0;
-    for b in line {
-        at = append(&mut out, at, &[shown(*b)]);
+    for (o, b) in out.iter_mut().zip(line) {
+        *o = shown(*b);
     }
-    let end = append(&mut out, at, b"\n");
+    let end = append(&mut out, line.len(), b"\n");
     put(rt, to, &out[..end])
 }
 
 // Writes the caret under an offset of the line.
 fn caret(rt: &impl Outputs, to: Output, line: &[u8], offset: usize) -> bool {
     let mut out = [0u8; LINE];
-    let mut at = 0;
-    for b in &line[..offset.min(line.len())] {
-        at = append(&mut out, at, &[under(*b)]);
+    let before = &line[..offset.min(line.len())];
+    for (o, b) in out.iter_mut().zip(before) {
+        *o = under(*b);
     }
-    let end = append(&mut out, at, b"^\n");
+    let end = append(&mut out, before.len(), b"^\n");
     put(rt, to, &out[..end])
 }
 

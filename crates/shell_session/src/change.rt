@@ -1,4 +1,6 @@
 // The commands that write to the store: assert, retract, reclaim. A refused one changes nothing.
+ghost use Rattle.table.specs.Lent.{SameSlices};
+
 use crate::answer;
 use loader::line::Outcome;
 use ntriples::{Line, Span};
@@ -6,7 +8,7 @@ use report::status::Status;
 use shell_line::part::bytes_of;
 use shell_print::{names, refusal};
 use shell_words::number_of;
-use store::{Counters, Refusal, ResourceId, StatementId, Triple};
+use store::{Counters, Refusal, ResourceId, Triple};
 use streams::{Output, Outputs};
 use table::lent::{Tables, TablesMut};
 
@@ -100,7 +102,9 @@ pub fn assert(
     tables: &mut TablesMut,
     line: &[u8],
     from: usize,
-) -> Changed {
+) -> Changed
+    ensures same { SameSlices tables.new tables.old }
+{
     if let Err(told) = tell_unreadable(rt, notices, line, from) {
         return with_status(c, told);
     }
@@ -205,65 +209,46 @@ fn seek(
     }
 }
 
-// Strikes a statement out. The tables are four slices: of a struct lent to be written the check lets none be lent on to be read.
-fn strike(
-    c: Counters,
-    resources: &mut [u32],
-    statements: &mut [u32],
-    index: &mut [u32],
-    text: &mut [u8],
-    x: Triple,
-) -> Result<Option<StatementId>, Refusal> {
-    statement::retract(c, resources, statements, index, text, x)
-}
-
 // Retracts the statement in the rest of the line.
 pub fn retract(
     rt: &impl Outputs,
     notices: Output,
     c: Counters,
-    tables: &mut TablesMut,
+    resources: &mut [u32],
+    statements: &mut [u32],
+    index: &[u32],
+    text: &[u8],
     line: &[u8],
     from: usize,
 ) -> Status {
-    let x = match seek(rt, notices, c, tables.read(), line, from) {
+    let tables = Tables {
+        resources,
+        statements,
+        index,
+        text,
+    };
+    let x = match seek(rt, notices, c, tables, line, from) {
         Ok(x) => x,
         Err(told) => return told,
     };
-    match strike(
-        c,
-        tables.resources,
-        tables.statements,
-        tables.index,
-        tables.text,
-        x,
-    ) {
+    match statement::retract(c, resources, statements, index, text, x) {
         Ok(Some(n)) => answer::became(rt, notices, b"retracted", n.0),
         Ok(None) => answer::absent(rt, notices),
         Err(e) => refusal::refused(rt, notices, e),
     }
 }
 
-// Gives the room of retracted statements back, in tables lent as `strike` has them.
-fn shrink(
+// Gives the room of retracted statements back.
+pub fn reclaim(
+    rt: &impl Outputs,
+    notices: Output,
     c: Counters,
     resources: &mut [u32],
     statements: &mut [u32],
-    index: &mut [u32],
-    text: &mut [u8],
-) -> Result<Counters, Refusal> {
-    compaction::reclaim(c, resources, statements, index, text)
-}
-
-// Gives the room of retracted statements back.
-pub fn reclaim(rt: &impl Outputs, notices: Output, c: Counters, tables: &mut TablesMut) -> Changed {
-    match shrink(
-        c,
-        tables.resources,
-        tables.statements,
-        tables.index,
-        tables.text,
-    ) {
+    index: &[u32],
+    text: &[u8],
+) -> Changed {
+    match compaction::reclaim(c, resources, statements, index, text) {
         Ok(d) => {
             with_status(
                 d,

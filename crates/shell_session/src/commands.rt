@@ -1,4 +1,7 @@
 // A line taken to its command.
+ghost use Rattle.std.specs.Prelude.{◌≡◌};
+ghost use Rattle.table.specs.Lent.{SameSlices};
+
 use crate::change::{Changed, with_status};
 use crate::{change, reading};
 use loader::line::LINE_LIMIT;
@@ -51,14 +54,52 @@ fn tell_refused(
     Ok(())
 }
 
-// Runs the command, and answers the counters from now on, and its status.
+// Retracts the statement in the rest of the line. The tables are four slices, two of which are lent on to be read: of a struct lent to be
+// written the check lets none be lent on so.
+fn retracted(
+    rt: &impl Outputs,
+    notices: Output,
+    c: Counters,
+    resources: &mut [u32],
+    statements: &mut [u32],
+    index: &mut [u32],
+    text: &mut [u8],
+    line: &[u8],
+    from: usize,
+) -> Status
+    ensures kept { (index.new ≡ index.old) × (text.new ≡ text.old) }
+{
+    change::retract(
+        rt, notices, c, resources, statements, index, text, line, from,
+    )
+}
+
+// Gives the room of retracted statements back, in tables lent on as `retracted` has them.
+fn reclaimed(
+    rt: &impl Outputs,
+    notices: Output,
+    c: Counters,
+    resources: &mut [u32],
+    statements: &mut [u32],
+    index: &mut [u32],
+    text: &mut [u8],
+) -> Changed
+    ensures kept { (index.new ≡ index.old) × (text.new ≡ text.old) }
+{
+    change::reclaim(rt, notices, c, resources, statements, index, text)
+}
+
+// Runs the command, and answers the counters from now on, and its status. Never inlined: a blank line needs no frame of its size.
+#[inline(never)]
 fn run_command(
     rt: &impl Outputs,
     s: State,
     tables: &mut TablesMut,
     line: &[u8],
     k: CommandRead,
-) -> Changed {
+) -> Changed
+    ensures same { SameSlices tables.new tables.old }
+{
     let notices = s.notices;
     let c = s.counters;
     let command = k.command;
@@ -66,10 +107,28 @@ fn run_command(
     match command {
         Command::Assert => change::assert(rt, notices, c, tables, line, at),
         Command::Retract => {
-            let told = change::retract(rt, notices, c, tables, line, at);
+            let told = retracted(
+                rt,
+                notices,
+                c,
+                tables.resources,
+                tables.statements,
+                tables.index,
+                tables.text,
+                line,
+                at,
+            );
             with_status(c, told)
         }
-        Command::Reclaim => change::reclaim(rt, notices, c, tables),
+        Command::Reclaim => reclaimed(
+            rt,
+            notices,
+            c,
+            tables.resources,
+            tables.statements,
+            tables.index,
+            tables.text,
+        ),
         _ => with_status(c, reading::answer(rt, s, tables.read(), line, k)),
     }
 }
@@ -85,12 +144,18 @@ fn after(s: State, c: Counters, status: Status, quit: bool) -> State {
 }
 
 // Runs a line.
-pub fn run_line(rt: &impl Outputs, s: State, tables: &mut TablesMut, line: &[u8]) -> State {
+pub fn run_line(rt: &impl Outputs, s: State, tables: &mut TablesMut, line: &[u8]) -> State
+    ensures same { SameSlices tables.new tables.old }
+{
     let c = s.counters;
     if line.len() > LINE_LIMIT {
         return after(s, c, refusal::too_long(rt, s.notices), false);
     }
     let k = command::read_command(line);
+    // Blank, or a comment.
+    if k.command == Command::Nothing {
+        return after(s, c, Status::Done, false);
+    }
     if let Err(refused) = tell_refused(rt, s.notices, line, k) {
         return after(s, c, refused, false);
     }

@@ -1,4 +1,6 @@
 // Standard input, line by line, up to its end, to `quit` or to a read or a write that failed.
+ghost use Rattle.table.specs.Lent.{SameSlices};
+
 use crate::commands::State;
 use crate::{answer, commands};
 use loader::block::keep_rest;
@@ -143,7 +145,9 @@ pub fn session<R: Outputs, S: Read>(
     terminal: bool,
     tables: &mut TablesMut,
     buffer: &mut [u8],
-) -> Status {
+) -> Status
+    ensures same { SameSlices tables.new tables.old }
+{
     let mut s = begun;
     let mut i = filled_to(0, Source::Open);
     // The lines read so far are run, which left `s`.

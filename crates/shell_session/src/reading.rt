@@ -238,7 +238,8 @@ fn list_names(
     }
 }
 
-// Lists the names that begin with the rest of the line.
+// Lists the names that begin with the rest of the line. Never inlined, as `save`: its list takes 32 KiB.
+#[inline(never)]
 fn names(
     rt: &impl Outputs,
     notices: Output,
@@ -254,7 +255,10 @@ fn names(
 
 // A word of a table, 0 past its end.
 fn word_at(words: &[u32], i: usize) -> u32 {
-    words.get(i).copied().unwrap_or(0)
+    match words.get(i) {
+        Some(word) => *word,
+        None => 0,
+    }
 }
 
 // Where the words of resource n begin.
@@ -374,7 +378,8 @@ fn write_file(
     }
 }
 
-// Writes the live statements as a file.
+// Writes the live statements as a file. Never inlined: its buffers take 4 MiB of stack, which every command would ask for, page by page.
+#[inline(never)]
 fn save(rt: &impl Outputs, s: State, tables: Tables) -> Status {
     let mut file = filled::<u8, { buffer::FILE }>(0);
     let mut work = filled::<u32, { buffer::STATEMENTS }>(0);

@@ -34,6 +34,9 @@ const NO_TEXT: i32 = 84;
 // Room for an argument or a file's name.
 pub const ARGUMENT: usize = 4096;
 
+// What `docs/PROGRAMS.md` promises.
+const _: () = prove!(ARGUMENT == 4096);
+
 // So many times x. The length is told by a contract: a long array that is written out would be counted item by item.
 pub fn filled<T: Copy, const N: usize>(x: T) -> [T; N]
     ensures { N ≡ length result }

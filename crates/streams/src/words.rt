@@ -1,5 +1,5 @@
 // The system's words for a call that failed, told on standard error.
-ghost use Rattle.std.specs.Prelude.{◌≤◌};
+ghost use Rattle.std.specs.Prelude.{◌≡◌, ◌≤◌, length, take};
 
 use crate::output::{Output, Outputs, write_all};
 use std::fmt;
@@ -32,8 +32,10 @@ impl Write for Words {
     }
 }
 
-// What stands before the error's number, ` (os error N)`, which ends the words.
-fn before_number(words: &[u8]) -> &[u8] {
+// What stands before the error's number, ` (os error N)`, which ends the words: a beginning of theirs.
+fn before_number(words: &[u8]) -> &[u8]
+    ensures { result.now ≡ take (length result.now) words.now }
+{
     match words.iter().rposition(|b| *b == b'(') {
         Some(n) => &words[..n.saturating_sub(1)],
         None => words,

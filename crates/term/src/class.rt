@@ -120,8 +120,13 @@ pub fn run_end<F: Fn(u8) -> bool>(bytes: &[u8], at: usize, test: F) -> usize
     ensures begun { at ≤ result }
     ensures end { (p : ℕ → Bool) → ((b : ℕ) (r : Bool) → F.post test b r → r ≡ p b) → result ≡ at + prefix_len p (drop at bytes.now) }
 {
-    match bytes.get(at..) {
-        Some(rest) => at + rest.iter().position(|b| !test(*b)).unwrap_or(rest.len()),
-        None => at,
+    // The bytes from `at` up to `i` pass the test. A loop: a literal looks for a run after each pair, mostly an empty
+    // one, and `position` costs more to set up.
+    for i in at..bytes.len() {
+        let passes = test(bytes[i]);
+        if !passes {
+            return i;
+        }
     }
+    at.max(bytes.len())
 }

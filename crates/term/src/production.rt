@@ -121,11 +121,15 @@ fn label_place(last: u8, before: u8) -> Scan
 pub fn string_literal(bytes: &[u8], at: usize) -> Halt
     ensures { result ≡ halt_of Text at (drop at bytes.now) }
 {
-    // Before `from` there are bytes of text and pairs. A loop: a turn takes a run of bytes and a pair, and no iterator over bytes is plainer.
-    let mut from = at;
-    'pairs: loop {
-        let i = run_end(bytes, from, is_text_byte);
+    // From `at` up to `i` there are bytes of text and pairs. A loop, one or two bytes a turn: `run_end` before each pair takes 1.8 times as
+    // long where pairs stand side by side.
+    let mut i = at;
+    loop {
         let b = byte_at(bytes, i);
+        if is_text_byte(b) {
+            i += 1;
+            continue;
+        }
         if b == b'"' {
             return literal_suffix(bytes, i + 1);
         }
@@ -141,7 +145,7 @@ pub fn string_literal(bytes: &[u8], at: usize) -> Halt
                 at: i + 1,
             };
         }
-        from = i + 2;
+        i += 2;
     }
 }
 

@@ -7,8 +7,7 @@ use Rattle.shell_line.proofs.parts.add_variable.Goals as goal
 
 pub returns-then-v-ge-VARIABLES : goal.returns-then-v-ge-VARIABLES
 returns-then-v-ge-VARIABLES c s h k = let n = c.variable_number-v in
-    variable-beyond h c.args.end n.result (n.ensures s h) c.no_question.result
-    c.if-v-ge-VARIABLES.true c.no_question.ensures
+    variable-beyond h c.args.end n.result (n.ensures s h) _ c.if-v-ge-VARIABLES.true cc
 
 pub returns-then-v-p : goal.returns-then-v-p
 unfolding span_of word_of

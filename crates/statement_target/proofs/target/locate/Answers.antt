@@ -1,4 +1,4 @@
-use mathlib.Core.Path.{sym, ap, ◌∙◌}
+use mathlib.Core.Path.{sym, ap}
 use mathlib.Core.List.{[]}
 use Prim.Native.Nat.{◌≤◌}
 use native.Mathlib.Omega.{arith}
@@ -41,13 +41,13 @@ seek-requires c =
     let h = first-within (goal.at.seek-requires c).After-start_of-first in
     omega arith
 
--- the index and the text are not read
+-- the answer is the record that the walk comes to; the index and the text are not read
 pub returns : goal.returns
 returns c =
     let d = (goal.at.returns c).After-start_of-first in
     let a = d.args in
-    c.seek.ensures
-    ∙ sym (ap sought_as (locate-searched a.c (tables a.resources.now a.statements.now [] []) a.x
+    let l = locate-searched a.c (tables a.resources.now a.statements.now [] []) a.x
     d.pick_chain-chain.result d.start_of-first.result.0 c.new-plan.result c.new-plan.ensures
     (passed d.ready.ensures d.if-not-ready.false) d.pick_chain-chain.ensures d.start_of-first.ensures
-    (first-within d)))
+    (first-within d) in
+    rw l (grind arith)

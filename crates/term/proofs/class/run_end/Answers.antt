@@ -1,16 +1,24 @@
--- The place that `position` gives is where the first byte stands that fails the test.
-use Rattle.std.proofs.Common.{◌≡◌, ◌+◌, ◌∙◌, ap, sym, refl, rules, arith, drop, true, false}
-use borrow.Author.Tests.{tests}
-use Rattle.std.specs.List.{prefix_len}
-use Rattle.std.proofs.lemmas.Iterator.{YieldsList-from_slice, IsFirst-from_position, index_from_first}
-use Rattle.std.proofs.lemmas.List.{take_rest}
+-- The loop returns where the first byte stands that fails the test.
+use Rattle.std.proofs.Common.{◌≡◌, refl, get_or, arith, rules, true, false}
+use Rattle.std.proofs.lemmas.List.Sums.{prefix_len-drop_yes, prefix_len-drop_no, prefix_len-drop_all}
 use Rattle.term.proofs.class.run_end.Goals as goal
 
-pub returns-in-Some-clause-end : goal.returns-in-Some-clause-end
-returns-in-Some-clause-end g c p is =
-    let a = c.args in
-    let rest = drop a.at a.bytes.now in
-    let same : c.in-Some.rest.now ≡ rest = c.in-Some.ensures.lookup.0.2 ∙ take_rest a.bytes.now a.at in
-    let first = IsFirst-from_position _ _ c.position.result (λ b. p b ≡ false) (λ b. p b ≡ true) c.position.ensures.ran (YieldsList-from_slice rest (c.iter.ensures.rest ∙ same)) (λ x q k. search (rules, tests, is)) (λ x q k. search (rules, tests, is)) in
-    let place = index_from_first (prefix_len p) (λ b. p b ≡ false) (λ b. p b ≡ true) refl (λ b s e. rw e) (λ b s e. rw e (omega arith)) rest c.position.result first in
-    ap (λ n. a.at + n) (c.unwrap_or.ensures ∙ rw (same) (sym place))
+pub loop-i-init : goal.loop-i-init
+loop-i-init g c p is = refl
+
+pub returns-then-not-passes-clause-end : goal.returns-then-not-passes-clause-end
+returns-then-not-passes-clause-end g c p is =
+    let s = c.args.bytes.now in
+    let fails : p (get_or s c.loop-i.i 0) ≡ false = search (rules, is _ _ c.test-passes.ensures) in
+    omega (arith, c.loop-i.invariant p is, prefix_len-drop_no p s c.loop-i.i 0 c.loop-i-test.true fails)
+
+pub loop-i-preserved : goal.loop-i-preserved
+loop-i-preserved g c p is =
+    let s = c.args.bytes.now in
+    let passes : p (get_or s c.loop-i.i 0) ≡ true = search (rules, is _ _ c.test-passes.ensures) in
+    omega (arith, c.loop-i.invariant p is, prefix_len-drop_yes p s c.loop-i.i 0 c.loop-i-test.true passes)
+
+pub returns-clause-end : goal.returns-clause-end
+returns-clause-end g c p is =
+    let s = c.args.bytes.now in
+    grind (arith, c.loop-i.invariant p is, prefix_len-drop_all p s c.loop-i.i, prefix_len-drop_all p s c.args.at)
