@@ -2,7 +2,7 @@
 use cases_script::script::Verb;
 use cases_script::state::State;
 use cases_script::{print, reply, script, setup, state};
-use store::{Counters, ResourceId, StatementId, Triple};
+use store::{Counters, ResourceId, StatementId, Triple, refusal_number};
 use streams::Outputs;
 use table::lent::Tables;
 
@@ -29,7 +29,7 @@ pub fn enter(
     state: &mut State,
     line: &[u8],
     resources: &mut [u32],
-    statements: &mut [u32],
+    statements: &[u32],
     index: &mut [u32],
     text: &mut [u8],
 ) {
@@ -45,8 +45,8 @@ pub fn assert(
     line: &[u8],
     resources: &mut [u32],
     statements: &mut [u32],
-    index: &mut [u32],
-    text: &mut [u8],
+    index: &[u32],
+    text: &[u8],
 ) {
     let c = state.counters;
     let x = triple(line);
@@ -60,8 +60,8 @@ pub fn retract(
     line: &[u8],
     resources: &mut [u32],
     statements: &mut [u32],
-    index: &mut [u32],
-    text: &mut [u8],
+    index: &[u32],
+    text: &[u8],
 ) {
     let c = state.counters;
     let x = triple(line);
@@ -74,8 +74,8 @@ pub fn reclaim(
     state: &mut State,
     resources: &mut [u32],
     statements: &mut [u32],
-    index: &mut [u32],
-    text: &mut [u8],
+    index: &[u32],
+    text: &[u8],
 ) {
     let c = state.counters;
     let a = compaction::reclaim(c, resources, statements, index, text);
@@ -106,17 +106,18 @@ pub fn reading(rt: &impl Outputs, state: &mut State, verb: Verb, line: &[u8], ta
 fn name(rt: &impl Outputs, c: Counters, line: &[u8], tables: Tables) {
     let n = ResourceId(script::number(line, 2));
     reply::spanned(rt, table::name_span(c, tables, n));
-    reply::named(
-        rt,
-        name_part::name(
-            c,
-            tables.resources,
-            tables.statements,
-            tables.index,
-            tables.text,
-            n,
-        ),
+    let a = name_part::name(
+        c,
+        tables.resources,
+        tables.statements,
+        tables.index,
+        tables.text,
+        n,
     );
+    match a {
+        Ok(part) => reply::named(rt, part, None),
+        Err(e) => reply::named(rt, &[], Some(refusal_number(e))),
+    }
 }
 
 // A listing by prefix, into words that hold 77; a bar in the beginning stands for a zero byte.

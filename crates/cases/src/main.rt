@@ -148,41 +148,35 @@ fn act(rt: &impl Outputs, state: &mut State, verb: Verb, line: &[u8], tables: &m
         | Verb::Place => setup::settings(state, verb, line),
         Verb::Fill | Verb::Resource | Verb::Statement | Verb::Index | Verb::Text | Verb::Change =>
             setup::tables(verb, line, tables),
-        Verb::Enter => calls::enter(
+        Verb::Enter | Verb::Assert | Verb::Retract | Verb::Reclaim => write(
             rt,
             state,
+            verb,
             line,
-            tables.resources,
-            tables.statements,
-            tables.index,
-            tables.text,
-        ),
-        Verb::Assert => calls::assert(
-            rt,
-            state,
-            line,
-            tables.resources,
-            tables.statements,
-            tables.index,
-            tables.text,
-        ),
-        Verb::Retract => calls::retract(
-            rt,
-            state,
-            line,
-            tables.resources,
-            tables.statements,
-            tables.index,
-            tables.text,
-        ),
-        Verb::Reclaim => calls::reclaim(
-            rt,
-            state,
             tables.resources,
             tables.statements,
             tables.index,
             tables.text,
         ),
         _ => calls::reading(rt, state, verb, line, tables.read()),
+    }
+}
+
+// A call that writes: of the four tables it is lent those to be written that it writes.
+fn write(
+    rt: &impl Outputs,
+    state: &mut State,
+    verb: Verb,
+    line: &[u8],
+    resources: &mut [u32],
+    statements: &mut [u32],
+    index: &mut [u32],
+    text: &mut [u8],
+) {
+    match verb {
+        Verb::Enter => calls::enter(rt, state, line, resources, statements, index, text),
+        Verb::Assert => calls::assert(rt, state, line, resources, statements, index, text),
+        Verb::Retract => calls::retract(rt, state, line, resources, statements, index, text),
+        _ => calls::reclaim(rt, state, resources, statements, index, text),
     }
 }

@@ -67,14 +67,11 @@ pub fn spanned(rt: &impl Outputs, a: Result<NameSpan, Refusal>) {
     }
 }
 
-// A name's bytes; none, and the refusal, where it is refused.
-pub fn named(rt: &impl Outputs, a: Result<&[u8], Refusal>) {
-    match a {
-        Ok(part) => print::part(rt, part),
-        Err(e) => {
-            print::part(rt, &[]);
-            print::refused(rt, e);
-        }
+// A name's bytes, and the refusal's number where there is one.
+pub fn named(rt: &impl Outputs, part: &[u8], refusal: Option<u32>) {
+    print::part(rt, part);
+    if let Some(n) = refusal {
+        print::labelled(rt, b"refused", n);
     }
 }
 

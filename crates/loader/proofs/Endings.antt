@@ -2,9 +2,9 @@
 use mathlib.Core.Path.{◌≡◌, refl, sym, subst, ◌∙◌}
 use mathlib.Core.Logic.{◌≢◌}
 use mathlib.Core.List.{List, [], ◌∷◌, ◌++◌}
-use Prim.Native.Nat.{ℕ, ◌+◌, ◌-◌}
+use Prim.Native.Nat.{ℕ, ◌+◌, ◌-◌, ◌≤◌}
 use native.Mathlib.Omega.{arith}
-use lib.ListN.{take, drop}
+use lib.ListN.{length, take, drop}
 use lib.Seq.{take-append-add, take-length}
 use Rattle.std.proofs.lemmas.List.{append_assoc, append_cancel_right}
 use borrow.Author.Tests.{eqb-false}
@@ -59,3 +59,17 @@ line-ended {text} {from} {next} N =
     let moved : next ≡ from + x.1 = N.moved ∙ ((reads-a-line 255 text from (omega arith)).answered x.0 x.1 N.before-end x.2).moves in
     let e : next - from ≡ x.1 = omega (arith, moved) in
     rw (e, (line-found s x.0 x.1 x.2).0) (ended s x.0 x.1 x.2)
+
+-- its bytes are no more than with the ending
+shorter : (s l : List ℕ) (n : ℕ) → FirstLine s l n → length l ≤ n
+shorter s l n (FirstLine.lf k r e u c) = omega arith
+shorter s l n (FirstLine.crlf k r e u) = omega arith
+shorter s l n (FirstLine.last u) = omega arith
+
+pub line-shorter : {text : List ℕ} {from next : ℕ} → Ends text from next → length (first_line_of (drop from text)) ≤ next - from
+line-shorter {text} {from} {next} N =
+    let s = drop from text in
+    let x = line-exists s in
+    let moved : next ≡ from + x.1 = N.moved ∙ ((reads-a-line 255 text from (omega arith)).answered x.0 x.1 N.before-end x.2).moves in
+    let e : next - from ≡ x.1 = omega (arith, moved) in
+    rw (e, (line-found s x.0 x.1 x.2).0) (shorter s x.0 x.1 x.2)

@@ -155,7 +155,8 @@ pub fn load_line(
     ensures loads { Loads c (held_mut tables.old) (held_mut tables.new)
         source.now (line_at source.now from) result }
 {
-    if content(source, from, next).len() > LINE_LIMIT {
+    // With its ending a line is longer: of one within the limit the ending is not looked at.
+    if next - from > LINE_LIMIT && content(source, from, next).len() > LINE_LIMIT {
         return refused(c, Refusal::BadLine);
     }
     load_read(c, tables, source, line)

@@ -3,7 +3,7 @@ ghost use Rattle.table.specs.Lent.{held_mut, SameSlices};
 ghost use Rattle.loader.specs.Lines.{LoadsLines};
 ghost use Rattle.loader.specs.Steps.{Takes, ReadAt};
 
-use crate::line::{content, load_line};
+use crate::line::{Outcome, content, load_line};
 use crate::told;
 use ntriples::Line;
 use report::tally::Report;
@@ -54,8 +54,14 @@ fn take_line(
     let c = l.counters;
     let r = load_line(c, tables, source, from, line, next);
     let lines = l.lines.saturating_add(1);
-    let bytes = content(source, from, next);
-    let report = told::with_line(rt, l.report, l.quiet, lines, r.outcome, bytes, line);
+    // Nothing is told of a blank line or a comment: then its bytes are not looked at again.
+    let report = match r.outcome {
+        Ok(Outcome::Nothing) => l.report,
+        _ => {
+            let bytes = content(source, from, next);
+            told::with_line(rt, l.report, l.quiet, lines, r.outcome, bytes, line)
+        }
+    };
     Load {
         counters: r.counters,
         lines,

@@ -2,7 +2,8 @@
 // tested.
 use crate::line::Outcome;
 use report::output::{append, append_decimal, put};
-use store::{Counters, Refusal, refusal_number};
+use report::tally::Numbered;
+use store::Counters;
 use streams::{Output, Outputs};
 
 // A line of output fits: at most two numbers of 20 digits and 24 other bytes.
@@ -19,13 +20,13 @@ fn write_line(rt: &impl Outputs, number: u64, word: &[u8], n: u32) -> bool {
 }
 
 // Writes what a line came to.
-pub fn outcome(rt: &impl Outputs, number: u64, outcome: Result<Outcome, Refusal>) -> bool {
+pub fn outcome(rt: &impl Outputs, number: u64, outcome: Result<Outcome, impl Numbered>) -> bool {
     match outcome {
         Ok(Outcome::Nothing) => true,
         Ok(Outcome::New(n)) => write_line(rt, number, b" new ", n.0),
         Ok(Outcome::Already(n)) => write_line(rt, number, b" already ", n.0),
         Ok(Outcome::Revived(n)) => write_line(rt, number, b" revived ", n.0),
-        Err(e) => write_line(rt, number, b" refused ", refusal_number(e)),
+        Err(e) => write_line(rt, number, b" refused ", e.number()),
     }
 }
 

@@ -1,5 +1,7 @@
 // Refused lines and files that cannot be read: how many there were, and what is told of them.
+ghost use Rattle.std.specs.Prelude.{◌≡◌, ℕ};
 ghost use Rattle.streams.specs.Counts.{IsPrefixLen};
+ghost use Rattle.store.specs.Values.{refusal_number};
 
 use crate::output;
 use crate::output::{append, append_decimal};
@@ -7,7 +9,7 @@ use crate::status::Status;
 use line_fault::{Fault, Name, Part};
 use std::io::Error;
 use std::rt::Env;
-use store::Refusal;
+use store::{Refusal, refusal_number};
 use streams::{Output, Outputs};
 
 // Of one file so many refused lines are told, and then their number.
@@ -15,6 +17,30 @@ const TOLD: u64 = 20;
 
 // A file's name of at most 4,096 bytes, three numbers and a reason.
 const REPORT_LINE: usize = 4352;
+
+// What a line is refused with: a refusal, or any number that stands for one.
+pub trait Numbered: Copy {
+    ghost number_of: { Self → ℕ };
+
+    fn number(self) -> u32
+        ensures { result ≡ number_of self };
+}
+
+impl Numbered for Refusal {
+    ghost number_of = { refusal_number };
+
+    fn number(self) -> u32 {
+        refusal_number(self)
+    }
+}
+
+impl Numbered for u32 {
+    ghost number_of = { λ n. n };
+
+    fn number(self) -> u32 {
+        self
+    }
+}
 
 // The argument that names the file being read, none for standard input, and how many lines were read before it; how many of its lines were
 // refused, and of all files'; whether one found no room, how many files could not be read, and whether all that was told was written.
@@ -110,14 +136,14 @@ fn append_column(out: &mut [u8], at: usize, k: usize) -> usize
 fn append_reason(
     out: &mut [u8],
     at: usize,
-    e: Refusal,
+    e: impl Numbered,
     line: &[u8],
     k: usize,
     limit: usize,
 ) -> usize
     ensures { IsPrefixLen result out.new }
 {
-    if e == Refusal::Full {
+    if e.number() == refusal_number(Refusal::Full) {
         return append(out, at, b"1: no room for one more");
     }
     if line.len() > limit {
@@ -152,7 +178,7 @@ impl Report {
         self,
         rt: &(impl Outputs + Env),
         number: u64,
-        e: Refusal,
+        e: impl Numbered,
         line: &[u8],
         k: usize,
         limit: usize,
@@ -172,7 +198,7 @@ impl Report {
         self,
         rt: &(impl Outputs + Env),
         number: u64,
-        e: Refusal,
+        e: impl Numbered,
         line: &[u8],
         k: usize,
         limit: usize,
@@ -186,7 +212,7 @@ impl Report {
         Report {
             refused,
             missing: self.missing.saturating_add(1),
-            full: self.full || e == Refusal::Full,
+            full: self.full || e.number() == refusal_number(Refusal::Full),
             written,
             ..self
         }

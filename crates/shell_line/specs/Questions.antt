@@ -205,6 +205,11 @@ TellsReading line (Ok p) (Unreadable k) = ⊥
 TellsReading line (Ok p) (NoQuestion k) = ⊥
 TellsReading line (Err f) (Read s) = ⊥
 
+-- what one that reads on in its record comes to: the record as it leaves it, or a fault
+abbrev pub reads_on : {A : Type 0} → Parts → Result A Fault → Result Parts Fault
+reads_on p (Ok u) = Ok p
+reads_on p (Err f) = Err f
+
 -- The contracts of the code's functions: p is the record that one is given, r the answer that it gives.
 
 -- whatever reading p tells, r tells f of it

@@ -1,7 +1,7 @@
 // The parts of a question or of a list, read from left to right up to the first fault.
 ghost use Rattle.std.specs.Prelude.{◌<◌, ◌≡◌, cond, length, get_or};
 ghost use Rattle.std.proofs.Math.Seq.{slice};
-ghost use Rattle.shell_line.specs.Questions.{Reads, Tells, TellsPart, TellsForm, Adds, Numbers, part_bytes, no_parts, unreadable_at, no_question_at};
+ghost use Rattle.shell_line.specs.Questions.{Reads, Tells, TellsPart, TellsForm, Adds, Numbers, part_bytes, no_parts, unreadable_at, no_question_at, reads_on};
 ghost use Rattle.shell_line.specs.Questions.{dot_due, dot_at, asked_at, name_at, variable_read, part_at, step_of, end_of, question, list};
 
 use crate::part;
@@ -108,22 +108,21 @@ fn dot_due(p: Parts) -> bool
     p.count % 3 == 0
 }
 
-// Reads the dot at p.at.
-fn read_dot(line: &[u8], p: Parts) -> Result<Parts, Fault>
-    requires { p.at < length line.now }
-    ensures { Tells line.now p result (dot_at line.now) }
+// Reads the dot at p.at. This, and `add` to `step`, read on in p: an answer of 500 bytes would be copied at each call.
+fn read_dot(line: &[u8], p: &mut Parts) -> Result<(), Fault>
+    requires { p.now.at < length line.now }
+    ensures { Tells line.now p.old (reads_on p.new result) (dot_at line.now) }
 {
     let at = p.at;
-    if !dot_due(p) {
+    if !dot_due(*p) {
         return Err(unreadable(at));
     }
     match part::dot_end(line, at) {
         Err(k) => Err(unreadable(k)),
         Ok(end) => {
-            let mut r = p;
-            r.dotted = true;
-            r.at = part::white_end(line, end);
-            Ok(r)
+            p.dotted = true;
+            p.at = part::white_end(line, end);
+            Ok(())
         }
     }
 }
@@ -154,43 +153,44 @@ fn variable_number(line: &[u8], p: Parts, at: usize, end: usize) -> usize
 }
 
 // A part more, from p.at up to `end`, with its word.
-fn add(line: &[u8], p: Parts, end: usize, word: u32) -> Result<Parts, Fault>
-    ensures { Adds line.now p result end word }
+fn add(line: &[u8], p: &mut Parts, end: usize, word: u32) -> Result<(), Fault>
+    ensures { Adds line.now p.old (reads_on p.new result) end word }
 {
-    let mut r = p;
     let i = p.count;
     if i >= MAX_PARTS {
         return Err(no_question(p.at));
     }
-    r.parts[i] = Span { start: p.at, end };
-    r.words[i] = word;
-    r.count = i + 1;
-    r.dotted = false;
-    r.at = part::white_end(line, end);
-    Ok(r)
+    p.parts[i] = Span { start: p.at, end };
+    p.words[i] = word;
+    p.count = i + 1;
+    p.dotted = false;
+    p.at = part::white_end(line, end);
+    Ok(())
 }
 
 // A variable more, from p.at up to `end`.
-fn add_variable(line: &[u8], p: Parts, end: usize) -> Result<Parts, Fault>
-    ensures { TellsPart line.now p result (λ s. variable_read line.now s end) }
+fn add_variable(line: &[u8], p: &mut Parts, end: usize) -> Result<(), Fault>
+    ensures { TellsPart line.now p.old (reads_on p.new result) (λ s. variable_read line.now s end) }
 {
     let at = p.at;
-    let v = variable_number(line, p, at, end);
+    let i = p.count;
+    let known = p.variables;
+    let v = variable_number(line, *p, at, end);
     if v >= VARIABLES {
         return Err(no_question(at));
     }
-    let mut r = add(line, p, end, FIRST_VARIABLE + v as u32)?;
-    if v == p.variables {
-        r.first[v] = p.count;
-        r.variables = v + 1;
+    add(line, p, end, FIRST_VARIABLE + v as u32)?;
+    if v == known {
+        p.first[v] = i;
+        p.variables = v + 1;
     }
-    Ok(r)
+    Ok(())
 }
 
 // Reads the variable at p.at, or a lone `?`.
-fn read_variable(line: &[u8], p: Parts, any: bool) -> Result<Parts, Fault>
-    requires { p.at < length line.now }
-    ensures { TellsPart line.now p result (asked_at any line.now) }
+fn read_variable(line: &[u8], p: &mut Parts, any: bool) -> Result<(), Fault>
+    requires { p.now.at < length line.now }
+    ensures { TellsPart line.now p.old (reads_on p.new result) (asked_at any line.now) }
 {
     match part::variable_part_end(line, p.at, any) {
         Err(k) => Err(unreadable(k)),
@@ -204,8 +204,8 @@ fn read_variable(line: &[u8], p: Parts, any: bool) -> Result<Parts, Fault>
 }
 
 // Reads the name at p.at.
-fn read_name(line: &[u8], p: Parts) -> Result<Parts, Fault>
-    ensures { TellsPart line.now p result (name_at line.now) }
+fn read_name(line: &[u8], p: &mut Parts) -> Result<(), Fault>
+    ensures { TellsPart line.now p.old (reads_on p.new result) (name_at line.now) }
 {
     match part::name_end(line, p.at) {
         Err(k) => Err(unreadable(k)),
@@ -225,12 +225,12 @@ fn too_many(form: Form, offset: usize) -> Fault
 }
 
 // Reads the part at p.at, whose first byte is b.
-fn read_part(line: &[u8], p: Parts, form: Form, b: u8) -> Result<Parts, Fault>
-    requires { (p.at < length line.now) × (b ≡ get_or line.now p.at 0) }
-    ensures { TellsForm form line.now p result (part_at form line.now) }
+fn read_part(line: &[u8], p: &mut Parts, form: Form, b: u8) -> Result<(), Fault>
+    requires { (p.now.at < length line.now) × (b ≡ get_or line.now p.now.at 0) }
+    ensures { TellsForm form line.now p.old (reads_on p.new result) (part_at form line.now) }
 {
     let at = p.at;
-    if dot_due(p) {
+    if dot_due(*p) {
         return Err(unreadable(at));
     }
     if p.count / 3 >= form.patterns {
@@ -243,12 +243,12 @@ fn read_part(line: &[u8], p: Parts, form: Form, b: u8) -> Result<Parts, Fault>
 }
 
 // Reads what stands at p.at, a part or a dot.
-fn step(line: &[u8], p: Parts, form: Form) -> Result<Parts, Fault>
-    ensures { TellsForm form line.now p result (step_of form line.now) }
+fn step(line: &[u8], p: &mut Parts, form: Form) -> Result<(), Fault>
+    ensures { TellsForm form line.now p.old (reads_on p.new result) (step_of form line.now) }
 {
     let at = p.at;
     if at >= line.len() {
-        return Ok(p);
+        return Ok(());
     }
     let b = line[at];
     if b == b'.' {
@@ -280,7 +280,7 @@ pub fn read_parts(line: &[u8], from: usize, form: Form) -> Result<Parts, Fault>
         if p.at >= line.len() {
             return finish(line, p);
         }
-        p = step(line, p, form)?;
+        step(line, &mut p, form)?;
     }
     finish(line, p)
 }

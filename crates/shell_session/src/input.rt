@@ -66,20 +66,18 @@ fn without_cr(buffer: &[u8], from: usize, end: usize) -> usize {
 }
 
 // Takes the line that begins at i.at, if it has ended.
-fn take_line(i: Input, buffer: &[u8]) -> Input {
+fn take_line(i: &mut Input, buffer: &[u8]) {
     let start = i.at;
     let end = line_end(buffer, start, i.filled);
-    let mut m = i;
     if end < i.filled {
-        m.line = Some(Span {
+        i.line = Some(Span {
             start,
             end: without_cr(buffer, start, end),
         });
-        m.at = end + 1;
+        i.at = end + 1;
     } else if i.source != Source::Open {
-        m.line = Some(Span { start, end });
+        i.line = Some(Span { start, end });
     }
-    m
 }
 
 // The input after a read or a write that failed: it has ended, and the line that was broken off is dropped.
@@ -116,25 +114,23 @@ fn fill<R: Outputs, S: Read>(
     }
 }
 
-// The input with the next line. Nothing says that the input ends, and no run uses the turns up.
+// Goes on to the next line. Nothing says that the input ends, and no run uses the turns up.
 fn next_line<R: Outputs, S: Read>(
     rt: &R,
     source: &mut S,
-    i: Input,
+    i: &mut Input,
     buffer: &mut [u8],
     terminal: bool,
-) -> Input {
-    let mut m = i;
-    m.line = None;
+) {
+    i.line = None;
     // No line ends in the blocks read so far.
     for _ in 0..u64::MAX {
-        m = take_line(m, buffer);
-        if m.line.is_some() {
+        take_line(i, buffer);
+        if i.line.is_some() {
             break;
         }
-        m = fill(rt, source, m, buffer, terminal);
+        *i = fill(rt, source, *i, buffer, terminal);
     }
-    m
 }
 
 // A session: runs each line of the source, which is standard input, and answers the greatest status.
@@ -152,7 +148,7 @@ pub fn session<R: Outputs, S: Read>(
     let mut i = filled_to(0, Source::Open);
     // The lines read so far are run, which left `s`.
     for _ in 0..u64::MAX {
-        i = next_line(rt, source, i, buffer, terminal);
+        next_line(rt, source, &mut i, buffer, terminal);
         let at = i.line.unwrap_or(Span { start: 0, end: 0 });
         let line = bytes_of(buffer, at.start, at.end);
         s = commands::run_line(rt, s, tables, line);

@@ -121,8 +121,8 @@ fn label_place(last: u8, before: u8) -> Scan
 pub fn string_literal(bytes: &[u8], at: usize) -> Halt
     ensures { result ≡ halt_of Text at (drop at bytes.now) }
 {
-    // From `at` up to `i` there are bytes of text and pairs. A loop, one or two bytes a turn: `run_end` before each pair takes 1.8 times as
-    // long where pairs stand side by side.
+    // From `at` up to `i` there are bytes of text and pairs. A loop, one or two bytes a turn: `run_end` before each pair takes 1.8 times the
+    // instructions where pairs stand side by side.
     let mut i = at;
     loop {
         let b = byte_at(bytes, i);

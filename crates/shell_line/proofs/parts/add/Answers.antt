@@ -9,4 +9,4 @@ returns-then-i-ge-MAX_PARTS c s x h k hs hw = let t = c.if-i-ge-MAX_PARTS.true i
 
 pub returns : goal.returns
 returns c s x h k hs hw = let a = c.args in
-    added h x a.end a.word c.white_end.result k hs hw c.white_end.ensures
+    added h x a.end a.word c.white_end-p.result k hs hw c.white_end-p.ensures

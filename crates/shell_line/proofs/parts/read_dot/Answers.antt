@@ -15,6 +15,6 @@ returns-in-Err c s h = let d = c.dot_due in
 
 pub returns-in-Ok : goal.returns-in-Ok
 returns-in-Ok c s h = let d = c.dot_due in
-    dot-whole h c.in-Ok.end c.white_end.result
+    dot-whole h c.in-Ok.end c.white_end-p.result
     (sym d.ensures ∙ c.if-not-dot_due.false)
-    c.in-Ok.ensures c.white_end.ensures
+    c.in-Ok.ensures c.white_end-p.ensures

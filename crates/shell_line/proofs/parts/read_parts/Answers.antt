@@ -15,21 +15,21 @@ pub returns-then-p-line : goal.returns-then-p-line
 returns-then-p-line c f =
     told-end (c.loop.invariant f) c.finish.result (inl c.if-p-line.true) c.finish.ensures
 
-pub returns-in_err-p : goal.returns-in_err-p
-returns-in_err-p c f = let l = c.loop in
+pub returns-in_err-step : goal.returns-in_err-step
+returns-in_err-step c f = let l = c.loop in
     let g = l.invariant f in
     let t = c.loop-test.true in
     let r = err_from_is_err_and c.from_residual.result c.from_residual.ensures.1 in
     rw (r.1, r.2)
     (told-fault g (length c.args.line.now - (l.counter + 1)) (omega arith) c.if-p-line.false _
-    (c.in_err-p.ensures g.standing g.holds f c.if-p-line.false))
+    (c.in_err-step.ensures g.standing g.holds f c.if-p-line.false))
 
 pub loop-preserved : goal.loop-preserved
 loop-preserved c f = let l = c.loop in
     let g = l.invariant f in
     let t = c.loop-test.true in
-    goes_on g (length c.args.line.now - (l.counter + 1)) (omega arith) c.if-p-line.false c.in_ok-p.p
-    (c.in_ok-p.ensures g.standing g.holds f c.if-p-line.false)
+    goes_on g (length c.args.line.now - (l.counter + 1)) (omega arith) c.if-p-line.false c.step.new.p
+    (c.in_ok-step.ensures g.standing g.holds f c.if-p-line.false)
 
 pub returns : goal.returns
 returns c f = let t = c.loop-test.false in
